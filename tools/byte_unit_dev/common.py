@@ -35,6 +35,17 @@ def write(name, text):
         file.write(text)
 
 
+def copy_to(folder, *names, without=("out",)):
+    """Copies files and folders of the repository to their places below a folder, without what has one of the names."""
+    for name in names:
+        target = os.path.join(folder, name)
+        os.makedirs(os.path.dirname(target), exist_ok=True)
+        if os.path.isdir(path(name)):
+            shutil.copytree(path(name), target, symlinks=True, ignore=shutil.ignore_patterns(*without))
+        else:
+            shutil.copy(path(name), target)
+
+
 def call(*words, **more):
     """Runs a program. Returns its status and its output as text, with its errors unless `more` says otherwise."""
     how = {"stdout": subprocess.PIPE, "stderr": subprocess.STDOUT, "encoding": "utf-8", "errors": "replace"}

@@ -20,13 +20,12 @@ import argparse
 import glob
 import os
 import re
-import shutil
 import signal
 import subprocess
 import tempfile
 
 from .catalogue import part_of, split
-from .common import one_of, path, read, report, write
+from .common import copy_to, one_of, path, read, report, write
 
 EXAMPLES = re.compile(r"example_|byte_unit_(uses|tests)$")
 # What the names of the mutants begin with that `put` copies.
@@ -94,9 +93,7 @@ def put(crate, part, folder, prefix=""):
 
 def tried(crates, part):
     with tempfile.TemporaryDirectory() as copy:
-        shutil.copytree(path("crates"), f"{copy}/crates", symlinks=True, ignore=shutil.ignore_patterns("must-fail"))
-        for name in ("HANDLES", "crates.txt"):
-            shutil.copy(path(name), copy)
+        copy_to(copy, "crates", "HANDLES", "crates.txt", without=["must-fail"])
         names = [f"{crate}/{name}" for crate in crates for name in put(crate, part, f"{copy}/crates/{crate}/must-fail")]
         said, more = "", {"stdout": subprocess.PIPE, "stderr": subprocess.STDOUT, "errors": "replace"}
         words = ["rt", "must-fail", *crates]

@@ -36,8 +36,25 @@ def files(folder, ending):
     return sorted(f"{folder}/{name}" for name in glob.glob(f"**/*{ending}", root_dir=path(folder), recursive=True))
 
 
-def is_crate(name):
-    return os.path.isdir(path("crates", name))
+@functools.lru_cache(maxsize=None)
+def crates():
+    """Returns the crates that each crate uses, in the order of crates.txt, from the lowest."""
+    rows = [line.split("#")[0].partition(":") for line in read("crates.txt").splitlines()]
+    return {head.split()[0]: names.split() for head, _, names in rows if head.strip()}
+
+
+def below(names):
+    """Returns these crates and those that they need, in the order of crates.txt."""
+    needed, more = set(), set(names)
+    while more:
+        needed |= more
+        more = {name for crate in more for name in crates()[crate] if name in crates()} - needed
+    return [name for name in crates() if name in needed]
+
+
+def library():
+    """Returns the crates of the library, from the lowest: the facade, and those whose files it exports."""
+    return [name for name in crates() if name in [*crates()["byte_unit"], "byte_unit"]]
 
 
 class Source:
@@ -253,7 +270,7 @@ def resolved(words, imports, own=None):
             yield own.crate, own.module, own.maker(word)
         elif word in imports:
             crate, module, name = imports[word]
-            home = home_of_spec(crate, module) if is_crate(crate) else None
+            home = home_of_spec(crate, module) if crate in crates() else None
             maker = home and specs(home[0])[home[1]].maker(name)
             if maker:
                 yield *home, maker
@@ -276,7 +293,7 @@ def exports(crate, module="lib"):
     file, found = source(f"crates/{crate}/src/{module}.rt"), {}
     for use in re.finditer(r"pub use (\w+)::(?:\w+::)*(?:\{([^}]*)\}|(\w+));", file.plain):
         for name in re.findall(r"\w+", use[2] or use[3]) if use[1] != "std" else []:
-            homes = [home for home in sources(use[1] if is_crate(use[1]) else crate)
+            homes = [home for home in sources(use[1] if use[1] in crates() else crate)
                      if re.search(rf"^pub (?:struct|enum|trait|fn) {name}\b", home.code, re.M)]
             if len(homes) != 1:
                 raise file.wrong(use.start(), f"{len(homes)} files define {name}, not one")

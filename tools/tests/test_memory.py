@@ -5,14 +5,13 @@
 
 import os
 import re
-import shutil
 import subprocess
 from concurrent.futures import ThreadPoolExecutor
 from itertools import count
 
 import pytest
 
-from byte_unit_dev.common import ROOT, call, output, path, read, write
+from byte_unit_dev.common import ROOT, call, copy_to, output, path, read, write
 from byte_unit_dev.fixtures import ended
 from byte_unit_dev.needs import need
 
@@ -60,8 +59,7 @@ def test_program():
 
 def copy_with_tests_of(module, root):
     """Copies the crates, with the tests of one module of byte_unit_tests and of the modules that it uses."""
-    shutil.copytree(path("crates"), f"{root}/crates", ignore=shutil.ignore_patterns("out"))
-    shutil.copy(path("crates.txt"), root)
+    copy_to(root, "crates", "crates.txt")
     kept, found = set(), {module}
     while found:
         kept |= found

@@ -8,7 +8,8 @@ import shutil
 import tempfile
 import time
 
-from ..common import Failure, output, path, read, write
+from ..common import Failure, copy_to, output, path, read, write
+from ..source import below, crates
 
 COUNT = 20
 LITERALS = """//! Sizes.
@@ -48,19 +49,15 @@ def check(crate, *words, anew=True):
 def copied(crate, folder):
     """Copies a crate and those below it, and builds these. Returns the copy, whose name is another: a check begins with
     what checks of its name in other folders kept."""
-    lines = {re.match(r"\w+", line)[0]: f"{line}\n" for line in read("crates.txt").splitlines()}
-    below = {name: line.partition(":")[2].split() for name, line in lines.items()}
-    name, found = f"{crate}_{os.getpid()}", [crate]
-    for at in found:
-        found += [one for one in below[at] if one in below and one not in found]
-    for at in found:
-        left_out = shutil.ignore_patterns("must-fail", "mutants.edits", *["out"] * (at == crate))
-        shutil.copytree(path("crates", at), f"{folder}/crates/{name if at == crate else at}", ignore=left_out)
-    lines[crate] = lines[crate].replace(crate, name, 1)
-    write(f"{folder}/crates.txt", "".join(lines[at] for at in found))
+    name, found = f"{crate}_{os.getpid()}", below([crate])
+    copy_to(folder, *(f"crates/{at}" for at in found if at != crate), without=["must-fail", "mutants.edits"])
+    copy_to(folder, f"crates/{crate}", without=["must-fail", "mutants.edits", "out"])
+    os.rename(f"{folder}/crates/{crate}", f"{folder}/crates/{name}")
+    lines = re.findall(rf"^(?:{'|'.join(found)})\b.*\n", read("crates.txt"), re.M)
+    write(f"{folder}/crates.txt", "".join(re.sub(rf"^{crate}\b", name, line) for line in lines))
     for file in glob.glob(f"{folder}/crates/{name}/**/*.*t", recursive=True):
         write(file, re.sub(rf"\b{crate}\b", name, read(file)))
-    for at in set(below[crate]) & set(found):
+    for at in set(crates()[crate]) & set(found):
         output("rt", "lib", cwd=f"{folder}/crates/{at}")
     return f"{folder}/crates/{name}"
 
