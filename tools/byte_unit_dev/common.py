@@ -5,7 +5,6 @@ import os
 import shutil
 import signal
 import subprocess
-import sys
 
 ROOT = os.path.dirname(os.path.dirname(os.path.dirname(os.path.realpath(__file__))))
 
@@ -97,9 +96,3 @@ def report(findings, fine):
     """Prints each finding, or what is fine if there is none. Returns the exit status."""
     print("\n".join(findings) if findings else fine, flush=True)
     return 1 if findings else 0
-
-
-def fail(message):
-    """Prints a message to standard error, and returns the exit status 1."""
-    print(message, file=sys.stderr, flush=True)
-    return 1

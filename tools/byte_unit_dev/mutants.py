@@ -5,7 +5,8 @@
     tools/dev mutants put K/N                       copies a part of them to must-fail/, where `rt ci` tries them
     tools/dev mutants remove                        deletes these copies, which git ignores
 
-A mutant is a file crates/CRATE/must-fail/TITLE.edit or a title of crates/CRATE/mutants.edits. Its title is
+A mutant is a file crates/CRATE/must-fail/TITLE.edit, or a line `== TITLE` of the catalogue crates/CRATE/mutants.edits,
+which begins with comments, and the lines of an edit for `rt must-fail` after it. Its title is
 `module.function.what`: the function whose contract rejects it, and what it does wrong. `module` is the file of the
 function or a folder that this file is in; of several such functions the one whose file has the shortest path is meant.
 A function is public if it has `pub` and a contract and the crate exports it: it is `extern "C"`, or in a `pub mod`, or
@@ -23,21 +24,33 @@ import re
 import signal
 import subprocess
 import tempfile
+import zlib
 
-from .catalogue import part_of, split
-from .common import copy_to, one_of, path, read, report, write
+from .common import Failure, copy_to, one_of, path, read, report, write
+from .source import files, source
 
 EXAMPLES = re.compile(r"example_|byte_unit_(uses|tests)$")
 # What the names of the mutants begin with that `put` copies.
 BY_TURN = "by-turn."
-# A signature up to the line that begins its body.
-FUNCTION = re.compile(r'^ *pub (extern "C" )?fn (\w+)(.*?)(?:^ *\{\}?| \{)$', re.M | re.S)
+FUNCTION = re.compile(r'^ *pub (extern     )?fn (\w+)', re.M)
 IMPL = re.compile(r"^impl(?:<[^>]*>)? (\w+)", re.M)
 
 
 def catalogue_of(crate):
-    name = f"crates/{crate}/mutants.edits"
-    return split(name, read(name)) if os.path.exists(path(name)) else {}
+    """Returns the mutants of a crate's catalogue by title, in order."""
+    name, found, title = f"crates/{crate}/mutants.edits", {}, None
+    text = read(name) if os.path.exists(path(name)) else ""
+    for number, line in enumerate(text.splitlines(), 1):
+        if line.startswith("== "):
+            title = line[3:]
+            if title in found or not title or "/" in title:
+                raise Failure(f"{name}:{number}: this title is a duplicate or not a file name: {title}")
+            found[title] = ""
+        elif title is not None and line:
+            found[title] += line + "\n"
+        elif line and not line.startswith("#"):
+            raise Failure(f"{name}:{number}: only comments may come before the first title: {line}")
+    return found
 
 
 def titles_of(crate):
@@ -48,18 +61,18 @@ def titles_of(crate):
 
 def public_functions(crate):
     """Returns the modules of the file and the name of each public function with a contract."""
-    found, source = [], path("crates", crate, "src")
-    root = read(f"{source}/lib.rt") if os.path.exists(f"{source}/lib.rt") else None
+    found, top = [], f"crates/{crate}/src"
+    root = read(f"{top}/lib.rt") if os.path.exists(path(top, "lib.rt")) else None
     modules = set(re.findall(r"^pub mod (\w+);", root or "", re.M))
     names = set(re.findall(r"\w+", " ".join(re.findall(r"^pub use (.*?);", root or "", re.M | re.S))))
-    for file in sorted(glob.glob("**/*.rt", root_dir=source, recursive=True)):
-        modules_of_file, text = file.removesuffix(".rt").split("/"), read(f"{source}/{file}")
-        if {"tests", "laws"} & set(modules_of_file) or text.startswith("// Rendered from "):
+    for file in map(source, files(top, ".rt")):
+        modules_of_file = file.name.removeprefix(f"{top}/").removesuffix(".rt").split("/")
+        if {"tests", "laws"} & set(modules_of_file) or file.text.startswith("// Rendered from "):
             continue
-        for match in FUNCTION.finditer(text):
-            impls = IMPL.findall(text[:match.start()]) if match[0].startswith("    ") else []
+        for match in FUNCTION.finditer(file.code):
+            impls = IMPL.findall(file.text[:match.start()]) if match[0].startswith("    ") else []
             exported = root is None or match[1] or modules_of_file[0] in modules or {match[2], *impls[-1:]} & names
-            if exported and re.search(r"^ *ensures", match[3], re.M):
+            if exported and any(clause.startswith("ensures") for clause in file.function(match.start())[1]):
                 found.append((modules_of_file, match[2]))
     return found
 
@@ -85,7 +98,7 @@ def listed(crates):
 def put(crate, part, folder, prefix=""):
     """Writes the mutants of a part of a crate's catalogue to a folder, and returns the names of their files."""
     chosen = {f"{prefix}{title}.edit": text for title, text in catalogue_of(crate).items()
-              if part_of(crate, title, part[1]) == part[0]}
+              if zlib.crc32(f"{crate}/{title}".encode()) % part[1] + 1 == part[0]}  # fmt: skip
     for name, text in chosen.items():
         write(os.path.join(folder, name), text)
     return list(chosen)

@@ -3,8 +3,8 @@
 import os
 import re
 
-from ..catalogue import joined, split
 from ..common import Failure, files, read
+from ..mutants import catalogue_of
 
 SOURCE, TARGET, CATALOGUE, MOST_COLUMNS = "crates/byte_unit_byte", "crates/byte_unit_bit", "mutants.edits", 120
 SERDE = re.compile(r"crates/byte_unit_serde/(?:src|proofs)/(byte|optional_byte|byte_vec)[/.].*")
@@ -141,7 +141,8 @@ def crate(name):
     texts = {found.removeprefix(f"{name}/"): read(found) for found in files() if found.startswith(f"{name}/")}
     mutants = {os.path.basename(found)[:-len(".edit")]: texts.pop(found) for found in [*texts]
                if re.fullmatch(r"must-fail/[^/]*\.edit", found)}
-    more = split(f"{name}/{CATALOGUE}", texts.pop(CATALOGUE, ""))
+    texts.pop(CATALOGUE, None)
+    more = catalogue_of(name.removeprefix("crates/"))
     wrong = [found for found in texts if not found.endswith(".rt")] + [title for title in mutants if title in more]
     if wrong:
         raise Failure(f"{name}: neither a source file nor a mutant, or a second mutant of this title: {wrong[0]}")
@@ -187,7 +188,8 @@ def made():
     unknown = [name for name in [*DIFFERENCES, *WITHOUT] if name not in {**texts, **mutants}]
     if unknown or (len(made_texts), len(made_mutants)) != (len(texts), len(left)):
         raise Failure(f"{SOURCE}: two are rendered by one name, or bits.py has rows for what is not there: {unknown}")
-    catalogue = joined(head("#", f"the mutants of {SOURCE}"), made_mutants)
+    catalogue = head("#", f"the mutants of {SOURCE}") + "".join(
+        f"\n== {title}\n{text}" for title, text in made_mutants.items())  # fmt: skip
     there = [name.removeprefix(f"{TARGET}/") for name in files() if name.startswith(f"{TARGET}/")]
     for name in sorted({*made_texts, CATALOGUE, *there}):
         yield f"{TARGET}/{name}", {**made_texts, CATALOGUE: catalogue}.get(name, "")
