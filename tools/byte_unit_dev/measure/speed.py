@@ -89,7 +89,7 @@ def program(given):
             columns["Build before"] = [os.path.abspath(given.before)]
         if given.original:
             crate = build.original(given.original, work)
-            columns["Original"] = [build.built("tools/byte_unit_dev/original/lines.rs", crate)]
+            columns["Original"] = [build.built("bindings/rust/checks/lines.rs", crate)]
         rows = [(title, line, [*columns.values(), NUMFMT if accepts else None]) for title, line, accepts in PROGRAM]
         return {"program": measured(["Input", *columns, "`numfmt`"], rows, given)}
 

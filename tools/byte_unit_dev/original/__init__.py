@@ -9,16 +9,17 @@ The status is 1 if a result of the library is not that of the model, if no rule 
 results of the library with another digit is not found to be wrong, or if docs/DIFFERENCES.md lacks the words of a rule.
 """
 
+import importlib
 import random
 import re
+import sys
 import tempfile
 
 from ..common import output, read, report
 from . import build, rules
-from .library import Library
 from .requests import requests
 
-PROGRAM, KINDS, CHANGED = "tools/byte_unit_dev/original/compare.rs", ("byte", "bit"), 20_000
+PROGRAM, KINDS, CHANGED = "bindings/rust/checks/compare.rs", ("byte", "bit"), 20_000
 
 
 def arguments(parser):
@@ -52,6 +53,47 @@ def calls_of(words):
             yield "appropriate units", rules.appropriate, (size, kind, unit_type)
         yield "formatted sizes", rules.formatted, (size, kind, spec)
         yield "formatted adjusted sizes", rules.adjusted, (size, kind, unit, spec)
+
+
+class Library:
+    """The C library, through the extension module of the Python package, which is C: calls by their names in rules."""
+
+    def __init__(self, folder, work):
+        sys.path.insert(0, build.python(folder, work)["PYTHONPATH"])
+        self.native = importlib.import_module("byte_unit._native")
+
+    def parsed(self, text, kind, ignore_case):
+        size = self.native.parse(text, kind == "bit", ignore_case)
+        return f"! {self.native.explain(text, kind == 'bit', ignore_case)}" if size is None else str(size)
+
+    def parsed_unit(self, text, kind, ignore_case):
+        found, wrong = (function(text, kind == "bit", ignore_case)
+                        for function in (self.native.parse_unit, self.native.explain_unit))
+        return f"! {wrong}" if wrong else self.native.UNITS[found]
+
+    def in_unit(self, size, kind, either, precision):
+        if precision is None:
+            count, unit = self.native.exact_unit(size, kind == "bit", either)
+        else:
+            (count, fraction), unit = self.native.recoverable_unit(size, kind == "bit", either, precision)
+            count = rules.trimmed(f"{count}.{fraction:028}")
+        return f"{count} {self.native.UNITS[unit]}"
+
+    def appropriate(self, size, kind, unit_type):
+        types = (self.native.BINARY, self.native.DECIMAL, self.native.BOTH)
+        return self.native.UNITS[self.native.appropriate_unit(size, kind == "bit", types[unit_type])]
+
+    def formatted(self, size, kind, spec, unit=None):
+        unit = self.native.UNITS.index(unit) if unit else self.native.NO_UNIT
+        parts = (spec.alternate, spec.precision, spec.width or None, spec.sign, spec.align)
+        return self.native.text_of(size, kind == "bit", unit, *parts)
+
+    def adjusted(self, size, kind, unit, spec):
+        return self.formatted(size, kind, spec, unit)
+
+    def of_unit(self, count, unit, kind):
+        size = self.native.from_unit(count, self.native.UNITS.index(unit), kind == "bit")
+        return "-" if size is None else str(size)
 
 
 def by_program(program, lines):

@@ -1,4 +1,4 @@
-"""Random requests, in the form that compare.rs describes, many of them near a limit or a rounding."""
+"""Random requests, in the form of bindings/rust/checks/compare.rs, many of them near a limit or a rounding."""
 
 from ..model.exact import BITS, LETTERS, UNITS
 from ..model.lines import some_line
