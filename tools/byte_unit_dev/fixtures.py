@@ -1,5 +1,6 @@
 """What tests share: fixtures of what is built once, comparisons with the exact model, and runs of programs."""
 
+import contextlib
 import functools
 import os
 import random
@@ -43,6 +44,33 @@ def ended(*words, **how):
     how = {"stdout": subprocess.PIPE, "stderr": subprocess.PIPE, "timeout": 600, **how}
     got = subprocess.run(words, check=False, **how)
     return got.returncode, got.stdout, got.stderr
+
+
+def redirected(how, *words, data=b"1 KB\n"):
+    """Returns the same of a program of which the shell redirects a stream, such as `> /dev/full`."""
+    return ended("sh", "-c", f'exec "$0" "$@" {how}', *words, input=data)
+
+
+@pytest.fixture
+def start(program):
+    """Returns what starts the program with words and streams; it is ended after the test."""
+    with contextlib.ExitStack() as stack:
+        def started(*words, **streams):
+            streams = {"stdout": subprocess.PIPE, "stderr": subprocess.PIPE, **streams}
+            child = subprocess.Popen([program, *words], **streams)
+            stack.callback(child.kill)
+            return child
+
+        yield started
+
+
+@pytest.fixture
+def closed():
+    """The end for writing of a pipe that nothing reads."""
+    reader, writer = os.pipe()
+    os.close(reader)
+    with open(writer, "wb") as file:
+        yield file
 
 
 @pytest.fixture(scope="session")

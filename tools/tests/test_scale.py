@@ -1,22 +1,20 @@
 """byte_unit_lines: the output for lines of every kind, at scale and however a pipe cuts them, and each way to end."""
 
-import array
-import fcntl
+import contextlib
 import hashlib
 import os
 import random
 import resource
 import subprocess
-import termios
-import time
 from functools import partial
 from itertools import chain, repeat
 
 import pytest
 
-from byte_unit_dev.fixtures import ended
+from byte_unit_dev.fixtures import ended, redirected
 from byte_unit_dev.model.exact import output_for
 from byte_unit_dev.model.lines import some_line
+from byte_unit_dev.needs import need
 
 CRATE = "byte_unit_lines"
 # Lines that differ as bytes and as bits, and two that are not UTF-8.
@@ -24,7 +22,7 @@ INPUT = b"1KiB\n\xff\n1\xff\n9 b\n"
 IN_BYTES = b"1024 = 1 KiB\nnot text\nnot text\n2 = 2 B\n"
 IN_BITS = b"8192 = 8 Kib\nnot text\nnot text\n9 = 9 b\n"
 USAGE = (2, b"", b"usage: byte_unit_lines [byte|bit]\n")
-NO_MEMORY = b"out of memory\n"
+READ_FAILED, WRITE_FAILED, NO_MEMORY = b"read failed\n", b"write failed\n", b"out of memory\n"
 
 
 @pytest.fixture(scope="module")
@@ -49,41 +47,32 @@ def test_wrong_words(program, words):
     assert ended(program, *words, input=INPUT) == USAGE
 
 
-def test_full_disk(program):
-    with open("/dev/full", "wb") as full:
-        assert ended(program, "bits", stdin=subprocess.DEVNULL, stderr=full) == (2, b"", None)
-        assert ended(program, input=b"1 KB\n", stdout=full) == (1, None, b"write failed\n")
+@pytest.mark.parametrize("words, how, wanted", [
+    (["bits"], "2> /dev/full", (2, b"", b"")), ([], "> /dev/full", (1, b"", WRITE_FAILED)),
+    ([], "< /", (1, b"", READ_FAILED))], ids=["usage", "output", "input is a folder"])
+def test_stream_that_fails(program, words, how, wanted):
+    assert redirected(how, program, *words) == wanted
 
 
-def test_input_is_a_folder(program):
-    folder = os.open("/", os.O_RDONLY)
-    assert ended(program, stdin=folder) == (1, b"", b"read failed\n")
-    os.close(folder)
-
-
-def test_closed_output(program):
-    closed_end, open_end = os.pipe()
-    os.close(closed_end)
-    assert ended(program, input=b"1 KB\n", stdout=open_end) == (1, None, b"write failed\n")
-    os.close(open_end)
+def test_closed_output(program, closed):
+    assert ended(program, input=b"1 KB\n", stdout=closed) == (1, None, WRITE_FAILED)
 
 
 def test_terminal_closed_within_the_second_line(program):
     terminal, writer = os.openpty()
     os.write(writer, b"1 KB\n2")
     os.close(writer)
-    assert ended(program, stdin=terminal) == (1, b"1000 = 1 KB\n", b"read failed\n")
+    assert ended(program, stdin=terminal) == (1, b"1000 = 1 KB\n", READ_FAILED)
     os.close(terminal)
 
 
-def test_pipe_closed_after_the_first_line(program):
+def test_pipe_closed_after_the_first_line(start):
     with subprocess.Popen(["yes", "1 KB"], stdout=subprocess.PIPE) as lines:
-        child = subprocess.Popen([program], stdin=lines.stdout, stdout=subprocess.PIPE, stderr=subprocess.PIPE)
+        child = start(stdin=lines.stdout)
         lines.stdout.close()
         written = child.stdout.readline()
         child.stdout.close()
-        messages = child.stderr.read()
-    assert (child.wait(), written, messages) == (1, b"1000 = 1 KB\n", b"write failed\n")
+        assert (written, child.stderr.read(), child.wait()) == (b"1000 = 1 KB\n", WRITE_FAILED, 1)
 
 
 def test_no_memory_for_the_arguments(program):
@@ -107,30 +96,17 @@ def test_output_is_that_of_the_model(program, pool, kind):
     assert not differing and written.count(b"\n") == len(pool)
 
 
-def peak_memory(child):
-    """Returns the peak resident memory of a program in KiB, once it waits for more input, or 0 if it has ended."""
-    waiting, state = array.array("i", [1]), ""
-    while state != "Z" and (waiting[0] or state != "S"):
-        time.sleep(0.01)
-        fcntl.ioctl(child.stdin, termios.FIONREAD, waiting)
-        with open(f"/proc/{child.pid}/stat", encoding="ascii") as stat:
-            state = stat.read().rsplit(")", 1)[1].split()[0]
-    with open(f"/proc/{child.pid}/status", encoding="ascii") as status:
-        return next((int(line.split()[1]) for line in status if line.startswith("VmHWM")), 0)
-
-
 def feed(program, chunks, target):
     """Feeds chunks to the program through a pipe. Returns its exit status and its peak memory in KiB."""
+    need("/usr/bin/time")
+    words = ["/usr/bin/time", "-q", "-f", "%M", program]
     with open(target, "wb") as out:
-        child, memory = subprocess.Popen([program], stdin=subprocess.PIPE, stdout=out, bufsize=0), 0
-        try:
-            for chunk in chunks:
-                child.stdin.write(chunk)
-            memory = peak_memory(child)
-        except BrokenPipeError:
-            pass  # The program has ended before its input: its status is the caller's to check.
-        child.stdin.close()
-        return child.wait(), memory
+        child = subprocess.Popen(words, stdin=subprocess.PIPE, stdout=out, stderr=subprocess.PIPE, bufsize=0)
+    with contextlib.suppress(BrokenPipeError):  # The program may end before its input.
+        for chunk in chunks:
+            child.stdin.write(chunk)
+    memory = int(child.communicate()[1])
+    return child.returncode, memory
 
 
 @pytest.mark.parametrize("lines", [1_000_000, pytest.param(10_000_000, marks=pytest.mark.whole)])
@@ -144,10 +120,9 @@ def test_many_lines(program, pool, lines, tmp_path):
                 file.writelines(b"\n".join(rng.choices(pool, k=10_000)) + b"\n" for _ in range(count // 10_000))
         with open(source, "rb", buffering=0) as file:
             status, memory = feed(program, iter(lambda: file.read(size()), b""), target)
-        with open(target, "rb") as file:
-            assert status == 0 and sum(block.count(b"\n") for block in iter(lambda: file.read(1 << 20), b"")) == count
-            file.seek(0)
-            digests.add(hashlib.file_digest(file, "sha256").hexdigest())
+        written = target.read_bytes()
+        assert status == 0 and written.count(b"\n") == count
+        digests.add(hashlib.sha256(written).hexdigest())
         held.append(memory)
     assert len(digests) == 2 and held[1] < held[0] + 512
 
