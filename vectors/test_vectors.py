@@ -5,9 +5,8 @@ import re
 
 import pytest
 from byte_unit_dev.common import output, path, read
-from byte_unit_dev.fixtures import ended, environment
+from byte_unit_dev.fixtures import compiled, ended, environment
 from byte_unit_dev.model.exact import Rejected, form, size_of
-from byte_unit_dev.needs import need
 
 # How many rows each runner has, so that no call is left out unseen.
 BY_MODEL, BY_BINDING = 613, 1141
@@ -71,10 +70,8 @@ def test_exact_model(rows):
 
 
 def test_c(rows, library, tmp_path):
-    need("cc")
     words = ["-std=gnu11", "-O2", "-Wall", "-Wextra", "-I", library, path("bindings/c/checks/vectors.c")]
-    assert not output("cc", *words, f"{library}/libbyte_unit.a", "-o", tmp_path / "vectors")
-    compare_program(rows, [tmp_path / "vectors"])
+    compare_program(rows, [compiled("cc", tmp_path / "vectors", *words, f"{library}/libbyte_unit.a")])
 
 
 def test_rust(rows, cargo, rust_package):

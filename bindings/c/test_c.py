@@ -1,10 +1,10 @@
 """Tests the C library from C and C++, and compiles the code in the comments of its header."""
 
-import os
 import re
 
 import pytest
 from byte_unit_dev.common import output, path, read, write
+from byte_unit_dev.fixtures import compiled
 from byte_unit_dev.needs import need
 
 WARNINGS = ["-Wall", "-Wextra", "-Wpedantic", "-Wconversion", "-Werror"]
@@ -18,43 +18,39 @@ BUILDS = [(name, compiler, standard) for name, left_out in LEFT_OUT.items()
 
 
 @pytest.fixture
-def compiled(library, tmp_path):
-    """Compiles a program, named from this folder or by its absolute path, without a warning, and returns its path."""
+def program_in_c(library, tmp_path):
+    """Compiles a program, named from this folder or by its absolute path, and returns its path."""
 
     def build(source, compiler="cc", standard="c11"):
-        need(compiler, *["g++"] * (compiler == "clang++"))
-        program = tmp_path / os.path.basename(source)[:-2]
         # In C++, unlike in C, -Wextra warns of a field that an initializer leaves out.
         language = ["-x", "c++", "-Wno-missing-field-initializers"] if standard.startswith("c++") else []
         words = [f"-std={standard}", "-O2", *WARNINGS, "-I", library, *language, path("bindings/c", source)]
-        said = output(compiler, *words, "-x", "none", f"{library}/libbyte_unit.a", "-o", program)
-        assert not said
-        return program
+        return compiled(compiler, tmp_path / "program", *words, "-x", "none", f"{library}/libbyte_unit.a")
 
     return build
 
 
 @pytest.mark.parametrize("name, compiler, standard", BUILDS)
-def test_program(compiled, comments, name, compiler, standard):
+def test_program(program_in_c, comments, name, compiler, standard):
     """Each program compares its results with what is written in it."""
-    output(compiled(SOURCES.get(name, comments), compiler, standard))
+    output(program_in_c(SOURCES.get(name, comments), compiler, standard))
 
 
 @pytest.mark.parametrize("name", SOURCES)
 @pytest.mark.parametrize("processor", ["qemu64", "kvm64", "core2duo"])
-def test_processor_without_sse4(compiled, name, processor):
+def test_processor_without_sse4(program_in_c, name, processor):
     need("qemu-x86_64")
-    output("qemu-x86_64", "-cpu", processor, compiled(SOURCES[name]))
+    output("qemu-x86_64", "-cpu", processor, program_in_c(SOURCES[name]))
 
 
-def test_memory_that_ends_at_an_unmapped_page(compiled):
-    output(compiled("checks/edges.c"))
+def test_memory_that_ends_at_an_unmapped_page(program_in_c):
+    output(program_in_c("checks/edges.c"))
 
 
 @pytest.mark.parametrize("kind", ["byte", "bit"])
 @pytest.mark.parametrize("other", [None, "byte_unit_lines"], ids=["model", "program"])
-def test_lines(compiled, check_lines, program_of, kind, other):
-    check_lines([compiled("checks/lines.c")], kind, other and program_of(other))
+def test_lines(program_in_c, check_lines, program_of, kind, other):
+    check_lines([program_in_c("checks/lines.c")], kind, other and program_of(other))
 
 
 # Each format of Rust that the comments of the header name: its text of 1536 bytes, and of 1537 bytes in KiB.

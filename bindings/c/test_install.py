@@ -6,6 +6,7 @@ import shutil
 
 import pytest
 from byte_unit_dev.common import call, output, path, read
+from byte_unit_dev.fixtures import compiled
 from byte_unit_dev.needs import is_there, need
 
 INSTALL = [path("tools/dev"), "install"]
@@ -50,13 +51,13 @@ def prefix(library, tmp_path_factory):
 def test_program(prefix, tmp_path, cc, form, how):
     """The program compiles without a warning with the words of pkg-config alone, links, and runs in another folder."""
     by_lld = ["-fuse-ld=lld"] * ("clang" in cc and "-flto" in how)
-    need(cc, *["g++"] * (cc == "clang++"), *["ld.lld"] * len(by_lld))
+    need(*["ld.lld"] * len(by_lld))
     (tmp_path / "program.c").write_text(example())
     links = {"shared": flags(prefix, "--libs"), "static": flags(prefix, "--libs", "--static"),
              "archive": [prefix / "lib/libbyte_unit.a"]}
     as_cpp = ["-Wno-missing-field-initializers", "-x", "c++"] * ("++" in cc)
-    words = [cc, *WARNINGS, *how.split(), *by_lld, *flags(prefix, "--cflags"), *as_cpp, "program.c", "-x", "none"]
-    assert output(*words, *links[form], "-o", "program", cwd=tmp_path) == ""
+    words = [*WARNINGS, *how.split(), *by_lld, *flags(prefix, "--cflags"), *as_cpp, "program.c", "-x", "none"]
+    compiled(cc, "program", *words, *links[form], cwd=tmp_path)
     here = {"env": {**os.environ, "LD_LIBRARY_PATH": str(prefix / "lib")}, "cwd": "/"}
     good, bad = call(tmp_path / "program", **here), call(tmp_path / "program", "1 x", **here)
     assert (good.stdout, good.returncode, bad.returncode) == ("1.5 KiB\n", 0, 1)
@@ -86,8 +87,9 @@ def test_version(prefix, tmp_path):
     wrong = "byte_unit_version() != BYTE_UNIT_VERSION || strcmp(BYTE_UNIT_VERSION_STRING, argv[1])"
     head = "#include <byte_unit.h>\n#include <string.h>\nint main(int argc, char **argv)"
     (tmp_path / "version.c").write_text(f"{head} {{ return argc != 2 || {wrong}; }}\n")
-    output("gcc", "version.c", "-static", *flags(prefix, "--cflags", "--libs", "--static"), cwd=tmp_path)
-    output(tmp_path / "a.out", *flags(prefix, "--modversion"))
+    links = flags(prefix, "--cflags", "--libs", "--static")
+    output(compiled("gcc", tmp_path / "version", "version.c", "-static", *links, cwd=tmp_path),
+           *flags(prefix, "--modversion"))  # fmt: skip
 
 
 def test_manual_page(prefix):

@@ -7,6 +7,7 @@ from itertools import islice
 
 import pytest
 from byte_unit_dev.common import call, output, path, read
+from byte_unit_dev.fixtures import compiled
 from byte_unit_dev.model.exact import UNITS, Rejected, form, size_of, value_of
 from byte_unit_dev.model.lines import some_line
 from byte_unit_dev.needs import need
@@ -16,40 +17,37 @@ SANITIZED = ["-g", "-fsanitize=address,undefined", "-fno-sanitize-recover=all"]
 GREATEST = 2**63 - 1
 
 
-def compiled(compiler, library, out, *flags):
-    """Compiles the extension in C99, without a warning."""
-    need(compiler, "sqlite3ext.h")
+def extension(compiler, library, folder, *flags):
+    """Compiles the extension in C99."""
+    need("sqlite3ext.h")
     words = ["-std=c99", "-shared", "-fPIC", "-fvisibility=hidden", *WARNINGS, *flags, "-I", library]
     links = [f"{library}/libbyte_unit.a", "-Wl,--exclude-libs,ALL", "-Wl,-z,defs"]
-    output(compiler, *words, path("bindings/sqlite/byte_unit_sqlite.c"), *links, "-o", out)
-    return out
+    return compiled(compiler, folder / "byte_unit.so", *words, path("bindings/sqlite/byte_unit_sqlite.c"), *links)
 
 
 def test_clang_has_no_warning(library, tmp_path):
-    compiled("clang", library, tmp_path / "byte_unit.so", "-O2")
+    extension("clang", library, tmp_path, "-O2")
 
 
 def test_allocations_that_fail_and_zero_bytes(library, tmp_path):
     """Calls checks/checks.c, in which one allocation of SQLite after another fails, under ASan and UBSan."""
-    extension, program = compiled("gcc", library, tmp_path / "byte_unit.so", *SANITIZED), tmp_path / "checks"
-    source = path("bindings/sqlite/checks/checks.c")
-    output("gcc", "-std=c99", *WARNINGS, *SANITIZED, source, "-lsqlite3", "-o", program)
-    output(program, extension)
+    words = ["-std=c99", *WARNINGS, *SANITIZED, path("bindings/sqlite/checks/checks.c"), "-lsqlite3"]
+    output(compiled("gcc", tmp_path / "checks", *words), extension("gcc", library, tmp_path, *SANITIZED))
 
 
 @pytest.fixture(scope="module")
 def sql(library, tmp_path_factory):
     """Runs statements by the program sqlite3. Returns the lines that it prints, and its errors by line of the input."""
-    need("gcc", "sqlite3")
-    extension = str(compiled("gcc", library, tmp_path_factory.mktemp("sqlite") / "byte_unit.so", "-O2"))[:-3]
+    need("sqlite3")
+    loaded = extension("gcc", library, tmp_path_factory.mktemp("sqlite"), "-O2").with_suffix("")
 
     def run(script):
-        words = ["sqlite3", "-batch", "-cmd", f'.load "{extension}"', ":memory:"]
+        words = ["sqlite3", "-batch", "-cmd", f'.load "{loaded}"', ":memory:"]
         got = call(*words, input="\n".join(script) + "\n", stderr=-1, errors="surrogateescape")
         errors = re.findall(r"^.*?near line (\d+): (.*?)(?: \(\d+\))?$", got.stderr, re.M)
         return got.stdout.split("\n")[:-1], {int(line): error for line, error in errors}
 
-    run.extension = extension
+    run.extension = str(loaded)
     return run
 
 

@@ -39,6 +39,14 @@ def environment(**variables):
     return {name: str(value) for name, value in here.items() if value is not None}
 
 
+def compiled(compiler, out, *words, **more):
+    """Compiles without a warning, and returns the path of what is made."""
+    # clang++ needs the library of g++.
+    need(compiler, *["g++"] * (compiler == "clang++"))
+    assert output(compiler, *words, "-o", out, **more) == ""
+    return out
+
+
 def ended(*words, **how):
     """Runs a program. Returns its exit status, and the bytes of its standard output and standard error."""
     how = {"stdout": subprocess.PIPE, "stderr": subprocess.PIPE, "timeout": 600, **how}

@@ -11,9 +11,8 @@ from itertools import count
 
 import pytest
 
-from byte_unit_dev.common import ROOT, call, copy_to, output, path, read, write
-from byte_unit_dev.fixtures import ended
-from byte_unit_dev.needs import need
+from byte_unit_dev.common import ROOT, call, copy_to, path, read, write
+from byte_unit_dev.fixtures import compiled, ended
 
 LANES = int(os.environ.get("RT_JOBS") or min(4, os.cpu_count()))
 LINES = "1.5 KiB\n\n1Kbi\nx\n1YB"
@@ -102,10 +101,8 @@ def test_all_tests():
 @pytest.fixture(scope="module")
 def shim(tmp_path_factory):
     """A library before libc whose allocations fail."""
-    need("cc")
-    library = str(tmp_path_factory.mktemp("shim") / "shim.so")
-    output("cc", "-O1", "-shared", "-fPIC", "-fno-builtin", "-o", library, path("tools/tests/failing_allocations.c"))
-    return library
+    words = ["-O1", "-shared", "-fPIC", "-fno-builtin", path("tools/tests/failing_allocations.c")]
+    return str(compiled("cc", tmp_path_factory.mktemp("shim") / "shim.so", *words))
 
 
 def failing_call(program, shim, words, data, number, on):
