@@ -155,25 +155,7 @@ def test_statements(sql, name):
     assert rows and wrong_of(sql, rows) == []
 
 
-FROM_PYTHON = """import sqlite3, sys
-db = sqlite3.connect(":memory:")
-db.enable_load_extension(True)
-db.load_extension(sys.argv[1])
-assert db.execute("SELECT size_parse(?), size_text(?)", ("1.5 KiB", 1536)).fetchone() == (1536, "1.5 KiB")
-assert db.execute("SELECT size_explain(?) IS NULL", ("1\\0",)).fetchone() == (0,)
-assert db.execute("SELECT size_explain(?)", (b"12",)).fetchone()[0].startswith("a BLOB of length 2 is not a size")
-try:
-    db.execute("SELECT size_parse(?)", ("12 Kiq",))
-    sys.exit("no error")
-except sqlite3.OperationalError as error:
-    assert str(error).startswith("'12 Kiq' is not a size: the character 'q' is incorrect"), error
-db.execute("CREATE TABLE t(q TEXT COLLATE SIZE)")
-db.executemany("INSERT INTO t VALUES (?)", [("1 KiB",), ("x",), ("1000",), ("1 KB",)])
-assert [row[0] for row in db.execute("SELECT DISTINCT q FROM t ORDER BY q")] == ["1000", "1 KiB", "x"]
-"""
-
-
 def test_sqlite3_of_python(sql):
     if not hasattr(sqlite3.Connection, "enable_load_extension"):
         pytest.skip("a Python whose sqlite3 loads extensions is missing (Debian: python3)")
-    output(sys.executable, "-c", FROM_PYTHON, sql.extension)
+    output(sys.executable, path("bindings/sqlite/checks/from_python.py"), sql.extension)

@@ -8,7 +8,7 @@ import os
 import re
 import tempfile
 
-from ..common import output, path
+from ..common import output, path, read
 from ..needs import DEBIAN_PYTHON, PYTHON_PACKAGE, is_there
 from ..original import build
 from .speed import one_processor
@@ -21,18 +21,6 @@ TABLES = {
     "sqlite": ("SQLite, a million rows", ["Seconds"], ".2f"),
 }
 FIGURE = re.compile(r"^(?:(.*?): )?(.+?)(?: of (?!.* of )(.+?))? +([0-9]+(?:\.[0-9]+)?)$", re.M)
-MILLION = ("CREATE TABLE big AS WITH RECURSIVE i(k) AS (SELECT 0 UNION ALL SELECT k + 1 FROM i WHERE k < 999999) "
-           "SELECT printf('%d.%03d MB', k * 7919 % 1000000 / 1000, k * 7919 % 1000) AS t, k AS n FROM i;")
-STATEMENTS = {
-    "`sum(length(t))`, to compare": "SELECT sum(length(t)) FROM big;",
-    "`sum(size_parse(t))`": "SELECT sum(size_parse(t)) FROM big;",
-    "`size_explain(t) IS NULL`": "SELECT count(*) FROM big WHERE size_explain(t) IS NULL;",
-    "`count(size_text(n))`": "SELECT count(size_text(n)) FROM big;",
-    "`CREATE INDEX`": "CREATE INDEX by_text ON big(t);",
-    "`CREATE INDEX`, `COLLATE SIZE`": "CREATE INDEX by_size ON big(t COLLATE SIZE);",
-    "`ORDER BY`": "CREATE TABLE by_t AS SELECT n FROM big ORDER BY +t;",
-    "`ORDER BY`, `COLLATE SIZE`": "CREATE TABLE by_s AS SELECT n FROM big ORDER BY +t COLLATE SIZE;",
-}
 
 
 def by_c(name, library, work):
@@ -53,11 +41,12 @@ def by_python(library, work):
 
 def by_sqlite(library):
     words = ["sqlite3", "-batch", "-cmd", f'.load "{library}/sqlite3/byte_unit"', ":memory:"]
-    script = "\n".join([MILLION, ".timer on", *STATEMENTS.values(), ""])
+    script = read("bindings/sqlite/checks/speed.sql")
 
     def figures():
         times = re.findall(r"Run Time: real \S+ user (\S+) sys (\S+)", output(*words, input=script))
-        return "".join(f"{name} {float(user) + float(system)}\n" for name, (user, system) in zip(STATEMENTS, times))
+        titles = re.findall(r"; -- (.*)", script)
+        return "".join(f"{name} {float(user) + float(system)}\n" for name, (user, system) in zip(titles, times))
 
     return figures
 

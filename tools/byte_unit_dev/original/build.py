@@ -5,18 +5,11 @@ import os
 import re
 import shutil
 
-from ..common import Failure, output, path, write
+from ..common import Failure, output, path
 from ..needs import DEBIAN_PYTHON, DEBIAN_RUST, is_there
 
 CRATES = ("rust_decimal", "utf8-width", "serde", "serde_json", "toml")
 NEEDS = ["cargo", *(f"{DEBIAN_RUST}/{name}-*" for name in CRATES)]
-# The manifest of the crate, without the features that nothing here calls.
-CRATE = """package = { name = "byte-unit", version = "5.2.6", edition = "2021" }
-features = { std = ["rust_decimal/std"], byte = ["rust_decimal"], bit = ["rust_decimal"], u128 = [] }
-[dependencies]
-rust_decimal = { version = "1", default-features = false, optional = true }
-utf8-width = "0.1"
-"""
 OPTIONS = ["--release", "--offline", "--quiet", "--no-default-features", "--features", "std,byte,bit,u128",
            "--config", 'source.crates-io.replace-with="debian"', "--config", f'source.debian.directory="{DEBIAN_RUST}"']
 PROFILE = {"CARGO_PROFILE_RELEASE_LTO": "fat", "CARGO_PROFILE_RELEASE_CODEGEN_UNITS": "1",
@@ -50,7 +43,7 @@ def original(given, work):
             shutil.copy(os.path.join(given, name), os.path.join(crate, "src", found[1]))
     if not os.path.isfile(os.path.join(crate, "src/lib.rs")):
         raise Failure(f"{given} has no src/lib.rs of the crate")
-    write(os.path.join(crate, "Cargo.toml"), CRATE)
+    shutil.copy(path("bindings/rust/checks/original.toml"), os.path.join(crate, "Cargo.toml"))
     return crate
 
 
