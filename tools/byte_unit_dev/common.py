@@ -1,6 +1,7 @@
 """What all commands share: the repository's files, calls of other programs, and the way to report."""
 
 import argparse
+import contextlib
 import os
 import shutil
 import signal
@@ -49,6 +50,18 @@ def call(*words, **more):
     """Runs a program. Returns its status and its output as text, with its errors unless `more` says otherwise."""
     how = {"stdout": subprocess.PIPE, "stderr": subprocess.STDOUT, "encoding": "utf-8", "errors": "replace"}
     return subprocess.run([str(word) for word in words], check=False, **{**how, **more})
+
+
+@contextlib.contextmanager
+def session(*words, cwd):
+    """Starts a program, which ends with this one, and whose output and errors are to be read."""
+    how = {"stdin": subprocess.DEVNULL, "stdout": subprocess.PIPE, "stderr": subprocess.STDOUT}
+    with subprocess.Popen(words, cwd=cwd, start_new_session=True, **how) as process:
+        try:
+            yield process
+        finally:
+            if process.poll() is None:
+                os.killpg(process.pid, signal.SIGTERM)
 
 
 def output(*words, **more):

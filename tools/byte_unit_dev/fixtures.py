@@ -116,14 +116,14 @@ def printed(command, lines):
 def check_lines(check_drawn):
     """Checks that a program prints, for drawn lines, what the exact model, or another program, does."""
 
-    def check(command, kind, other=None):
+    def check(command, kind, other=None, **count):
         def wrong(lines):
             got = printed([*command, kind], lines)
             wanted = printed([other, kind], lines) if other else [output_for(line, kind) for line in lines]
             differing = [row for row in zip(lines, got, wanted) if row[1] != row[2]]
             return differing[:5] or len(got) != len(wanted) and f"{len(got)} of {len(wanted)} lines: {got[-1:]}"
 
-        check_drawn(some_line, wrong)
+        check_drawn(some_line, wrong, **count)
 
     return check
 

@@ -21,12 +21,10 @@ import argparse
 import glob
 import os
 import re
-import signal
-import subprocess
 import tempfile
 import zlib
 
-from .common import Failure, copy_to, one_of, path, read, report, write
+from .common import Failure, copy_to, one_of, path, read, report, session, write
 from .source import files, source
 
 EXAMPLES = re.compile(r"example_|byte_unit_(uses|tests)$")
@@ -108,16 +106,11 @@ def tried(crates, part):
     with tempfile.TemporaryDirectory() as copy:
         copy_to(copy, "crates", "HANDLES", "crates.txt", without=["must-fail"])
         names = [f"{crate}/{name}" for crate in crates for name in put(crate, part, f"{copy}/crates/{crate}/must-fail")]
-        said, more = "", {"stdout": subprocess.PIPE, "stderr": subprocess.STDOUT, "errors": "replace"}
-        words = ["rt", "must-fail", *crates]
-        with subprocess.Popen(words, cwd=copy, encoding="utf-8", start_new_session=True, **more) as process:
-            try:
-                for line in process.stdout:
-                    print(line, end="", flush=True)
-                    said += line
-            except BaseException:
-                os.killpg(process.pid, signal.SIGTERM)
-                raise
+        said = ""
+        with session("rt", "must-fail", *crates, cwd=copy) as process:
+            for line in process.stdout:
+                print(line.decode(errors="replace"), end="", flush=True)
+                said += line.decode(errors="replace")
     survived = [name for name in names if f"must-fail {name}: NOT REFUSED" in said]
     rejected = [name for name in names if f"must-fail {name}: refused, as it must be" in said]
     untried = sorted({*names} - {*survived, *rejected})

@@ -12,7 +12,6 @@ from itertools import chain, repeat
 import pytest
 
 from byte_unit_dev.fixtures import ended, redirected
-from byte_unit_dev.model.exact import output_for
 from byte_unit_dev.model.lines import some_line
 from byte_unit_dev.needs import need
 
@@ -23,12 +22,6 @@ IN_BYTES = b"1024 = 1 KiB\nnot text\nnot text\n2 = 2 B\n"
 IN_BITS = b"8192 = 8 Kib\nnot text\nnot text\n9 = 9 b\n"
 USAGE = (2, b"", b"usage: byte_unit_lines [byte|bit]\n")
 READ_FAILED, WRITE_FAILED, NO_MEMORY = b"read failed\n", b"write failed\n", b"out of memory\n"
-
-
-@pytest.fixture(scope="module")
-def pool(request):
-    rng = random.Random(request.config.getoption("seed"))
-    return [some_line(rng) for _ in range(20_000)]
 
 
 def limited(memory):
@@ -90,10 +83,8 @@ def test_no_memory_for_a_line(program):
 
 
 @pytest.mark.parametrize("kind", ["byte", "bit"])
-def test_output_is_that_of_the_model(program, pool, kind):
-    _, written, _ = ended(program, kind, input=b"\n".join(pool) + b"\n")
-    differing = [each for each in zip(pool, written.decode().split("\n")) if each[1] != output_for(each[0], kind)]
-    assert not differing and written.count(b"\n") == len(pool)
+def test_output_is_that_of_the_model(program, check_lines, kind):
+    check_lines([program], kind, count=20_000)
 
 
 def feed(program, chunks, target):
@@ -110,9 +101,10 @@ def feed(program, chunks, target):
 
 
 @pytest.mark.parametrize("lines", [1_000_000, pytest.param(10_000_000, marks=pytest.mark.whole)])
-def test_many_lines(program, pool, lines, tmp_path):
+def test_many_lines(program, seed, lines, tmp_path):
     """Each gives a line of output, in no more memory than a hundredth takes, and the same however a pipe cuts them."""
-    rng, source, target, held, digests = random.Random(lines), tmp_path / "in", tmp_path / "out", [], set()
+    rng, source, target, held, digests = random.Random(seed + lines), tmp_path / "in", tmp_path / "out", [], set()
+    pool = [some_line(rng) for _ in range(20_000)]
     for count, size in ((lines // 100, lambda: 1 << 16), (lines, lambda: 1 << 16), (lines, lambda: 4095),
                         (lines, lambda: 65537), (lines, lambda: rng.randrange(1, 10_000))):
         if len(held) < 2:
