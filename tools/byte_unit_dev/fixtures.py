@@ -13,7 +13,8 @@ import hypothesis
 import pytest
 from hypothesis import strategies
 
-from .common import call, output, path, read, write
+from .builds import CONFIG, copied, environment
+from .common import call, output, read, write
 from .model.exact import output_for
 from .model.lines import some_line
 from .needs import DEBIAN_PYTHON, DEBIAN_RUST, PYTHON_PACKAGE, is_there, need
@@ -21,22 +22,6 @@ from .needs import DEBIAN_PYTHON, DEBIAN_RUST, PYTHON_PACKAGE, is_there, need
 # The first cargo of the path, and Debian's.
 CARGOS = list(dict.fromkeys([shutil.which("cargo") or "cargo", "/usr/bin/cargo"]))
 SERDE = [f"{DEBIAN_RUST}/{name}-*" for name in ("serde", "serde_json", "toml")]
-# The crates that Debian installs take the place of the registry.
-CONFIG = f"""[source.crates-io]
-replace-with = "debian"
-[source.debian]
-directory = "{DEBIAN_RUST}"
-"""
-UNSET = ["PYTHONPATH", "BYTE_UNIT_LIBRARY_DIR", "PKG_CONFIG", "PKG_CONFIG_PATH", "RUSTFLAGS", "RUSTDOCFLAGS",
-         "CARGO_BUILD_TARGET"]  # fmt: skip
-SET = {"PYTHONDONTWRITEBYTECODE": "1", "PYTHONUTF8": "1", "PIP_DISABLE_PIP_VERSION_CHECK": "1",
-       "CARGO_TERM_QUIET": "true", "CARGO_NET_OFFLINE": "true", "CARGO_PROFILE_DEV_DEBUG": "0"}  # fmt: skip
-
-
-def environment(**variables):
-    """Returns this environment with variables, those of None unset, and without what could lead to another library."""
-    here = {**os.environ, **dict.fromkeys(UNSET), **SET, **variables}
-    return {name: str(value) for name, value in here.items() if value is not None}
 
 
 def compiled(compiler, out, *words, **more):
@@ -126,12 +111,6 @@ def check_lines(check_drawn):
         check_drawn(some_line, wrong, **count)
 
     return check
-
-
-def copied(binding, folder):
-    """Copies a binding, without what was built in it, and returns the copy's path."""
-    built = shutil.ignore_patterns("build", "*.egg-info", "__pycache__", "target", "Cargo.lock")
-    return str(shutil.copytree(path("bindings", binding), folder.resolve() / "bindings" / binding, ignore=built))
 
 
 @pytest.fixture(scope="session")

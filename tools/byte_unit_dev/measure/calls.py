@@ -8,9 +8,9 @@ import os
 import re
 import tempfile
 
+from .. import builds
 from ..common import output, path, read
 from ..needs import DEBIAN_PYTHON, PYTHON_PACKAGE, is_there
-from ..original import build
 from .speed import one_processor
 
 # The tables: the title of the first column, the other columns, and the form of a figure.
@@ -30,13 +30,13 @@ def by_c(name, library, work):
 
 
 def by_rust(crate, library):
-    made = build.built("bindings/rust/checks/speed.rs", crate, library)
+    made = builds.program("bindings/rust/checks/speed.rs", crate, library)
     return lambda: output(made)
 
 
 def by_python(library, work):
-    env = build.python(library, work)
-    return lambda: output(DEBIAN_PYTHON, "-B", path("bindings/python/checks/speed.py"), env=env)
+    env = builds.python(library, work)
+    return lambda: output(DEBIAN_PYTHON, path("bindings/python/checks/speed.py"), env=env)
 
 
 def by_sqlite(library):
@@ -54,11 +54,11 @@ def by_sqlite(library):
 def programs(given, library, work):
     """Builds the programs. Yields each as a function that returns what it prints, with the column of its figures."""
     ways = [("C", ["cc"], by_c, ("speed", library, work)), ("A text", ["cc"], by_c, ("speed_many", library, work)),
-            ("Rust", build.NEEDS, by_rust, (build.package(work), library)),
+            ("Rust", builds.NEEDS, by_rust, (builds.copied("rust", work), library)),
             ("Python", PYTHON_PACKAGE, by_python, (library, work)),
             ("Seconds", ["sqlite3", "sqlite3ext.h"], by_sqlite, (library,))]
     if given.original:
-        ways.append(("Original", build.NEEDS, by_rust, (build.original(given.original, work), "")))
+        ways.append(("Original", builds.NEEDS, by_rust, (builds.original(given.original, work), None)))
     for column, needs, make, words in ways:
         missing = [need for need in needs if not is_there(need)]
         if missing:
@@ -83,7 +83,7 @@ def rows(title, columns, form, least):
 def calls(given):
     least = {}
     with tempfile.TemporaryDirectory() as work:
-        library = build.library_of(given.library, work)
+        library = builds.library_of(given.library, work)
         print(f"libbyte_unit.a has {os.path.getsize(os.path.join(library, 'libbyte_unit.a')):,} bytes")
         made = list(programs(given, library, work))
         with one_processor():

@@ -7,8 +7,8 @@ import re
 import subprocess
 import tempfile
 
+from .. import builds
 from ..common import Failure, call, has_program, path
-from ..original import build
 
 COUNTED, NUMFMT = 20_000, ["numfmt", "--from=auto"]
 MULTIPLES = ["", *(letter + infix for letter in "KMGTPEZY" for infix in ("", "i"))]
@@ -139,8 +139,8 @@ def program(given):
         if given.before:
             columns["Build before"] = [os.path.abspath(given.before)]
         if given.original:
-            crate = build.original(given.original, work)
-            columns["Original"] = [build.built("bindings/rust/checks/lines.rs", crate)]
+            crate = builds.original(given.original, work)
+            columns["Original"] = [builds.program("bindings/rust/checks/lines.rs", crate)]
         rows = [(title, line, [*columns.values(), NUMFMT if accepts else None]) for title, line, accepts in PROGRAM]
         return {"program": measured(["Input", *columns, "`numfmt`"], rows, given)}
 

@@ -15,8 +15,9 @@ import re
 import sys
 import tempfile
 
+from .. import builds
 from ..common import output, read, report
-from . import build, rules
+from . import rules
 from .requests import requests
 
 PROGRAM, KINDS, CHANGED = "bindings/rust/checks/compare.rs", ("byte", "bit"), 20_000
@@ -59,7 +60,7 @@ class Library:
     """The C library, through the extension module of the Python package, which is C: calls by their names in rules."""
 
     def __init__(self, folder, work):
-        sys.path.insert(0, build.python(folder, work)["PYTHONPATH"])
+        sys.path.insert(0, builds.python(folder, work)["PYTHONPATH"])
         self.native = importlib.import_module("byte_unit._native")
 
     def parsed(self, text, kind, ignore_case):
@@ -125,12 +126,12 @@ def compared(lines, original, ours, seed):
 
 def run(given):
     with tempfile.TemporaryDirectory() as work:
-        original = build.original(given.original, work)
-        library = build.library_of(given.library, work)
+        original = builds.original(given.original, work)
+        library = builds.library_of(given.library, work)
         lines = list(requests(random.Random(given.seed), given.count))
-        theirs = by_program(build.built(PROGRAM, original), lines)
+        theirs = by_program(builds.program(PROGRAM, original), lines)
         if given.package:
-            ours = by_program(build.built(PROGRAM, build.package(work), library), lines)
+            ours = by_program(builds.program(PROGRAM, builds.copied("rust", work), library), lines)
         else:
             calls = Library(library, work)
             ours = [[getattr(calls, call.__name__)(*given) for _, call, given in calls_of(line.split())]
