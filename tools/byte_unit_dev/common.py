@@ -3,6 +3,7 @@
 import argparse
 import contextlib
 import os
+import resource
 import shutil
 import signal
 import subprocess
@@ -68,8 +69,17 @@ def output(*words, **more):
     """Runs a program that has to succeed, and returns its output."""
     got = call(*words, **more)
     if got.returncode:
-        raise Failure(f"status {got.returncode} of {' '.join(map(str, words))}\n{got.stdout}{got.stderr or ''}")
+        said = f"{got.stdout or ''}{got.stderr or ''}"
+        raise Failure(f"status {got.returncode} of {' '.join(map(str, words))}\n{said}")
     return got.stdout
+
+
+def spent(*words, **more):
+    """Runs a program that has to succeed, and returns the seconds of user time and of system time that it takes."""
+    before = resource.getrusage(resource.RUSAGE_CHILDREN)
+    output(*words, **more)
+    after = resource.getrusage(resource.RUSAGE_CHILDREN)
+    return after.ru_utime - before.ru_utime, after.ru_stime - before.ru_stime
 
 
 def files():

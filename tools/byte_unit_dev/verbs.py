@@ -6,6 +6,7 @@ import signal
 import sys
 
 from .common import Failure, on_signals, reason
+from .source import line_of
 
 # Each command, and its module in this package. The first sentence of the module's docstring is what it does.
 VERBS = {
@@ -26,9 +27,9 @@ def module_of(verb):
     return importlib.import_module(f".{VERBS[verb]}", __package__)
 
 
-def sentence_of(text):
-    """Returns the first sentence of a docstring, without its full stop."""
-    return " ".join(text.split()).partition(". ")[0].rstrip(".")
+def summary_of(module):
+    """Returns the first sentence of a module's docstring, without its full stop."""
+    return line_of(module.__doc__).partition(". ")[0].rstrip(".")
 
 
 def main():
@@ -37,7 +38,7 @@ def main():
     commands = parser.add_subparsers(metavar="COMMAND", required=True)
     for verb in VERBS:
         module = module_of(verb)
-        command = commands.add_parser(verb, help=sentence_of(module.__doc__), description=module.__doc__,
+        command = commands.add_parser(verb, help=summary_of(module), description=module.__doc__,
                                       formatter_class=argparse.RawDescriptionHelpFormatter)  # fmt: skip
         module.arguments(command)
         command.set_defaults(run=module.run, name=command.prog)

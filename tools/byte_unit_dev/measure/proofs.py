@@ -3,12 +3,11 @@
 import glob
 import os
 import re
-import resource
 import shutil
 import tempfile
 import time
 
-from ..common import Failure, copy_to, output, path, read, write
+from ..common import Failure, copy_to, output, path, read, spent, write
 from ..source import below, crates
 
 COUNT = 20
@@ -32,18 +31,10 @@ EDITS = {
 }
 
 
-def spent(*words, **more):
-    """Returns the seconds of processor time that a program takes."""
-    before = resource.getrusage(resource.RUSAGE_CHILDREN)
-    output(*words, **more)
-    after = resource.getrusage(resource.RUSAGE_CHILDREN)
-    return after.ru_utime + after.ru_stime - before.ru_utime - before.ru_stime
-
-
 def check(crate, *words, anew=True):
     if anew:
         shutil.rmtree(f"{crate}/out", ignore_errors=True)
-    return spent("rt", "check", "--jobs", "1", *words, cwd=crate)
+    return sum(spent("rt", "check", "--jobs", "1", *words, cwd=crate))
 
 
 def copied(crate, folder):
@@ -116,6 +107,6 @@ def gate(given):
         elapsed, *used = [int(minutes) + float(seconds) / 60 for minutes, seconds in found[-3:]]
     else:
         begin = time.monotonic()
-        used = [spent(path(".ci/run"), cwd=path()) / 60]
+        used = [sum(spent(path(".ci/run"), cwd=path())) / 60]
         elapsed = (time.monotonic() - begin) / 60
     return {"gate": [["`.ci/run`", "Minutes"], ["elapsed", f"{elapsed:.0f}"], ["of processors", f"{sum(used):.0f}"]]}

@@ -8,7 +8,7 @@ import subprocess
 import tempfile
 
 from .. import builds
-from ..common import Failure, call, has_program, path
+from ..common import Failure, call, has_program, path, spent
 
 COUNTED, NUMFMT = 20_000, ["numfmt", "--from=auto"]
 MULTIPLES = ["", *(letter + infix for letter in "KMGTPEZY" for infix in ("", "i"))]
@@ -98,12 +98,8 @@ def user_time(command, file):
     """Returns the user time of a command with this input, in seconds."""
     if not has_program(command[0]):
         raise Failure(f"{command[0]} is missing: `rt run` in a folder of crates/ builds its program")
-    with open(file, "rb") as lines, subprocess.Popen(command, stdin=lines, stdout=subprocess.DEVNULL) as child:
-        _, status, used = os.wait4(child.pid, 0)
-        child.returncode = os.waitstatus_to_exitcode(status)
-    if status:
-        raise Failure(f"{' '.join(command)}: status {child.returncode}")
-    return used.ru_utime
+    with open(file, "rb") as lines:
+        return spent(*command, stdin=lines, stdout=subprocess.DEVNULL)[0]
 
 
 def instructions(command, file):
