@@ -4,14 +4,13 @@ import re
 
 import pytest
 
-import large
 from byte_unit_dev.common import output, path, read
 from byte_unit_dev.fixtures import ended
 from byte_unit_dev.needs import need
 from calls import some_call
 from model import OPTIONS, result_of
 from program import run
-from rows import MODELLED, OTHERS
+from rows import LARGE, MODELLED, OTHERS
 
 
 def wrong_of(program, calls):
@@ -37,7 +36,7 @@ def test_model_is_as_written_by_hand(call, wanted):
     assert not list(result_of(call).differences(wanted))
 
 
-@pytest.mark.parametrize("calls", [large.many_reads, large.many_records, large.many_bytes, large.characters])
+@pytest.mark.parametrize("calls", LARGE)
 def test_large_calls(program, calls):
     assert not wrong_of(program, calls())
 

@@ -11,10 +11,9 @@ import pytest
 
 from byte_unit_dev.model.exact import LETTERS, SIZE_LIMIT, WHITE_SPACE
 from calls import some_call
-from large import large_calls
 from model import BITS_64, Wrong, converted, limit, options_of, parsed, result_of
 from program import Call, Result
-from rows import MODELLED, OTHERS
+from rows import LARGE, MODELLED, OTHERS
 
 RANDOM_CALLS = 2_000
 
@@ -183,7 +182,7 @@ def seen(pytestconfig):
     found, seed = {}, RANDOM_CALLS * pytestconfig.getoption("seed")
     random_calls = (some_call(Random(seed + at)) for at in range(RANDOM_CALLS))
     cases = chain(((call, result_of(call)) for call in random_calls), MODELLED, OTHERS,
-                  ((call, result_of(call)) for call in large_calls()))
+                  ((call, result_of(call)) for calls in LARGE for call in calls()))
     for call, wanted in cases:
         case = Case(call, wanted)
         found.update({name: call for name in WRONG.keys() - found.keys() if wrong_result(name, case) != wanted})

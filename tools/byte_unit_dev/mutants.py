@@ -25,9 +25,8 @@ import tempfile
 import zlib
 
 from .common import Failure, copy_to, one_of, path, read, report, session, write
-from .source import files, source
+from .source import EXAMPLES, files, source
 
-EXAMPLES = re.compile(r"example_|byte_unit_(uses|tests)$")
 # What the names of the mutants begin with that `put` copies.
 BY_TURN = "by-turn."
 FUNCTION = re.compile(r'^ *pub (extern     )?fn (\w+)', re.M)
@@ -142,7 +141,7 @@ def crates_with(*forms):
 
 def arguments(parser):
     actions = parser.add_subparsers(dest="action", metavar="ACTION", prog=parser.prog)
-    shown = [name for name in crates_with("mutants.edits", "must-fail/*.edit") if not EXAMPLES.match(name)]
+    shown = [name for name in crates_with("mutants.edits", "must-fail/*.edit") if not EXAMPLES.fullmatch(name)]
     parser.set_defaults(action="list", crates=[], shown=shown)
     actions.add_parser("list").add_argument("crates", nargs="*", type=one_of(shown), metavar="CRATE")
     trying = actions.add_parser("try")

@@ -18,6 +18,8 @@ WORD = re.compile(r"[^\W\d][\w\-]*")
 # The first line of a definition, with its name. Its kind, such as `abbrev` or `record`, is before or after `pub`.
 DEFINITION = re.compile(r"^(?:[a-z]+ )?pub (?!mod |use )(?:[a-z]+ )?([^\s:(){}]+)", re.M)
 COMMENT = r"(?:^--(?: .*)?\n)*"
+# The crates of examples and tests.
+EXAMPLES = re.compile(r"example_\w+|byte_unit_uses|byte_unit_tests")
 # Parts of a file that are all its lines of a form.
 LINES = {"imports": r"^(?:ghost |pub )?use\b[^;]*;$", "attributes": r"^#!\[.*\]$"}
 

@@ -4,12 +4,11 @@ import functools
 import re
 
 from ..common import Failure
-from ..source import WORD, closure, crates, library, resolved, sentence_of, sources, specs
+from ..source import EXAMPLES, WORD, closure, crates, library, resolved, sentence_of, sources, specs
 from .calling import cited_by, items, listed
 from .pages import section, with_parts
 
 PAGE, SAID, FOLLOWS = "docs/DEFINITIONS.md", ["Byte", "AdjustedByte", "Unit"], ["computed"]
-EXAMPLES = re.compile(r"example_\w+|byte_unit_uses|byte_unit_tests")
 
 
 @functools.lru_cache(maxsize=None)
