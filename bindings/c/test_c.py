@@ -5,6 +5,7 @@ import re
 import pytest
 from byte_unit_dev.common import output, path, read, write
 from byte_unit_dev.fixtures import compiled
+from byte_unit_dev.install import functions
 from byte_unit_dev.needs import need
 
 WARNINGS = ["-Wall", "-Wextra", "-Wpedantic", "-Wconversion", "-Werror"]
@@ -78,11 +79,9 @@ def specs_of(text):
 
 def uses_of(header):
     """Returns the calls, the elements of arrays and the macros that initialize something, each in a function."""
-    code = re.sub(r"/\*.*?\*/", "", header, flags=re.S)
-    declared = re.findall(r"^(?:static inline )?(\w+) (byte_unit_\w+)\(([^()]*)\)", code, re.M)
-    calls = {name: (result, given) for result, name, given in declared}
-    comments = comments_of(header)
-    uses = [(*calls[name], f"return {words}") for words, name in re.findall(r"((byte_unit_\w+)\([^()]+\))", comments)]
+    calls, comments = functions(header), comments_of(header)
+    uses = [(*calls[name][:2], f"return {words}")
+            for words, name in re.findall(r"((byte_unit_\w+)\([^()]+\))", comments)]  # fmt: skip
     array = "const char *data, const int64_t *offsets, size_t i"
     uses += [("char", array, f"return {words}") for words in re.findall(r"\w+\[\w+\[[^][]*\]\]", comments)]
     macros = re.findall(r"(BYTE_UNIT_\w+_INIT) initializes a (byte_unit_\w+)", comments)

@@ -7,10 +7,11 @@ import shutil
 import pytest
 from byte_unit_dev.common import call, output, path, read
 from byte_unit_dev.fixtures import compiled
+from byte_unit_dev.install import calls_of, functions
 from byte_unit_dev.needs import is_there, need
 
 INSTALL = [path("tools/dev"), "install"]
-PAGE = "share/man/man3/byte_unit.3"
+HEADER, PAGE = "include/byte_unit.h", "share/man/man3/byte_unit.3"
 WARNINGS = ["-Wall", "-Wextra", "-Wpedantic", "-Werror"]
 C = ["c99", "c11", "c17", "c2x"]
 STANDARDS = {"gcc": C, "clang": C, "g++": ["c++17"], "clang++": ["c++17"]}
@@ -64,18 +65,11 @@ def test_program(prefix, tmp_path, cc, form, how):
     assert bad.stdout.startswith("1 x: the character 'x' is incorrect (")
 
 
-def declarations(prefix, end):
-    """Returns the functions of the header, each with its result and parameters: those that it declares if `end` is a
-    semicolon, and its inline functions if it is a brace."""
-    text = re.sub(r"/\*.*?\*/", "", read(prefix / "include/byte_unit.h"), flags=re.S)
-    found = re.findall(rf"^(?:\w+ )*?(\w+) (byte_unit_\w+)\(([^()]*)\)\s*{end}", text, re.M)
-    return {name: (result, " ".join(parameters.split())) for result, name, parameters in found}
-
-
 def test_shared_library(prefix):
     """It exports the functions that the header declares and no other, and needs libc alone."""
     library, version = prefix / "lib/libbyte_unit.so", flags(prefix, "--modversion")[0]
-    assert sorted(output("nm", "-D", "--defined-only", library).split()[2::3]) == sorted(declarations(prefix, ";"))
+    declared = [name for name, (_, _, is_inline) in functions(read(prefix / HEADER)).items() if not is_inline]
+    assert sorted(output("nm", "-D", "--defined-only", library).split()[2::3]) == sorted(declared)
     dynamic, soname = output("readelf", "-d", library), f"libbyte_unit.so.{version.split('.')[0]}"
     assert re.findall(r"soname: \[(.*)\]", dynamic) == [soname]
     assert re.findall(r"NEEDED.*\[(.*)\]", dynamic) == ["libc.so.6"]
@@ -99,10 +93,8 @@ def test_manual_page(prefix):
         synopsis[name] = (result, ", ".join(re.findall(r'"(.*)"', parameters)))
     for result, name, parameter in re.findall(r'^\.Ft (\w+)\n\.Fn (\w+) "?(\w+)"?$', text, re.M):
         synopsis[name] = (result, parameter)
-    inline = declarations(prefix, "{")
-    # A function named `.._to` is one that only an inline function calls.
-    called = {name: row for name, row in declarations(prefix, ";").items() if name.removesuffix("_to") not in inline}
-    assert synopsis == {**called, **inline}
+    header = read(prefix / HEADER)
+    assert synopsis == {name: functions(header)[name][:2] for name in calls_of(header)}
     assert sorted(re.findall(r"^\.Nm (\w+)", text, re.M)) == sorted(synopsis)
     assert {page.stem for page in (prefix / PAGE).parent.iterdir()} == {*synopsis, "byte_unit"}
     need("mandoc")
