@@ -111,8 +111,8 @@ def made():
     """The rows, by section. The head of the file, and of each section, is its own."""
     parts, names, titles = [], set(), []
     for section in read(TABLES).split("\n## ")[1:]:
-        title, lists = section.partition("\n")[0], []
-        for file, tables, forms in re.findall(r"^(\w+) (.+)\n((?: +.+\n)+)", section + "\n", re.M):
+        (title, _, lines), lists = section.partition("\n"), []
+        for file, tables, forms in re.findall(r"^(\w+) ([^:\n]+):?(\s.+(?:\n    .+)*)", lines, re.M):
             for table in tables.split(", "):
                 name = f"{file}.{table.lower().replace(' ', '-')}"
                 name += "-json" * (name in names)  # A table of texts also gives rows of JSON strings.
