@@ -6,7 +6,8 @@
     tools/dev mutants remove                        deletes these copies, which git ignores
 
 A mutant is a file crates/CRATE/must-fail/TITLE.edit, or a line `== TITLE` of the catalogue crates/CRATE/mutants.edits,
-which begins with comments, and the lines of an edit for `rt must-fail` after it. Its title is
+which begins with comments, and the lines of an edit for `rt must-fail` after it. Those of byte_unit_bit are rendered
+from all of byte_unit_byte when they are tried. The title of a mutant is
 `module.function.what`: the function whose contract rejects it, and what it does wrong. `module` is the file of the
 function or a folder that this file is in; of several such functions the one whose file has the shortest path is meant.
 A function is public if it has `pub` and a contract and the crate exports it: it is `extern "C"`, or in a `pub mod`, or
@@ -24,8 +25,9 @@ import re
 import tempfile
 import zlib
 
-from .common import Failure, copy_to, one_of, path, read, report, session, write
-from .source import EXAMPLES, files, source
+from .common import copy_to, one_of, path, read, report, session, write
+from .render import bits
+from .source import EXAMPLES, catalogue, files, source
 
 # What the names of the mutants begin with that `put` copies.
 BY_TURN = "by-turn."
@@ -35,19 +37,7 @@ IMPL = re.compile(r"^impl(?:<[^>]*>)? (\w+)", re.M)
 
 def catalogue_of(crate):
     """Returns the mutants of a crate's catalogue by title, in order."""
-    name, found, title = f"crates/{crate}/mutants.edits", {}, None
-    text = read(name) if os.path.exists(path(name)) else ""
-    for number, line in enumerate(text.splitlines(), 1):
-        if line.startswith("== "):
-            title = line[3:]
-            if title in found or not title or "/" in title:
-                raise Failure(f"{name}:{number}: this title is a duplicate or not a file name: {title}")
-            found[title] = ""
-        elif title is not None and line:
-            found[title] += line + "\n"
-        elif line and not line.startswith("#"):
-            raise Failure(f"{name}:{number}: only comments may come before the first title: {line}")
-    return found
+    return bits.mutants() if crate == bits.CRATE else catalogue(crate)
 
 
 def titles_of(crate):
@@ -139,6 +129,11 @@ def crates_with(*forms):
     return sorted({name.split("/")[0] for form in forms for name in glob.glob(f"*/{form}", root_dir=path("crates"))})
 
 
+def catalogued():
+    """Returns the crates with a catalogue."""
+    return sorted([*crates_with("mutants.edits"), bits.CRATE])
+
+
 def arguments(parser):
     actions = parser.add_subparsers(dest="action", metavar="ACTION", prog=parser.prog)
     shown = [name for name in crates_with("mutants.edits", "must-fail/*.edit") if not EXAMPLES.fullmatch(name)]
@@ -146,7 +141,7 @@ def arguments(parser):
     actions.add_parser("list").add_argument("crates", nargs="*", type=one_of(shown), metavar="CRATE")
     trying = actions.add_parser("try")
     trying.add_argument("--part", type=part, default=(1, 1), metavar="K/N")
-    trying.add_argument("crates", nargs="*", type=one_of(crates_with("mutants.edits")), metavar="CRATE")
+    trying.add_argument("crates", nargs="*", type=one_of(catalogued()), metavar="CRATE")
     actions.add_parser("put").add_argument("part", type=part, metavar="K/N")
     actions.add_parser("remove")
 
@@ -156,7 +151,7 @@ def run(given):
         return remove()
     if given.action == "list":
         return listed(given.crates or given.shown)
-    crates = crates_with("mutants.edits")
+    crates = catalogued()
     if given.action == "try":
         return tried(sorted(set(given.crates or crates)), given.part)
     remove()

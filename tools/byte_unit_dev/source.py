@@ -301,3 +301,20 @@ def exports(crate, module="lib"):
                 raise file.wrong(use.start(), f"{len(homes)} files define {name}, not one")
             found[name] = homes[0]
     return found
+
+
+def catalogue(crate):
+    """Returns the mutants that the catalogue of a crate has, by title, in order."""
+    name, found, title = f"crates/{crate}/mutants.edits", {}, None
+    text = read(name) if os.path.exists(path(name)) else ""
+    for number, line in enumerate(text.splitlines(), 1):
+        if line.startswith("== "):
+            title = line[3:]
+            if title in found or not title or "/" in title:
+                raise Failure(f"{name}:{number}: this title is a duplicate or not a file name: {title}")
+            found[title] = ""
+        elif title is not None and line:
+            found[title] += line + "\n"
+        elif line and not line.startswith("#"):
+            raise Failure(f"{name}:{number}: only comments may come before the first title: {line}")
+    return found

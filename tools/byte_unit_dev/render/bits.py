@@ -6,9 +6,10 @@ import re
 import tomllib
 
 from ..common import Failure, files, read
-from ..mutants import catalogue_of
+from ..source import catalogue
 
-SOURCE, TARGET, CATALOGUE, MOST_COLUMNS = "crates/byte_unit_byte", "crates/byte_unit_bit", "mutants.edits", 120
+CRATE = "byte_unit_bit"
+SOURCE, TARGET, MOST_COLUMNS = "crates/byte_unit_byte", f"crates/{CRATE}", 120
 # The differences beside words: the file says what it has.
 ROWS = f"{SOURCE}/bits.toml"
 SERDE = re.compile(r"crates/byte_unit_serde/(?:src|proofs)/(byte|optional_byte|byte_vec)[/.].*")
@@ -105,19 +106,26 @@ def crate(name):
     texts = {found.removeprefix(f"{name}/"): read(found) for found in files() if found.startswith(f"{name}/")}
     mutants = {os.path.basename(found)[:-len(".edit")]: texts.pop(found) for found in [*texts]
                if re.fullmatch(r"must-fail/[^/]*\.edit", found)}
-    for other in (CATALOGUE, os.path.basename(ROWS)):
+    for other in ("mutants.edits", os.path.basename(ROWS)):
         texts.pop(other, None)
-    more = catalogue_of(name.removeprefix("crates/"))
+    more = catalogue(os.path.basename(name))
     wrong = [found for found in texts if not found.endswith(".rt")] + [title for title in mutants if title in more]
     if wrong:
         raise Failure(f"{name}: neither a source file nor a mutant, or a second mutant of this title: {wrong[0]}")
     return texts, {**mutants, **more}
 
 
-def mutants_in_bits(mutants):
+def mutants():
+    """Returns the mutants of byte_unit_bit by their titles: those of byte_unit_byte, of must-fail/ too, but for those
+    that turn `ignore_case`."""
+    return mutants_in_bits({title: text for title, text in crate(SOURCE)[1].items()
+                            if title not in differences()["without"]})  # fmt: skip
+
+
+def mutants_in_bits(left):
     """Returns the rendered mutants by their titles."""
     found = {}
-    for title, text in mutants.items():
+    for title, text in left.items():
         edited = re.match(r"file: (\S+)\n", text)
         if not edited:
             raise Failure(f"{SOURCE}: the first line of the mutant {title} names no file")
@@ -142,29 +150,25 @@ def misfits(name, texts, mutants):
 
 
 def made():
-    """Each file of src/; each mutant of must-fail/ and mutants.edits, into mutants.edits, for the gate tries those of
-    byte_unit_byte alone; modules of byte_unit_serde and their proofs. A mutant of either crate that cannot be applied,
+    """Each file of src/; modules of byte_unit_serde and their proofs. A mutant of either crate that cannot be applied,
     because its old text is not in its file exactly once, is a failure."""
-    texts, mutants = crate(SOURCE)
+    texts, edits = crate(SOURCE)
     made_texts = {named(name): head("//", f"{SOURCE}/{name}") + in_bits(
         name, constants(text) if name == CONSTANTS else text) for name, text in texts.items()}
     without = differences()["without"]
-    left = {title: text for title, text in mutants.items() if title not in without}
-    made_mutants = mutants_in_bits(left)
-    unknown = [name for name in [*differences(), *without] if name not in {**texts, **mutants, "without": without}]
-    if unknown or (len(made_texts), len(made_mutants)) != (len(texts), len(left)):
+    made_edits = mutants()
+    unknown = [name for name in [*differences(), *without] if name not in {**texts, **edits, "without": without}]
+    if unknown or (len(made_texts), len(made_edits)) != (len(texts), len(edits) - len(without)):
         raise Failure(f"{SOURCE}: two are rendered by one name, or {ROWS} has rows for what is not there: {unknown}")
-    catalogue = head("#", f"the mutants of {SOURCE}") + "".join(
-        f"\n== {title}\n{text}" for title, text in made_mutants.items())  # fmt: skip
     there = [name.removeprefix(f"{TARGET}/") for name in files() if name.startswith(f"{TARGET}/")]
-    for name in sorted({*made_texts, CATALOGUE, *there}):
-        yield f"{TARGET}/{name}", {**made_texts, CATALOGUE: catalogue}.get(name, "")
+    for name in sorted({*made_texts, *there}):
+        yield f"{TARGET}/{name}", made_texts.get(name, "")
     for found in filter(None, map(SERDE.fullmatch, files())):
         name, mark = found[0], "//" if found[0].endswith(".rt") else "--"
         target = name[:found.start(1)] + WORDS[found[1]] + name[found.end(1):]
         yield target, head(mark, name) + in_bits(name, read(name))
     wrong = [f"{TARGET}/{name}:{number}: more than {MOST_COLUMNS} columns: {line}" for name, text in made_texts.items()
              for number, line in enumerate(text.splitlines(), 1) if len(line) > MOST_COLUMNS]
-    wrong += [*misfits(SOURCE, texts, mutants), *misfits(TARGET, made_texts, made_mutants)]
+    wrong += [*misfits(SOURCE, texts, edits), *misfits(TARGET, made_texts, made_edits)]
     if wrong:
         raise Failure("\n".join(wrong))
