@@ -4,13 +4,9 @@ import os
 import sys
 
 import pytest
+from byte_unit_dev.common import output, path
 
-ROOT = os.path.dirname(os.path.realpath(__file__))
 sys.dont_write_bytecode = True
-sys.path.insert(0, os.path.join(ROOT, "tools"))
-
-from byte_unit_dev.common import call, path  # noqa: E402
-
 pytest_plugins = ["byte_unit_dev.fixtures"]
 
 
@@ -42,13 +38,17 @@ def program_of(request):
     return found
 
 
+@pytest.fixture(scope="module")
+def program(request, program_of):
+    """The program of the crate that the module names as CRATE, or else byte-unit."""
+    return program_of(getattr(request.module, "CRATE", "byte_unit_cli"))
+
+
 @pytest.fixture(scope="session")
 def library(request, tmp_path_factory):
     """A folder with libbyte_unit.a, byte_unit.h and what else `tools/make-libraries` makes."""
     folder = str(tmp_path_factory.mktemp("library"))
-    words = ["--after-ci"] * request.config.getoption("after_ci")
-    made = call(os.path.join(ROOT, "tools/make-libraries"), *words, folder)
-    assert made.returncode == 0, made.stdout
+    output(path("tools/make-libraries"), *["--after-ci"] * request.config.getoption("after_ci"), folder)
     return folder
 
 

@@ -1,28 +1,27 @@
-"""Compares the test vectors with the tables of the proved tests, and the answers of each runner with the rows."""
+"""Compares the test vectors with the tables of the proved tests, and the results of each runner with the rows."""
 
 import os
 import re
-import subprocess
 
 import pytest
+from byte_unit_dev.builds import environment
 from byte_unit_dev.common import output, path, read
-from byte_unit_dev.fixtures import environment
-from byte_unit_dev.model.exact import answer, form
-from byte_unit_dev.needs import need
+from byte_unit_dev.fixtures import compiled, ended
+from byte_unit_dev.model.exact import Rejected, form, size_of
 
-# How many rows each runner answers, so that no call is left out unseen.
+# How many rows each runner has, so that no call is left out unseen.
 BY_MODEL, BY_BINDING = 613, 1141
-MODEL_ERRORS = {"NoValue": "no value", "NotNumber": "not a number", "NumberTooLong": "number too long",
-                "ExceededBounds": "out of range", "Unit": "bad unit"}  # fmt: skip
+MODEL_ERRORS = {"no value": "NoValue", "not a number": "NotNumber", "number too long": "NumberTooLong",
+                "out of range": "ExceededBounds", "bad unit": "Unit"}  # fmt: skip
 
 
 class Row:
-    """A row: its call as words, the text of the call (or None), and the answer, with nothing escaped."""
+    """A row: its call as words, the text of the call (or None), and the result, with nothing escaped."""
 
     def __init__(self, line):
         self.line = line
-        call, text, self.answer = re.fullmatch(r'\S+: ([^"=]*?) ?("[^"]*")? = (.*)', line).groups()
-        self.words, self.answer = call.split(), unescaped(self.answer)
+        call, text, self.result = re.fullmatch(r'\S+: ([^"=]*?) ?("[^"]*")? = (.*)', line).groups()
+        self.words, self.result = call.split(), unescaped(self.result)
         self.text = unescaped(text[1:-1]) if text else None
 
 
@@ -36,44 +35,44 @@ def rows():
     return [Row(line) for line in read("vectors/byte-unit.txt").split("\n") if line and not line.startswith("#")]
 
 
-def compare(rows, answers, count):
-    """Compares answers with the rows. One of None, or `-`, is to a call that the runner does not have."""
-    asked = [(row, found) for row, found in zip(rows, answers, strict=True) if found not in (None, "-")]
-    assert [(row.line[:300], found[:300]) for row, found in asked if found != row.answer][:20] == []
+def compare(rows, results, count):
+    """Compares results with the rows. One of None, or `-`, is of a call that the runner does not have."""
+    asked = [(row, found) for row, found in zip(rows, results, strict=True) if found not in (None, "-")]
+    assert [(row.line[:300], found[:300]) for row, found in asked if found != row.result][:20] == []
     assert len(asked) == count
 
 
 def compare_program(rows, command, **variables):
-    """Compares the answers of a program that reads records and writes lines: see bindings/c/checks/vectors.c."""
+    """Compares the results of a program that reads records and writes lines: see bindings/c/checks/vectors.c."""
     records = [" ".join(row.words) + (f' "{row.text}' if row.text is not None else "") for row in rows]
     given = "".join(record + "\0" for record in records).encode()
-    ran = subprocess.run(command, input=given, stdout=subprocess.PIPE, check=True, **variables)
-    compare(rows, ran.stdout.decode().split("\n")[:-1], BY_BINDING)
+    status, written, _ = ended(*command, input=given, stderr=None, **variables)
+    assert status == 0
+    compare(rows, written.decode().split("\n")[:-1], BY_BINDING)
 
 
 def test_file_is_as_the_tables_give_it():
     output(path("tools/dev"), "render", "--check", "vectors")
 
 
-def answer_of_model(row):
-    """Returns the answer to a row: its own if the model agrees with it; or None if the model has no such call."""
+def result_of_model(row):
+    """Returns the result of a row: its own if the model agrees with it; or None if the model has no such call."""
     if row.words[0] == "parse" and row.words[2] == "cased" and "\n" not in row.text:
-        said = answer(row.text.encode(), row.words[1]).split(" = ")[0]
-        return row.answer if said == MODEL_ERRORS.get(row.answer.split(" ")[0], row.answer) else said
+        size = size_of(row.text.encode(), row.words[1])
+        said = MODEL_ERRORS.get(size.name) if isinstance(size, Rejected) else str(size)
+        return row.result if said == row.result.split(" ")[0] else said
     if row.words[0] == "text" and len(row.words) == 4 and row.words[3] == "{:#}":
         return f'"{form(int(row.words[2]), row.words[1])}"'
     return None
 
 
 def test_exact_model(rows):
-    compare(rows, map(answer_of_model, rows), BY_MODEL)
+    compare(rows, map(result_of_model, rows), BY_MODEL)
 
 
 def test_c(rows, library, tmp_path):
-    need("cc")
     words = ["-std=gnu11", "-O2", "-Wall", "-Wextra", "-I", library, path("bindings/c/checks/vectors.c")]
-    assert not output("cc", *words, f"{library}/libbyte_unit.a", "-o", tmp_path / "vectors")
-    compare_program(rows, [tmp_path / "vectors"])
+    compare_program(rows, [compiled("cc", tmp_path / "vectors", *words, f"{library}/libbyte_unit.a")])
 
 
 def test_rust(rows, cargo, rust_package):

@@ -1,16 +1,17 @@
 """Tests the C library from C and C++, and compiles the code in the comments of its header."""
 
-import os
 import re
 
 import pytest
 from byte_unit_dev.common import output, path, read, write
+from byte_unit_dev.fixtures import compiled
+from byte_unit_dev.install import functions
 from byte_unit_dev.needs import need
 
 WARNINGS = ["-Wall", "-Wextra", "-Wpedantic", "-Wconversion", "-Werror"]
 IN_C, IN_CPP = ["c99", "c11", "c17", "c2x"], ["c++17", "c++20"]
 STANDARDS = {"gcc": IN_C, "clang": IN_C, "g++": IN_CPP, "clang++": IN_CPP}
-SOURCES = {"example": "examples/example.c", "arguments": "checks/arguments.c"}
+SOURCES = {"example": "examples/example.c", "arguments": "checks/arguments.c", "comments": "checks/comments.c"}
 # The example is C alone, and C++ has the designated initializers of the comments since C++20.
 LEFT_OUT = {"example": IN_CPP, "arguments": [], "comments": ["c++17"]}
 BUILDS = [(name, compiler, standard) for name, left_out in LEFT_OUT.items()
@@ -18,43 +19,41 @@ BUILDS = [(name, compiler, standard) for name, left_out in LEFT_OUT.items()
 
 
 @pytest.fixture
-def compiled(library, tmp_path):
-    """Compiles a program, named from this folder or by its absolute path, without a warning, and returns its path."""
+def program_in_c(library, tmp_path):
+    """Compiles a program of this folder, and returns its path."""
 
     def build(source, compiler="cc", standard="c11"):
-        need(compiler, *["g++"] * (compiler == "clang++"))
-        program = tmp_path / os.path.basename(source)[:-2]
         # In C++, unlike in C, -Wextra warns of a field that an initializer leaves out.
         language = ["-x", "c++", "-Wno-missing-field-initializers"] if standard.startswith("c++") else []
-        words = [f"-std={standard}", "-O2", *WARNINGS, "-I", library, *language, path("bindings/c", source)]
-        said = output(compiler, *words, "-x", "none", f"{library}/libbyte_unit.a", "-o", program)
-        assert not said
-        return program
+        includes = ["-I", library, "-I", tmp_path]
+        words = [f"-std={standard}", "-O2", *WARNINGS, *includes, *language, path("bindings/c", source)]
+        return compiled(compiler, tmp_path / "program", *words, "-x", "none", f"{library}/libbyte_unit.a")
 
     return build
 
 
+@pytest.mark.usefixtures("comments")
 @pytest.mark.parametrize("name, compiler, standard", BUILDS)
-def test_program(compiled, comments, name, compiler, standard):
+def test_program(program_in_c, name, compiler, standard):
     """Each program compares its results with what is written in it."""
-    output(compiled(SOURCES.get(name, comments), compiler, standard))
+    output(program_in_c(SOURCES[name], compiler, standard))
 
 
-@pytest.mark.parametrize("name", SOURCES)
+@pytest.mark.parametrize("name", ["example", "arguments"])
 @pytest.mark.parametrize("processor", ["qemu64", "kvm64", "core2duo"])
-def test_processor_without_sse4(compiled, name, processor):
+def test_processor_without_sse4(program_in_c, name, processor):
     need("qemu-x86_64")
-    output("qemu-x86_64", "-cpu", processor, compiled(SOURCES[name]))
+    output("qemu-x86_64", "-cpu", processor, program_in_c(SOURCES[name]))
 
 
-def test_memory_that_ends_at_an_unmapped_page(compiled):
-    output(compiled("checks/edges.c"))
+def test_memory_that_ends_at_an_unmapped_page(program_in_c):
+    output(program_in_c("checks/edges.c"))
 
 
 @pytest.mark.parametrize("kind", ["byte", "bit"])
 @pytest.mark.parametrize("other", [None, "byte_unit_lines"], ids=["model", "program"])
-def test_lines(compiled, check_lines, program_of, kind, other):
-    check_lines([compiled("checks/lines.c")], kind, other and program_of(other))
+def test_lines(program_in_c, check_lines, program_of, kind, other):
+    check_lines([program_in_c("checks/lines.c")], kind, other and program_of(other))
 
 
 # Each format of Rust that the comments of the header name: its text of 1536 bytes, and of 1537 bytes in KiB.
@@ -64,20 +63,6 @@ TEXTS = {
     "{:#12}": ("1.5      KiB", "1.5009765625 KiB"),
     "{:.2}": ("1536", "1.50 KiB"),
 }
-PROGRAM = """#include "byte_unit.h"
-#include <string.h>
-static int is_wrong(byte_unit_spec spec, const char *text, const char *in_kib)
-{
-    byte_unit_number size = { 1536, 0 }, larger = { 1537, 0 };
-    char out[BYTE_UNIT_BUFFER_SIZE];
-    size_t len = byte_unit_text(size, 0, spec, out, sizeof out);
-    int differs = len != strlen(text) || memcmp(out, text, len) != 0;
-    len = byte_unit_adjusted_text(larger, 0, BYTE_UNIT_KIB, spec, out, sizeof out);
-    return differs || len != strlen(in_kib) || memcmp(out, in_kib, len) != 0;
-}
-USES
-int main(void) { int wrong = 0; SPECS return wrong; }
-"""
 
 
 def comments_of(header):
@@ -94,11 +79,9 @@ def specs_of(text):
 
 def uses_of(header):
     """Returns the calls, the elements of arrays and the macros that initialize something, each in a function."""
-    code = re.sub(r"/\*.*?\*/", "", header, flags=re.S)
-    declared = re.findall(r"^(?:static inline )?(\w+) (byte_unit_\w+)\(([^()]*)\)", code, re.M)
-    calls = {name: (result, given) for result, name, given in declared}
-    comments = comments_of(header)
-    uses = [(*calls[name], f"return {words}") for words, name in re.findall(r"((byte_unit_\w+)\([^()]+\))", comments)]
+    calls, comments = functions(header), comments_of(header)
+    uses = [(*calls[name][:2], f"return {words}")
+            for words, name in re.findall(r"((byte_unit_\w+)\([^()]+\))", comments)]  # fmt: skip
     array = "const char *data, const int64_t *offsets, size_t i"
     uses += [("char", array, f"return {words}") for words in re.findall(r"\w+\[\w+\[[^][]*\]\]", comments)]
     macros = re.findall(r"(BYTE_UNIT_\w+_INIT) initializes a (byte_unit_\w+)", comments)
@@ -109,12 +92,12 @@ def uses_of(header):
 
 @pytest.fixture
 def comments(library, tmp_path):
-    """The code in the comments of byte_unit.h, and the initializers of specs in README.md, as a program for C and C++.
-    It compiles if each piece is valid code; its status is the number of specs that do not write what they should."""
+    """Writes what checks/comments.c includes: the code in the comments of byte_unit.h, and the initializers of specs
+    there and in README.md."""
     header, page = read(f"{library}/byte_unit.h"), read("bindings/c/README.md")
-    uses = uses_of(header)
+    uses, specs = uses_of(header), [("{ 0 }", "{}"), *specs_of(comments_of(header)), *specs_of(page)]
     assert uses, "the comments have code beside initializers of specs"
-    specs = "".join('{ byte_unit_spec spec = %s; wrong += is_wrong(spec, "%s", "%s"); }\n' % (spec, *TEXTS[form])
-                    for spec, form in [("{ 0 }", "{}"), *specs_of(comments_of(header)), *specs_of(page)])  # fmt: skip
-    write(f"{tmp_path}/comments.c", PROGRAM.replace("USES", "\n".join(uses)).replace("SPECS", specs))
-    return f"{tmp_path}/comments.c"
+    write(f"{tmp_path}/uses.inc", "\n".join(uses) + "\n")
+    write(f"{tmp_path}/specs.inc", "".join(
+        '{ byte_unit_spec spec = %s; wrong += is_wrong(spec, "%s", "%s"); }\n' % (spec, *TEXTS[form])
+        for spec, form in specs))  # fmt: skip

@@ -6,10 +6,12 @@ import shutil
 
 import pytest
 from byte_unit_dev.common import call, output, path, read
+from byte_unit_dev.fixtures import compiled
+from byte_unit_dev.install import calls_of, functions
 from byte_unit_dev.needs import is_there, need
 
 INSTALL = [path("tools/dev"), "install"]
-PAGE = "share/man/man3/byte_unit.3"
+HEADER, PAGE = "include/byte_unit.h", "share/man/man3/byte_unit.3"
 WARNINGS = ["-Wall", "-Wextra", "-Wpedantic", "-Werror"]
 C = ["c99", "c11", "c17", "c2x"]
 STANDARDS = {"gcc": C, "clang": C, "g++": ["c++17"], "clang++": ["c++17"]}
@@ -50,31 +52,24 @@ def prefix(library, tmp_path_factory):
 def test_program(prefix, tmp_path, cc, form, how):
     """The program compiles without a warning with the words of pkg-config alone, links, and runs in another folder."""
     by_lld = ["-fuse-ld=lld"] * ("clang" in cc and "-flto" in how)
-    need(cc, *["g++"] * (cc == "clang++"), *["ld.lld"] * len(by_lld))
+    need(*["ld.lld"] * len(by_lld))
     (tmp_path / "program.c").write_text(example())
     links = {"shared": flags(prefix, "--libs"), "static": flags(prefix, "--libs", "--static"),
              "archive": [prefix / "lib/libbyte_unit.a"]}
     as_cpp = ["-Wno-missing-field-initializers", "-x", "c++"] * ("++" in cc)
-    words = [cc, *WARNINGS, *how.split(), *by_lld, *flags(prefix, "--cflags"), *as_cpp, "program.c", "-x", "none"]
-    assert output(*words, *links[form], "-o", "program", cwd=tmp_path) == ""
+    words = [*WARNINGS, *how.split(), *by_lld, *flags(prefix, "--cflags"), *as_cpp, "program.c", "-x", "none"]
+    compiled(cc, "program", *words, *links[form], cwd=tmp_path)
     here = {"env": {**os.environ, "LD_LIBRARY_PATH": str(prefix / "lib")}, "cwd": "/"}
     good, bad = call(tmp_path / "program", **here), call(tmp_path / "program", "1 x", **here)
     assert (good.stdout, good.returncode, bad.returncode) == ("1.5 KiB\n", 0, 1)
     assert bad.stdout.startswith("1 x: the character 'x' is incorrect (")
 
 
-def declarations(prefix, end):
-    """Returns the functions of the header, each with its result and parameters: those that it declares if `end` is a
-    semicolon, and its inline functions if it is a brace."""
-    text = re.sub(r"/\*.*?\*/", "", read(prefix / "include/byte_unit.h"), flags=re.S)
-    found = re.findall(rf"^(?:\w+ )*?(\w+) (byte_unit_\w+)\(([^()]*)\)\s*{end}", text, re.M)
-    return {name: (result, " ".join(parameters.split())) for result, name, parameters in found}
-
-
 def test_shared_library(prefix):
     """It exports the functions that the header declares and no other, and needs libc alone."""
     library, version = prefix / "lib/libbyte_unit.so", flags(prefix, "--modversion")[0]
-    assert sorted(output("nm", "-D", "--defined-only", library).split()[2::3]) == sorted(declarations(prefix, ";"))
+    declared = [name for name, (_, _, is_inline) in functions(read(prefix / HEADER)).items() if not is_inline]
+    assert sorted(output("nm", "-D", "--defined-only", library).split()[2::3]) == sorted(declared)
     dynamic, soname = output("readelf", "-d", library), f"libbyte_unit.so.{version.split('.')[0]}"
     assert re.findall(r"soname: \[(.*)\]", dynamic) == [soname]
     assert re.findall(r"NEEDED.*\[(.*)\]", dynamic) == ["libc.so.6"]
@@ -86,8 +81,9 @@ def test_version(prefix, tmp_path):
     wrong = "byte_unit_version() != BYTE_UNIT_VERSION || strcmp(BYTE_UNIT_VERSION_STRING, argv[1])"
     head = "#include <byte_unit.h>\n#include <string.h>\nint main(int argc, char **argv)"
     (tmp_path / "version.c").write_text(f"{head} {{ return argc != 2 || {wrong}; }}\n")
-    output("gcc", "version.c", "-static", *flags(prefix, "--cflags", "--libs", "--static"), cwd=tmp_path)
-    output(tmp_path / "a.out", *flags(prefix, "--modversion"))
+    links = flags(prefix, "--cflags", "--libs", "--static")
+    output(compiled("gcc", tmp_path / "version", "version.c", "-static", *links, cwd=tmp_path),
+           *flags(prefix, "--modversion"))  # fmt: skip
 
 
 def test_manual_page(prefix):
@@ -97,10 +93,8 @@ def test_manual_page(prefix):
         synopsis[name] = (result, ", ".join(re.findall(r'"(.*)"', parameters)))
     for result, name, parameter in re.findall(r'^\.Ft (\w+)\n\.Fn (\w+) "?(\w+)"?$', text, re.M):
         synopsis[name] = (result, parameter)
-    inline = declarations(prefix, "{")
-    # A function named `.._to` is one that only an inline function calls.
-    called = {name: row for name, row in declarations(prefix, ";").items() if name.removesuffix("_to") not in inline}
-    assert synopsis == {**called, **inline}
+    header = read(prefix / HEADER)
+    assert synopsis == {name: functions(header)[name][:2] for name in calls_of(header)}
     assert sorted(re.findall(r"^\.Nm (\w+)", text, re.M)) == sorted(synopsis)
     assert {page.stem for page in (prefix / PAGE).parent.iterdir()} == {*synopsis, "byte_unit"}
     need("mandoc")

@@ -5,8 +5,8 @@ import re
 import shutil
 
 import pytest
+from byte_unit_dev.builds import environment
 from byte_unit_dev.common import call, output, path, write
-from byte_unit_dev.fixtures import environment
 from byte_unit_dev.needs import DEBIAN_PYTHON, is_there, need
 
 PACKAGE_CONFIG = "Name: byte_unit\nDescription: -\nVersion: 0\nincludedir={0}\nlibdir={0}\n"

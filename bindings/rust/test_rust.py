@@ -11,15 +11,6 @@ from byte_unit_dev.needs import is_there, need
 
 FEATURES = ["--features", "serde"] if all(map(is_there, SERDE)) else []
 AS_WRITTEN, CHANGED = 91, 9
-MOVED = """[package]
-name = "program"
-version = "0.1.0"
-edition = "2021"
-[dependencies]
-byte-unit = {{ version = "5", features = ["bit", "u128"] }}
-[patch.crates-io]
-byte-unit = {{ path = "{}" }}
-"""
 PKG_CONFIG = "Name: byte_unit\nDescription: -\nVersion: 5.2.6\nlibdir={}\n"
 NOWHERE = {"BYTE_UNIT_LIBRARY_DIR": None, "PKG_CONFIG": "/nowhere"}
 
@@ -57,7 +48,7 @@ def test_program_of_the_original(each_cargo, rust_package, tmp_path, name):
     text, printed = read(f"bindings/rust/{name}"), "0 wrong\n"
     if name == "README.md":
         text, printed = re.search(r"```rust\n(.*?)```\n\n```text\n(.*?)```", text, re.S).groups()
-    write(f"{tmp_path}/Cargo.toml", MOVED.format(rust_package))
+    write(f"{tmp_path}/Cargo.toml", read("bindings/rust/checks/moved.toml").replace("PACKAGE", rust_package))
     write(f"{tmp_path}/src/main.rs", text)
     assert each_cargo.output(tmp_path, "run") == printed
 

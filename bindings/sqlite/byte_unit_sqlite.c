@@ -252,7 +252,8 @@ static bool get_precision(sqlite3_context *context, sqlite3_value *value, byte_u
 }
 
 /* Gets the arguments at the end: a precision, unless the first of them is TEXT, and flags. */
-static bool get_options(sqlite3_context *context, int count, sqlite3_value **values, uint32_t allowed, struct form *form)
+static bool get_options(sqlite3_context *context, int count, sqlite3_value **values, uint32_t allowed,
+                        struct form *form)
 {
     int at = 0;
 
@@ -279,8 +280,8 @@ static void reject_above_integers(sqlite3_context *context, struct text text, ui
     return_message(context, message, true);
 }
 
-/* Gets the arguments of size_parse and size_explain. Returns false if the text is NULL or an argument is invalid. The text
- * of an INTEGER is its digits; a REAL may be rounded already, and a BLOB is not text. */
+/* Gets the arguments of size_parse and size_explain. Returns false if the text is NULL or an argument is invalid. The
+ * text of an INTEGER is its digits; a REAL may be rounded already, and a BLOB is not text. */
 static bool get_text_and_flags(sqlite3_context *context, int argc, sqlite3_value **argv, bool type_is_error,
                                struct text *text, uint32_t *flags)
 {

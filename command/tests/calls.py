@@ -6,12 +6,12 @@ What is drawn shrinks: zeros make a call of few words on a short input.
 import random
 from dataclasses import dataclass
 
-from byte_unit_dev.model.exact import LETTERS, SIZE_LIMIT
+from byte_unit_dev.model.exact import LETTERS, SIZE_LIMIT, Rejected, size_of
 from byte_unit_dev.model.lines import some_line
-from model import BY_LETTER, FORMS, OPTIONS, Wrong, options_of, size_of
+from model import BITS_64, BY_LETTER, FORMS, OPTIONS, Wrong, options_of
 from program import Call
 
-BITS_16, BITS_64 = (1 << 16) - 1, (1 << 64) - 1
+BITS_16 = (1 << 16) - 1
 PRECISIONS = [0, 1, 2, 3, 7, 8, 27, 28, 29, 92, 93, 94, 255, 256, 999, 1000, 1001, BITS_16]
 WIDTHS = [1, 4, 8, 9, 36, 37, 38, 127, 128, 255, 256, 999, 1000, 1001, 32767, 32768, BITS_16]
 COUNTS = [0, 1, 1, 2, 3, 5, 19, 20, 255, 256, BITS_16, BITS_16 + 1, 1 << 32, BITS_64 - 1, BITS_64]
@@ -87,7 +87,8 @@ def some_limit(rng, texts):
         else:
             text = f"{rng.choice([1, 1, 0.125, 0.5, 1.5, 8, 12, 999])}{' ' * rng.randrange(2)}{some_unit(rng)}"
         text = rng.choice(["", "", "", " "]) + text + rng.choice(["", "", "", "\t"])
-        if isinstance(size_of(text.encode(), "bits" in texts, "ignore-case" in texts), int):
+        size = size_of(text.encode(), "bit" if "bits" in texts else "byte", "ignore-case" in texts)
+        if not isinstance(size, Rejected):
             return text
 
 

@@ -1,4 +1,4 @@
-"""A reference model of byte-unit: all that a call writes, and its exit status, computed with integers of any length.
+"""A reference model of byte-unit: all that a call writes, and its exit status, by the exact model of sizes.
 
 An option is a row of OPTIONS.
 
@@ -6,20 +6,18 @@ Follows command/byte-unit.1 and docs/DEFINITIONS.md, and shares no code with the
 """
 
 import functools
+import getopt
 import re
+import unicodedata
 from dataclasses import dataclass
 from types import SimpleNamespace
 
-from byte_unit_dev.model.exact import FRACTION_PLACES, LETTERS, SIZE_LIMIT, SPELLING, WHITE_SPACE, read, unit_bits
-from messages import quoted, reason, unit_reason
-from program import Answer
+from byte_unit_dev.model.exact import (BASE, FORM_PLACES, SIZE_LIMIT, UNITS, WHITE_SPACE, Rejected, best_unit, largest,
+                                       size_of, unit_message, unit_of, value_of)
+from program import Result
 
-FORM_PLACES = 3
-# No quotient of a size and a unit has more digits after the point.
-EXPANSION_PLACES = 93
+QUOTED = 80
 BITS_64 = (1 << 64) - 1
-# From the largest.
-PREFIXES = [letter + infix for letter in reversed(LETTERS) for infix in ("i", "")]
 FORMS = ("exact", "plain", "si", "iec", "auto")
 
 
@@ -27,63 +25,42 @@ class Wrong(Exception):
     """Why the value of an option is wrong."""
 
 
-# Sizes and units.
+# Texts.
 
 
-@functools.lru_cache(maxsize=1 << 10)
-def size_of(data, bits, ignore_case):
-    """Returns the size that a field is, or why it is none."""
+def quoted(data):
+    """Returns bytes in quotes: all, or 77 to 80 of them, so that no character is cut, with two points after them.
+
+    If those in quotes are not UTF-8, each byte that is not printable ASCII is escaped, and else each control character.
+    """
+    ends = range(QUOTED, QUOTED - 4, -1)
+    end = len(data) if len(data) <= QUOTED else next((at for at in ends if data[at] & 0xC0 != 0x80), QUOTED)
     try:
-        text = data.decode().strip(WHITE_SPACE)
+        text = data[:end].decode()
+        text = "".join(f"\\u{{{ord(c):x}}}" if unicodedata.category(c) == "Cc" else c for c in text)
     except UnicodeDecodeError:
-        return "not UTF-8"
-    found = read(text, "bit" if bits else "byte")
-    if isinstance(found, str):
-        return reason(text, ignore_case)
-    unit, _, _ = spelled(text.lstrip("0123456789.").lstrip(" "), bits, ignore_case)
-    size = -(-found[0] * unit // (10**FRACTION_PLACES * (1 if bits else 8)))
-    return size if size < SIZE_LIMIT else reason(text, ignore_case)
+        text = "".join(chr(byte) if 0x20 <= byte < 0x7F else f"\\x{byte:02x}" for byte in data[:end])
+    return f"'{text}{'..' if end < len(data) else ''}'"
+
+
+def message_of(rejected):
+    return "not UTF-8" if rejected.name == "not text" else rejected.message
 
 
 @functools.lru_cache(maxsize=1 << 10)
-def spelled(spelling, bits, ignore_case):
-    """Returns the bits of the unit that a text spells, its name, and whether it has a prefix."""
-    letter, infix, word = SPELLING.fullmatch(spelling).groups()
-    bit = bits if word is None else word != "B" and not (word == "b" and ignore_case and not bits)
-    power = LETTERS.index(letter.upper()) + 1 if letter else 0
-    return unit_bits(power, bool(infix), bit), (letter or "").upper() + "i" * bool(infix) + "Bb"[bit], bool(letter)
-
-
-def decimal(numerator, denominator, places):
-    """Returns a quotient with this number of digits after the point, ties to even, or with all of them for `None`."""
-    if places is None:
-        places = next(some for some in range(EXPANSION_PLACES + 1) if numerator * 10**some % denominator == 0)
-    exact = min(places, EXPANSION_PLACES)
-    whole, rest = divmod(numerator * 10**exact, denominator)
-    digits = str(whole + (2 * rest + whole % 2 > denominator)).rjust(exact + 1, "0")
-    end = len(digits) - exact
-    return digits[:end] + ("." + digits[end:] if places else "") + "0" * (places - exact)
-
-
-@functools.lru_cache(maxsize=1 << 10)
-def text_of(size, bits, ignore_case, to, precision):
-    """Returns the text of a size."""
-    in_bits, own = size * (1 if bits else 8), "Bb"[bits]
-    exact_places = min(FORM_PLACES if precision is None else precision, FRACTION_PLACES)
+def text_of(size, kind, ignore_case, to, precision):
+    """Returns the text of a size: of a unit without a prefix, and for `exact`, with all digits after the point."""
     if to == "plain":
         return str(size)
-    if to in FORMS:
-        for prefix in PREFIXES:
-            unit, name, _ = spelled(prefix, bits, False)
-            if to == "exact":
-                fits = in_bits * 10**exact_places % unit == 0
-            else:
-                fits = to in ("auto", "iec" if "i" in prefix else "si")
-            if unit <= in_bits and fits:
-                return f"{decimal(in_bits, unit, None if to == 'exact' else precision)} {name}"
-        return f"{size} {own}"
-    unit, name, prefixed = spelled(to.strip(WHITE_SPACE), bits, ignore_case)
-    return f"{decimal(in_bits, unit, precision if prefixed else None)} {name}"
+    if to == "exact":
+        unit = best_unit(size, kind, precision=FORM_PLACES if precision is None else precision)
+    elif to in FORMS:
+        unit = largest(size, kind, [unit for unit in UNITS[2:] if unit[-1] == BASE[kind]
+                                    and to in ("auto", "iec" if "i" in unit else "si")])  # fmt: skip
+    else:
+        unit = unit_of(to.strip(WHITE_SPACE), kind, ignore_case)
+    places = "" if precision is None or to == "exact" or unit in BASE.values() else f".{precision}"
+    return f"{value_of(size, kind, unit):{places}f} {unit}"
 
 
 # Options.
@@ -95,15 +72,18 @@ def checked(value, holds, why):
     return value
 
 
-def unit_of(text, options):
-    unit = text.strip(WHITE_SPACE)
-    why = None if text in FORMS else unit_reason(unit, options.ignore_case)
-    return checked(text, unit and not why, "not a form or a unit" + (f": {why}" if unit else ""))
+def form(text, options):
+    unit, words = text.strip(WHITE_SPACE), (options.kind, options.ignore_case)
+    if text not in FORMS and (not unit or not unit_of(unit, *words)):
+        raise Wrong("not a form or a unit" + (f": {unit_message(unit, *words)}" if unit else ""))
+    return text
 
 
 def limit(text, options):
-    size = size_of(text.encode(), options.bits, options.ignore_case)
-    return checked(size, isinstance(size, int), size)
+    size = size_of(text.encode(), options.kind, options.ignore_case)
+    if isinstance(size, Rejected):
+        raise Wrong(message_of(size))
+    return size
 
 
 def ranges(text, options):
@@ -131,7 +111,7 @@ class Option:
 OPTIONS = {
     "bits": Option(),
     "ignore-case": Option("i"),
-    "to": Option("", "exact", unit_of, None),
+    "to": Option("", "exact", form, None),
     "precision": Option("p", None, lambda text, options: int(text), None),
     "delimiter": Option("d", None, lambda text, options: checked(
         text.replace("\\t", "\t").encode(), text == "\\t" or len(text.encode()) == 1,
@@ -148,27 +128,18 @@ OPTIONS = {
     "min": Option("", None, limit, None),
     "zero-terminated": Option("z"),
 }
-BY_LETTER = {option.letter: name for name, option in OPTIONS.items()}
+BY_LETTER = {option.letter: name for name, option in OPTIONS.items() if option.letter}
 
 
 def parsed(words):
     """Returns the texts of the options, by name, and the operands. Words that clap rejects are not modelled."""
-    texts, operands, words = {}, [], list(words)
-    while words:
-        word = words.pop(0)
-        if word == "--":
-            return texts, operands + words
-        if word[:1] != "-":
-            operands.append(word)
-            continue
-        name, equals, text = word[2:].partition("=")
-        if word[:2] != "--":
-            name, text = BY_LETTER[word[1]], word[2:].removeprefix("=")
-            equals = word[2:] and OPTIONS[name].alone is None
-            words[:0] = ["-" + text] if text and not equals else []
-        alone = OPTIONS[name].alone
-        texts[name] = text if equals else words.pop(0) if alone is None else alone
-    return texts, operands
+    end = words.index("--") if "--" in words else len(words)
+    words = [f"{word}={OPTIONS['header'].alone}" if word == "--header" else word for word in words[:end]] + words[end:]
+    takes_text = {name: name == "header" or option.alone is None for name, option in OPTIONS.items()}
+    letters = "".join(letter + ":" * takes_text[name] for letter, name in BY_LETTER.items())
+    given, operands = getopt.gnu_getopt(words, letters, [name + "=" * takes_text[name] for name in OPTIONS])
+    return {BY_LETTER.get(name[1:]) or name[2:]: text if name[:2] == "--" else text.removeprefix("=") or text
+            for name, text in given}, operands  # fmt: skip
 
 
 def options_of(texts):
@@ -180,6 +151,7 @@ def options_of(texts):
         except Wrong as why:
             raise Wrong(f"byte-unit: --{name}: {quoted(texts[name].encode())}: {why}\n") from None
         setattr(options, name.replace("-", "_"), value)
+        options.kind = "bit" if options.bits else "byte"
     options.end = b"\0" if options.zero_terminated else b"\n"
     return options
 
@@ -187,7 +159,7 @@ def options_of(texts):
 # Runs.
 
 
-class Rejected(Exception):
+class Aborted(Exception):
     """A field is not a size, and the run ends before its record."""
 
 
@@ -204,18 +176,18 @@ class Run:
     def shown(self, size):
         """Returns what is written for a size."""
         options = self.options
-        text = text_of(size, options.bits, options.ignore_case, options.to, options.precision)
+        text = text_of(size, options.kind, options.ignore_case, options.to, options.precision)
         return (text.ljust(-options.padding) if options.padding < 0 else text.rjust(options.padding)).encode()
 
     def convert(self, place, data):
         """Returns what is written for a field that is to be converted."""
         options, named = self.options, f"{place}: {quoted(data)}"
-        size = size_of(data, options.bits, options.ignore_case)
-        if isinstance(size, str):
+        size = size_of(data, options.kind, options.ignore_case)
+        if isinstance(size, Rejected):
             if options.invalid != "ignore":
-                self.tell(f"{named}: {size}", 0 if options.invalid == "warn" else 2)
+                self.tell(f"{named}: {message_of(size)}", 0 if options.invalid == "warn" else 2)
             if options.invalid == "abort":
-                raise Rejected
+                raise Aborted
             return data
         if options.max is not None and size > options.max:
             self.tell(f"{named}: above the maximum", 3)
@@ -234,7 +206,7 @@ class Run:
             if any(first <= number <= last for first, last in self.options.field) else part
             for number, part in enumerate(data.split(mark), 1))
 
-    def answer(self, records, header, unread):
+    def result(self, records, header, unread):
         written = []
         try:
             for at, data in enumerate(records, 1):
@@ -243,26 +215,26 @@ class Run:
                 self.tell("the total is 10^30 or more", 2)
             elif self.options.total:
                 written.append(self.shown(self.total))
-        except Rejected:
+        except Aborted:
             pass
         status = next(status for status in (2, 3, 0) if status in self.statuses)
-        return Answer(b"".join(text + self.options.end for text in written), b"".join(self.messages), status, unread)
+        return Result(b"".join(text + self.options.end for text in written), b"".join(self.messages), status, unread)
 
 
 def converted(options, operands, data):
-    """Returns the answer for operands, or for this standard input if there are none."""
+    """Returns the result for operands, or for this standard input if there are none."""
     if operands:
-        return Run(options, "operand").answer([word.encode() for word in operands], 0, data != b"")
+        return Run(options, "operand").result([word.encode() for word in operands], 0, data != b"")
     records = data.split(options.end)
     word = "record" if options.zero_terminated else "line"
-    return Run(options, word).answer(records if records[-1] else records[:-1], options.header, False)
+    return Run(options, word).result(records if records[-1] else records[:-1], options.header, False)
 
 
-def answer(call):
-    """Returns the answer of a call whose words clap accepts."""
+def result_of(call):
+    """Returns the result of a call whose words clap accepts."""
     texts, operands = parsed(call.words)
     try:
         options = options_of(texts)
     except Wrong as why:
-        return Answer(b"", str(why).encode(), 2, call.data != b"")
+        return Result(b"", str(why).encode(), 2, call.data != b"")
     return converted(options, operands, call.data)

@@ -1,4 +1,4 @@
-"""A call of byte-unit and its answer. The program gets its input as a file, or in pieces of which each is one read."""
+"""A call of byte-unit and its result. The program gets its input as a file, or in pieces of which each is one read."""
 
 import os
 import socket
@@ -38,7 +38,7 @@ class Call:
 
 
 @dataclass
-class Answer:
+class Result:
     """What a call writes, its exit status, and whether it leaves a standard input that has something unread."""
 
     written: bytes
@@ -86,4 +86,4 @@ def run(program, call, joined=False):
             status = child.wait(SECONDS)
         finally:
             child.kill()
-        return Answer(contents(written), contents(messages), status, not ours and call.data != b"" and file.tell() == 0)
+        return Result(contents(written), contents(messages), status, not ours and call.data != b"" and file.tell() == 0)

@@ -1,58 +1,44 @@
 """Whole calls of byte-unit: what each writes, byte for byte, and its exit status; and the files beside the program."""
 
 import re
-import subprocess
-from random import Random
 
-import hypothesis
 import pytest
-from hypothesis import HealthCheck, Phase, given, settings, strategies
 
-import large
 from byte_unit_dev.common import output, path, read
+from byte_unit_dev.fixtures import ended
 from byte_unit_dev.needs import need
 from calls import some_call
-from model import OPTIONS, answer
+from model import OPTIONS, result_of
 from program import run
-from rows import MODELLED, OTHERS
-
-# The first of these shrink, and are as slow to draw as to run. The others are drawn from a number.
-SHRINKING = strategies.randoms(use_true_random=False).map(some_call)
-SEEDED = strategies.binary(min_size=8, max_size=8).map(lambda seed: some_call(Random(seed)))
+from rows import LARGE, MODELLED, OTHERS
 
 
-def check(got, call, wanted):
-    differences = list(got.differences(wanted))
-    assert not differences, "\n  ".join([repr(call), *differences])
+def wrong_of(program, calls):
+    """Returns the first call for which the program differs from the model, and how."""
+    for call in calls:
+        differences = list(run(program, call).differences(result_of(call)))
+        if differences:
+            return "\n  ".join([repr(call), *differences])
+    return ""
 
 
-@pytest.mark.parametrize("source, percent", [(SHRINKING, 10), (SEEDED, 90)], ids=["shrinking", "seeded"])
-def test_random_calls(program, pytestconfig, source, percent):
-    @hypothesis.seed(pytestconfig.getoption("seed"))
-    @settings(max_examples=pytestconfig.getoption("calls") * percent // 100, database=None, deadline=None,
-              suppress_health_check=list(HealthCheck), phases=(Phase.generate, Phase.shrink),
-              report_multiple_bugs=False)
-    @given(source)
-    def compare(call):
-        check(run(program, call), call, answer(call))
-
-    compare()
+def test_random_calls(program, pytestconfig, check_drawn):
+    check_drawn(some_call, lambda calls: wrong_of(program, calls), pytestconfig.getoption("calls"))
 
 
 @pytest.mark.parametrize("call, wanted", MODELLED + OTHERS)
 def test_fixed_call(program, call, wanted):
-    check(run(program, call), call, wanted)
+    assert not list(run(program, call).differences(wanted))
 
 
 @pytest.mark.parametrize("call, wanted", MODELLED)
-def test_model_answers_as_written_by_hand(call, wanted):
-    check(answer(call), call, wanted)
+def test_model_is_as_written_by_hand(call, wanted):
+    assert not list(result_of(call).differences(wanted))
 
 
-@pytest.mark.parametrize("calls", [large.many_reads, large.many_records, large.many_bytes, large.characters])
+@pytest.mark.parametrize("calls", LARGE)
 def test_large_calls(program, calls):
-    for call in calls():
-        check(run(program, call), call, answer(call))
+    assert not wrong_of(program, calls())
 
 
 @pytest.mark.whole
@@ -63,8 +49,8 @@ def test_memory(program, source, word, size, most):
     """Of 10,000,000 lines, and of a line of 1 GB: in MB, at most."""
     need("/usr/bin/time")
     script = f"{source} | /usr/bin/time -q -f %M $0 {word} | wc -c; exit ${{PIPESTATUS[-2]}}"
-    got = subprocess.run(["bash", "-c", script, program], capture_output=True, check=False)
-    assert (got.returncode, int(got.stdout)) == (0, size) and int(got.stderr) // 1024 <= most
+    status, written, memory = ended("bash", "-c", script, program)
+    assert (status, int(written)) == (0, size) and int(memory) // 1024 <= most
 
 
 def test_completions():

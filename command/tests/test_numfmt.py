@@ -2,9 +2,10 @@
 
 import random
 import re
-import subprocess
 
 import pytest
+
+from byte_unit_dev.fixtures import ended
 
 FIELDS = ["-d,", *(f"-d, --field={chosen}" for chosen in ("2", "1,3", "2-", "-2", "-"))]
 OTHERS = ["", "--header", "--header=5", "--padding=20", "--padding=-20", "-z"]
@@ -31,7 +32,7 @@ CASES = [
 def test_same_output(program, seed, both, theirs, ours, line):
     rng = random.Random(seed)
     data = "".join(line(rng) + ("\0" if both == "-z" else "\n") for _ in range(1000)).encode()
-    wanted, got = (subprocess.run([*words, *both.split()], input=data, capture_output=True, check=False)
-                   for words in (["numfmt", theirs], [program, ours]))
-    units = re.sub(rb"(\d+)(?:\.0)?([KMGTPE]i?)", rb"\1 \2B", wanted.stdout) if "--to" in theirs else wanted.stdout
-    assert (got.stdout, got.returncode) == (units, wanted.returncode)
+    status, wanted, _ = ended("numfmt", theirs, *both.split(), input=data)
+    if "--to" in theirs:
+        wanted = re.sub(rb"(\d+)(?:\.0)?([KMGTPE]i?)", rb"\1 \2B", wanted)
+    assert ended(program, ours, *both.split(), input=data)[:2] == (status, wanted)

@@ -5,10 +5,10 @@ import os
 import pty
 import socket
 import subprocess
-from contextlib import ExitStack
 
 import pytest
 
+from byte_unit_dev.fixtures import ended, redirected
 from program import Call, run
 
 SECONDS = 60
@@ -18,51 +18,29 @@ WRITE_FAILED = b"byte-unit: write failed\n"
 TERMINAL = b"byte-unit: reading sizes from the terminal, one a line; end with Ctrl-D\n"
 NO_NUMBER = b"byte-unit: line 2: 'x': the character 'x' is not a number\n"
 TOO_LARGE = b"byte-unit: the total is 10^30 or more\n"
-PIPES = {"stdout": subprocess.PIPE, "stderr": subprocess.PIPE}
-
-
-def ended(*words, **streams):
-    """Returns the exit status, standard output and standard error of a program."""
-    got = subprocess.run(words, check=False, timeout=SECONDS, **{**PIPES, **streams})
-    return got.returncode, got.stdout, got.stderr
-
-
-@pytest.fixture
-def start(program):
-    """Returns what starts the program with words and streams; it is ended after the test."""
-    with ExitStack() as stack:
-        def start_program(*words, **streams):
-            child = subprocess.Popen([program, *words], **{**PIPES, **streams})
-            stack.callback(child.kill)
-            return child
-
-        yield start_program
-
-
-@pytest.fixture
-def full():
-    with open("/dev/full", "wb") as file:
-        yield file
 
 
 @pytest.mark.parametrize("word, data", [
     ("--help", b""), ("--version", b""), ("--to=exact", b"1 KB\n"), ("--total", b""), ("1 KB", b""),
     ("--header", b"x\n"), ("--bits", LINES)], ids=["help", "version", "line", "total", "operand", "header", "lines"])
-def test_full_disk(program, full, word, data):
-    assert ended(program, word, input=data, stdout=full) == (1, None, WRITE_FAILED)
+def test_full_disk(program, word, data):
+    assert redirected("> /dev/full", program, word, data=data) == (1, b"", WRITE_FAILED)
 
 
 @pytest.mark.parametrize("words, written", [(["--invalid=fail", "x"], b"x\n"), (["--nothing"], b"")])
-def test_standard_error_on_full_disk(program, full, words, written):
-    assert ended(program, *words, stderr=full) == (2, written, None)
+def test_standard_error_on_full_disk(program, words, written):
+    assert redirected("2> /dev/full", program, *words) == (2, written, b"")
+
+
+@pytest.mark.parametrize("how, message", [
+    ("0<&-", READ_FAILED), ("0< /", READ_FAILED), ("1>&-", WRITE_FAILED)], ids=["input", "folder", "output"])
+def test_closed_descriptor_or_unreadable_input(program, how, message):
+    assert redirected(how, program) == (1, b"", message)
 
 
 @pytest.mark.parametrize("word", ["--help", "--version", "1 KB"])
-def test_closed_output(program, word):
-    closed_end, open_end = os.pipe()
-    os.close(closed_end)
-    with open(open_end, "wb") as file:
-        assert ended(program, word, stdout=file) == (141, None, b"")
+def test_closed_output(program, closed, word):
+    assert ended(program, word, stdout=closed) == (141, None, b"")
 
 
 def test_output_closed_after_first_line(start):
@@ -73,12 +51,6 @@ def test_output_closed_after_first_line(start):
         reader.stdin.write(LINES)
         reader.stdin.close()
     assert (head.communicate()[0], reader.stderr.read(), reader.wait()) == (b"1.5 KiB\n", b"", 141)
-
-
-@pytest.mark.parametrize("stream, message", [
-    ("0<&-", READ_FAILED), ("0< /", READ_FAILED), ("1>&-", WRITE_FAILED)], ids=["input", "folder", "output"])
-def test_closed_descriptor_or_unreadable_input(program, stream, message):
-    assert ended("sh", "-c", f'echo 1 KB | "$0" {stream}', program) == (1, b"", message)
 
 
 def test_input_that_fails_after_records(start):

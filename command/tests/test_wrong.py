@@ -1,17 +1,179 @@
-"""The random and fixed calls tell each wrong program from the right one."""
+"""The random and fixed calls tell each wrong program from byte-unit: it does the same but for one behaviour."""
 
+import getopt
+import re
+from dataclasses import replace
 from itertools import chain
 from random import Random
+from types import SimpleNamespace
 
 import pytest
 
+from byte_unit_dev.model.exact import LETTERS, SIZE_LIMIT, WHITE_SPACE
 from calls import some_call
-from large import large_calls
-from model import answer
-from rows import MODELLED, OTHERS
-from wrong import WRONG, Case, wrong_answer
+from model import BITS_64, Wrong, converted, limit, options_of, parsed, result_of
+from program import Call, Result
+from rows import LARGE, MODELLED, OTHERS
 
 RANDOM_CALLS = 2_000
+
+NO_MEMORY = Result(b"", b"byte-unit: out of memory\n", 1)
+READ_FAILED = Result(b"", b"byte-unit: read failed\n", 1)
+FIELD = re.compile(rb"byte-unit: (?:line|record|operand) .*\n")
+NUMBER = re.compile(rb"(?m)^(byte-unit: (?:line|record|operand) )([0-9]+)")
+
+
+class Case:
+    """A call, its right result, and what its words mean; `options` is `None` if they are wrong."""
+
+    def __init__(self, call, wanted):
+        self.call, self.wanted, self.options, self.operands = call, wanted, None, []
+        try:
+            texts, self.operands = parsed(call.words)
+            self.options = options_of(texts)
+        except (Wrong, getopt.GetoptError, ValueError):
+            pass
+
+    def value(self, name, default):
+        return getattr(self.options, name, default)
+
+
+def replaced(pattern, new):
+    return lambda text, case: re.sub(pattern, new, text)
+
+
+def renumbered(change):
+    """Returns what numbers records by another number, for which it may look at the case."""
+    return lambda text, case: NUMBER.sub(lambda found: found[1] + b"%d" % change(int(found[2]), case), text)
+
+
+def chosen(choose):
+    """Returns what writes some of the lines of the messages, or in another order."""
+    return lambda text, case: b"".join(choose(text.splitlines(True), case))
+
+
+def split_quotes(text, case):
+    """Quotes a cut text with a character of four bytes by its bytes."""
+    def by_bytes(found):
+        return b"".join(b"\\x%02x" % byte if byte > 0x7E else b"%c" % byte for byte in found[0])
+    return re.sub(rb"'[^'\n]*\xf0[^'\n]*\.\.'", by_bytes, text)
+
+
+def copied_header(text, case):
+    copies = case.operands and case.options and "header" in case.options.texts
+    return case.operands[0].encode() + case.options.end + text.partition(case.options.end)[2] if copies else text
+
+
+def is_cut_twice(case):
+    """Whether a record comes in more than two reads."""
+    inner = case.call.pieces()[1:-1] if case.options and not case.operands else []
+    return any(case.options.end not in piece for piece in inner)
+
+
+def rejected_part(got, case):
+    """Takes what was read so far of a record for a record."""
+    start, data = 0, case.call.data
+    for piece in case.call.pieces()[:-1] if case.value("invalid", "") == "abort" and not case.operands else []:
+        start += len(piece)
+        part = result_of(Call(case.call.words, data[:start])) if data[start - 1 : start] != case.options.end else got
+        if part.status == 2 and part is not got:
+            return part
+    return got
+
+
+def unit_and(end, when):
+    """Returns what adds an end to the unit of `--to`."""
+    def change(text, case):
+        unit = text.strip(WHITE_SPACE)
+        return unit + end if when(unit, case.options) else text
+    return change
+
+
+def in_bits(size, case):
+    """Takes `b` in a limit for bits."""
+    text = case.options.texts["max"]
+    return limit(text + "it", case.options) if text[-1:] == "b" else size
+
+
+# Each with the part of the result, the option, or the operands, that it takes for something else.
+WRONG = {
+    "nonsense for every message": ("messages", replaced(FIELD, b"byte-unit: line 9: 'z': nonsense\n")),
+    "messages in reverse order": ("messages", chosen(lambda lines, case: reversed(lines))),
+    "every message twice": ("messages", replaced(FIELD, lambda found: found[0] * 2)),
+    "all but the first message lost": ("messages", chosen(lambda lines, case: lines[:1])),
+    "message of the last record lost": ("messages", chosen(
+        lambda lines, case: lines if case.call.data[-1:] in b"\n\0" else lines[:-1])),
+    "messages lost in a run that is aborted": ("messages", lambda text, case: text if case.wanted.status != 2
+                                               or case.value("invalid", "") == "fail" else FIELD.sub(b"", text)),
+    "ESC reaches the terminal": ("messages", replaced(rb"\\u\{1b\}", b"\x1b")),
+    "DEL reaches the terminal": ("messages", replaced(rb"\\u\{7f\}", b"\x7f")),
+    "U+009B reaches the terminal": ("messages", replaced(rb"\\u\{9b\}", "\u009b".encode())),
+    "a character of four bytes is cut": ("messages", split_quotes),
+    "no points after a cut text": ("messages", replaced(rb"\.\.'", b"'")),
+    "line numbers without the header": ("messages", renumbered(lambda at, case: at - case.value("header", 0))),
+    "line numbers of 16 bits": ("messages", renumbered(lambda at, case: at % (1 << 16))),
+    "operands counted from 0": ("messages", renumbered(lambda at, case: at - bool(case.operands))),
+    "a record is called a line": ("messages", replaced(rb"(?m)^byte-unit: record", b"byte-unit: line")),
+    "field numbers to 9": ("messages", replaced(rb"field [0-9]{2,}:", b"field 9:")),
+    "a minimum told as a maximum": ("messages", replaced(b"below the minimum", b"above the maximum")),
+    "--min told as --max": ("messages", replaced(b"byte-unit: --min:", b"byte-unit: --max:")),
+    "what a unit may continue with, in another order": ("messages", replaced(b"'B' or 'b'", b"'b' or 'B'")),
+    "what -i expects": ("messages", replaced(rb"\('B' or no character", b"('B' or 'b' or no character")),
+    "status 3 before 2": ("status", lambda status, case: 3 if b"the m" in case.wanted.messages and status else status),
+    "status 0 for a total too large": (
+        "status", lambda status, case: 0 if b"the total" in case.wanted.messages else status),
+    "out of memory for 1 MB of text": ("all", lambda got, case: NO_MEMORY if len(got.written) > 1_000_000 else got),
+    "out of memory for more than two reads": ("all", lambda got, case: NO_MEMORY if is_cut_twice(case) else got),
+    "out of memory for 16 MB": ("all", lambda got, case: NO_MEMORY if len(case.call.data) > 1 << 24 else got),
+    "read failed after 100,000 reads": (
+        "all", lambda got, case: READ_FAILED if len(case.call.cuts or []) > 100_000 else got),
+    "a part of a record is rejected": ("all", rejected_part),
+    "--bits --to=K in bytes": ("to", unit_and(
+        "B", lambda unit, options: options.bits and unit[-1] in LETTERS and unit[-3:] != "BIT")),
+    "-i not for --to": ("to", unit_and("it", lambda unit, options: options.ignore_case and unit[-1] == "b")),
+    "--bits --max in bytes": ("max", lambda size, case: size // 8 if case.options.bits else size),
+    "--bits --min in bytes": ("min", lambda size, case: size // 8 if case.options.bits else size),
+    "-i not for --max": ("max", in_bits),
+    "the maximum exclusive": ("max", lambda size, case: max(0, size - 1)),
+    "the greatest minimum ignored": ("min", lambda size, case: 0 if size == SIZE_LIMIT - 1 else size),
+    "the greatest maximum is 0": ("max", lambda size, case: 0 if size == SIZE_LIMIT - 1 else size),
+    "a maximum of 0 ignored": ("max", lambda size, case: size or SIZE_LIMIT - 1),
+    "-p above 1,000": ("precision", lambda places, case: min(places, 1000)),
+    "-p 0 as 1": ("precision", lambda places, case: max(places, 1)),
+    "-p at most 93": ("precision", lambda places, case: min(places, 93)),
+    "-p 28 as 27": ("precision", lambda places, case: 27 if places == 28 else places),
+    "--padding of 8 bits": ("padding", lambda width, case: width % 256 or 1 if width > 0 else width),
+    "--padding above 1,000": ("padding", lambda width, case: min(width, 1000)),
+    "--header of 32 bits": ("header", lambda count, case: count % (1 << 32)),
+    "the greatest --header ignored": ("header", lambda count, case: 0 if count == BITS_64 else count),
+    "the ninth range lost": ("field", lambda ranges, case: ranges[:8] + ranges[9:]),
+    "ranges after the sixteenth lost": ("field", lambda ranges, case: ranges[:16]),
+    "a list of fields must ascend": (
+        "field", lambda ranges, case: ranges[:1] + [some for some in ranges[1:] if some[0] > 1]),
+    "-z loses an operand": (
+        "operands", lambda operands, case: operands[:-1] if case.options.zero_terminated else operands),
+    "a line feed splits an operand": (
+        "operands", lambda operands, case: [part for operand in operands for part in operand.split("\n")]),
+    "--header copies an operand": ("written", copied_header),
+    "--total as the last word ignored": ("total", lambda total, case: case.call.words[-1] != "--total"),
+    "standard input read for operands": ("unread", lambda unread, case: False),
+}
+
+
+def wrong_result(name, case):
+    """Returns the result of a wrong program: the right one, changed, or the model's to other options or operands."""
+    part, change = WRONG[name]
+    if part == "all":
+        return change(case.wanted, case)
+    if hasattr(case.wanted, part):
+        return replace(case.wanted, **{part: change(getattr(case.wanted, part), case)})
+    given = case.operands if part == "operands" else part in case.value("texts", {}) and [getattr(case.options, part)]
+    if not given or not case.options:
+        return case.wanted
+    if part == "operands":
+        return converted(case.options, change(case.operands, case), case.call.data)
+    options = SimpleNamespace(**{**vars(case.options), part: change(given[0], case)})
+    return converted(options, case.operands, case.call.data) if options != case.options else case.wanted
 
 
 @pytest.fixture(scope="session")
@@ -19,11 +181,11 @@ def seen(pytestconfig):
     """The first call that tells each wrong program from the right one, by the name of the wrong program."""
     found, seed = {}, RANDOM_CALLS * pytestconfig.getoption("seed")
     random_calls = (some_call(Random(seed + at)) for at in range(RANDOM_CALLS))
-    cases = chain(((call, answer(call)) for call in random_calls), MODELLED, OTHERS,
-                  ((call, answer(call)) for call in large_calls()))
+    cases = chain(((call, result_of(call)) for call in random_calls), MODELLED, OTHERS,
+                  ((call, result_of(call)) for calls in LARGE for call in calls()))
     for call, wanted in cases:
         case = Case(call, wanted)
-        found.update({name: call for name in WRONG.keys() - found.keys() if wrong_answer(name, case) != wanted})
+        found.update({name: call for name in WRONG.keys() - found.keys() if wrong_result(name, case) != wanted})
         if len(found) == len(WRONG):
             break
     return found

@@ -1,11 +1,12 @@
 """What all commands share: the repository's files, calls of other programs, and the way to report."""
 
 import argparse
+import contextlib
 import os
+import resource
 import shutil
 import signal
 import subprocess
-import sys
 
 ROOT = os.path.dirname(os.path.dirname(os.path.dirname(os.path.realpath(__file__))))
 
@@ -35,18 +36,50 @@ def write(name, text):
         file.write(text)
 
 
+def copy_to(folder, *names, without=("out",)):
+    """Copies files and folders of the repository to their places below a folder, without what has one of the names."""
+    for name in names:
+        target = os.path.join(folder, name)
+        os.makedirs(os.path.dirname(target), exist_ok=True)
+        if os.path.isdir(path(name)):
+            shutil.copytree(path(name), target, symlinks=True, ignore=shutil.ignore_patterns(*without))
+        else:
+            shutil.copy(path(name), target)
+
+
 def call(*words, **more):
     """Runs a program. Returns its status and its output as text, with its errors unless `more` says otherwise."""
     how = {"stdout": subprocess.PIPE, "stderr": subprocess.STDOUT, "encoding": "utf-8", "errors": "replace"}
     return subprocess.run([str(word) for word in words], check=False, **{**how, **more})
 
 
+@contextlib.contextmanager
+def session(*words, cwd):
+    """Starts a program, which ends with this one, and whose output and errors are to be read."""
+    how = {"stdin": subprocess.DEVNULL, "stdout": subprocess.PIPE, "stderr": subprocess.STDOUT}
+    with subprocess.Popen(words, cwd=cwd, start_new_session=True, **how) as process:
+        try:
+            yield process
+        finally:
+            if process.poll() is None:
+                os.killpg(process.pid, signal.SIGTERM)
+
+
 def output(*words, **more):
     """Runs a program that has to succeed, and returns its output."""
     got = call(*words, **more)
     if got.returncode:
-        raise Failure(f"status {got.returncode} of {' '.join(map(str, words))}\n{got.stdout}{got.stderr or ''}")
+        said = f"{got.stdout or ''}{got.stderr or ''}"
+        raise Failure(f"status {got.returncode} of {' '.join(map(str, words))}\n{said}")
     return got.stdout
+
+
+def spent(*words, **more):
+    """Runs a program that has to succeed, and returns the seconds of user time and of system time that it takes."""
+    before = resource.getrusage(resource.RUSAGE_CHILDREN)
+    output(*words, **more)
+    after = resource.getrusage(resource.RUSAGE_CHILDREN)
+    return after.ru_utime - before.ru_utime, after.ru_stime - before.ru_stime
 
 
 def files():
@@ -86,9 +119,3 @@ def report(findings, fine):
     """Prints each finding, or what is fine if there is none. Returns the exit status."""
     print("\n".join(findings) if findings else fine, flush=True)
     return 1 if findings else 0
-
-
-def fail(message):
-    """Prints a message to standard error, and returns the exit status 1."""
-    print(message, file=sys.stderr, flush=True)
-    return 1

@@ -1,74 +1,116 @@
-"""Fixtures that tests of several bindings share: what is built once, and the comparison with the exact model."""
+"""What tests share: fixtures of what is built once, comparisons with the exact model, and runs of programs."""
 
+import contextlib
 import functools
 import os
+import random
 import re
 import shutil
 import subprocess
 import types
 
+import hypothesis
 import pytest
+from hypothesis import strategies
 
-from .common import call, output, path, read, write
-from .model import drawn
-from .model.exact import answer
+from .builds import CONFIG, copied, environment
+from .common import call, output, read, write
+from .model.exact import output_for
 from .model.lines import some_line
 from .needs import DEBIAN_PYTHON, DEBIAN_RUST, PYTHON_PACKAGE, is_there, need
 
 # The first cargo of the path, and Debian's.
 CARGOS = list(dict.fromkeys([shutil.which("cargo") or "cargo", "/usr/bin/cargo"]))
 SERDE = [f"{DEBIAN_RUST}/{name}-*" for name in ("serde", "serde_json", "toml")]
-# The crates that Debian installs take the place of the registry.
-CONFIG = f"""[source.crates-io]
-replace-with = "debian"
-[source.debian]
-directory = "{DEBIAN_RUST}"
-"""
-UNSET = ["PYTHONPATH", "BYTE_UNIT_LIBRARY_DIR", "PKG_CONFIG", "PKG_CONFIG_PATH", "RUSTFLAGS", "RUSTDOCFLAGS",
-         "CARGO_BUILD_TARGET"]  # fmt: skip
-SET = {"PYTHONDONTWRITEBYTECODE": "1", "PYTHONUTF8": "1", "PIP_DISABLE_PIP_VERSION_CHECK": "1",
-       "CARGO_TERM_QUIET": "true", "CARGO_NET_OFFLINE": "true", "CARGO_PROFILE_DEV_DEBUG": "0"}  # fmt: skip
 
 
-def environment(**variables):
-    """Returns this environment with variables, those of None unset, and without what could lead to another library."""
-    here = {**os.environ, **dict.fromkeys(UNSET), **SET, **variables}
-    return {name: str(value) for name, value in here.items() if value is not None}
+def compiled(compiler, out, *words, **more):
+    """Compiles without a warning, and returns the path of what is made."""
+    # clang++ needs the library of g++.
+    need(compiler, *["g++"] * (compiler == "clang++"))
+    assert output(compiler, *words, "-o", out, **more) == ""
+    return out
+
+
+def ended(*words, **how):
+    """Runs a program. Returns its exit status, and the bytes of its standard output and standard error."""
+    how = {"stdout": subprocess.PIPE, "stderr": subprocess.PIPE, "timeout": 600, **how}
+    got = subprocess.run(words, check=False, **how)
+    return got.returncode, got.stdout, got.stderr
+
+
+def redirected(how, *words, data=b"1 KB\n"):
+    """Returns the same of a program of which the shell redirects a stream, such as `> /dev/full`."""
+    return ended("sh", "-c", f'exec "$0" "$@" {how}', *words, input=data)
+
+
+@pytest.fixture
+def start(program):
+    """Returns what starts the program with words and streams; it is ended after the test."""
+    with contextlib.ExitStack() as stack:
+        def started(*words, **streams):
+            streams = {"stdout": subprocess.PIPE, "stderr": subprocess.PIPE, **streams}
+            child = subprocess.Popen([program, *words], **streams)
+            stack.callback(child.kill)
+            return child
+
+        yield started
+
+
+@pytest.fixture
+def closed():
+    """The end for writing of a pipe that nothing reads."""
+    reader, writer = os.pipe()
+    os.close(reader)
+    with open(writer, "wb") as file:
+        yield file
 
 
 @pytest.fixture(scope="session")
 def check_drawn(request):
-    """Checks drawn values, `--lines` of them as `--seed` chooses: see drawn.check."""
-    count, number = map(request.config.getoption, ("lines", "seed"))
-    return functools.partial(drawn.check, count=count, number=number)
+    """Checks that `wrong`, which returns what is wrong with a list, returns nothing for random values: `--lines` of
+    them, or another count, each made by `make` from a `random.Random`. Else calls it with lists of the length
+    `together`, one after another, so that hypothesis finds the simplest."""
+    seed = request.config.getoption("seed")
+
+    def check(make, wrong, count=request.config.getoption("lines"), together=1):
+        found = wrong([make(random.Random(f"{seed} {at}")) for at in range(count)])
+        if found:
+            values = strategies.randoms(use_true_random=False).map(make)
+            given = hypothesis.given(strategies.lists(values, min_size=together, max_size=together))
+            how = hypothesis.settings(max_examples=count, deadline=None, database=None, report_multiple_bugs=False,
+                                      suppress_health_check=list(hypothesis.HealthCheck))
+
+            def is_right(values):
+                found = wrong(values)
+                assert not found, found
+
+            hypothesis.seed(seed)(how(given(is_right)))()
+            pytest.fail(str(found))
+
+    return check
 
 
 def printed(command, lines):
     """Returns the lines that a program prints for lines, and one more if it does not exit with status 0."""
-    ran = subprocess.run(command, input=b"".join(line + b"\n" for line in lines), stdout=subprocess.PIPE, check=False)
-    return ran.stdout.decode().split("\n")[:-1] + [f"status {ran.returncode}"] * (ran.returncode != 0)
+    status, written, _ = ended(*command, input=b"".join(line + b"\n" for line in lines), stderr=None)
+    return written.decode().split("\n")[:-1] + [f"status {status}"] * (status != 0)
 
 
 @pytest.fixture(scope="session")
 def check_lines(check_drawn):
     """Checks that a program prints, for drawn lines, what the exact model, or another program, does."""
 
-    def check(command, kind, other=None):
+    def check(command, kind, other=None, **count):
         def wrong(lines):
             got = printed([*command, kind], lines)
-            wanted = printed([other, kind], lines) if other else [answer(line, kind) for line in lines]
+            wanted = printed([other, kind], lines) if other else [output_for(line, kind) for line in lines]
             differing = [row for row in zip(lines, got, wanted) if row[1] != row[2]]
             return differing[:5] or len(got) != len(wanted) and f"{len(got)} of {len(wanted)} lines: {got[-1:]}"
 
-        check_drawn(some_line, wrong)
+        check_drawn(some_line, wrong, **count)
 
     return check
-
-
-def copied(binding, folder):
-    """Copies a binding, without what was built in it, and returns the copy's path."""
-    built = shutil.ignore_patterns("build", "*.egg-info", "__pycache__", "target", "Cargo.lock")
-    return str(shutil.copytree(path("bindings", binding), folder.resolve() / "bindings" / binding, ignore=built))
 
 
 @pytest.fixture(scope="session")

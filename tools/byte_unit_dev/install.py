@@ -110,10 +110,17 @@ def build(folder, given):
         shutil.copy(f"{crate}/out/byte_unit_cli", folder / COMMAND)
 
 
+def functions(header):
+    """Returns the result and the parameters of each function of the header, and whether it is inline."""
+    code = re.sub(r"/\*.*?\*/", "", header, flags=re.S)
+    found = re.findall(r"^((?:\w+ )*?)(\w+) (byte_unit_\w+)\(([^()]*)\)\s*[;{]", code, re.M)
+    return {name: (result, " ".join(given.split()), "inline" in before) for before, result, name, given in found}
+
+
 def calls_of(header):
     """Returns the names of the header's functions, but for those, named `.._to`, that only inline functions call."""
-    names = set(re.findall(r"^\w[\w ]* (byte_unit_\w+)\(", header, re.M))
-    return sorted(name for name in names if name.removesuffix("_to") not in names - {name})
+    names = functions(header)
+    return sorted(name for name in names if name.removesuffix("_to") == name or name.removesuffix("_to") not in names)
 
 
 def files_of(folder, prefix, given):

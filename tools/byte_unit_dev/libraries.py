@@ -10,12 +10,11 @@ leaves nothing that other commands of `rt` read. So the first call after it take
 import os
 import re
 import shutil
-import signal
 import subprocess
 import time
 from pathlib import Path
 
-from .common import Failure, call, has_program, output, path, read
+from .common import Failure, call, has_program, output, path, read, session
 
 ARCHIVE, HEADER, EXTENSION = "libbyte_unit.a", "byte_unit.h", "sqlite3/byte_unit.so"
 # Every x86-64 processor. The default of rt, x86-64-v2, ends a program on the processors qemu64 and kvm64 by SIGILL.
@@ -75,18 +74,13 @@ def words_after_ci(archive):
 def watched(*words, cwd):
     """Runs a program, which ends with this one, and returns what it prints. Says every 20 seconds how far it is."""
     began, said = time.monotonic(), None
-    how = {"stdin": subprocess.DEVNULL, "stdout": subprocess.PIPE, "stderr": subprocess.STDOUT}
-    with subprocess.Popen(words, cwd=cwd, start_new_session=True, **how) as process:
-        try:
-            while said is None:
-                try:
-                    said = process.communicate(timeout=20)[0].decode(errors="replace")
-                except subprocess.TimeoutExpired as waited:
-                    last = (waited.output or b"").decode(errors="replace").rstrip().rpartition("\n")[2]
-                    print(f"{duration(began)} so far; rt prints: {last}", flush=True)
-        finally:
-            if process.poll() is None:
-                os.killpg(process.pid, signal.SIGTERM)
+    with session(*words, cwd=cwd) as process:
+        while said is None:
+            try:
+                said = process.communicate(timeout=20)[0].decode(errors="replace")
+            except subprocess.TimeoutExpired as waited:
+                last = (waited.output or b"").decode(errors="replace").rstrip().rpartition("\n")[2]
+                print(f"{duration(began)} so far; rt prints: {last}", flush=True)
     if process.returncode:
         print(said, end="", flush=True)
         raise Failure(f"{words[0]} {words[1]} in {cwd} failed: see above")

@@ -5,7 +5,9 @@
     tools/dev mutants put K/N                       copies a part of them to must-fail/, where `rt ci` tries them
     tools/dev mutants remove                        deletes these copies, which git ignores
 
-A mutant is a file crates/CRATE/must-fail/TITLE.edit or a title of crates/CRATE/mutants.edits. Its title is
+A mutant is a file crates/CRATE/must-fail/TITLE.edit, or a line `== TITLE` of the catalogue crates/CRATE/mutants.edits,
+which begins with comments, and the lines of an edit for `rt must-fail` after it. Those of byte_unit_bit are rendered
+from all of byte_unit_byte when they are tried. The title of a mutant is
 `module.function.what`: the function whose contract rejects it, and what it does wrong. `module` is the file of the
 function or a folder that this file is in; of several such functions the one whose file has the shortest path is meant.
 A function is public if it has `pub` and a contract and the crate exports it: it is `extern "C"`, or in a `pub mod`, or
@@ -20,25 +22,22 @@ import argparse
 import glob
 import os
 import re
-import shutil
-import signal
-import subprocess
 import tempfile
+import zlib
 
-from .catalogue import part_of, split
-from .common import one_of, path, read, report, write
+from .common import copy_to, one_of, path, read, report, session, write
+from .render import bits
+from .source import EXAMPLES, catalogue, files, source
 
-EXAMPLES = re.compile(r"example_|byte_unit_(uses|tests)$")
 # What the names of the mutants begin with that `put` copies.
 BY_TURN = "by-turn."
-# A signature up to the line that begins its body.
-FUNCTION = re.compile(r'^ *pub (extern "C" )?fn (\w+)(.*?)(?:^ *\{\}?| \{)$', re.M | re.S)
+FUNCTION = re.compile(r'^ *pub (extern     )?fn (\w+)', re.M)
 IMPL = re.compile(r"^impl(?:<[^>]*>)? (\w+)", re.M)
 
 
 def catalogue_of(crate):
-    name = f"crates/{crate}/mutants.edits"
-    return split(name, read(name)) if os.path.exists(path(name)) else {}
+    """Returns the mutants of a crate's catalogue by title, in order."""
+    return bits.mutants() if crate == bits.CRATE else catalogue(crate)
 
 
 def titles_of(crate):
@@ -49,18 +48,18 @@ def titles_of(crate):
 
 def public_functions(crate):
     """Returns the modules of the file and the name of each public function with a contract."""
-    found, source = [], path("crates", crate, "src")
-    root = read(f"{source}/lib.rt") if os.path.exists(f"{source}/lib.rt") else None
+    found, top = [], f"crates/{crate}/src"
+    root = read(f"{top}/lib.rt") if os.path.exists(path(top, "lib.rt")) else None
     modules = set(re.findall(r"^pub mod (\w+);", root or "", re.M))
     names = set(re.findall(r"\w+", " ".join(re.findall(r"^pub use (.*?);", root or "", re.M | re.S))))
-    for file in sorted(glob.glob("**/*.rt", root_dir=source, recursive=True)):
-        modules_of_file, text = file.removesuffix(".rt").split("/"), read(f"{source}/{file}")
-        if {"tests", "laws"} & set(modules_of_file) or text.startswith("// Rendered from "):
+    for file in map(source, files(top, ".rt")):
+        modules_of_file = file.name.removeprefix(f"{top}/").removesuffix(".rt").split("/")
+        if {"tests", "laws"} & set(modules_of_file) or file.text.startswith("// Rendered from "):
             continue
-        for match in FUNCTION.finditer(text):
-            impls = IMPL.findall(text[:match.start()]) if match[0].startswith("    ") else []
+        for match in FUNCTION.finditer(file.code):
+            impls = IMPL.findall(file.text[:match.start()]) if match[0].startswith("    ") else []
             exported = root is None or match[1] or modules_of_file[0] in modules or {match[2], *impls[-1:]} & names
-            if exported and re.search(r"^ *ensures", match[3], re.M):
+            if exported and any(clause.startswith("ensures") for clause in file.function(match.start())[1]):
                 found.append((modules_of_file, match[2]))
     return found
 
@@ -86,7 +85,7 @@ def listed(crates):
 def put(crate, part, folder, prefix=""):
     """Writes the mutants of a part of a crate's catalogue to a folder, and returns the names of their files."""
     chosen = {f"{prefix}{title}.edit": text for title, text in catalogue_of(crate).items()
-              if part_of(crate, title, part[1]) == part[0]}
+              if zlib.crc32(f"{crate}/{title}".encode()) % part[1] + 1 == part[0]}  # fmt: skip
     for name, text in chosen.items():
         write(os.path.join(folder, name), text)
     return list(chosen)
@@ -94,20 +93,13 @@ def put(crate, part, folder, prefix=""):
 
 def tried(crates, part):
     with tempfile.TemporaryDirectory() as copy:
-        shutil.copytree(path("crates"), f"{copy}/crates", symlinks=True, ignore=shutil.ignore_patterns("must-fail"))
-        for name in ("HANDLES", "crates.txt"):
-            shutil.copy(path(name), copy)
+        copy_to(copy, "crates", "HANDLES", "crates.txt", without=["must-fail"])
         names = [f"{crate}/{name}" for crate in crates for name in put(crate, part, f"{copy}/crates/{crate}/must-fail")]
-        said, more = "", {"stdout": subprocess.PIPE, "stderr": subprocess.STDOUT, "errors": "replace"}
-        words = ["rt", "must-fail", *crates]
-        with subprocess.Popen(words, cwd=copy, encoding="utf-8", start_new_session=True, **more) as process:
-            try:
-                for line in process.stdout:
-                    print(line, end="", flush=True)
-                    said += line
-            except BaseException:
-                os.killpg(process.pid, signal.SIGTERM)
-                raise
+        said = ""
+        with session("rt", "must-fail", *crates, cwd=copy) as process:
+            for line in process.stdout:
+                print(line.decode(errors="replace"), end="", flush=True)
+                said += line.decode(errors="replace")
     survived = [name for name in names if f"must-fail {name}: NOT REFUSED" in said]
     rejected = [name for name in names if f"must-fail {name}: refused, as it must be" in said]
     untried = sorted({*names} - {*survived, *rejected})
@@ -137,14 +129,19 @@ def crates_with(*forms):
     return sorted({name.split("/")[0] for form in forms for name in glob.glob(f"*/{form}", root_dir=path("crates"))})
 
 
+def catalogued():
+    """Returns the crates with a catalogue."""
+    return sorted([*crates_with("mutants.edits"), bits.CRATE])
+
+
 def arguments(parser):
     actions = parser.add_subparsers(dest="action", metavar="ACTION", prog=parser.prog)
-    shown = [name for name in crates_with("mutants.edits", "must-fail/*.edit") if not EXAMPLES.match(name)]
+    shown = [name for name in crates_with("mutants.edits", "must-fail/*.edit") if not EXAMPLES.fullmatch(name)]
     parser.set_defaults(action="list", crates=[], shown=shown)
     actions.add_parser("list").add_argument("crates", nargs="*", type=one_of(shown), metavar="CRATE")
     trying = actions.add_parser("try")
     trying.add_argument("--part", type=part, default=(1, 1), metavar="K/N")
-    trying.add_argument("crates", nargs="*", type=one_of(crates_with("mutants.edits")), metavar="CRATE")
+    trying.add_argument("crates", nargs="*", type=one_of(catalogued()), metavar="CRATE")
     actions.add_parser("put").add_argument("part", type=part, metavar="K/N")
     actions.add_parser("remove")
 
@@ -154,7 +151,7 @@ def run(given):
         return remove()
     if given.action == "list":
         return listed(given.crates or given.shown)
-    crates = crates_with("mutants.edits")
+    crates = catalogued()
     if given.action == "try":
         return tried(sorted(set(given.crates or crates)), given.part)
     remove()

@@ -18,6 +18,8 @@ WORD = re.compile(r"[^\W\d][\w\-]*")
 # The first line of a definition, with its name. Its kind, such as `abbrev` or `record`, is before or after `pub`.
 DEFINITION = re.compile(r"^(?:[a-z]+ )?pub (?!mod |use )(?:[a-z]+ )?([^\s:(){}]+)", re.M)
 COMMENT = r"(?:^--(?: .*)?\n)*"
+# The crates of examples and tests.
+EXAMPLES = re.compile(r"example_\w+|byte_unit_uses|byte_unit_tests")
 # Parts of a file that are all its lines of a form.
 LINES = {"imports": r"^(?:ghost |pub )?use\b[^;]*;$", "attributes": r"^#!\[.*\]$"}
 
@@ -36,8 +38,25 @@ def files(folder, ending):
     return sorted(f"{folder}/{name}" for name in glob.glob(f"**/*{ending}", root_dir=path(folder), recursive=True))
 
 
-def is_crate(name):
-    return os.path.isdir(path("crates", name))
+@functools.lru_cache(maxsize=None)
+def crates():
+    """Returns the crates that each crate uses, in the order of crates.txt, from the lowest."""
+    rows = [line.split("#")[0].partition(":") for line in read("crates.txt").splitlines()]
+    return {head.split()[0]: names.split() for head, _, names in rows if head.strip()}
+
+
+def below(names):
+    """Returns these crates and those that they need, in the order of crates.txt."""
+    needed, more = set(), set(names)
+    while more:
+        needed |= more
+        more = {name for crate in more for name in crates()[crate] if name in crates()} - needed
+    return [name for name in crates() if name in needed]
+
+
+def library():
+    """Returns the crates of the library, from the lowest: the facade, and those whose files it exports."""
+    return [name for name in crates() if name in [*crates()["byte_unit"], "byte_unit"]]
 
 
 class Source:
@@ -253,7 +272,7 @@ def resolved(words, imports, own=None):
             yield own.crate, own.module, own.maker(word)
         elif word in imports:
             crate, module, name = imports[word]
-            home = home_of_spec(crate, module) if is_crate(crate) else None
+            home = home_of_spec(crate, module) if crate in crates() else None
             maker = home and specs(home[0])[home[1]].maker(name)
             if maker:
                 yield *home, maker
@@ -276,9 +295,26 @@ def exports(crate, module="lib"):
     file, found = source(f"crates/{crate}/src/{module}.rt"), {}
     for use in re.finditer(r"pub use (\w+)::(?:\w+::)*(?:\{([^}]*)\}|(\w+));", file.plain):
         for name in re.findall(r"\w+", use[2] or use[3]) if use[1] != "std" else []:
-            homes = [home for home in sources(use[1] if is_crate(use[1]) else crate)
+            homes = [home for home in sources(use[1] if use[1] in crates() else crate)
                      if re.search(rf"^pub (?:struct|enum|trait|fn) {name}\b", home.code, re.M)]
             if len(homes) != 1:
                 raise file.wrong(use.start(), f"{len(homes)} files define {name}, not one")
             found[name] = homes[0]
+    return found
+
+
+def catalogue(crate):
+    """Returns the mutants that the catalogue of a crate has, by title, in order."""
+    name, found, title = f"crates/{crate}/mutants.edits", {}, None
+    text = read(name) if os.path.exists(path(name)) else ""
+    for number, line in enumerate(text.splitlines(), 1):
+        if line.startswith("== "):
+            title = line[3:]
+            if title in found or not title or "/" in title:
+                raise Failure(f"{name}:{number}: this title is a duplicate or not a file name: {title}")
+            found[title] = ""
+        elif title is not None and line:
+            found[title] += line + "\n"
+        elif line and not line.startswith("#"):
+            raise Failure(f"{name}:{number}: only comments may come before the first title: {line}")
     return found

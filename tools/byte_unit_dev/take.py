@@ -19,9 +19,10 @@ from pathlib import Path
 
 from .common import ROOT, Failure, call, has_program, reason
 from .replace import remove_folders, replace
+from .source import library
 
 HERE = Path(ROOT)
-CRATES = ["byte_unit_math", "byte_unit_base", "byte_unit_format", "byte_unit_byte", "byte_unit_bit", "byte_unit"]
+CRATES = library()
 PARTS = ["src", "specs", "proofs"]
 RECORD = "crates/byte_unit/VERSION"
 
@@ -33,23 +34,23 @@ def arguments(parser):
 
 def run(given):
     try:
-        lines = take(given.folder, given.update, CRATES)
+        lines = take(given.folder, given.update)
     except (Failure, OSError, KeyboardInterrupt) as error:
         raise Failure(f"{given.folder}: {reason(error)}; nothing was changed") from error
     print("\n".join(f"take: {given.folder}{line}" for line in lines))
 
 
-def take(shown, is_update, crates):
+def take(shown, is_update):
     """Takes the crates into the folder that the user names, or updates them there. Returns what to print."""
     there = Path(shown).resolve()
     if not shown or not there.is_dir():
         raise Failure("there is no such folder")
     if there.is_relative_to(HERE):
         raise Failure("it is this repository, or in it")
-    before = unchanged_record(there, crates) if is_update else check_free(there, crates)
-    files, old = taken(crates), recorded(before)[1] if is_update else {}
+    before = unchanged_record(there) if is_update else check_free(there)
+    files, old = taken(), recorded(before)[1] if is_update else {}
     now = recorded(files[RECORD].decode())[0]
-    rows, changes = with_rows(bytes_of(there / "crates.txt"), crates)
+    rows, changes = with_rows(bytes_of(there / "crates.txt"))
     ignored = bytes_of(there / ".gitignore")
     if b"out/" not in map(bytes.rstrip, ignored.splitlines()):
         changes.append(".gitignore: added `out/`")
@@ -64,27 +65,27 @@ def take(shown, is_update, crates):
     modes = {place: place.stat().st_mode & 0o777 for place in written if place.exists()}
     replace({**written, **gone}, modes)
     remove_folders({folder for file in gone for folder in file.parents})
-    how = f"updated from {recorded(before)[0]} to" if is_update else f"copied {', '.join(crates)}:"
+    how = f"updated from {recorded(before)[0]} to" if is_update else f"copied {', '.join(CRATES)}:"
     return [f": {how} {now}", *(f": {it}" for it in changes if is_update or not it.startswith("crates.txt"))]
 
 
-def check_free(there, crates):
+def check_free(there):
     """Fails if one of the crates is there already, or the other repository keeps its crates elsewhere."""
     if os.path.lexists(there / "crates.txt") and not (there / "crates").is_dir():
         raise Failure("its crates are not in a folder crates/")
-    for crate in crates:
+    for crate in CRATES:
         if os.path.lexists(there / "crates" / crate):
             raise Failure(f"crates/{crate} is there already; --update replaces an unchanged copy")
         if row_of(crate).search(bytes_of(there / "crates.txt")):
             raise Failure(f"crates.txt has a line of {crate} already")
 
 
-def unchanged_record(there, crates):
+def unchanged_record(there):
     """Returns the record of the copy. Fails, and names the files, unless its files are those of the record."""
     if not (there / RECORD).is_file():
         raise Failure(f"there is no {RECORD}, which says what was taken")
     text = bytes_of(there / RECORD).decode(errors="replace")
-    kept, found = recorded(text)[1], sums(contents_of(there, crates))
+    kept, found = recorded(text)[1], sums(contents_of(there))
     del found[RECORD]
     differ = [f"{name} was {'removed' if name not in found else 'edited' if name in kept else 'added'}"
               for name in sorted({**kept, **found}) if kept.get(name) != found.get(name, "")]
@@ -93,9 +94,9 @@ def unchanged_record(there, crates):
     return text
 
 
-def contents_of(top, crates):
+def contents_of(top):
     """Returns the bytes of each file of the crates below `top`, but for out/, by its path. Those of a link are None."""
-    parts = [part for crate in crates for part in (top / "crates" / crate).glob("*") if part.name != "out"]
+    parts = [part for crate in CRATES for part in (top / "crates" / crate).glob("*") if part.name != "out"]
     found = [file for part in parts for file in (part, *part.rglob("*")) if file.is_symlink() or not file.is_dir()]
     return {file.relative_to(top).as_posix(): file.read_bytes() if file.is_file() and not file.is_symlink() else None
             for file in found}
@@ -114,12 +115,12 @@ def recorded(text):
     return f"{words['version']}, commit {words['commit']}", kept
 
 
-def taken(crates):
+def taken():
     """Returns the bytes of each file that is to be in the other repository, with the record of them."""
-    files = {name: text for name, text in contents_of(HERE, crates).items() if name.split("/")[2] in PARTS}
+    files = {name: text for name, text in contents_of(HERE).items() if name.split("/")[2] in PARTS}
     files["crates/byte_unit/LICENSE"] = bytes_of(HERE / "LICENSE")
     toolchain = first_line("rt", "version") or "unknown"
-    lines = [f"version: {version()}", f"commit: {commit(crates)}", f"toolchain: {toolchain}"]
+    lines = [f"version: {version()}", f"commit: {commit()}", f"toolchain: {toolchain}"]
     lines += [f"{value}  {name}" for name, value in sorted(sums(files).items())]
     files[RECORD] = "".join(f"{line}\n" for line in lines).encode()
     return files
@@ -145,12 +146,12 @@ def version():
     return named[0] + "+unreleased" * ("unreleased" in "".join(heads[0] if heads else ()).lower())
 
 
-def commit(crates):
+def commit():
     """Returns the commit of this repository, and whether what is taken differs from it."""
     top, name = first_line("git", "rev-parse", "--show-toplevel"), first_line("git", "rev-parse", "--short=12", "HEAD")
     if not top or not name or Path(top).resolve() != HERE:
         return "unknown"
-    ours = [f"crates/{crate}" for crate in crates] + ["crates.txt", "LICENSE"]
+    ours = [f"crates/{crate}" for crate in CRATES] + ["crates.txt", "LICENSE"]
     return name + " (modified)" * bool(first_line("git", "status", "--porcelain", "--", *ours))
 
 
@@ -164,11 +165,11 @@ def row_of(crate):
     return re.compile(rb"^([ \t]*)(%b(?![^\s:])[^\r\n]*?)([ \t\r]*)$" % crate.encode(), re.M)
 
 
-def with_rows(text, crates):
+def with_rows(text):
     """Returns the text of crates.txt in which each of our lines takes the place of that of its crate, or is added. Also
     returns a sentence for each change."""
     changes = []
-    for crate in crates:
+    for crate in CRATES:
         ours = row_of(crate).search(bytes_of(HERE / "crates.txt"))[2]
         theirs = row_of(crate).search(text)
         if not theirs:

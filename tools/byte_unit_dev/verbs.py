@@ -5,7 +5,8 @@ import importlib
 import signal
 import sys
 
-from .common import Failure, fail, on_signals, reason
+from .common import Failure, on_signals, reason
+from .source import line_of
 
 # Each command, and its module in this package. The first sentence of the module's docstring is what it does.
 VERBS = {
@@ -26,34 +27,25 @@ def module_of(verb):
     return importlib.import_module(f".{VERBS[verb]}", __package__)
 
 
-def sentence_of(text):
-    """Returns the first sentence of a docstring, without its full stop."""
-    return " ".join(text.split()).partition(". ")[0].rstrip(".")
+def summary_of(module):
+    """Returns the first sentence of a module's docstring, without its full stop."""
+    return line_of(module.__doc__).partition(". ")[0].rstrip(".")
 
 
-def overview():
-    width = max(map(len, VERBS)) + 2
-    rows = [f"  {verb:{width}}{sentence_of(module_of(verb).__doc__)}" for verb in VERBS]
-    return "\n".join(["usage: tools/dev COMMAND ..", "", *rows, "", "`tools/dev COMMAND --help` has the arguments."])
-
-
-def main(words=None):
+def main():
     """Calls the command that the words name, and returns its exit status: 2 if the words are wrong."""
-    words = sys.argv[1:] if words is None else words
-    if not words or words[0] in ("-h", "--help"):
-        print(overview())
-        return 0 if words else 2
-    verb, *rest = words
-    if verb not in VERBS:
-        print(f"tools/dev: '{verb}' is no command; these are: {' '.join(VERBS)}", file=sys.stderr)
-        return 2
-    module = module_of(verb)
-    parser = argparse.ArgumentParser(prog=f"tools/dev {verb}", description=module.__doc__,
-                                     formatter_class=argparse.RawDescriptionHelpFormatter)
-    module.arguments(parser)
-    given = parser.parse_args(rest)
+    parser = argparse.ArgumentParser(prog="tools/dev", epilog="`tools/dev COMMAND --help` has the arguments.")
+    commands = parser.add_subparsers(metavar="COMMAND", required=True)
+    for verb in VERBS:
+        module = module_of(verb)
+        command = commands.add_parser(verb, help=summary_of(module), description=module.__doc__,
+                                      formatter_class=argparse.RawDescriptionHelpFormatter)  # fmt: skip
+        module.arguments(command)
+        command.set_defaults(run=module.run, name=command.prog)
+    given = parser.parse_args()
     on_signals(signal.default_int_handler)
     try:
-        return module.run(given) or 0
+        return given.run(given) or 0
     except (Failure, OSError, KeyboardInterrupt) as error:
-        return fail(f"{parser.prog}: {reason(error)}")
+        print(f"{given.name}: {reason(error)}", file=sys.stderr, flush=True)
+        return 1

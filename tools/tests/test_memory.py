@@ -5,15 +5,14 @@
 
 import os
 import re
-import shutil
 import subprocess
 from concurrent.futures import ThreadPoolExecutor
 from itertools import count
 
 import pytest
 
-from byte_unit_dev.common import ROOT, call, output, path, read, write
-from byte_unit_dev.needs import need
+from byte_unit_dev.common import ROOT, call, copy_to, path, read, write
+from byte_unit_dev.fixtures import compiled, ended
 
 LANES = int(os.environ.get("RT_JOBS") or min(4, os.cpu_count()))
 LINES = "1.5 KiB\n\n1Kbi\nx\n1YB"
@@ -59,8 +58,7 @@ def test_program():
 
 def copy_with_tests_of(module, root):
     """Copies the crates, with the tests of one module of byte_unit_tests and of the modules that it uses."""
-    shutil.copytree(path("crates"), f"{root}/crates", ignore=shutil.ignore_patterns("out"))
-    shutil.copy(path("crates.txt"), root)
+    copy_to(root, "crates", "crates.txt")
     kept, found = set(), {module}
     while found:
         kept |= found
@@ -103,21 +101,18 @@ def test_all_tests():
 @pytest.fixture(scope="module")
 def shim(tmp_path_factory):
     """A library before libc whose allocations fail."""
-    need("cc")
-    library = str(tmp_path_factory.mktemp("shim") / "shim.so")
-    output("cc", "-O1", "-shared", "-fPIC", "-fno-builtin", "-o", library, path("tools/tests/failing_allocations.c"))
-    return library
+    words = ["-O1", "-shared", "-fPIC", "-fno-builtin", path("tools/tests/failing_allocations.c")]
+    return str(compiled("cc", tmp_path_factory.mktemp("shim") / "shim.so", *words))
 
 
 def failing_call(program, shim, words, data, number, on):
     """Returns how a call ends as an allocation fails, and whether one failed."""
     told, told_end = os.pipe()
     given = {"LD_PRELOAD": shim, "FAIL_AT": str(number), "FAIL_ON": str(int(on)), "FAIL_TOLD": str(told_end)}
-    got = subprocess.run([program, *words.split()], input=data, capture_output=True, check=False, timeout=60,
-                         pass_fds=[told_end], env={**os.environ, **given})
+    got = ended(program, *words.split(), input=data, timeout=60, pass_fds=[told_end], env={**os.environ, **given})
     os.close(told_end)
     with open(told, "rb") as file:
-        return (got.returncode, got.stdout, got.stderr), file.read(1) != b""
+        return got, file.read(1) != b""
 
 
 def is_out_of_memory(got, wanted, end):
@@ -129,9 +124,9 @@ def is_out_of_memory(got, wanted, end):
 
 @pytest.mark.parametrize("on", [False, True], ids=["alone", "and those after it"])
 @pytest.mark.parametrize("words, data", CALLS, ids=[words for words, _ in CALLS])
-def test_command(program_of, shim, words, data, on):
+def test_command(program, shim, words, data, on):
     """All is right, as it is if a smaller allocation is tried and once none fails; or the call is out of memory."""
-    program, end = program_of("byte_unit_cli"), b"\0" if "-z" in words else b"\n"
+    end = b"\0" if "-z" in words else b"\n"
     wanted, _ = failing_call(program, shim, words, data, 0, False)
     with ThreadPoolExecutor(LANES) as pool:
         for start in count(1, 32):

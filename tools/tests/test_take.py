@@ -9,8 +9,9 @@ import pytest
 from byte_unit_dev import replace, take
 from byte_unit_dev.common import ROOT, call, output
 from byte_unit_dev.needs import need
+from byte_unit_dev.source import library
 
-CRATES = ["byte_unit_math", "byte_unit_base", "byte_unit_format", "byte_unit_byte", "byte_unit_bit", "byte_unit"]
+CRATES = library()
 RECORD = "crates/byte_unit/VERSION"
 MATH = "crates/byte_unit_math"
 
@@ -163,10 +164,10 @@ def test_each_failure(here, copied, monkeypatch, error):
     for tried in range(10):
         left[:] = [tried]
         with pytest.raises(type(error)):
-            take.take(str(copied), True, CRATES)
+            take.take(str(copied), True)
         assert contents(copied) == before
     left[:] = [10]
-    take.take(str(copied), True, CRATES)
+    take.take(str(copied), True)
     assert left == [0] and contents(copied) != before
 
 

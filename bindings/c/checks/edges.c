@@ -94,7 +94,8 @@ static void parse_many(char *ends[3])
             wrong += size.low != sizes[i].low || size.high != sizes[i].high;
         }
         offsets[count] = (int64_t)at + 1;
-        wrong += byte_unit_parse_many(end - length, length, offsets, count, 0, sizes, codes) != BYTE_UNIT_INVALID_ARGUMENT;
+        uint32_t code = byte_unit_parse_many(end - length, length, offsets, count, 0, sizes, codes);
+        wrong += code != BYTE_UNIT_INVALID_ARGUMENT;
         calls += 2 + count;
     }
 }

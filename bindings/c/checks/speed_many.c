@@ -1,4 +1,4 @@
-/* Nanoseconds per text for a column of a million texts: a call for each, and one call for all; the minimum of 20 runs. */
+/* Nanoseconds per text for a column of a million texts, by a call for each and by one for all; minimum of 20 runs. */
 #define _GNU_SOURCE
 #include "byte_unit.h"
 

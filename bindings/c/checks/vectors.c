@@ -1,5 +1,6 @@
-/* Answers test vectors through the C API. Reads records that end with a zero byte, each a call of vectors/byte-unit.txt with
- * its text unescaped, and writes a line with the answer for each, or `-` for a call that the C API does not have. */
+/* Makes the calls of test vectors through the C API. Reads records that end with a zero byte, each a call of
+ * vectors/byte-unit.txt with its text unescaped, and writes a line with the result of each, or `-` for a call that the
+ * C API does not have. */
 #include "byte_unit.h"
 
 #include <stdio.h>
@@ -66,12 +67,14 @@ static void print_character(uint32_t c)
     else if (c < 0x10000)
         printf("%c%c%c", (int)(0xE0 | c >> 12), (int)(0x80 | (c >> 6 & 63)), (int)(0x80 | (c & 63)));
     else
-        printf("%c%c%c%c", (int)(0xF0 | c >> 18), (int)(0x80 | (c >> 12 & 63)), (int)(0x80 | (c >> 6 & 63)), (int)(0x80 | (c & 63)));
+        printf("%c%c%c%c", (int)(0xF0 | c >> 18), (int)(0x80 | (c >> 12 & 63)), (int)(0x80 | (c >> 6 & 63)),
+               (int)(0x80 | (c & 63)));
 }
 
 static void print_error(uint32_t code, const byte_unit_error *error)
 {
-    static const char *const names[] = {"", "NoValue", "NotNumber", "NumberTooLong", "ExceededBounds", "Unit", "NotUtf8"};
+    static const char *const names[] = {"", "NoValue", "NotNumber", "NumberTooLong", "ExceededBounds", "Unit",
+                                        "NotUtf8"};
     printf("%s", code < 7 ? names[code] : "InvalidArgument");
     if (code == BYTE_UNIT_NOT_NUMBER || code == BYTE_UNIT_UNIT) {
         printf(" \"");
@@ -174,7 +177,8 @@ static void answer(char *record)
     for (char *word = strtok(record, " "); word && count < 8; word = strtok(NULL, " "))
         words[count++] = word;
     uint32_t bits = count > 1 && !strcmp(words[1], "bit") ? BYTE_UNIT_BITS : 0;
-    uint32_t uncased = count > 1 && (!strcmp(words[count - 1], "uncased") || !strcmp(words[1], "uncased")) ? BYTE_UNIT_IGNORE_CASE : 0;
+    bool is_uncased = count > 1 && (!strcmp(words[count - 1], "uncased") || !strcmp(words[1], "uncased"));
+    uint32_t uncased = is_uncased ? BYTE_UNIT_IGNORE_CASE : 0;
     if (!strcmp(words[0], "parse"))
         answer_parse(bits | uncased, text);
     else if (!strcmp(words[0], "unit"))

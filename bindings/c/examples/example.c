@@ -76,7 +76,8 @@ static void parse_sizes(void)
     line("123456789", 0, "123456789 = 123456.789 KB");
     line("1 byte", 0, "the character 'y' is incorrect ('i' or no character is expected)");
     line("1,000", 0,
-         "the character ',' is incorrect ('B', 'K', 'M', 'G', 'T', 'P', 'E', 'Z', 'Y' or 'R' or no character is expected)");
+         "the character ',' is incorrect ('B', 'K', 'M', 'G', 'T', 'P', 'E', 'Z', 'Y' or 'R' or no character is "
+         "expected)");
     line("-1", 0, "the character '-' is not a number");
     line("\xc3\xa9", 0, "the character '\xc3\xa9' is not a number");
     line("\xf0\x9f\x98\x80", 0, "the character '\xf0\x9f\x98\x80' is not a number");

@@ -1,5 +1,5 @@
-//! A program as it is written for the original crate, which `tools/dev test rust` builds against this package by `[patch]`.
-//! It uses names and signatures of the original alone.
+//! A program as it is written for the original crate, which `tools/dev test rust` builds against this package by
+//! `[patch]`. It uses names and signatures of the original alone.
 
 use std::collections::BTreeMap;
 use std::error::Error;

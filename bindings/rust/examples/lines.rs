@@ -1,4 +1,5 @@
-//! Reads lines, and prints for each the size and its text with a unit, or the error, as the program byte_unit_lines does.
+//! Reads lines, and prints for each the size and its text with a unit, or the error, as the program byte_unit_lines
+//! does.
 //!
 //! The argument is `byte` or `bit`.
 

@@ -106,8 +106,8 @@ macro_rules! serde_of_size {
         }
 
         impl<'de> Deserialize<'de> for $Size {
-            /// Reads a string, or an integer, as the number of bytes or bits. In a human-readable format it is the input
-            /// that says which of them comes.
+            /// Reads a string, or an integer, as the number of bytes or bits. In a human-readable format it is the
+            /// input that says which of them comes.
             fn deserialize<D: Deserializer<'de>>(deserializer: D) -> Result<Self, D::Error> {
                 if deserializer.is_human_readable() {
                     deserializer.deserialize_any(Converter(PhantomData))

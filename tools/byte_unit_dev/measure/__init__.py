@@ -19,6 +19,7 @@ import os
 import re
 
 from ..common import Failure, output, path, read, write
+from ..render.pages import with_parts
 from . import calls, proofs, speed
 
 WHATS = {"program": speed.program, "command": speed.command, "calls": calls.calls, "literals": proofs.literals,
@@ -47,14 +48,6 @@ def head_of(given):
             f"of commit {commit}; minimum of {given.rounds} round{'s' * (given.rounds > 1)}.")
 
 
-def with_part(page, name, text):
-    """Returns the page with the text between the marks of this name."""
-    page, count = re.subn(f"(?s)(<!-- {name} -->\n).*?(?=<!-- end -->)", lambda found: f"{found[1]}\n{text}\n\n", page)
-    if count != 1:
-        raise Failure(f"{PAGE} has {count} places for the table {name}")
-    return page
-
-
 def table(rows):
     """Returns a table in Markdown, whose first row is the head, without spaces that count as words of a page."""
     lines = ["|".join(row).rstrip("|") for row in rows]
@@ -73,7 +66,6 @@ def run(given):
             print(f"\n{what} at load {os.getloadavg()[0]:.1f}:\n\n{table(rows)}", flush=True)
             tables.update({name: table(rows)} if what in OF_PAGE else {})
     if given.write:
-        page = with_part(read(PAGE), "measured", head)
-        for name, text in tables.items():
-            page = with_part(page, name, text)
-        write(PAGE, page)
+        parts = {"measured": head, **tables}.items()
+        places = ((f"<!-- {name} -->\n", "<!-- end -->", f"\n{text}\n\n") for name, text in parts)
+        write(PAGE, with_parts(PAGE, *places))

@@ -8,9 +8,9 @@ import os
 import re
 import tempfile
 
-from ..common import output, path
+from .. import builds
+from ..common import output, path, read
 from ..needs import DEBIAN_PYTHON, PYTHON_PACKAGE, is_there
-from ..original import build
 from .speed import one_processor
 
 # The tables: the title of the first column, the other columns, and the form of a figure.
@@ -21,18 +21,6 @@ TABLES = {
     "sqlite": ("SQLite, a million rows", ["Seconds"], ".2f"),
 }
 FIGURE = re.compile(r"^(?:(.*?): )?(.+?)(?: of (?!.* of )(.+?))? +([0-9]+(?:\.[0-9]+)?)$", re.M)
-MILLION = ("CREATE TABLE big AS WITH RECURSIVE i(k) AS (SELECT 0 UNION ALL SELECT k + 1 FROM i WHERE k < 999999) "
-           "SELECT printf('%d.%03d MB', k * 7919 % 1000000 / 1000, k * 7919 % 1000) AS t, k AS n FROM i;")
-STATEMENTS = {
-    "`sum(length(t))`, to compare": "SELECT sum(length(t)) FROM big;",
-    "`sum(size_parse(t))`": "SELECT sum(size_parse(t)) FROM big;",
-    "`size_explain(t) IS NULL`": "SELECT count(*) FROM big WHERE size_explain(t) IS NULL;",
-    "`count(size_text(n))`": "SELECT count(size_text(n)) FROM big;",
-    "`CREATE INDEX`": "CREATE INDEX by_text ON big(t);",
-    "`CREATE INDEX`, `COLLATE SIZE`": "CREATE INDEX by_size ON big(t COLLATE SIZE);",
-    "`ORDER BY`": "CREATE TABLE by_t AS SELECT n FROM big ORDER BY +t;",
-    "`ORDER BY`, `COLLATE SIZE`": "CREATE TABLE by_s AS SELECT n FROM big ORDER BY +t COLLATE SIZE;",
-}
 
 
 def by_c(name, library, work):
@@ -42,22 +30,23 @@ def by_c(name, library, work):
 
 
 def by_rust(crate, library):
-    made = build.built("bindings/rust/checks/speed.rs", crate, library)
+    made = builds.program("bindings/rust/checks/speed.rs", crate, library)
     return lambda: output(made)
 
 
 def by_python(library, work):
-    env = build.python(library, work)
-    return lambda: output(DEBIAN_PYTHON, "-B", path("bindings/python/checks/speed.py"), env=env)
+    env = builds.python(library, work)
+    return lambda: output(DEBIAN_PYTHON, path("bindings/python/checks/speed.py"), env=env)
 
 
 def by_sqlite(library):
     words = ["sqlite3", "-batch", "-cmd", f'.load "{library}/sqlite3/byte_unit"', ":memory:"]
-    script = "\n".join([MILLION, ".timer on", *STATEMENTS.values(), ""])
+    script = read("bindings/sqlite/checks/speed.sql")
 
     def figures():
         times = re.findall(r"Run Time: real \S+ user (\S+) sys (\S+)", output(*words, input=script))
-        return "".join(f"{name} {float(user) + float(system)}\n" for name, (user, system) in zip(STATEMENTS, times))
+        titles = re.findall(r"; -- (.*)", script)
+        return "".join(f"{name} {float(user) + float(system)}\n" for name, (user, system) in zip(titles, times))
 
     return figures
 
@@ -65,11 +54,11 @@ def by_sqlite(library):
 def programs(given, library, work):
     """Builds the programs. Yields each as a function that returns what it prints, with the column of its figures."""
     ways = [("C", ["cc"], by_c, ("speed", library, work)), ("A text", ["cc"], by_c, ("speed_many", library, work)),
-            ("Rust", build.NEEDS, by_rust, (build.package(work), library)),
+            ("Rust", builds.NEEDS, by_rust, (builds.copied("rust", work), library)),
             ("Python", PYTHON_PACKAGE, by_python, (library, work)),
             ("Seconds", ["sqlite3", "sqlite3ext.h"], by_sqlite, (library,))]
     if given.original:
-        ways.append(("Original", build.NEEDS, by_rust, (build.original(given.original, work), "")))
+        ways.append(("Original", builds.NEEDS, by_rust, (builds.original(given.original, work), None)))
     for column, needs, make, words in ways:
         missing = [need for need in needs if not is_there(need)]
         if missing:
@@ -94,7 +83,7 @@ def rows(title, columns, form, least):
 def calls(given):
     least = {}
     with tempfile.TemporaryDirectory() as work:
-        library = build.library_of(given.library, work)
+        library = builds.library_of(given.library, work)
         print(f"libbyte_unit.a has {os.path.getsize(os.path.join(library, 'libbyte_unit.a')):,} bytes")
         made = list(programs(given, library, work))
         with one_processor():

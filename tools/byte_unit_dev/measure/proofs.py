@@ -3,12 +3,12 @@
 import glob
 import os
 import re
-import resource
 import shutil
 import tempfile
 import time
 
-from ..common import Failure, output, path, read, write
+from ..common import Failure, copy_to, output, path, read, spent, write
+from ..source import below, crates
 
 COUNT = 20
 LITERALS = """//! Sizes.
@@ -31,36 +31,24 @@ EDITS = {
 }
 
 
-def spent(*words, **more):
-    """Returns the seconds of processor time that a program takes."""
-    before = resource.getrusage(resource.RUSAGE_CHILDREN)
-    output(*words, **more)
-    after = resource.getrusage(resource.RUSAGE_CHILDREN)
-    return after.ru_utime + after.ru_stime - before.ru_utime - before.ru_stime
-
-
 def check(crate, *words, anew=True):
     if anew:
         shutil.rmtree(f"{crate}/out", ignore_errors=True)
-    return spent("rt", "check", "--jobs", "1", *words, cwd=crate)
+    return sum(spent("rt", "check", "--jobs", "1", *words, cwd=crate))
 
 
 def copied(crate, folder):
     """Copies a crate and those below it, and builds these. Returns the copy, whose name is another: a check begins with
     what checks of its name in other folders kept."""
-    lines = {re.match(r"\w+", line)[0]: f"{line}\n" for line in read("crates.txt").splitlines()}
-    below = {name: line.partition(":")[2].split() for name, line in lines.items()}
-    name, found = f"{crate}_{os.getpid()}", [crate]
-    for at in found:
-        found += [one for one in below[at] if one in below and one not in found]
-    for at in found:
-        left_out = shutil.ignore_patterns("must-fail", "mutants.edits", *["out"] * (at == crate))
-        shutil.copytree(path("crates", at), f"{folder}/crates/{name if at == crate else at}", ignore=left_out)
-    lines[crate] = lines[crate].replace(crate, name, 1)
-    write(f"{folder}/crates.txt", "".join(lines[at] for at in found))
+    name, found = f"{crate}_{os.getpid()}", below([crate])
+    copy_to(folder, *(f"crates/{at}" for at in found if at != crate), without=["must-fail", "mutants.edits"])
+    copy_to(folder, f"crates/{crate}", without=["must-fail", "mutants.edits", "out"])
+    os.rename(f"{folder}/crates/{crate}", f"{folder}/crates/{name}")
+    lines = re.findall(rf"^(?:{'|'.join(found)})\b.*\n", read("crates.txt"), re.M)
+    write(f"{folder}/crates.txt", "".join(re.sub(rf"^{crate}\b", name, line) for line in lines))
     for file in glob.glob(f"{folder}/crates/{name}/**/*.*t", recursive=True):
         write(file, re.sub(rf"\b{crate}\b", name, read(file)))
-    for at in set(below[crate]) & set(found):
+    for at in set(crates()[crate]) & set(found):
         output("rt", "lib", cwd=f"{folder}/crates/{at}")
     return f"{folder}/crates/{name}"
 
@@ -119,6 +107,6 @@ def gate(given):
         elapsed, *used = [int(minutes) + float(seconds) / 60 for minutes, seconds in found[-3:]]
     else:
         begin = time.monotonic()
-        used = [spent(path(".ci/run"), cwd=path()) / 60]
+        used = [sum(spent(path(".ci/run"), cwd=path())) / 60]
         elapsed = (time.monotonic() - begin) / 60
     return {"gate": [["`.ci/run`", "Minutes"], ["elapsed", f"{elapsed:.0f}"], ["of processors", f"{sum(used):.0f}"]]}

@@ -1,81 +1,128 @@
-"""A reference model of the program: the output for a line, computed with integers of any length.
+"""An exact model of how sizes are read and printed, and of the messages of errors, by integers of any length.
 
-Follows docs/DEFINITIONS.md and shares no code with the crates. The tests compare the built code with it.
+Follows docs/DEFINITIONS.md and shares no code with the crates. The tests compare the built code with it. A kind is
+`byte` or `bit`.
 """
 
+import functools
 import re
+import unicodedata
+from collections import namedtuple
+from decimal import Decimal, getcontext
 
 LETTERS = "KMGTPEZYR"
-WHOLE_LIMIT = 2**112
-SIZE_LIMIT = 10**30
-FRACTION_PLACES = 28
-FORM_PLACES = 3
-
+WHOLE_LIMIT, SIZE_LIMIT = 2**112, 10**30
+FRACTION_PLACES, FORM_PLACES = 28, 3
+# The bits of one, and the name of the unit without a prefix.
+SCALE, BASE = {"byte": 8, "bit": 1}, {"byte": "B", "bit": "b"}
+# The bits of each unit, in the order of the units' codes.
+BITS = {"b": 1, "B": 8, **{
+    letter + infix + end: base**power * scale for power, letter in enumerate(LETTERS, 1)
+    for end, scale in (("b", 1), ("B", 8)) for infix, base in (("", 1000), ("i", 1024))}}  # fmt: skip
+UNITS = list(BITS)
 # The characters with the Unicode property White_Space.
 WHITE_SPACE = (
     "\t\n\v\f\r \x85\xa0\u1680" + "".join(map(chr, range(0x2000, 0x200B))) + "\u2028\u2029\u202f\u205f\u3000"
 )
+NUMBER = re.compile(r"([0-9]*)(\.([0-9]*))?")
+SPELLING = re.compile(r"(?ai:([KMGTPEZYR])(i?))?(B|b|(?ai:bits?))?")
+SHORT_ESCAPES = {"\0": "\\0", "\t": "\\t", "\n": "\\n", "\r": "\\r", "'": "\\'", "\\": "\\\\"}
+getcontext().prec = 500  # each quotient below is exact
 
-SPELLING = re.compile(r"(?:([KMGTPEZYRkmgtpezyr])([Ii]?))?(B|b|[Bb][Ii][Tt][Ss]?)?", re.ASCII)
+# Why a text is not a size: what byte_unit_lines prints, and the message of the library.
+Rejected = namedtuple("Rejected", "name message")
 
 
-def unit_bits(power, binary, bit):
-    """Returns the number of bits in a unit."""
-    one = 1024**power if binary else 1000**power
-    return one if bit else 8 * one
+def debug_char(c):
+    """Returns a character as `{:?}` of Rust quotes it: escaped if it is not printable or extends the one before it."""
+    if c in SHORT_ESCAPES:
+        return f"'{SHORT_ESCAPES[c]}'"
+    extends = unicodedata.category(c) in ("Mn", "Me") or c in "\uff9e\uff9f"
+    return f"'\\u{{{ord(c):x}}}'" if extends or not c.isprintable() else f"'{c}'"
 
 
-def read(text, kind):
-    """Returns the number scaled by 10^28 and the bits of its unit, or the message of the first error."""
-    digits = re.match(r"[0-9]*", text).group()
-    if not digits:
-        return "not a number" if text else "no value"
-    if int(digits.lstrip("0")[:40] or "0") >= WHOLE_LIMIT:
-        return "number too long"
-    rest, fraction = text[len(digits) :], ""
-    if rest.startswith("."):
-        fraction = re.match(r"[0-9]*", rest[1:]).group()
-        if not fraction:
-            return "not a number"
-        if len(fraction) > FRACTION_PLACES:
-            return "number too long"
-        rest = rest[1 + len(fraction) :]
-    spelling = SPELLING.fullmatch(rest.lstrip(" "))
-    if not spelling:
-        return "bad unit"
-    letter, infix, word = spelling.groups()
-    bit = kind == "bit" if word is None else word != "B"
-    power = LETTERS.index(letter.upper()) + 1 if letter else 0
-    number = int(digits.lstrip("0") or "0") * 10**FRACTION_PLACES + int(fraction.ljust(FRACTION_PLACES, "0"))
-    return number, unit_bits(power, bool(infix), bit)
+def unit_of(text, kind, ignore_case=False):
+    """Returns the unit that a text spells, or `None`."""
+    found = SPELLING.fullmatch(text)
+    if not found:
+        return None
+    letter, infix, word = found.groups("")
+    is_byte = word == "B" or word == "b" and ignore_case if word else kind == "byte"
+    return letter.upper() + infix.lower() + ("B" if is_byte else "b")
+
+
+def unit_message(text, kind, ignore_case=False, quote=debug_char):
+    """Returns the message about the first character that cannot continue a unit, of a text that spells none."""
+    letter, rest = re.match(f"([{LETTERS}{LETTERS.lower()}][Ii]?)?(.*)", text, re.S).groups()
+    expected, or_none = (BASE[kind] if ignore_case else "Bb") if letter else "B" + LETTERS, True
+    if rest[0] in "Bb":
+        word = re.match("(?ai)b(i(ts?)?)?", rest)[0].lower()
+        # A string that ends after `bi` is rejected at the `i`.
+        expected = {"b": "i", "bi": "t" * (len(rest) > 2), "bit": "s", "bits": ""}[word]
+        or_none, rest = word != "bi" or len(rest) == 2, rest[len(word) :] or "i"
+    *most, last = map(quote, expected) if expected else ["no character"]
+    words = ", ".join(most) + " or " * bool(most) + last + " or no character" * bool(expected and or_none)
+    return f"the character {quote(rest[0])} is incorrect ({words} is expected)"
+
+
+def read(text, kind, ignore_case=False, quote=debug_char):
+    """Returns the number scaled by 10^28 and the unit, or why the text has none. It has no white space at its ends."""
+    if not text:
+        return Rejected("no value", "no value can be found")
+    digits, point, fraction = NUMBER.match(text).groups("")
+    whole = int(digits.lstrip("0")[:40] or "0")
+    if digits and (whole >= WHOLE_LIMIT or len(fraction) > FRACTION_PLACES):
+        return Rejected("number too long", "value number is too long")
+    if not digits or point == ".":
+        wrong = text[len(digits) + bool(digits) :][:1] or "."
+        return Rejected("not a number", f"the character {quote(wrong)} is not a number")
+    spelling = text[len(digits + point) :].lstrip(" ")
+    unit = unit_of(spelling, kind, ignore_case)
+    if not unit:
+        return Rejected("bad unit", unit_message(spelling, kind, ignore_case, quote))
+    return whole * 10**FRACTION_PLACES + int(fraction.ljust(FRACTION_PLACES, "0")), unit
+
+
+@functools.lru_cache(maxsize=1 << 10)
+def size_of(data, kind, ignore_case=False, quote=debug_char):
+    """Returns the size that bytes represent, or why they represent none."""
+    try:
+        found = read(data.decode().strip(WHITE_SPACE), kind, ignore_case, quote)
+    except UnicodeDecodeError:
+        return Rejected("not text", "the text is not UTF-8")
+    if isinstance(found, Rejected):
+        return found
+    number, unit = found
+    size = -(-number * BITS[unit] // (10**FRACTION_PLACES * SCALE[kind]))
+    shown = Decimal(number) / 10**FRACTION_PLACES
+    return size if size < SIZE_LIMIT else Rejected("out of range", f"the value {shown:f} exceeds the valid range")
+
+
+def value_of(size, kind, unit):
+    """Returns the exact number of units."""
+    return Decimal(size * SCALE[kind]) / BITS[unit]
+
+
+def largest(size, kind, units):
+    """Returns the largest of these units that is not above the size, or `B` or `b`."""
+    return max((unit for unit in units if BITS[unit] <= size * SCALE[kind]), key=BITS.get, default=BASE[kind])
+
+
+def best_unit(size, kind, either=False, precision=FORM_PLACES):
+    """Returns the largest unit, not above the size, in which this number of decimals represents it exactly: a unit with
+    a prefix, of its kind or of either, or that of its kind without one."""
+    scaled = size * SCALE[kind] * 10 ** min(precision, FRACTION_PLACES)
+    return largest(size, kind, [unit for unit in UNITS[2:] if (either or unit[-1] == BASE[kind])
+                                and scaled % BITS[unit] == 0])  # fmt: skip
 
 
 def form(size, kind):
-    """Returns the size in the largest unit of its kind, not above it, in which three decimals represent it exactly."""
-    bit = kind == "bit"
-    in_bits = size * (1 if bit else 8)
-    end = "b" if bit else "B"
-    for power in range(len(LETTERS), 0, -1):
-        for binary in (True, False):
-            unit = unit_bits(power, binary, bit)
-            scaled = in_bits * 10**FORM_PLACES
-            if unit <= in_bits and scaled % unit == 0:
-                whole, part = divmod(scaled // unit, 10**FORM_PLACES)
-                digits = f".{part:03}".rstrip("0").rstrip(".")
-                return f"{whole}{digits} {LETTERS[power - 1]}{'i' if binary else ''}{end}"
-    return f"{size} {end}"
+    """Returns the size with its best unit."""
+    unit = best_unit(size, kind)
+    return f"{value_of(size, kind, unit):f} {unit}"
 
 
-def answer(line, kind):
-    """Returns the output for a line, given as bytes without its line ending."""
-    try:
-        text = line.decode("utf-8")
-    except UnicodeDecodeError:
-        return "not text"
-    found = read(text.strip(WHITE_SPACE), kind)
-    if isinstance(found, str):
-        return found
-    number, bits = found
-    divisor = 10**FRACTION_PLACES * (1 if kind == "bit" else 8)
-    size = -(-number * bits // divisor)
-    return f"{size} = {form(size, kind)}" if size < SIZE_LIMIT else "out of range"
+def output_for(line, kind):
+    """Returns the output of byte_unit_lines for a line, given as bytes without its line ending."""
+    size = size_of(line, kind)
+    return size.name if isinstance(size, Rejected) else f"{size} = {form(size, kind)}"

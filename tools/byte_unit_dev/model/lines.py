@@ -3,7 +3,8 @@
 from .exact import LETTERS
 
 WORDS = ["", "B", "b", "bit", "bits", "BIT", "bItS", "bi", "bitx", "byte"]
-ODD = ["", " ", "\t", "x", "-1", "+1", ".5", "1.", "1 .5", "1,000", "1_000", "1e3", "é", "1é", "1 Ké", "1😀", "\ufeff1"]
+ODD = ["", " ", "\t", "x", "-1", "+1", ".5", "1.", "1 .5", "1,000", "1_000", "1e3", "\ufeff1",
+       "é", "1é", "1 Ké", "1😀"]  # fmt: skip
 # The parser takes eight digits at a time, nineteen fit 64 bits, and a fraction is split into two halves of fourteen.
 DIGITS = [1, 2, 3, 4, 6, 8, 9, 12, 15, 16, 18, 19, 20, 24, 27, 28, 29, 30, 34, 35]
 PLACES = [1, 1, 2, 2, 3, 6, 8, 12, 14, 15, 19, 20, 27, 28, 29]

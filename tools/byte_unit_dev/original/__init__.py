@@ -2,41 +2,44 @@
 
 DIR has the sources of the crate: `src/lib.rs` and so on, or files whose names have `--` in place of `/` and end in
 `.txt`, as `src--lib.rs.txt`. They are built offline, over crates that `tools/dev setup --compared` installs. The crate,
-the C library (called by the Python package's C) or the Rust package, and an exact model answer N random requests: texts
-and spellings of units to parse, sizes to format, numbers of units. Prints how many answers each rule explains.
+the C library (called by the Python package's C) or the Rust package, and an exact model take N random requests: texts
+and spellings of units to parse, sizes to format, numbers of units. Prints how many results each rule explains.
 
-The status is 1 if an answer of the library is not that of the model, if no rule explains a difference, if one of 20,000
-answers of the library with another digit is not found to be wrong, or if docs/DIFFERENCES.md lacks the words of a rule.
+The status is 1 if a result of the library is not that of the model, if no rule explains a difference, if one of 20,000
+results of the library with another digit is not found to be wrong, or if docs/DIFFERENCES.md lacks the words of a rule.
 """
 
+import importlib
 import random
+import re
+import sys
 import tempfile
 
+from .. import builds
 from ..common import output, read, report
-from . import build, rules
-from .library import Library
+from . import rules
 from .requests import requests
 
-PROGRAM, KINDS, CHANGED = "tools/byte_unit_dev/original/compare.rs", ("byte", "bit"), 20_000
+PROGRAM, KINDS, CHANGED = "bindings/rust/checks/compare.rs", ("byte", "bit"), 20_000
 
 
 def arguments(parser):
     parser.add_argument("--count", type=int, default=300_000, metavar="N")
     parser.add_argument("--seed", type=int, default=1)
-    parser.add_argument("--package", action="store_true", help="the Rust package answers in place of the C library")
+    parser.add_argument("--package", action="store_true", help="take the Rust package in place of the C library")
     parser.add_argument("--library", metavar="LIBRARY", help="a folder that tools/make-libraries has filled")
     parser.add_argument("original", metavar="DIR")
 
 
 def calls_of(words):
-    """Yields what each call of a request is, the call of rules.py, and its arguments, in the order of the answers."""
+    """Yields what each call of a request is, the call of rules.py, and its arguments, in the order of the results."""
     if words[0] in "tu":
         text = bytes.fromhex("".join(words[1:])).decode()
         for kind, ignore_case in (("byte", False), ("byte", True), ("bit", False)) if words[0] == "t" else ():
             yield "texts that are parsed", rules.parsed, (text, kind, ignore_case)
-        for in_bits in (False, True) if words[0] == "u" else ():
-            yield "units that are parsed", rules.parsed_unit, (text, False, not in_bits)
-            yield "units that are parsed", rules.parsed_unit, (text, True, not in_bits)
+        for kind in KINDS if words[0] == "u" else ():
+            yield "units that are parsed", rules.parsed_unit, (text, kind, False)
+            yield "units that are parsed", rules.parsed_unit, (text, kind, True)
         return
     if words[0] == "f":
         for kind in KINDS:
@@ -53,20 +56,60 @@ def calls_of(words):
         yield "formatted adjusted sizes", rules.adjusted, (size, kind, unit, spec)
 
 
+class Library:
+    """The C library, through the extension module of the Python package, which is C: calls by their names in rules."""
+
+    def __init__(self, folder, work):
+        sys.path.insert(0, builds.python(folder, work)["PYTHONPATH"])
+        self.native = importlib.import_module("byte_unit._native")
+
+    def parsed(self, text, kind, ignore_case):
+        size = self.native.parse(text, kind == "bit", ignore_case)
+        return f"! {self.native.explain(text, kind == 'bit', ignore_case)}" if size is None else str(size)
+
+    def parsed_unit(self, text, kind, ignore_case):
+        found, wrong = (function(text, kind == "bit", ignore_case)
+                        for function in (self.native.parse_unit, self.native.explain_unit))
+        return f"! {wrong}" if wrong else self.native.UNITS[found]
+
+    def in_unit(self, size, kind, either, precision):
+        if precision is None:
+            count, unit = self.native.exact_unit(size, kind == "bit", either)
+        else:
+            (count, fraction), unit = self.native.recoverable_unit(size, kind == "bit", either, precision)
+            count = rules.trimmed(f"{count}.{fraction:028}")
+        return f"{count} {self.native.UNITS[unit]}"
+
+    def appropriate(self, size, kind, unit_type):
+        types = (self.native.BINARY, self.native.DECIMAL, self.native.BOTH)
+        return self.native.UNITS[self.native.appropriate_unit(size, kind == "bit", types[unit_type])]
+
+    def formatted(self, size, kind, spec, unit=None):
+        unit = self.native.UNITS.index(unit) if unit else self.native.NO_UNIT
+        parts = (spec.alternate, spec.precision, spec.width or None, spec.sign, spec.align)
+        return self.native.text_of(size, kind == "bit", unit, *parts)
+
+    def adjusted(self, size, kind, unit, spec):
+        return self.formatted(size, kind, spec, unit)
+
+    def of_unit(self, count, unit, kind):
+        size = self.native.from_unit(count, self.native.UNITS.index(unit), kind == "bit")
+        return "-" if size is None else str(size)
+
+
 def by_program(program, lines):
-    """Returns the answers of a program to each request."""
+    """Returns the results of a program for each request."""
     return [line.split("\t") for line in output(program, input="\n".join([*lines, ""]), stderr=None).split("\n")[:-1]]
 
 
-def changed(answer, rng):
-    """Returns the answer with another digit, or with one more if it has none."""
-    places = [at for at, char in enumerate(answer) if char in "0123456789"]
-    at = rng.choice(places or [len(answer)])
-    return answer[:at] + str((int(answer[at:][:1] or 0) + rng.randrange(1, 10)) % 10) + answer[at + 1 :]
+def changed(result, rng):
+    """Returns the result with another digit, or with one more if it has none."""
+    at = rng.choice([found.start() for found in re.finditer("[0-9]", result)] or [len(result)])
+    return result[:at] + str((int(result[at:][:1] or 0) + rng.randrange(1, 10)) % 10) + result[at + 1 :]
 
 
 def compared(lines, original, ours, seed):
-    """Returns the number of answers and the shortest example, by what was compared and the rule; and what is wrong."""
+    """Returns the number of results and the shortest example, by what was compared and the rule; and what is wrong."""
     rng, found, findings, number = random.Random(seed), {}, [], 0
     for line, theirs, mine in zip(lines, original, ours, strict=True):
         for (what, call, words), one, other in zip(calls_of(line.split()), theirs, mine, strict=True):
@@ -83,23 +126,23 @@ def compared(lines, original, ours, seed):
 
 def run(given):
     with tempfile.TemporaryDirectory() as work:
-        original = build.original(given.original, work)
-        library = build.library_of(given.library, work)
+        original = builds.original(given.original, work)
+        library = builds.library_of(given.library, work)
         lines = list(requests(random.Random(given.seed), given.count))
-        theirs = by_program(build.built(PROGRAM, original), lines)
+        theirs = by_program(builds.program(PROGRAM, original), lines)
         if given.package:
-            ours = by_program(build.built(PROGRAM, build.package(work), library), lines)
+            ours = by_program(builds.program(PROGRAM, builds.copied("rust", work), library), lines)
         else:
             calls = Library(library, work)
             ours = [[getattr(calls, call.__name__)(*given) for _, call, given in calls_of(line.split())]
                     for line in lines]
     found, findings = compared(lines, theirs, ours, given.seed)
-    print("What was compared | What differs | Answers | An example: the call, the crate; the library\n---|---|---|---")
+    print("What was compared | What differs | Results | An example: the call, the crate; the library\n---|---|---|---")
     for (what, rule), (count, example) in sorted(found.items(), key=str):
         shown = f"{rules.RULES[rule][0]} | {count:,} | {ascii(example)[1:-1]}" if rule else f"nothing | {count:,}"
         print(f"{what} | {shown}")
     total, different = (sum(count for (_, rule), (count, _) in found.items() if rule or both) for both in (True, False))
-    print(f"\n{total:,} answers of seed {given.seed}, of which {different:,} differ")
+    print(f"\n{total:,} results of seed {given.seed}, of which {different:,} differ")
     page = read("docs/DIFFERENCES.md")
     findings += [f"docs/DIFFERENCES.md does not say: {words}" for _, words in rules.RULES.values() if words not in page]
-    return report(findings[:40], "each answer of the library is that of the model, and a rule explains each other")
+    return report(findings[:40], "each result of the library is that of the model, and a rule explains each other")

@@ -1,11 +1,8 @@
-"""Random requests, in the form that compare.rs describes, many of them near a limit or a rounding."""
+"""Random requests, in the form of bindings/rust/checks/compare.rs, many of them near a limit or a rounding."""
 
-from ..model.exact import LETTERS, unit_bits
+from ..model.exact import BITS, LETTERS, UNITS
 from ..model.lines import some_line
 
-# The units by their codes: b and B, and for each letter that of bits and of bytes, decimal and binary.
-UNITS = ["b", "B"] + [letter + form for letter in LETTERS for form in ("b", "ib", "B", "iB")]
-BITS = {unit: unit_bits((LETTERS.find(unit[0]) + 1) if unit[1:] else 0, "i" in unit, unit[-1] == "b") for unit in UNITS}
 LIMITS = [2**96, 2**112, 10**27, 10**28, 10**30, 2**64, 8 * 10**27, 2**93]
 PRECISIONS = [0, 1, 2, 3, 3, 3, 4, 6, 9, 12, 15, 16, 20, 25, 26, 27, 28, 29, 300]
 

@@ -1,16 +1,16 @@
-"""An exact model of the calls, and the rules of docs/DIFFERENCES.md that explain where the original's answers differ.
+"""The exact results of calls, and the rules of docs/DIFFERENCES.md that explain where the original's results differ.
 
-A call is a generator of the original's answer, ours and the arguments. It yields the exact answer, which ours has to
-be, and then each rule that could explain the original's answer, and whether it does. An answer `-` is none: the size or
+A call is a generator of the original's result, ours and the arguments. It yields the exact result, which ours has to
+be, and then each rule that could explain the original's result, and whether it does. A result `-` is none: the size or
 the unit is beyond the limits of the original.
 """
 
 import math
 import re
-from decimal import Decimal, getcontext
+from decimal import Decimal
 
-from ..model.exact import FRACTION_PLACES, LETTERS, SIZE_LIMIT, SPELLING, WHITE_SPACE, read
-from .requests import BITS, UNITS
+from ..model.exact import (BASE, BITS, FORM_PLACES, SCALE, SIZE_LIMIT, UNITS, WHITE_SPACE, Rejected, best_unit, largest,
+                           read, size_of, unit_message, unit_of, value_of)
 
 # What is different, and words of the row of docs/DIFFERENCES.md that says so.
 RULES = {
@@ -26,57 +26,30 @@ RULES = {
     "rounded": ("an adjusted text: a rounded float", "adjusted texts are rounded as floats"),
 }
 OF_DECIMAL, OF_SIZES = 2**96, 10**27
-SCALE, BASE = {"byte": 8, "bit": 1}, {"byte": "B", "bit": "b"}
 LAST_LETTERS = ("'Z' or 'Y' or no character", "'Z', 'Y' or 'R' or no character")
 ESCAPES = {r"\t": "\t", r"\n": "\n", r"\r": "\r", r"\0": "\0", r"\'": "'", r"\\": "\\"}
-getcontext().prec = 500  # each quotient below is exact
+# How the exact messages quote a character: as it is.
+AS_IT_IS = "'{}'".format
 
 
 def verdict(call, given, theirs, ours):
-    """Returns the rule by which two answers differ, or None if they do not, and what is wrong, or None."""
+    """Returns the rule by which two results differ, or None if they do not, and what is wrong, or None."""
     rules = call(theirs, ours, *given)
     exact = next(rules)
     if unescaped(ours) != exact:
-        return None, f"the exact answer is {exact}"
+        return None, f"the exact result is {exact}"
     rule = None if theirs == ours else next((rule for rule, holds in rules if holds), "")
     return rule, "no rule explains the difference" if rule == "" else None
 
 
-def unescaped(answer):
-    """Returns an answer with the character that a message quotes as it is."""
+def unescaped(result):
+    """Returns a result with the character that a message quotes as it is."""
 
     def character(found):
         code = re.fullmatch(r"\\u\{(0|[1-9a-f][0-9a-f]{0,4}|10[0-9a-f]{4})\}", found[1])
         return f"! the character '{chr(int(code[1], 16)) if code else ESCAPES.get(found[1], found[1])}' is "
 
-    return re.sub(r"\A! the character '(.+?)' is ", character, answer, flags=re.S)
-
-
-def unit_message(text, ignore_case, prefers_bytes):
-    """Returns the message about the first character that cannot continue a unit."""
-    letter, rest = re.match(f"([{LETTERS}{LETTERS.lower()}][Ii]?)?(.*)", text, re.S).groups()
-    expected, or_none = "B" + LETTERS, True
-    if letter:
-        expected = ("B" if prefers_bytes else "b") if ignore_case else "Bb"
-    if rest[0] in "Bb":
-        word = re.match("b(i(ts?)?)?", rest, re.I)[0].lower()
-        # A string that ends after `bi` is rejected at the `i`.
-        expected = {"b": "i", "bi": "t" * (len(rest) > 2), "bit": "s", "bits": ""}[word]
-        or_none, rest = word != "bi" or len(rest) == 2, rest[len(word) :] or "i"
-    *most, last = [f"'{one}'" for one in expected] or ["no character"]
-    words = ", ".join(most) + " or " * bool(most) + last + " or no character" * bool(expected and or_none)
-    return f"! the character '{rest[0]}' is incorrect ({words} is expected)"
-
-
-def message(text, kind, ignore_case, error):
-    if error == "bad unit":
-        unit = re.match(r"[0-9]*(?:\.[0-9]+)? *(.*)", text, re.S)[1]
-        return unit_message(unit, ignore_case, kind == "byte")
-    wrong = re.sub(r"\A[0-9]+\.", "", text)[:1] or "."
-    shown = re.sub(r"\A(?=\.|\Z)", "0", trimmed(re.match(r"0*([0-9]*(?:\.[0-9]+)?)", text)[1]))
-    return {"not a number": f"! the character '{wrong}' is not a number", "no value": "! no value can be found",
-            "number too long": "! value number is too long",
-            "out of range": f"! the value {shown} exceeds the valid range"}[error]
+    return re.sub(r"\A! the character '(.+?)' is ", character, result, flags=re.S)
 
 
 def of_messages(theirs, ours, first):
@@ -87,12 +60,10 @@ def of_messages(theirs, ours, first):
 
 
 def parsed(theirs, ours, text, kind, ignore_case):
+    size = size_of(text.encode(), kind, ignore_case, AS_IT_IS)
+    error = size.name if isinstance(size, Rejected) else None
+    yield f"! {size.message}" if error else str(size)
     text = text.strip(WHITE_SPACE)
-    found = read(text[:-1] + "B" if ignore_case and text.endswith("b") else text, kind)
-    error, size, bits = (found, 0, 0) if isinstance(found, str) else (None, *found)
-    size = -(-size * bits // (10**FRACTION_PLACES * SCALE[kind]))
-    error = error or ("out of range" if size >= SIZE_LIMIT else None)
-    yield message(text, kind, ignore_case, error) if error else str(size)
     whole, fraction = re.match(r"([0-9]*)(?:\.([0-9]+))?", text).groups(default="")
     coefficient = int(whole + fraction or "0")
     yield "whole", theirs == "! value number is too long" and int(whole or "0") + 1 >= OF_DECIMAL
@@ -104,36 +75,13 @@ def parsed(theirs, ours, text, kind, ignore_case):
     elif not error:
         yield "limit", shown and size >= OF_SIZES
         off = OF_SIZES - size if shown else abs(int(theirs) - size) if theirs.isdecimal() else 2
-        yield "digits", off == 1 and coefficient * bits >= OF_DECIMAL
+        yield "digits", off == 1 and coefficient * BITS[read(text, kind, ignore_case)[1]] >= OF_DECIMAL
 
 
-def parsed_unit(theirs, ours, text, ignore_case, prefers_bytes):
+def parsed_unit(theirs, ours, text, kind, ignore_case):
     text = text.strip(WHITE_SPACE)
-    spelling = SPELLING.fullmatch(text)
-    if spelling:
-        letter, infix, word = spelling.groups(default="")
-        is_byte = word == "B" or (word == "b" and ignore_case) if word else prefers_bytes
-        yield letter.upper() + infix.lower() + ("B" if is_byte else "b")
-    else:
-        yield unit_message(text, ignore_case, prefers_bytes)
+    yield unit_of(text, kind, ignore_case) or f"! {unit_message(text, kind, ignore_case, AS_IT_IS)}"
     yield from of_messages(theirs, ours, text[:1])
-
-
-def value_of(size, kind, unit):
-    return Decimal(size * SCALE[kind]) / BITS[unit]
-
-
-def largest(units, size, kind):
-    """Returns the largest of these units that is not above the size, or `B` or `b`."""
-    return max((unit for unit in units if BITS[unit] <= size * SCALE[kind]), key=BITS.get, default=BASE[kind])
-
-
-def best_unit(size, kind, either, precision):
-    """Returns the largest unit, not above the size, that represents it exactly in so many places, and the number."""
-    scaled = size * SCALE[kind] * 10 ** min(precision or 0, FRACTION_PLACES)
-    units = [unit for unit in UNITS[2:] if (either or unit[-1] == BASE[kind]) and scaled % BITS[unit] == 0]
-    unit = largest(units, size, kind)
-    return value_of(size, kind, unit), unit
 
 
 def of_best_unit(size, kind, number, their_unit, value, unit):
@@ -144,7 +92,8 @@ def of_best_unit(size, kind, number, their_unit, value, unit):
 
 
 def in_unit(theirs, ours, size, kind, either, precision):
-    value, unit = best_unit(size, kind, either, precision)
+    unit = best_unit(size, kind, either, precision or 0)
+    value = value_of(size, kind, unit)
     yield f"{value:f} {unit}"
     yield "limit", theirs == "-" and size >= OF_SIZES
     if theirs != "-":
@@ -190,7 +139,8 @@ class Spec:
 
 
 def formatted(theirs, ours, size, kind, spec):
-    value, unit = best_unit(size, kind, False, 3 if spec.precision is None else spec.precision)
+    unit = best_unit(size, kind, precision=FORM_PLACES if spec.precision is None else spec.precision)
+    value = value_of(size, kind, unit)
     yield spec.layout(f"{value:f}", unit) if spec.alternate else spec.digits(str(size))
     yield "limit", theirs == "-" and size >= OF_SIZES
     shown = re.fullmatch(r" *([0-9.]+) *(\S+)", theirs)
@@ -212,7 +162,7 @@ def adjusted(theirs, ours, size, kind, unit, spec):
 
 def appropriate(theirs, ours, size, kind, unit_type):
     is_binary = [(True,), (False,), (True, False)][unit_type]
-    yield largest([unit for unit in UNITS[2:] if unit[-1] == BASE[kind] and ("i" in unit) in is_binary], size, kind)
+    yield largest(size, kind, [unit for unit in UNITS[2:] if unit[-1] == BASE[kind] and ("i" in unit) in is_binary])
     yield "limit", size >= OF_SIZES
 
 

@@ -13,6 +13,7 @@ seconds. A check begins with a line `skipped: ` for each program that it runs an
 """
 
 from ..common import Failure, one_of, report
+from ..source import crates
 from . import commands, examples, text, version
 
 QUICK = {"words": text.words, "names": text.names, "version": version.version}
@@ -20,7 +21,7 @@ CHECKS = {**QUICK, "readme": commands.readme, "guide": commands.guide, "command"
 
 
 def arguments(parser):
-    parser.add_argument("--crate", action="append", type=one_of(examples.crates()[0]), metavar="CRATE",
+    parser.add_argument("--crate", action="append", type=one_of(crates()), metavar="CRATE",
                         help="a crate whose examples are run, by default all")
     parser.add_argument("what", nargs="*", type=one_of([*CHECKS, "examples", "all"]), metavar="WHAT",
                         help=f"by default {', '.join(QUICK)}; or all")

@@ -2,11 +2,10 @@
 
 import os
 import re
-import shutil
 import subprocess
 import tempfile
 
-from ..common import ROOT, call, output, path, read
+from ..common import ROOT, call, copy_to, output, path, read
 from .text import blocks, line_at
 
 README, GUIDE, COMMAND = "README.md", "docs/GUIDE.md", "command/README.md"
@@ -51,14 +50,6 @@ def kit(page):
     return [f"{README}:{line_at(page, named.start() if named else 0)}: rt version prints {output('rt', 'version')}"]
 
 
-def copy_of_crates(folder):
-    """Copies the crates and what the command that takes them reads, so that this repository is not changed."""
-    for name in ["crates", "tools"]:
-        shutil.copytree(path(name), os.path.join(folder, name), ignore=shutil.ignore_patterns("out", "__pycache__"))
-    for name in ["crates.txt", "LICENSE", "HANDLES", "CHANGELOG.md", "VERSION"]:
-        shutil.copy(path(name), folder)
-
-
 def snapshot(folder):
     return {os.path.join(at, name): os.stat(os.path.join(at, name)).st_mtime_ns
             for at, _, names in os.walk(folder) for name in names}
@@ -101,7 +92,9 @@ def readme():
     if gate.text != "rt ci\n":  # the gate runs it; all other commands are run here
         wrong.append(f"{README}:{gate.line}: a command that is not run here")
     with tempfile.TemporaryDirectory() as folder:
-        copy_of_crates(os.path.join(folder, "here"))
+        # A copy of what the commands read, so that this repository is not changed.
+        copy_to(os.path.join(folder, "here"), "crates", "tools", "crates.txt", "LICENSE", "HANDLES", "CHANGELOG.md",
+                "VERSION")  # fmt: skip
         wrong += differs(README, program, printed, os.path.join(folder, "here"))
         wrong += first_program(take, first, start, first_printed, folder)
     if is_built(LINES_PROGRAM, README):

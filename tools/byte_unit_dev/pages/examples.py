@@ -7,17 +7,14 @@ proves nothing, and stops at only some of the calls that break a `requires`.
 
 import os
 import re
-import shutil
 import subprocess
 import tempfile
 from collections import namedtuple
 
-from ..common import call, path, read, write
-from ..source import Source, files
+from ..common import call, copy_to, path, read, write
+from ..source import Source, below, crates, files, library
 from .text import blocks, line_at
 
-# The crates whose public functions byte_unit exports.
-LIBRARY = ["byte_unit_math", "byte_unit_base", "byte_unit_format", "byte_unit_byte", "byte_unit_bit", "byte_unit"]
 # The generated crate, and its module.
 EXAMPLES = "doc_examples"
 PUBLIC = re.compile(r"^[ \t]*pub (?:const )?(?:unsafe )?fn (\w+)", re.M)
@@ -25,15 +22,7 @@ PUBLIC = re.compile(r"^[ \t]*pub (?:const )?(?:unsafe )?fn (\w+)", re.M)
 Example = namedtuple("Example", "file line text crate test")
 
 
-def crates():
-    """Returns what each crate uses, by crates.txt, and the crates that no other crate can use."""
-    rows = [line.split("#")[0].partition(":") for line in read("crates.txt").splitlines()]
-    uses = {head.split()[0]: names.split() for head, _, names in rows if head.strip()}
-    ends = {name for name in uses if os.path.exists(path("crates", name, "src/main.rt"))}
-    return uses, ends | {head.split()[0] for head, _, _ in rows if "staticlib" in head}
-
-
-def examples_of(source, ends):
+def examples_of(source):
     """Returns the examples of a file, and what is wrong with its blocks."""
     comments = [re.match(r"\s*//[/!](?!/) ?(.*)", line) for line in source.text.splitlines()]
     crate, _, file = source.name.removeprefix("crates/").removesuffix(".rt").partition("/src/")
@@ -46,12 +35,18 @@ def examples_of(source, ends):
             wrong.append(f"{where}: a block without a language")
         elif block.language == "text" and re.search("::|//", block.text):
             wrong.append(f"{where}: code in a block of text; make it ```rust with assertions")
-        elif block.language == "rust" and crate in ends:
+        elif block.language == "rust" and not is_library(crate):
             wrong.append(f"{where}: an example of a crate that no crate can use; make it a test")
         elif block.language == "rust":
             test = re.sub(r"\W", "_", f"{crate}_{file}_{block.line}").lower()
             found.append(Example(source.name, block.line, block.text, crate, test))
     return found, wrong
+
+
+def is_library(crate):
+    """Tells whether another crate can use this one."""
+    is_program = os.path.exists(path("crates", crate, "src/main.rt"))
+    return not is_program and not re.search(rf"^{crate} staticlib", read("crates.txt"), re.M)
 
 
 def without_comment(source):
@@ -86,7 +81,7 @@ def imports_of(example, names_of):
 def module_of(examples):
     """Returns the text of a module of tests, and the file and line that each of its lines comes from."""
     made, places = [], []
-    names_of = {crate: exported(crate) for crate in LIBRARY}
+    names_of = {crate: exported(crate) for crate in library()}
     for example in examples:
         lines = example.text.splitlines()
         head = ["", "#[test]", f"fn {example.test}(rt: HostRuntime) -> anyhow::Result<()> {{"]
@@ -99,18 +94,11 @@ def module_of(examples):
     return "\n".join(made) + "\n", places
 
 
-def set_up(top, examples, uses):
+def set_up(top, examples):
     """Copies the crates that the examples need, and adds that of the tests. Returns where its lines come from."""
-    needed, more = set(), {*LIBRARY, *(example.crate for example in examples)}
-    while more:
-        needed |= more
-        more = {name for crate in more for name in uses[crate] if name in uses} - needed
-    for crate in needed:
-        for part in ["src", "specs", "proofs"]:
-            if os.path.isdir(path("crates", crate, part)):
-                shutil.copytree(path("crates", crate, part), os.path.join(top, "crates", crate, part))
-    rows = {crate: uses[crate] for crate in sorted(needed)}
-    rows[EXAMPLES] = sorted({"anyhow", *needed, *(name for names in rows.values() for name in names)})
+    rows = {crate: crates()[crate] for crate in below([*library(), *(example.crate for example in examples)])}
+    copy_to(top, *(f"crates/{crate}" for crate in rows), without=["out", "must-fail", "mutants.edits"])
+    rows[EXAMPLES] = sorted({"anyhow", *rows, *(name for names in rows.values() for name in names)})
     write(os.path.join(top, "crates.txt"), "".join(f"{crate}: {' '.join(names)}\n" for crate, names in rows.items()))
     text, places = module_of(examples)
     source = os.path.join(top, "crates", EXAMPLES, "src")
@@ -119,10 +107,10 @@ def set_up(top, examples, uses):
     return places
 
 
-def failures(examples, uses):
+def failures(examples):
     """Runs the examples. Returns a line for each failure."""
     with tempfile.TemporaryDirectory() as top:
-        places = set_up(top, examples, uses)
+        places = set_up(top, examples)
         got = call("rt", "try", "--test", cwd=os.path.join(top, "crates", EXAMPLES), stdin=subprocess.DEVNULL,
                    stderr=subprocess.PIPE)
 
@@ -142,12 +130,12 @@ def failures(examples, uses):
 
 
 def examples(chosen):
-    (uses, ends), found, wrong = crates(), [], []
-    for crate in chosen or uses:
+    found, wrong = [], []
+    for crate in chosen or crates():
         for source in map(Source, files(f"crates/{crate}/src", ".rt")):
-            more, faults = examples_of(source, ends)
+            more, faults = examples_of(source)
             found += more
-            wrong += [*faults, *(without_comment(source) if crate in LIBRARY else ())]
+            wrong += [*faults, *(without_comment(source) if crate in library() else ())]
     if found:
-        wrong += failures(found, uses)
+        wrong += failures(found)
     return wrong, f"{len(found)} examples of {len({example.file for example in found})} files hold"

@@ -1,12 +1,17 @@
 """The words and rows by which byte_unit_bit is rendered from byte_unit_byte, and modules of byte_unit_serde."""
 
+import functools
 import os
 import re
+import tomllib
 
-from ..catalogue import joined, split
 from ..common import Failure, files, read
+from ..source import catalogue
 
-SOURCE, TARGET, CATALOGUE, MOST_COLUMNS = "crates/byte_unit_byte", "crates/byte_unit_bit", "mutants.edits", 120
+CRATE = "byte_unit_bit"
+SOURCE, TARGET, MOST_COLUMNS = "crates/byte_unit_byte", f"crates/{CRATE}", 120
+# The differences beside words: the file says what it has.
+ROWS = f"{SOURCE}/bits.toml"
 SERDE = re.compile(r"crates/byte_unit_serde/(?:src|proofs)/(byte|optional_byte|byte_vec)[/.].*")
 # The longest `field: value` that `rt fmt` leaves on one line with its struct.
 MOST_FIELD_COLUMNS = 18
@@ -40,52 +45,6 @@ CONSTANTS = "src/byte/constants.rt"
 WORDS_OF_CONSTANTS = {**WORDS_OF_COMMENTS, **both_ways({f"{prefix}B": f"{prefix}bit" for prefix in PREFIXES})}
 # Words of the names of files and of mutants.
 WORDS_OF_NAMES = {**WORDS, **both_ways({f"{name}byte".lower(): f"{name}bit".lower() for name in PREFIXES.values()})}
-# Texts that both have.
-IN_BOTH = {"under the spec, in bytes: below": "under the spec, in bytes: below"}
-# What differs beside words, by file of byte_unit_byte: each text is in it exactly once, and the file of byte_unit_bit
-# has the text after the colon there, to the letter. The rows of a file hold for its mutants too.
-DIFFERENCES = {
-    # Examples whose numbers differ.
-    "src/byte.rt": {"(17, Unit::Bit), Some(Byte::from_u64(3))": "(17, Unit::B), Some(Bit::from_u64(136))"},
-    "src/byte/units.rt": {
-        "at most 116 steps;": "at most 119 steps;",
-        "from_u128_unsafe(7 << 87)": "from_u128_unsafe(7 << 90)",
-        "steps.count(), 116)": "steps.count(), 119)",
-    },
-    # Here the bytes are those of a text.
-    "src/byte/text.rt": IN_BOTH,
-    "src/byte/adjusted.rt": {**IN_BOTH, "its bits over the bits of the unit": "its bits over the bits of the unit"},
-    # `Bit` has no `ignore_case`: it always distinguishes `b` from `B`.
-    "src/byte/built_in_traits.rt": {"Byte::parse_str(s, false)": "Bit::parse_str(s)"},
-    "src/byte/parse.rt": {
-        "ghost use Rattle.std.specs.Prelude.{take};": "ghost use Rattle.std.specs.Prelude.{false, take};",
-        "With `ignore_case` a `b` that does not begin `bit` or `bits` means bytes, otherwise bits.":
-            "The suffix `b` means bits and `B` bytes; the case of all other letters is ignored.",
-        '("50.84 MB", false)': '("50.84 Mb")',
-        '("9 b", true)?, Byte::from_u64(9)': '("9 b")?, Bit::from_u64(9)',
-        '("9 b", false)?, Byte::from_u64(2)': '("9 B")?, Bit::from_u64(72)',
-        '("1.", false)': '("1.")',
-        '("1000 RB", false)': '("1000 Rb")',
-        "(s: &str, ignore_case: bool)": "(s: &str)",
-        "InBytes ignore_case s.now": "InBits false s.now",
-        "parse(s, ignore_case,": "parse(s, false,",
-        '(b"1.5 KiB", false)': '(b"1.5 Kib")',
-        '(b"1.", false)': '(b"1.")',
-        '(b"1 KiB\\xFF", false)': '(b"1 Kib\\xFF")',
-        "(bytes: &[u8], ignore_case: bool)": "(bytes: &[u8])",
-        "InBytes ignore_case bytes.now": "InBits false bytes.now",
-        "parse_line(bytes, bytes.len(), ignore_case)": "parse_line(bytes, bytes.len())",
-        'parse_line(b"1.5 KiB\\n12\\n", 7, false)': 'parse_line(b"1.5 Kib\\n12\\n", 7)',
-        **{text: text for text in ["line at the beginning of bytes, its first `len` bytes", "`len <= bytes.len()`",
-                                   "the next byte is a line"]},
-        "pub fn parse_line(\n        bytes: &[u8],\n        len: usize,\n        ignore_case: bool,\n    ) -> Option":
-            "pub fn parse_line(bytes: &[u8], len: usize) -> Option",
-        "InBytes ignore_case (take": "InBits false (take",
-        "parse_line(bytes, len, ignore_case,": "parse_line(bytes, len, false,",
-    },
-}
-# Mutants that turn `ignore_case`, and are not rendered.
-WITHOUT = ["built_in_traits.from_str.ignores_case", "parse.parse_str.flag_is_ignored"]
 
 
 def head(mark, source):
@@ -97,9 +56,15 @@ def named(name):
     return "".join(WORDS_OF_NAMES.get(part, part) for part in re.split(r"([/.])", name))
 
 
+@functools.lru_cache(maxsize=None)
+def differences():
+    return tomllib.loads(read(ROWS))
+
+
 def in_bits(name, text, is_whole=True):
-    """Replaces what DIFFERENCES has for a file, and the words in all that is left, in one pass."""
-    comments, rows, seen = WORDS_OF_CONSTANTS if name == CONSTANTS else WORDS_OF_COMMENTS, DIFFERENCES.get(name, {}), []
+    """Replaces what ROWS has for a file, and the words in all that is left, in one pass."""
+    comments = WORDS_OF_CONSTANTS if name == CONSTANTS else WORDS_OF_COMMENTS
+    rows, seen = differences().get(name, {}), []
     words = "|".join(map(re.escape, sorted(comments, key=len, reverse=True)))
 
     def replaced(found):
@@ -110,7 +75,7 @@ def in_bits(name, text, is_whole=True):
     made_text = re.sub("|".join([*map(re.escape, rows), rf"(?<![A-Za-z_])(?:{words})(?!\w)"]), replaced, text)
     for old in rows if is_whole else []:
         if text.count(old) != 1 or old not in seen:
-            raise Failure(f"{SOURCE}/{name}: not once, or not apart from other rows of bits.py: {old!r}")
+            raise Failure(f"{SOURCE}/{name}: not once, or not apart from other rows of {ROWS}: {old!r}")
     return made_text
 
 
@@ -141,17 +106,26 @@ def crate(name):
     texts = {found.removeprefix(f"{name}/"): read(found) for found in files() if found.startswith(f"{name}/")}
     mutants = {os.path.basename(found)[:-len(".edit")]: texts.pop(found) for found in [*texts]
                if re.fullmatch(r"must-fail/[^/]*\.edit", found)}
-    more = split(f"{name}/{CATALOGUE}", texts.pop(CATALOGUE, ""))
+    for other in ("mutants.edits", os.path.basename(ROWS)):
+        texts.pop(other, None)
+    more = catalogue(os.path.basename(name))
     wrong = [found for found in texts if not found.endswith(".rt")] + [title for title in mutants if title in more]
     if wrong:
         raise Failure(f"{name}: neither a source file nor a mutant, or a second mutant of this title: {wrong[0]}")
     return texts, {**mutants, **more}
 
 
-def mutants_in_bits(mutants):
+def mutants():
+    """Returns the mutants of byte_unit_bit by their titles: those of byte_unit_byte, of must-fail/ too, but for those
+    that turn `ignore_case`."""
+    return mutants_in_bits({title: text for title, text in crate(SOURCE)[1].items()
+                            if title not in differences()["without"]})  # fmt: skip
+
+
+def mutants_in_bits(left):
     """Returns the rendered mutants by their titles."""
     found = {}
-    for title, text in mutants.items():
+    for title, text in left.items():
         edited = re.match(r"file: (\S+)\n", text)
         if not edited:
             raise Failure(f"{SOURCE}: the first line of the mutant {title} names no file")
@@ -176,27 +150,25 @@ def misfits(name, texts, mutants):
 
 
 def made():
-    """Each file of src/; each mutant of must-fail/ and mutants.edits, into mutants.edits, for the gate tries those of
-    byte_unit_byte alone; modules of byte_unit_serde and their proofs. A mutant of either crate that cannot be applied,
+    """Each file of src/; modules of byte_unit_serde and their proofs. A mutant of either crate that cannot be applied,
     because its old text is not in its file exactly once, is a failure."""
-    texts, mutants = crate(SOURCE)
+    texts, edits = crate(SOURCE)
     made_texts = {named(name): head("//", f"{SOURCE}/{name}") + in_bits(
         name, constants(text) if name == CONSTANTS else text) for name, text in texts.items()}
-    left = {title: text for title, text in mutants.items() if title not in WITHOUT}
-    made_mutants = mutants_in_bits(left)
-    unknown = [name for name in [*DIFFERENCES, *WITHOUT] if name not in {**texts, **mutants}]
-    if unknown or (len(made_texts), len(made_mutants)) != (len(texts), len(left)):
-        raise Failure(f"{SOURCE}: two are rendered by one name, or bits.py has rows for what is not there: {unknown}")
-    catalogue = joined(head("#", f"the mutants of {SOURCE}"), made_mutants)
+    without = differences()["without"]
+    made_edits = mutants()
+    unknown = [name for name in [*differences(), *without] if name not in {**texts, **edits, "without": without}]
+    if unknown or (len(made_texts), len(made_edits)) != (len(texts), len(edits) - len(without)):
+        raise Failure(f"{SOURCE}: two are rendered by one name, or {ROWS} has rows for what is not there: {unknown}")
     there = [name.removeprefix(f"{TARGET}/") for name in files() if name.startswith(f"{TARGET}/")]
-    for name in sorted({*made_texts, CATALOGUE, *there}):
-        yield f"{TARGET}/{name}", {**made_texts, CATALOGUE: catalogue}.get(name, "")
+    for name in sorted({*made_texts, *there}):
+        yield f"{TARGET}/{name}", made_texts.get(name, "")
     for found in filter(None, map(SERDE.fullmatch, files())):
         name, mark = found[0], "//" if found[0].endswith(".rt") else "--"
         target = name[:found.start(1)] + WORDS[found[1]] + name[found.end(1):]
         yield target, head(mark, name) + in_bits(name, read(name))
     wrong = [f"{TARGET}/{name}:{number}: more than {MOST_COLUMNS} columns: {line}" for name, text in made_texts.items()
              for number, line in enumerate(text.splitlines(), 1) if len(line) > MOST_COLUMNS]
-    wrong += [*misfits(SOURCE, texts, mutants), *misfits(TARGET, made_texts, made_mutants)]
+    wrong += [*misfits(SOURCE, texts, edits), *misfits(TARGET, made_texts, made_edits)]
     if wrong:
         raise Failure("\n".join(wrong))

@@ -4,7 +4,8 @@ import functools
 import re
 
 from ..common import Failure, read
-from ..source import WORD, exports, line_of, resolved, sources, specs
+from ..source import WORD, crates, exports, line_of, resolved, sources, specs
+from .bits import WORDS
 from .pages import section, with_parts
 
 PAGE, FACADE = "CALLING.md", "byte_unit"
@@ -13,9 +14,6 @@ PROOF = "crates/byte_unit_uses/proofs/message/parse_argument/Answers.antt"
 FIRST = ["Byte", "AdjustedByte", "Bit", "AdjustedBit", "Unit", "UnitType", "FormatSpec", "Align", "Sign"]
 SMALL, BELOW = FIRST[5:], ["Kind", "Family", "Decimal", "Expansion", "Steps", "Ties"]
 MIRRORED = {"Byte": "Bit", "AdjustedByte": "AdjustedBit"}
-# The words of bits, beside the names that each crate gives the two kinds in its contracts.
-IN_BITS = {**MIRRORED, "get_byte": "get_bit", "allow_in_bits": "allow_in_bytes", "byte_constant": "bit_constant",
-           "byte_bounds": "bit_bounds"}
 # Members of a trait that prove its rules and say nothing of a result.
 PROOFS = {"laws", "total", "matches_partial_cmp", "matches_eq", "coded", "inverse", "inverse_ok"}
 
@@ -98,7 +96,7 @@ def mirrored(types):
     """Returns for each type of bits the entries that its type of bytes has not, and the comment that says so."""
     texts = ("".join(file.plain for file in sources(f"byte_unit_{kind}")) for kind in ("byte", "bit"))
     of_bytes, of_bits = (re.search(r"\b(?:Byte|Bit) as (\w+)", text)[1] for text in texts)
-    words, found = {**IN_BITS, of_bytes: of_bits}, {}
+    words, found = {**WORDS, of_bytes: of_bits}, {}
     for name, bit in MIRRORED.items():
         same = [tuple(re.sub(r"\w+", lambda word: words.get(word[0], word[0]), line) for line in entry.lines)
                 for entry in types[name]]
@@ -154,15 +152,10 @@ def cited_by(entries):
 def words():
     """Returns a link to each file of definitions that the page's contracts cite, with the words that they use."""
     cited, found = cited_by(entry for entries in shown_types().values() for entry in entries), []
-    for module, spec in ((module, spec) for crate in layers() for module, spec in specs(crate).items()):
+    for module, spec in ((module, spec) for crate in crates() for module, spec in specs(crate).items()):
         names = [f"`{name}`" for name in spec.definitions if (spec.crate, module, name) in cited]
         found += [f"[{module}](docs/DEFINITIONS.md#{module.lower()}): {', '.join(names)}"] * bool(names)
     return "; ".join(found) + "."
-
-
-def layers():
-    """Returns the crates in the order of crates.txt."""
-    return re.findall(r"^(\w+)", read("crates.txt"), re.M)
 
 
 def listed(names):

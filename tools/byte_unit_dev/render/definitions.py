@@ -3,19 +3,12 @@
 import functools
 import re
 
-from ..common import Failure, read
-from ..source import WORD, closure, resolved, sentence_of, sources, specs
-from .calling import cited_by, items, layers, listed
+from ..common import Failure
+from ..source import EXAMPLES, WORD, closure, crates, library, resolved, sentence_of, sources, specs
+from .calling import cited_by, items, listed
 from .pages import section, with_parts
 
 PAGE, SAID, FOLLOWS = "docs/DEFINITIONS.md", ["Byte", "AdjustedByte", "Unit"], ["computed"]
-EXAMPLES = re.compile(r"example_\w+|byte_unit_uses|byte_unit_tests")
-
-
-def library():
-    """Returns the crates of the library, from the lowest: the facade, and those whose files it exports."""
-    line = re.search(r"^byte_unit: (.*)$", read("crates.txt"), re.M)[1]
-    return [name for name in layers() if name in line.split() or name == "byte_unit"]
 
 
 @functools.lru_cache(maxsize=None)
@@ -87,7 +80,7 @@ def private():
 
 
 def other_crates():
-    return [crate for crate in layers() if crate not in library() and not EXAMPLES.fullmatch(crate) and specs(crate)]
+    return [crate for crate in crates() if crate not in library() and not EXAMPLES.fullmatch(crate) and specs(crate)]
 
 
 def public_of(crate):

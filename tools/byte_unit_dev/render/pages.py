@@ -86,5 +86,5 @@ def tools(page="CONTRIBUTING.md"):
     for verb in verbs.VERBS:
         module = verbs.module_of(verb)
         parts = ", ".join(f"`{part}`" for part in (tests.PARTS if module is tests else PART.findall(module.__doc__)))
-        rows.append(f"`tools/dev {verb}` | {verbs.sentence_of(module.__doc__)}" + f" ({parts})" * bool(parts))
+        rows.append(f"`tools/dev {verb}` | {verbs.summary_of(module)}" + f" ({parts})" * bool(parts))
     yield page, with_parts(page, section("Tools", "\n".join(["<!-- tools: rendered -->", "", *rows])))

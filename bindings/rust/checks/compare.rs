@@ -1,6 +1,6 @@
-//! Answers requests by the crate `byte-unit`: the original, or the Rust package in its place.
+//! Makes calls of the crate `byte-unit`: the original, or the Rust package in its place.
 //!
-//! Reads a request in each line, and writes a line with its answers, separated by tabs; `-` is none. TEXT is in
+//! Reads a request in each line, and writes a line with its results, separated by tabs; `-` is none. TEXT is in
 //! hexadecimal digits, and SPEC is `:FLAGS width precision`, where a width of 0 and a precision of `-` are none:
 //!
 //!     t TEXT                          parse as bytes, as bytes with `b` ignored, as bits
@@ -42,7 +42,7 @@ fn shown(value: Option<impl Display>) -> String {
     value.map_or("-".to_string(), |value| value.to_string())
 }
 
-/// Answers the requests for a size and for a number of units.
+/// Returns the results for a size and for a number of units.
 macro_rules! of_kind {
     ($kind:ident, $words:expr) => {{
         let number: u128 = $words[1].parse().unwrap();
@@ -54,25 +54,25 @@ macro_rules! of_kind {
             },
             (_, None) => vec!["-".to_string(); 9],
             (_, Some(size)) => {
-                let mut answers = Vec::new();
+                let mut results = Vec::new();
                 for either in [false, true] {
                     let (count, unit) = size.get_exact_unit(either);
-                    answers.push(format!("{count} {unit}"));
+                    results.push(format!("{count} {unit}"));
                     let (count, unit) = size.get_recoverable_unit(either, $words[2].parse().unwrap());
-                    answers.push(format!("{count} {unit}"));
+                    results.push(format!("{count} {unit}"));
                 }
                 for unit_type in [UnitType::Binary, UnitType::Decimal, UnitType::Both] {
-                    answers.push(size.get_appropriate_unit(unit_type).get_unit().to_string());
+                    results.push(size.get_appropriate_unit(unit_type).get_unit().to_string());
                 }
-                answers.push(text(size, &$words[4..]));
-                answers.push(shown(unit.map(|unit| text(size.get_adjusted_unit(unit), &$words[4..]))));
-                answers
+                results.push(text(size, &$words[4..]));
+                results.push(shown(unit.map(|unit| text(size.get_adjusted_unit(unit), &$words[4..]))));
+                results
             },
         }
     }};
 }
 
-fn answers(words: &[&str]) -> Vec<String> {
+fn results(words: &[&str]) -> Vec<String> {
     if !"tu".contains(words[0]) {
         return [of_kind!(Byte, words), of_kind!(Bit, words)].concat();
     }
@@ -89,7 +89,7 @@ fn answers(words: &[&str]) -> Vec<String> {
 fn main() -> io::Result<()> {
     let mut writer = BufWriter::new(io::stdout().lock());
     for line in io::stdin().lock().lines() {
-        writeln!(writer, "{}", answers(&line?.split(' ').collect::<Vec<_>>()).join("\t"))?;
+        writeln!(writer, "{}", results(&line?.split(' ').collect::<Vec<_>>()).join("\t"))?;
     }
     writer.flush()
 }

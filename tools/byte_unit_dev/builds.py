@@ -1,26 +1,41 @@
-"""Builds programs over the Rust crate byte-unit 5.2.6, or the Rust package in its place, and the Python package."""
+"""Copies and builds the bindings, and programs over the Rust crate byte-unit 5.2.6, in environments of their own."""
 
 import glob
 import os
 import re
 import shutil
+from pathlib import Path
 
-from ..common import Failure, output, path, write
-from ..needs import DEBIAN_PYTHON, DEBIAN_RUST, is_there
+from .common import Failure, output, path, write
+from .needs import DEBIAN_PYTHON, DEBIAN_RUST, is_there
 
 CRATES = ("rust_decimal", "utf8-width", "serde", "serde_json", "toml")
 NEEDS = ["cargo", *(f"{DEBIAN_RUST}/{name}-*" for name in CRATES)]
-# The manifest of the crate, without the features that nothing here calls.
-CRATE = """package = { name = "byte-unit", version = "5.2.6", edition = "2021" }
-features = { std = ["rust_decimal/std"], byte = ["rust_decimal"], bit = ["rust_decimal"], u128 = [] }
-[dependencies]
-rust_decimal = { version = "1", default-features = false, optional = true }
-utf8-width = "0.1"
+# The crates that Debian installs take the place of the registry.
+CONFIG = f"""[source.crates-io]
+replace-with = "debian"
+[source.debian]
+directory = "{DEBIAN_RUST}"
 """
-OPTIONS = ["--release", "--offline", "--quiet", "--no-default-features", "--features", "std,byte,bit,u128",
-           "--config", 'source.crates-io.replace-with="debian"', "--config", f'source.debian.directory="{DEBIAN_RUST}"']
+OPTIONS = ["--release", "--offline", "--quiet", "--no-default-features", "--features", "std,byte,bit,u128"]
 PROFILE = {"CARGO_PROFILE_RELEASE_LTO": "fat", "CARGO_PROFILE_RELEASE_CODEGEN_UNITS": "1",
            "CARGO_PROFILE_RELEASE_PANIC": "abort"}
+UNSET = ["PYTHONPATH", "BYTE_UNIT_LIBRARY_DIR", "PKG_CONFIG", "PKG_CONFIG_PATH", "RUSTFLAGS", "RUSTDOCFLAGS",
+         "CARGO_BUILD_TARGET", "CARGO_TARGET_DIR"]  # fmt: skip
+SET = {"PYTHONDONTWRITEBYTECODE": "1", "PYTHONUTF8": "1", "PIP_DISABLE_PIP_VERSION_CHECK": "1",
+       "CARGO_TERM_QUIET": "true", "CARGO_NET_OFFLINE": "true", "CARGO_PROFILE_DEV_DEBUG": "0"}  # fmt: skip
+
+
+def environment(**variables):
+    """Returns this environment with variables, those of None unset, and without what could lead to another library."""
+    here = {**os.environ, **dict.fromkeys(UNSET), **SET, **variables}
+    return {name: str(value) for name, value in here.items() if value is not None}
+
+
+def copied(binding, folder):
+    """Copies a binding, without what was built in it, and returns the copy's path."""
+    built = shutil.ignore_patterns("build", "*.egg-info", "__pycache__", "target", "Cargo.lock")
+    return str(shutil.copytree(path("bindings", binding), Path(folder).resolve() / "bindings" / binding, ignore=built))
 
 
 def library_of(given, work):
@@ -34,9 +49,9 @@ def library_of(given, work):
 
 def python(library, work):
     """Builds the Python package over the C library. Returns the environment in which Python finds it."""
-    env = {**os.environ, "BYTE_UNIT_LIBRARY_DIR": library, "PYTHONPATH": f"{work}/python"}
+    env = environment(BYTE_UNIT_LIBRARY_DIR=library, PYTHONPATH=f"{work}/python")
     words = ["setup.py", "-q", "build", "--build-base", f"{work}/build", "--build-lib", f"{work}/python"]
-    output(DEBIAN_PYTHON, "-B", *words, cwd=path("bindings/python"), env=env)
+    output(DEBIAN_PYTHON, *words, cwd=path("bindings/python"), env=env)
     return env
 
 
@@ -50,24 +65,18 @@ def original(given, work):
             shutil.copy(os.path.join(given, name), os.path.join(crate, "src", found[1]))
     if not os.path.isfile(os.path.join(crate, "src/lib.rs")):
         raise Failure(f"{given} has no src/lib.rs of the crate")
-    write(os.path.join(crate, "Cargo.toml"), CRATE)
+    shutil.copy(path("bindings/rust/checks/original.toml"), os.path.join(crate, "Cargo.toml"))
     return crate
 
 
-def package(work):
-    """Copies the Rust package, and returns the copy."""
-    left_out = shutil.ignore_patterns("target")
-    return shutil.copytree(path("bindings/rust"), os.path.join(work, "package"), ignore=left_out)
-
-
-def built(source, crate, library=""):
+def program(source, crate, library=None):
     """Builds a program in a copy of a crate, over the C library in `library`, and returns its path."""
     missing = [need for need in NEEDS if not is_there(need)]
     if missing:
         raise Failure(f"{missing[0]} is missing: `tools/dev setup --compared` installs it")
     os.makedirs(os.path.join(crate, "src/bin"), exist_ok=True)
     shutil.copy(path(source), os.path.join(crate, "src/bin/program.rs"))
-    kept = {name: value for name, value in os.environ.items() if not name.startswith(("CARGO_", "RUSTFLAGS"))}
-    env = {**kept, **PROFILE, "CARGO_HOME": os.path.join(crate, "home"), "BYTE_UNIT_LIBRARY_DIR": library}
+    write(f"{crate}/.cargo/config.toml", CONFIG)
+    env = environment(**PROFILE, CARGO_HOME=os.path.join(crate, "home"), BYTE_UNIT_LIBRARY_DIR=library)
     output("cargo", "build", "--bin", "program", *OPTIONS, cwd=crate, env=env)
     return os.path.join(crate, "target/release/program")

@@ -1,5 +1,5 @@
-/* Makes one allocation of SQLite after another fail while a statement that calls the extension runs: the statement must end
- * with SQLITE_NOMEM, or as it does if none fails. Then binds texts with zero bytes.
+/* Makes one allocation of SQLite after another fail while a statement that calls the extension runs: the statement must
+ * end with SQLITE_NOMEM, or as it does if none fails. Then binds texts with zero bytes.
  *
  *     sqlite EXTENSION
  *
@@ -137,7 +137,8 @@ static const char *const statements[] = {
     "SELECT size_in(1536, 'MB', 2, 'bits')",
     "SELECT size_in(1536, 'Mx')",
     "SELECT size_in(1536, ' ')",
-    "SELECT group_concat(t) FROM (SELECT column1 AS t FROM (VALUES ('1 KiB'), ('2 x'), ('1000'), ('1 x')) ORDER BY t COLLATE SIZE)",
+    "SELECT group_concat(t) FROM (SELECT column1 AS t FROM (VALUES ('1 KiB'), ('2 x'), ('1000'), ('1 x'))"
+    " ORDER BY t COLLATE SIZE)",
 };
 
 static void in_encoding(const char *extension, const char *encoding)

@@ -1,0 +1,25 @@
+/* Compiles if each piece of code in the comments of byte_unit.h is valid in C and C++. Its status is the number of the
+ * initializers of specs, there and in README.md, that do not write what they should. `tools/dev test c` writes both
+ * included files: functions with the pieces of code, and a call of is_wrong for each initializer. */
+#include "byte_unit.h"
+
+#include <string.h>
+
+static int is_wrong(byte_unit_spec spec, const char *text, const char *in_kib)
+{
+    byte_unit_number size = { 1536, 0 }, larger = { 1537, 0 };
+    char out[BYTE_UNIT_BUFFER_SIZE];
+    size_t len = byte_unit_text(size, 0, spec, out, sizeof out);
+    int differs = len != strlen(text) || memcmp(out, text, len) != 0;
+    len = byte_unit_adjusted_text(larger, 0, BYTE_UNIT_KIB, spec, out, sizeof out);
+    return differs || len != strlen(in_kib) || memcmp(out, in_kib, len) != 0;
+}
+
+#include "uses.inc"
+
+int main(void)
+{
+    int wrong = 0;
+#include "specs.inc"
+    return wrong;
+}

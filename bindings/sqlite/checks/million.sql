@@ -1,0 +1,8 @@
+/* The rows `0.000 MB` to `999.999 MB`, in another order. */
+CREATE TABLE big(t TEXT, n INTEGER);
+INSERT INTO big WITH RECURSIVE i(k) AS (SELECT 0 UNION ALL SELECT k + 1 FROM i WHERE k < 999999)
+    SELECT printf('%d.%03d MB', k * 7919 % 1000000 / 1000, k * 7919 % 1000), k FROM i;
+SELECT sum(length(t)) FROM big; -- 9890000
+SELECT sum(size_parse(t)) FROM big; -- 499999500000000
+SELECT count(*) FROM big WHERE size_explain(t) IS NULL; -- 1000000
+SELECT count(size_text(n)) FROM big; -- 1000000
