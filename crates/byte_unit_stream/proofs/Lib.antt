@@ -1,4 +1,5 @@
 pub mod Bytes
 pub mod Ends
+pub mod Longest
 pub mod Parts
 pub mod Prefixes

@@ -1,8 +1,7 @@
 -- What was read so far is served, no answer is pending, and the line that was begun is within the limit.
 use Rattle.std.proofs.Common.{length}
 use Rattle.byte_unit_stream.specs.Streams.{reader_of, writer_of, reads_left}
-use Rattle.byte_unit_lines.proofs.Longest.{IsWithin}
-use Rattle.byte_unit_lines.proofs.Runs.{HasServed}
+use Rattle.byte_unit_lines.proofs.Runs.{HasServed, IsWithin}
 use Rattle.byte_unit_lines.proofs.run.run_with_buffers.Given as goal
 
 abbrev pub invariant-reads : goal.invariant-reads

@@ -1,0 +1,60 @@
+-- Lemmas: the longest record of an input that comes in chunks.
+use Rattle.std.proofs.Common.{◌≡◌, ◌+◌, ◌<◌, ◌≤◌, ℕ, List, [], ◌∷◌, ◌++◌, length, max, true, false, cond, eqb}
+use Rattle.std.proofs.Common.{arith, ap, ◌∙◌, length-append}
+use Rattle.byte_unit_stream.specs.Chunks.{ended_records, begun_record, nonempty_record}
+use Rattle.byte_unit_stream.specs.Records.{longest_of, longest_record}
+use Rattle.byte_unit_stream.proofs.Parts.{ended_records-append, records_of-ended_records}
+
+longest_of-append : (front back : List (List ℕ)) → longest_of (front ++ back) ≡ max (longest_of front) (longest_of back)
+longest_of-append [] back = omega arith
+longest_of-append (bytes ∷ front) back = omega (arith, longest_of-append front back)
+
+longest_of-nonempty_record : (part : List ℕ) → longest_of (nonempty_record part) ≡ length part
+longest_of-nonempty_record [] = omega arith
+longest_of-nonempty_record (byte ∷ bytes) = omega arith
+
+module _ (end : ℕ) where
+  -- the longest record of an input is the longest of the records that end in it or the unfinished record
+  longest_record-ended_records : (bytes : List ℕ)
+      → longest_record end bytes ≡ max (longest_of (ended_records end [] bytes)) (length (begun_record end [] bytes))
+  longest_record-ended_records bytes =
+      let ended = ended_records end [] bytes in
+      let begun = begun_record end [] bytes in
+      ap longest_of (records_of-ended_records end bytes)
+      ∙ longest_of-append ended (nonempty_record begun)
+      ∙ ap (λ longest. max (longest_of ended) longest) (longest_of-nonempty_record begun)
+
+  -- a record that ends in these bytes is shorter than the bytes and the part of it before them
+  longest_of-ended_records : (part bytes : List ℕ) (bound : ℕ) → 0 < bound → length part + length bytes ≤ bound
+      → longest_of (ended_records end part bytes) < bound
+  longest_of-ended_records part [] bound some fits = some
+  longest_of-ended_records part (byte ∷ bytes) bound some fits =
+      let on = part ++ byte ∷ [] in
+      let rest_fits : length bytes + 1 + length part ≤ bound = omega arith in
+      elim (eqb byte end) as (λ ends.
+      longest_of (cond ends (part ∷ ended_records end [] bytes) (ended_records end on bytes)) < bound) [
+        | true ↦ let others = longest_of-ended_records [] bytes bound some (omega arith) in omega (arith, others)
+        | false ↦ longest_of-ended_records on bytes bound some (omega (arith, length-append part (byte ∷ [])))
+      ]
+
+  -- so the records that end in a next chunk stay below a bound that the unfinished record and the chunk do not exceed
+  pub longest_of-ended_records-append : (front back : List ℕ) (bound : ℕ)
+      → longest_of (ended_records end [] front) < bound → length (begun_record end [] front) + length back ≤ bound
+      → longest_of (ended_records end [] (front ++ back)) < bound
+  longest_of-ended_records-append front back bound below fits =
+      let ended = ended_records end [] front in
+      let begun = begun_record end [] front in
+      let next = longest_of-ended_records begun back bound (omega arith) fits in
+      let all = longest_of-append ended (ended_records end begun back) in
+      omega (arith, ap longest_of (ended_records-append end [] front back), all, below, next)
+
+  -- the longest record of an input is no shorter than the unfinished record
+  pub longest_record-unfinished : (bytes part : List ℕ) → part ≡ begun_record end [] bytes
+      → length part ≤ longest_record end bytes
+  longest_record-unfinished bytes part part_is = omega (arith, longest_record-ended_records bytes, ap length part_is)
+
+  -- and it is below a bound if the unfinished record and the others are
+  pub longest_record-below : (bytes part : List ℕ) (bound : ℕ) → part ≡ begun_record end [] bytes
+      → longest_of (ended_records end [] bytes) < bound → length part < bound → longest_record end bytes < bound
+  longest_record-below bytes part bound part_is ended unfinished =
+      omega (arith, longest_record-ended_records bytes, ap length part_is, ended, unfinished)
