@@ -1,6 +1,5 @@
 pub mod Answering
 pub mod Feeding
-pub mod Longest
 pub mod OneAnswer
 pub mod Runs
 pub mod Messages

@@ -1,7 +1,6 @@
 -- Lemmas: the bytes that are appended for a line are its answer.
 use Rattle.std.proofs.Common.{◌≡◌, ℕ, ◌+◌, List, [], ◌∷◌, ◌++◌, false, if◌then◌else◌, codes, refl, sym, ap}
-use Rattle.std.proofs.Common.{◌∙◌}
-use Rattle.std.proofs.Common.{append_assoc, append-nil, set, ◌<◌}
+use Rattle.std.proofs.Common.{◌∙◌, ◌<◌, append_assoc, append-nil, set}
 use Rattle.std.proofs.Common.{Result, Ok, Err, OnOk, is_ok, length, take}
 use Rattle.std.specs.Prelude.{⊤}
 use Rattle.std.specs.Fmt.{decimal}
@@ -9,9 +8,7 @@ use Rattle.std.specs.Str.{IsUtf8}
 use Rattle.std.proofs.lemmas.List.{take_more_set}
 use Rattle.byte_unit.specs.Accepted.{IsAccepted, IsRejected}
 use Rattle.byte_unit.specs.Fault.{Fault}
-use Rattle.byte_unit.specs.Forms.{IsText}
-use Rattle.byte_unit.specs.NamedSpecs.{plain_spec, alternate_spec}
-use Rattle.byte_unit.specs.WithDigits.{IsTextWithDigits}
+use Rattle.byte_unit_format.specs.WithDigits.{IsTextWithDigits}
 use Rattle.byte_unit_lines.specs.Answer.{Kind, IsAnswer, words_of, not_text, size, rejected}
 use Rattle.byte_unit_lines.specs.Progress.{AddsAnswer}
 
@@ -21,29 +18,27 @@ pub AddsAnswer-if_ok : {E : Type 0} (kind : Kind) (line : List ℕ) (result : Re
 AddsAnswer-if_ok kind line (Ok _) old added new is_answer is_added = (added, is_answer, is_added)
 AddsAnswer-if_ok kind line (Err _) old added new is_answer is_added = tt
 
--- the bytes are the digits of a size, ` = `, the size with a unit, and the line end
-pub record HasParts (kind : Kind) (number : ℕ) (digits form all : List ℕ) : Type 0 where
-  pub is_digits : IsText kind number plain_spec digits
-  pub is_form : IsText kind number alternate_spec form
-  pub put : all ≡ ((digits ++ codes " = ") ++ form) ++ 10 ∷ []
-
--- they are the answer to a line that is accepted as this size
+-- the digits of a size, ` = `, the size with a unit and the line end, written to a buffer, are the answer to a line that
+-- is accepted as this size
 pub answer_with_size :
-    {kind : Kind} {number : ℕ} {digits form all : List ℕ} (line : List ℕ) → IsUtf8 line → IsAccepted kind false line number
-    → HasParts kind number digits form all → IsAnswer kind line all
-answer_with_size {kind} {number} {digits} {form} {all} line is_text is_accepted parts = record {
-  message = digits ++ codes " = " ++ form;
-  is_message =
-      size number is_text is_accepted
-      (record {
-        digits = digits;
-        with_unit = form;
-        is_digits = parts.is_digits;
-        is_with_unit = parts.is_form;
-        message_is = refl;
-      });
-  ended = parts.put;
-}
+    {kind : Kind} {number : ℕ} (line bytes : List ℕ) (count : ℕ) → IsUtf8 line → IsAccepted kind false line number
+    → IsTextWithDigits kind number (codes " = ") (take count bytes) → count < length bytes
+    → IsAnswer kind line (take (count + 1) (set bytes count 10))
+answer_with_size {kind} {number} line bytes count is_text is_accepted written room =
+    let digits = decimal number in
+    let message_is = written.text_is ∙ sym (append_assoc digits (codes " = ") written.form) in record {
+      message = digits ++ codes " = " ++ written.form;
+      is_message =
+          size number is_text is_accepted
+          (record {
+            digits = digits;
+            with_unit = written.form;
+            is_digits = sym (append-nil digits);
+            is_with_unit = written.is_form;
+            message_is = refl;
+          });
+      ended = take_more_set bytes count 10 room ∙ ap (λ message. message ++ 10 ∷ []) message_is;
+    }
 
 -- the words for a parse error and a line end are the answer to a line that has this error
 pub answer_with_error : (kind : Kind) (line : List ℕ) (fault : Fault) (all : List ℕ) → IsUtf8 line → IsRejected kind false line fault
@@ -55,18 +50,3 @@ answer_with_error kind line fault all is_text is_refused put =
 pub answer_not_text : (kind : Kind) (line all : List ℕ) → ¬ (IsUtf8 line) → all ≡ codes "not text" ++ 10 ∷ [] → IsAnswer kind line all
 answer_not_text kind line all no_text put =
     record { message = codes "not text"; is_message = not_text no_text refl; ended = put }
-
--- the digits, ` = `, the size with a unit and the line end, written to the buffer one after another, are these parts
-pub HasParts-put :
-    (kind : Kind) (number : ℕ) (bytes : List ℕ) (count : ℕ)
-    (written : IsTextWithDigits kind number (codes " = ") (take count bytes)) → count < length bytes
-    → HasParts kind number (decimal number) written.form (take (count + 1) (set bytes count 10))
-HasParts-put kind number bytes count written room =
-    let digits = decimal number in
-    record {
-      is_digits = sym (append-nil digits);
-      is_form = written.is_form;
-      put =
-          take_more_set bytes count 10 room
-          ∙ ap (λ l. l ++ 10 ∷ []) (written.text_is ∙ sym (append_assoc digits (codes " = ") written.form));
-    }

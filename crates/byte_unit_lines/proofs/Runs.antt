@@ -1,9 +1,7 @@
 -- Lemmas: the loop of a run, read by read.
-use Rattle.std.proofs.Common.{◌≡◌, ◌≢◌, ◌==◌, ℕ, List, [], ◌∷◌, ◌++◌, length, true, false, Option, Result, Ok, Err}
+use Rattle.std.proofs.Common.{◌≡◌, ◌≢◌, ◌+◌, ℕ, List, [], ◌∷◌, ◌++◌, Option, Result, Ok, Err}
 use Rattle.std.specs.Prelude.{⊤, IsErrAnd}
-use Rattle.std.proofs.Common.{OnOk, OnErr, IfErr, refl, sym, ap, subst, ◌∙◌, append_assoc, append-nil}
-use Rattle.std.proofs.lemmas.Bool.{eqb-true, eqb-false}
-use Rattle.std.proofs.lemmas.List.{nil_from_length}
+use Rattle.std.proofs.Common.{sym, ap, subst, ◌∙◌, append_assoc, append-nil}
 use Rattle.std.specs.Io.KnownBytes.{Appends, Consumes}
 use Rattle.std.proofs.KnownBytes.{Appends-trans, Consumes-trans}
 use Rattle.byte_unit_lines.specs.Answer.{Kind, IsAnswer}
@@ -18,8 +16,9 @@ use Rattle.byte_unit_lines.proofs.Answering.{AreAnswers-append, AreAnswers-singl
 use Rattle.byte_unit_lines.proofs.Answering.{IsAnswered-append}
 use Rattle.byte_unit_lines.specs.Lines.{line_end}
 use Rattle.byte_unit_stream.specs.Chunks.{ended_records, begun_record, nonempty_record}
-use Rattle.byte_unit_stream.specs.Prefix.{IsPrefix}
+use Rattle.byte_unit_stream.proofs.Bytes.{IsWrittenBy}
 use Rattle.byte_unit_stream.proofs.Parts.{ended_records-append, begun_record-append, finished_records-ended_records, records_of-ended_records}
+use Rattle.byte_unit_stream.proofs.Parts.{nonempty_record-nonempty}
 use Rattle.byte_unit_stream.proofs.Prefixes.{IsPrefix-after, IsPrefix-longer}
 
 -- the bytes that were read and written so far, and the unfinished line
@@ -48,53 +47,12 @@ abbrev pub course_of : {kind : Kind} {left rest held holds : Option (List ℕ)} 
     → HasServed kind left rest held holds line answers → Course
 course_of {line = line} so_far = record { read = so_far.read; written = so_far.written; line = line }
 
-module _ {kind : Kind} {left between held holds : Option (List ℕ)} {line answers : List ℕ}
-    (so_far : HasServed kind left between held holds line answers) where
-  -- reading a piece extends what was consumed by it
-  pub Consumes-piece : (rest : Option (List ℕ)) (piece : List ℕ) → Consumes between rest piece → Consumes left rest (so_far.read ++ piece)
-  Consumes-piece rest piece came = Consumes-trans left between rest so_far.read piece so_far.gave came
-
-  -- reading nothing leaves what was consumed
-  pub Consumes-at_end : (rest : Option (List ℕ)) (piece : List ℕ) → Consumes between rest piece → piece ≡ []
-      → Consumes left rest so_far.read
-  Consumes-at_end rest piece came none =
-      subst (Consumes left rest) (ap (λ bytes. so_far.read ++ bytes) none ∙ append-nil so_far.read) (Consumes-piece rest piece came)
-
-  -- writing more bytes extends what was appended by them
-  pub Appends-more : (now_holds : Option (List ℕ)) (written : List ℕ) → Appends holds now_holds written
-      → Appends held now_holds (so_far.written ++ written)
-  Appends-more now_holds written took = Appends-trans held holds now_holds so_far.written written so_far.took took
-
--- a line whose length is tested to be 0 is empty
-pub empty_from_length : (line : List ℕ) (count : ℕ) → count ≡ length line → true ≡ (count == 0) → line ≡ []
-empty_from_length line count count_is none = nil_from_length line (sym count_is ∙ eqb-true count 0 (sym none))
-
--- a line whose length is tested not to be 0 is not empty
-pub nonempty_from_length : (line : List ℕ) (count : ℕ) → count ≡ length line → false ≡ (count == 0) → line ≢ []
-nonempty_from_length line count count_is some none = eqb-false count 0 (sym some) (count_is ∙ ap length none)
-
-nonempty_line-nonempty : (line : List ℕ) → line ≢ [] → nonempty_record line ≡ line ∷ []
-nonempty_line-nonempty [] some = absurd (some refl)
-nonempty_line-nonempty (_ ∷ _) some = refl
-
 -- what is written at an error is written for a result that is this error
 pub IsWritten-error : (kind : Kind) (read written : List ℕ) (result : Result ⊤ RunError) (error : RunError)
     → IsErrAnd result (λ other. other ≡ error) → IsWritten kind read (Err error) written → IsWritten kind read result written
 IsWritten-error kind read written (Ok _) error is_error is_written = absurd is_error
 IsWritten-error kind read written (Err _) error is_error is_written =
     subst (λ other. IsWritten kind read (Err other) written) (sym is_error) is_written
-
-memory_is_not_write : Memory ≢ Write
-memory_is_not_write same = cc
-
-read_is_not_write : Read ≢ Write
-read_is_not_write same = cc
-
--- the effect of a call that writes these bytes: it appends them, or it fails with `Write` and appends a prefix of them
-pub record IsWrittenBy (held holds : Option (List ℕ)) (bytes : List ℕ) (result : Result ⊤ RunError) : Type 0 where
-  pub whole : OnOk result (Appends held holds bytes)
-  pub part : OnErr result ((written : List ℕ) × Appends held holds written × IsPrefix written bytes)
-  pub error : IfErr result (λ error. error ≡ Write)
 
 module _ (kind : Kind) (course : Course) (served : IsServed kind course) where
   -- the lines that end in what was read, then those that end in the next piece, are those of both
@@ -135,20 +93,21 @@ module _ (kind : Kind) (course : Course) (served : IsServed kind course) where
       let lines : lines_of course.read ≡ ended ++ course.line ∷ [] =
       records_of-ended_records line_end course.read
       ∙ ap (λ line. ended ++ nonempty_record line) (sym served.begun)
-      ∙ ap (λ last. ended ++ last) (nonempty_line-nonempty course.line some) in
+      ∙ ap (λ last. ended ++ last) (nonempty_record-nonempty course.line some) in
       subst (λ lines. AreAnswers kind lines (course.written ++ answer)) (sym lines)
       (AreAnswers-append kind ended (course.line ∷ []) course.written answer served.answered (AreAnswers-single kind course.line answer is_answer))
 
   -- after the call that writes the answer to the last line, what is written is right for the result of that call
   pub IsWritten-last_line : course.line ≢ [] → (answer : List ℕ) → IsAnswer kind course.line answer
-      → {held holds : Option (List ℕ)} (result : Result ⊤ RunError) → IsWrittenBy held holds answer result
+      → {held holds : Option (List ℕ)} (result : Result ⊤ RunError) → IsWrittenBy held holds answer Write result
       → (written : List ℕ) × Appends held holds written × IsWritten kind course.read result (course.written ++ written)
   IsWritten-last_line some answer is_answer (Ok _) by = (answer, by.whole, report_with_last_line some answer is_answer)
-  IsWritten-last_line some answer is_answer (Err Memory) by = absurd (memory_is_not_write by.error)
-  IsWritten-last_line some answer is_answer (Err Read) by = absurd (read_is_not_write by.error)
-  IsWritten-last_line some answer is_answer (Err Write) by =
+  IsWritten-last_line some answer is_answer (Err error) by =
       let begins = IsPrefix-after course.written by.part.0 answer by.part.2 in
-      (by.part.0, by.part.1, (course.written ++ answer, report_with_last_line some answer is_answer, begins))
+      let written = course.written ++ by.part.0 in
+      let at : IsWritten kind course.read (Err Write) written =
+      (course.written ++ answer, report_with_last_line some answer is_answer, begins) in
+      (by.part.0, by.part.1, subst (λ error. IsWritten kind course.read (Err error) written) (sym by.is_error) at)
 
 -- a prefix of the answers to first lines is a prefix of a report, since each of the other lines has an answer too
 prefix_of_report : EachLineHasAnAnswer → (kind : Kind) (read written : List ℕ) → BeginFirst kind (ended_records line_end [] read) written
@@ -190,8 +149,8 @@ abbrev pub HasServed-piece : {kind : Kind} {left between held holds : Option (Li
 HasServed-piece {kind = kind} so_far rest now_holds piece written next_line next_answers came took are_answers line_is none_wait = record {
   read = so_far.read ++ piece;
   written = so_far.written ++ written;
-  gave = Consumes-piece so_far rest piece came;
-  took = Appends-more so_far now_holds written took;
+  gave = Consumes-trans _ _ rest so_far.read piece so_far.gave came;
+  took = Appends-trans _ _ now_holds so_far.written written so_far.took took;
   served = IsServed-piece kind (course_of so_far) so_far.served piece written next_line are_answers line_is;
   none_wait = none_wait;
 }

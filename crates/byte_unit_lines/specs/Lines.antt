@@ -1,6 +1,6 @@
 -- The lines of an input, which is a list of bytes. They are the records that end at the byte 0A.
-use Rattle.std.specs.Prelude.{ℕ, List, [], ◌∷◌, length, max}
-use Rattle.byte_unit_stream.specs.Records.{records_of, finished_records}
+use Rattle.std.specs.Prelude.{ℕ, List}
+use Rattle.byte_unit_stream.specs.Records.{records_of, finished_records, longest_record}
 
 -- the byte that ends a line
 abbrev pub line_end : ℕ
@@ -14,11 +14,6 @@ lines_of bytes = records_of line_end bytes
 abbrev pub finished_lines : List ℕ → List (List ℕ)
 finished_lines bytes = finished_records line_end bytes
 
--- the number of bytes of the longest of these lines; 0 if there is none
-abbrev pub longest_of : List (List ℕ) → ℕ
-longest_of [] = 0
-longest_of (line ∷ lines) = max (length line) (longest_of lines)
-
--- the number of bytes of the longest line of an input
+-- the number of bytes of the longest line of an input; 0 if there is none
 abbrev pub longest_line : List ℕ → ℕ
-longest_line bytes = longest_of (lines_of bytes)
+longest_line bytes = longest_record line_end bytes

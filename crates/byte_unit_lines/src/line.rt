@@ -11,6 +11,7 @@ ghost use Rattle.byte_unit_lines.specs.Progress.{AddsAnswer};
 
 use crate::arguments::Kind;
 use byte_unit::{Bit, Byte, ParseError, ValueParseError};
+use byte_unit_format::write_with_digits;
 use std::alloc::{AllocError, Allocator};
 
 /// The maximum length in bytes of an answer: two strings of at most 37 bytes, ` = ` between them, and the line end.
@@ -59,7 +60,7 @@ fn answer_bytes<A: Allocator>(
     match Byte::parse_line(bytes, len, false) {
         Some(Ok(size)) => {
             let mut answer = [0; ANSWER_MAX];
-            let end = size.write_with_digits(*b" = ", &mut answer);
+            let end = write_with_digits(size.as_u128(), Kind::Byte, *b" = ", &mut answer);
             answer[end] = b'\n';
             out.extend_from_slice(&answer[..end + 1])
         }
@@ -84,7 +85,7 @@ fn answer_bits<A: Allocator>(
     match Bit::parse_line(bytes, len) {
         Some(Ok(size)) => {
             let mut answer = [0; ANSWER_MAX];
-            let end = size.write_with_digits(*b" = ", &mut answer);
+            let end = write_with_digits(size.as_u128(), Kind::Bit, *b" = ", &mut answer);
             answer[end] = b'\n';
             out.extend_from_slice(&answer[..end + 1])
         }

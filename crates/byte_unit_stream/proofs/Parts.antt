@@ -2,8 +2,9 @@
 use Rattle.std.proofs.Common.{◌≡◌, ◌≢◌, ◌+◌, ◌<◌, ℕ, List, [], ◌∷◌, ◌++◌, length, take, drop, get_or, true, false, cond}
 use Rattle.std.proofs.Common.{eqb}
 use Rattle.std.proofs.Common.{refl, sym, ap, subst, ◌∙◌, append_assoc, append-nil, take-append-drop}
-use Rattle.std.proofs.lemmas.List.{take_more}
-use Rattle.std.proofs.lemmas.Bool.{eq-eqb, ne_eqb}
+use Rattle.std.proofs.Common.{◌==◌}
+use Rattle.std.proofs.lemmas.List.{nil_from_length, take_more}
+use Rattle.std.proofs.lemmas.Bool.{eq-eqb, ne_eqb, eqb-true, eqb-false}
 use Rattle.std.specs.List.{onto_first}
 use Rattle.byte_unit_stream.specs.Records.{parts, but_last, but_empty_last, records_of, finished_records}
 use Rattle.byte_unit_stream.specs.Chunks.{ended_records, begun_record, nonempty_record}
@@ -182,3 +183,16 @@ module _ (end : ℕ) where
       split-last (parts end bytes) split
       ∙ ap (λ ended. ended ++ last_of (parts end bytes) ∷ []) (finished_records-ended_records bytes)
       ∙ ap (λ begun. ended_records end [] bytes ++ begun ∷ []) (sym (begun_record-last_of [] bytes ∙ ap last_of same))
+
+-- a part whose length is tested to be 0 is empty
+pub empty_from_length : (part : List ℕ) (count : ℕ) → count ≡ length part → true ≡ (count == 0) → part ≡ []
+empty_from_length part count count_is none = nil_from_length part (sym count_is ∙ eqb-true count 0 (sym none))
+
+-- a part whose length is tested not to be 0 is not empty
+pub nonempty_from_length : (part : List ℕ) (count : ℕ) → count ≡ length part → false ≡ (count == 0) → part ≢ []
+nonempty_from_length part count count_is some none = eqb-false count 0 (sym some) (count_is ∙ ap length none)
+
+-- a part that is not empty is a record
+pub nonempty_record-nonempty : (part : List ℕ) → part ≢ [] → nonempty_record part ≡ part ∷ []
+nonempty_record-nonempty [] some = absurd (some refl)
+nonempty_record-nonempty (_ ∷ _) some = refl

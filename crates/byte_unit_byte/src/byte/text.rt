@@ -1,10 +1,9 @@
 //! Formatting of sizes in bytes.
 
-ghost use Rattle.std.specs.Prelude.{◌≡◌, ◌<◌, ◌≤◌, ℕ, List, length, take, IfOk};
+ghost use Rattle.std.specs.Prelude.{◌≡◌, ◌<◌, ◌≤◌, ℕ, List, length, IfOk};
 ghost use Rattle.std.specs.String.{string_bytes};
 ghost use Rattle.byte_unit_format.specs.Forms.{IsText, narrow_text, text_limit};
 ghost use Rattle.byte_unit_format.specs.Room.{AppendsForm};
-ghost use Rattle.byte_unit_format.specs.WithDigits.{IsTextWithDigits, with_digits_text};
 ghost use Rattle.byte_unit_format.specs.Written.{WritesForm};
 ghost use Rattle.byte_unit_base.specs.declared.kind.Kind.TheVariants.{Byte as InBytes};
 
@@ -85,29 +84,6 @@ impl Byte {
         ensures narrow { spec.width ≡ None → result ≤ narrow_text }
     {
         byte_unit_format::write_text(self.size, Kind::Byte, spec, out)
-    }
-
-    /// Writes the digits of the size, `between`, and the size in its unit to the start of `out`, as in
-    /// `1536 = 1.5 KiB`, and returns the length of this text: at most 70. Does not allocate.
-    ///
-    /// The size in its unit is that of [`Byte::write_text`] under `FormatSpec::ALTERNATE`. In one call it is cut from
-    /// the digits if the unit is a decimal one. The bytes of `out` after the text are overwritten too.
-    ///
-    /// Precondition (proved at every call): `out` has at least 70 bytes.
-    ///
-    /// # Examples
-    /// ```rust
-    /// let mut out = [0; 70];
-    /// let len = Byte::from_u64(1536).write_with_digits(*b" = ", &mut out);
-    /// assert_eq!(rt; &out[..len], b"1536 = 1.5 KiB".as_slice());
-    /// ```
-    #[inline(always)]
-    pub fn write_with_digits(self, between: [u8; 3], out: &mut [u8]) -> usize
-        requires { with_digits_text ≤ length out.old }
-        ensures text { IsTextWithDigits InBytes self between (take result out.new) }
-        ensures narrow { result ≤ with_digits_text }
-    {
-        byte_unit_format::write_with_digits(self.size, Kind::Byte, between, out)
     }
 
     /// Returns the text of the size, as [`Byte::append_text`] appends it.

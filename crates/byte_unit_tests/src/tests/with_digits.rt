@@ -1,6 +1,7 @@
 //! Tests of the digits of a size and its form with a unit, written as one text.
 use super::shown::assert_same;
-use byte_unit::{Bit, Byte};
+use byte_unit::{Byte, Kind};
+use byte_unit_format::write_with_digits;
 use std::process::Abort;
 use std::rt::HostRuntime;
 use std::str;
@@ -45,19 +46,12 @@ const ROWS: &[(u128, &str, &str)] = &[
 
 /// Asserts the text of a size in both kinds.
 fn assert_written(rt: &impl Abort, size: u128, in_bytes: &str, in_bits: &str) {
-    let mut out = [b'.'; 70];
-    let len = Byte::from_u128(size)
-        .expect(rt, "a size")
-        .write_with_digits(*b" = ", &mut out);
-    assert_same(
-        rt,
-        str::from_utf8(&out[..len]).expect(rt, "ASCII"),
-        in_bytes,
-    );
-    let len = Bit::from_u128(size)
-        .expect(rt, "a size")
-        .write_with_digits(*b" = ", &mut out);
-    assert_same(rt, str::from_utf8(&out[..len]).expect(rt, "ASCII"), in_bits);
+    let size = Byte::from_u128(size).expect(rt, "a size").as_u128();
+    for (kind, wanted) in [(Kind::Byte, in_bytes), (Kind::Bit, in_bits)] {
+        let mut out = [b'.'; 70];
+        let len = write_with_digits(size, kind, *b" = ", &mut out);
+        assert_same(rt, str::from_utf8(&out[..len]).expect(rt, "ASCII"), wanted);
+    }
 }
 
 #[test]

@@ -1,19 +1,19 @@
 -- The answer in each case: the size with its two texts, the words of the error, or that the line is not UTF-8.
-use Rattle.std.proofs.Common.{refl, arith, List, ℕ, [], ◌∷◌, ◌++◌, codes, take}
+use Rattle.std.proofs.Common.{refl, arith, List, ℕ, ◌<◌, [], ◌∷◌, ◌++◌, codes, length, take}
 use Rattle.byte_unit.specs.Errors.{size_fault}
 use Rattle.byte_unit.specs.declared.Kind.TheVariants.{Byte}
-use Rattle.byte_unit_lines.proofs.Messages.{HasParts-put, AddsAnswer-if_ok, answer_with_size, answer_with_error}
-use Rattle.byte_unit_lines.proofs.Messages.{answer_not_text}
+use Rattle.byte_unit_lines.proofs.Messages.{AddsAnswer-if_ok, answer_with_size, answer_with_error, answer_not_text}
 use Rattle.byte_unit_lines.proofs.line.answer_bytes.Goals as goal
 
 pub returns-in-Some-Ok-clause-ok : goal.returns-in-Some-Ok-clause-ok
 returns-in-Some-Ok-clause-ok g c =
     let line = take c.args.len c.args.bytes.now in
     let reading = rw c.in-Some-Ok.field-0-is at c.in-Some-Ok.ensures in
-    let written = c.write_with_digits-end.ensures in
-    let said = HasParts-put Byte c.in-Some-Ok.size _ _ written.text (omega (arith, written.narrow, c.write_with_digits-end.auto.out)) in
+    let end = c.write_with_digits-end in
+    let text = rw c.as_u128.ensures.number at end.ensures.text in
+    let room : end.result < length end.new.out = omega (arith, end.ensures.narrow, end.auto.out) in
     AddsAnswer-if_ok Byte line c.extend_from_slice.result c.args.out.now.items _ c.extend_from_slice.new.self.items
-    (answer_with_size line reading.0 reading.1.found said) c.extend_from_slice.ensures.items
+    (answer_with_size line _ _ reading.0 reading.1.found text room) c.extend_from_slice.ensures.items
 
 pub returns-in-Some-Err-clause-ok : goal.returns-in-Some-Err-clause-ok
 returns-in-Some-Err-clause-ok g c =

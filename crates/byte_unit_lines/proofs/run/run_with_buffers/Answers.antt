@@ -3,19 +3,19 @@
 use Rattle.std.proofs.Common.{◌≡◌, ◌≢◌, ◌+◌, ◌≤◌, [], ◌++◌, refl, sym, ap, subst, ◌∙◌, take, length, vec_len, arith, rules}
 use Rattle.std.proofs.lemmas.List.{length-take, take_all}
 use Rattle.std.proofs.lemmas.Result.{on_ok_weaker}
-use Rattle.std.proofs.KnownBytes.{Consumes-kept}
+use Rattle.std.proofs.KnownBytes.{Appends-trans, Consumes-kept, Consumes-trans}
 use Rattle.byte_unit_lines.specs.Answer.{IsAnswer}
 use Rattle.byte_unit_stream.specs.Streams.{reader_of, writer_of}
-use Rattle.byte_unit_lines.specs.declared.run.RunError.TheVariants.{Memory}
-use Rattle.byte_unit_lines.proofs.Longest.{longest_of-ended_lines-append, longest_line-unfinished, longest_line-below}
-use Rattle.byte_unit_lines.proofs.Runs.{Course, IsServed, course_of, Consumes-piece, Consumes-at_end, Appends-more}
-use Rattle.byte_unit_lines.proofs.Runs.{HasServed-piece, finished_lines_answered}
-use Rattle.byte_unit_lines.proofs.Runs.{empty_from_length, nonempty_from_length, IsWritten-piece, IsWritten-error}
-use Rattle.byte_unit_lines.proofs.Runs.{report_without_last_line, first_lines_answered, IsWrittenBy}
-use Rattle.byte_unit_lines.proofs.Runs.{IsWritten-last_line}
+use Rattle.byte_unit_lines.specs.declared.run.RunError.TheVariants.{Memory, Write}
+use Rattle.byte_unit_lines.proofs.Runs.{Course, IsServed, course_of, HasServed-piece, finished_lines_answered}
+use Rattle.byte_unit_lines.proofs.Runs.{IsWritten-piece, IsWritten-error, IsWritten-last_line}
+use Rattle.byte_unit_lines.proofs.Runs.{report_without_last_line, first_lines_answered}
 use Rattle.byte_unit_lines.specs.Lines.{line_end}
 use Rattle.byte_unit_stream.specs.Chunks.{begun_record}
-use Rattle.byte_unit_stream.proofs.Parts.{begun_record-append}
+use Rattle.byte_unit_stream.proofs.Bytes.{Consumes-at_end, IsWrittenBy}
+use Rattle.byte_unit_stream.proofs.Longest.{longest_of-ended_records-append, longest_record-unfinished}
+use Rattle.byte_unit_stream.proofs.Longest.{longest_record-below}
+use Rattle.byte_unit_stream.proofs.Parts.{begun_record-append, empty_from_length, nonempty_from_length}
 use Rattle.byte_unit_lines.proofs.run.run_with_buffers.Goals as goal
 
 pub returns-in-None-clause-run : goal.returns-in-None-clause-run
@@ -44,8 +44,8 @@ reads-init g c = (
   record {
     finished = omega (arith, c.requires.buffer);
     unfinished = omega (arith, c.args.line.now.ok.0, ap length c.requires.line);
-    line_capacity = omega arith;
-    answers_capacity = omega arith;
+    part_capacity = omega arith;
+    waiting_capacity = omega arith;
   },
 )
 
@@ -66,11 +66,11 @@ reads-preserved g c =
       HasServed-piece so_far rest holds piece answers.0 line.items c.answer_piece.new.waiting.items c.in-Some.ensures.came
           answers.1 answers.2 fed.line fed.waiting,
       record {
-        finished = longest_of-ended_lines-append so_far.read piece (c.args.longest + length c.args.buffer.now) within.finished
-            (omega (arith, begun, short));
+        finished = longest_of-ended_records-append line_end so_far.read piece (c.args.longest + length c.args.buffer.now)
+            within.finished (omega (arith, begun, short));
         unfinished = omega (arith, c.if-len-longest.false, c.len.ensures);
-        line_capacity = omega (arith, within.line_capacity, fed.line_capacity);
-        answers_capacity = omega (arith, within.answers_capacity, fed.waiting_capacity);
+        part_capacity = omega (arith, within.part_capacity, fed.line_capacity);
+        waiting_capacity = omega (arith, within.waiting_capacity, fed.waiting_capacity);
       },
     )
 
@@ -96,9 +96,9 @@ returns-then-len-longest-clause-memory g c = λ _ _.
     let fed = c.in_ok-answer_piece-in-Some.ensures in
     let begun : line.items ≡ begun_record line_end [] read =
     fed.line ∙ ap (λ begun. begun_record line_end begun piece) so_far.served.begun ∙ sym (begun_record-append line_end [] so_far.read piece) in
-    let long = longest_line-unfinished read line.items begun in (
+    let long = longest_record-unfinished line_end read line.items begun in (
       read,
-      Consumes-piece so_far rest piece c.in-Some.ensures.came,
+      Consumes-trans _ _ rest so_far.read piece so_far.gave c.in-Some.ensures.came,
       omega (arith, long, c.if-len-longest.true, c.len.ensures, line.ok.0),
     )
 
@@ -112,8 +112,8 @@ returns-then-is_empty-clause-bound g c =
     let line = c.reads.line in
     let bound = c.args.longest + length c.args.buffer.now in (
       so_far.read,
-      Consumes-at_end so_far rest (take end.field-0 c.read.new.buf) end.ensures.came none,
-      longest_line-below so_far.read line.items bound so_far.served.begun within.finished
+      Consumes-at_end _ _ rest so_far.read (take end.field-0 c.read.new.buf) so_far.gave end.ensures.came none,
+      longest_record-below line_end so_far.read line.items bound so_far.served.begun within.finished
           (omega (arith, within.unfinished, line.ok.0, c.requires.buffer)),
     )
 
@@ -128,8 +128,8 @@ returns-in_ok-add_answer-clause-bound g c =
     let bound = c.args.longest + length c.args.buffer.now in
     on_ok_weaker c.write_whole.result (λ _. (
       so_far.read,
-      Consumes-at_end so_far rest (take end.field-0 c.read.new.buf) end.ensures.came none,
-      longest_line-below so_far.read line.items bound so_far.served.begun within.finished
+      Consumes-at_end _ _ rest so_far.read (take end.field-0 c.read.new.buf) so_far.gave end.ensures.came none,
+      longest_record-below line_end so_far.read line.items bound so_far.served.begun within.finished
           (omega (arith, within.unfinished, line.ok.0, c.requires.buffer)),
     )) c.write_whole.ensures.ok
 
@@ -148,8 +148,8 @@ returns-in_err-answer_piece-in-Some-clause-run g c =
     let at = IsWritten-piece each c.args.kind (course_of so_far) so_far.served piece error answers.0 answers.2 in (
       read,
       written,
-      Consumes-piece so_far rest piece c.in-Some.ensures.came,
-      Appends-more so_far holds answers.0 answers.1,
+      Consumes-trans _ _ rest so_far.read piece so_far.gave c.in-Some.ensures.came,
+      Appends-trans _ _ holds so_far.written answers.0 so_far.took answers.1,
       IsWritten-error c.args.kind read written c.from_residual.result error c.from_residual.ensures.1 at,
     )
 
@@ -162,7 +162,7 @@ returns-then-is_empty-clause-run g c =
     let empty = empty_from_length c.reads.line.items (vec_len c.reads.line) c.reads.line.ok.0 c.if-is_empty.ensures in (
       so_far.read,
       so_far.written,
-      Consumes-at_end so_far rest (take end.field-0 c.read.new.buf) end.ensures.came none,
+      Consumes-at_end _ _ rest so_far.read (take end.field-0 c.read.new.buf) so_far.gave end.ensures.came none,
       so_far.took,
       report_without_last_line c.args.kind (course_of so_far) so_far.served empty,
     )
@@ -177,7 +177,7 @@ returns-in_err-add_answer-clause-run g c =
     let at = first_lines_answered c.args.kind (course_of so_far) so_far.served in (
       so_far.read,
       so_far.written,
-      Consumes-at_end so_far rest (take end.field-0 c.read.new.buf) end.ensures.came none,
+      Consumes-at_end _ _ rest so_far.read (take end.field-0 c.read.new.buf) so_far.gave end.ensures.came none,
       so_far.took,
       IsWritten-error c.args.kind so_far.read so_far.written error.result Memory error.ensures.1 at,
     )
@@ -203,12 +203,12 @@ returns-in_ok-add_answer-clause-run g c =
     let whole = take_all c.len-else-is_empty.result line (omega arith) in
     let is_answer = subst (IsAnswer c.args.kind line) same (subst (λ text. IsAnswer c.args.kind text added.0) whole added.1) in
     let write = c.write_whole.ensures in
-    let by : IsWrittenBy held holds bytes c.write_whole.result =
-    record { whole = write.ok; part = write.err; error = write.write } in
+    let by : IsWrittenBy held holds bytes Write c.write_whole.result =
+    record { whole = write.ok; part = write.err; is_error = write.write } in
     let answer = IsWritten-last_line c.args.kind course served some bytes is_answer c.write_whole.result by in (
       so_far.read,
       so_far.written ++ answer.0,
-      Consumes-at_end so_far rest (take end.field-0 c.read.new.buf) end.ensures.came none,
-      Appends-more so_far holds answer.0 answer.1,
+      Consumes-at_end _ _ rest so_far.read (take end.field-0 c.read.new.buf) so_far.gave end.ensures.came none,
+      Appends-trans _ _ holds so_far.written answer.0 so_far.took answer.1,
       answer.2,
     )

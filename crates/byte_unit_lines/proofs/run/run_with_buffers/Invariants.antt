@@ -1,7 +1,8 @@
 -- What was read so far is served, no answer is pending, and the line that was begun is within the limit.
 use Rattle.std.proofs.Common.{length}
 use Rattle.byte_unit_stream.specs.Streams.{reader_of, writer_of, reads_left}
-use Rattle.byte_unit_lines.proofs.Longest.{IsWithin}
+use Rattle.byte_unit_stream.proofs.Longest.{IsWithin}
+use Rattle.byte_unit_lines.specs.Lines.{line_end}
 use Rattle.byte_unit_lines.proofs.Runs.{HasServed}
 use Rattle.byte_unit_lines.proofs.run.run_with_buffers.Given as goal
 
@@ -11,7 +12,7 @@ invariant-reads g l =
     let contents = g.W.Write.contents in
     (so_far : HasServed l.kind (remaining (reader_of l.initial.reader)) (remaining (reader_of l.reader))
     (contents (writer_of l.initial.writer)) (contents (writer_of l.writer)) l.line.items l.waiting.items)
-    × IsWithin l.longest (length l.initial.buffer) l.initial.line l.initial.waiting so_far.read l.line l.waiting
+    × IsWithin line_end l.longest (length l.initial.buffer) l.initial.line l.initial.waiting so_far.read l.line l.waiting
 
 abbrev pub decreases-reads : goal.decreases-reads
 decreases-reads g l = reads_left l.reader
