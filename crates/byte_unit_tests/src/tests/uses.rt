@@ -23,58 +23,26 @@ fn limits_from_strings(rt: HostRuntime) {
     let half = Some(Byte::from_u64(500_000_000));
     assert_each(
         &rt,
-        &[
-            (
-                "limit",
-                limit("1.5 GiB").ok(),
-                Some(Byte::from_u64(1_610_612_736)),
-            ),
-            (
-                "limit_ok",
-                limit_ok("20 mb"),
-                Some(Byte::from_u64(20_000_000)),
-            ),
+        &rows! {
+            ("limit", limit("1.5 GiB").ok(), Some(Byte::from_u64(1_610_612_736))),
+            ("limit_ok", limit_ok("20 mb"), Some(Byte::from_u64(20_000_000))),
             ("limit_ok of no size", limit_ok("20 x"), None),
-            (
-                "limit_or",
-                Some(limit_or("4 KiB", mib)),
-                Some(Byte::from_u64(4096)),
-            ),
-            (
-                "limit_or of no size",
-                Some(limit_or("much", mib)),
-                Some(mib),
-            ),
-            (
-                "unwrap_limit_or",
-                Some(unwrap_limit_or(limit("1 MB"), kib)),
-                Some(Byte::MEGABYTE),
-            ),
-            (
-                "unwrap_limit_or of no size",
-                Some(unwrap_limit_or(limit("1 x"), kib)),
-                Some(kib),
-            ),
-        ],
+            ("limit_or", Some(limit_or("4 KiB", mib)), Some(Byte::from_u64(4096))),
+            ("limit_or of no size", Some(limit_or("much", mib)), Some(mib)),
+            ("unwrap_limit_or", Some(unwrap_limit_or(limit("1 MB"), kib)), Some(Byte::MEGABYTE)),
+            ("unwrap_limit_or of no size", Some(unwrap_limit_or(limit("1 x"), kib)), Some(kib)),
+        },
     );
     assert_each(
         &rt,
-        &[
+        &rows! {
             ("below the maximum", limit_at_most("500 MB", max).ok(), half),
             ("the maximum", limit_at_most("1 GB", max).ok(), Some(max)),
-            (
-                "above the maximum",
-                limit_at_most("2 GB", max).ok(),
-                Some(max),
-            ),
-            (
-                "exceeded",
-                max_exceeded(&read_limit("2 GB", max)),
-                Some(max),
-            ),
+            ("above the maximum", limit_at_most("2 GB", max).ok(), Some(max)),
+            ("exceeded", max_exceeded(&read_limit("2 GB", max)), Some(max)),
             ("not exceeded", max_exceeded(&read_limit("1 GB", max)), None),
             ("no size", max_exceeded(&read_limit("2 X", max)), None),
-        ],
+        },
     );
     assert_is(&rt, rate("100 Mbit").ok(), Some(Bit::from_u64(100_000_000)));
 }
