@@ -10,6 +10,7 @@ use byte_unit_uses::defaults::default_limits;
 use byte_unit_uses::entry::{Entry, add, filter_below};
 use byte_unit_uses::limit::{limit, limit_ok, limit_or, rate, unwrap_limit_or};
 use byte_unit_uses::literal::{adjusted_unit, spaces, unit};
+use byte_unit_uses::log::{Log, Written};
 use byte_unit_uses::message::parse_argument;
 use byte_unit_uses::quota::{QuotaError, left, share};
 use byte_unit_uses::settings::{Settings, SettingsError, read_settings};
@@ -89,6 +90,24 @@ fn literals_and_quotas(rt: HostRuntime) {
         Some(Some(Byte::from_u64(3333))),
     );
     assert_is(&rt, share("10 KB", 0).ok(), Some(None));
+}
+
+#[test]
+fn log_rotated_by_size(rt: HostRuntime) {
+    let mut log = Log::new(Byte::from_u64(65_536));
+    for (entry, wanted, size) in rows! {
+        (20_480, Written::Added, 20_480),
+        (30_720, Written::Added, 51_200),
+        (14_336, Written::Added, 65_536),
+        (1, Written::Rotated(Byte::from_u64(65_536)), 1),
+        (100_000, Written::TooLarge, 1),
+        (60_000, Written::Added, 60_001),
+        (5632, Written::Rotated(Byte::from_u64(60_001)), 5632),
+    } {
+        let written = log.write(Byte::from_u64(entry));
+        let wanted = (wanted, Byte::from_u64(size));
+        assert_is(&rt, (written, log.size()), wanted);
+    }
 }
 
 /// Creates a JSON string.
