@@ -10,6 +10,13 @@ use std::alloc::Global;
 use std::fmt::Debug;
 use std::process::Abort;
 
+/// Creates a table, as an array of rows. A macro, since `rt fmt` leaves each row on its line in the braces of a call.
+macro_rules! rows {
+    ($($row:expr),* $(,)?) => {
+        [$($row),*]
+    };
+}
+
 mod capacity;
 mod chunks;
 mod ended;

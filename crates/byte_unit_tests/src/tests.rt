@@ -45,6 +45,13 @@ macro_rules! sum {
     };
 }
 
+/// Creates a table, as an array of rows. A macro, since `rt fmt` leaves each row on its line in the braces of a call.
+macro_rules! rows {
+    ($($row:expr),* $(,)?) => {
+        [$($row),*]
+    };
+}
+
 mod adjusted;
 mod answers;
 mod any_texts;

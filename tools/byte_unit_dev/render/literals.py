@@ -12,7 +12,7 @@ TOKEN = re.compile(
     |"(?P<text>(?:\\.|[^"\\])*)"|'(?P<character>\\u\{\w+\}|\\.|[^'\\])'
     |(?P<number>\d[\d_]*)(?:[ui]\d+|[ui]size)?
     |(?P<path>[A-Za-z_]\w*(?:::[A-Za-z_]\w*)*!?)
-    |(?P<sign><<|[\[\](),*+-])
+    |(?P<sign><<|[\[\](),*+-])|(?P<brace>[{}])
     |(?P<other>.)""",
     re.X | re.S,
 )
@@ -49,7 +49,7 @@ def places(alternate):
 
 KNOWN = {"u128::MAX": 2**128 - 1, "u64::MAX": 2**64 - 1, "true": True, "false": False, "TEN": list("BKMGTPEZYR"),
          "FormatSpec::PLAIN": Shown("{}"), "FormatSpec::ALTERNATE": Shown("{:#}"),
-         "spec!": spec, "places!": places(False), "precise!": places(True)}
+         "spec!": spec, "places!": places(False), "precise!": places(True), "rows!": lambda *rows: list(rows)}
 
 
 def evaluated(file, start, end, local):
@@ -69,7 +69,7 @@ def evaluated(file, start, end, local):
                                ESCAPES.get(escape[2], escape[2]), text, flags=re.S))
         if kind == "number":
             return text.replace("_", "").lstrip("0") or "0"
-        return {None: " ", "path": f"value({text!r})"}.get(kind, text)
+        return {None: " ", "path": f"value({text!r})", "brace": "(" if text == "{" else ")"}.get(kind, text)
 
     return eval(f"({TOKEN.sub(python, file.text[start:end])})", {"__builtins__": {}, "value": value})
 
@@ -87,7 +87,7 @@ def arrays(name, function):
     _, start, end = file.item(f"fn {function}")
     local = {let: int(n) for let, n in re.findall(r"\blet (\w+) = (\d[\d_]*);", file.code[start:end])}
     found = []
-    while begins := re.compile(r"\[\s*[(\"]").search(file.plain, start, end):
+    while begins := re.compile(r"(?:\[|\brows! \{)\s*[(\"]").search(file.plain, start, end):
         start = file.closing(begins.start())
         found.append(evaluated(file, begins.start(), start, local))
     return found

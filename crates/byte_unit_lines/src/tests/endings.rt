@@ -37,59 +37,18 @@ type Call = (
     &'static [u8],
 );
 
-const CALLS: &[Call] = &[
-    (
-        &[],
-        Some(Kind::Byte),
-        OPEN,
-        Ending::Done,
-        b"1000 = 1 KB\n",
-        b"",
-    ),
-    (
-        &["byte"],
-        Some(Kind::Byte),
-        OPEN,
-        Ending::Done,
-        b"1000 = 1 KB\n",
-        b"",
-    ),
-    (
-        &["bit"],
-        Some(Kind::Bit),
-        OPEN,
-        Ending::Done,
-        b"8000 = 8 Kb\n",
-        b"",
-    ),
+const CALLS: &[Call] = &rows! {
+    (&[], Some(Kind::Byte), OPEN, Ending::Done, b"1000 = 1 KB\n", b""),
+    (&["byte"], Some(Kind::Byte), OPEN, Ending::Done, b"1000 = 1 KB\n", b""),
+    (&["bit"], Some(Kind::Bit), OPEN, Ending::Done, b"8000 = 8 Kb\n", b""),
     (&["bits"], None, OPEN, Ending::Usage, b"", INPUT),
     (&["bit", "bit"], None, OPEN, Ending::Usage, b"", INPUT),
     // No call of a stream is made after these; then a read fails after the input, and the write of the output fails.
-    (
-        &["bit"],
-        Some(Kind::Bit),
-        (READS, WRITES),
-        Ending::Done,
-        b"8000 = 8 Kb\n",
-        b"",
-    ),
-    (
-        &["bit"],
-        Some(Kind::Bit),
-        (Pace(5, 1, Then::Fail), WRITES),
-        Ending::Failed(RunError::Read),
-        b"8000 = 8 Kb\n",
-        b"",
-    ),
-    (
-        &["bit"],
-        Some(Kind::Bit),
-        (READS, Pace(20, 0, Then::Fail)),
-        Ending::Failed(RunError::Write),
-        b"",
-        b"",
-    ),
-];
+    (&["bit"], Some(Kind::Bit), (READS, WRITES), Ending::Done, b"8000 = 8 Kb\n", b""),
+    (&["bit"], Some(Kind::Bit), (Pace(5, 1, Then::Fail), WRITES),
+        Ending::Failed(RunError::Read), b"8000 = 8 Kb\n", b""),
+    (&["bit"], Some(Kind::Bit), (READS, Pace(20, 0, Then::Fail)), Ending::Failed(RunError::Write), b"", b""),
+};
 
 #[test]
 fn endings_of_calls(rt: HostRuntime) {

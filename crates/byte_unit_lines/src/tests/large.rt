@@ -14,24 +14,14 @@ fn expect(rt: &(impl Abort + AllocGlobal), bytes: &str, count: usize, end: &[u8]
 
 /// A byte, the number of its repetitions, what follows it, and the report. The first lines are longer than one chunk,
 /// than three and than four. The others end near the end of a chunk.
-const ROWS: &[(&str, usize, &[u8], &[u8])] = &[
+const ROWS: &[(&str, usize, &[u8], &[u8])] = &rows! {
     ("0", 100_000, b"1", b"1 = 1 B\n"),
-    (
-        "0",
-        100_000,
-        b"1.5 KiB\n2KB\n",
-        b"1536 = 1.5 KiB\n2000 = 2 KB\n",
-    ),
+    ("0", 100_000, b"1.5 KiB\n2KB\n", b"1536 = 1.5 KiB\n2000 = 2 KB\n"),
     (" ", 100_000, b"1KB", b"1000 = 1 KB\n"),
     ("1", 100_000, b"", b"number too long\n"),
     ("x", 100_000, b"", b"not a number\n"),
     ("0", 100_000, b"\xFF\n1KB", b"not text\n1000 = 1 KB\n"),
-    (
-        "0",
-        200_000,
-        b"1.5 KiB\n2KB\n",
-        b"1536 = 1.5 KiB\n2000 = 2 KB\n",
-    ),
+    ("0", 200_000, b"1.5 KiB\n2KB\n", b"1536 = 1.5 KiB\n2000 = 2 KB\n"),
     ("x", 200_000, b"\n1KB", b"not a number\n1000 = 1 KB\n"),
     ("0", 300_000, b"1", b"1 = 1 B\n"),
     ("x", 300_000, b"", b"not a number\n"),
@@ -49,7 +39,7 @@ const ROWS: &[(&str, usize, &[u8], &[u8])] = &[
     ("0", 65_537, b"\r\n1KB", b"0 = 0 B\n1000 = 1 KB\n"),
     ("0", 65_538, b"\n1KB", b"0 = 0 B\n1000 = 1 KB\n"),
     ("0", 65_538, b"\r\n1KB", b"0 = 0 B\n1000 = 1 KB\n"),
-];
+};
 
 #[test]
 fn long_lines(rt: HostRuntime) {
@@ -73,15 +63,11 @@ fn many_lines(rt: HostRuntime) {
 
 /// The pace of writes of a report of 2,700,000 bytes, all given to one read; the result, and the number of bytes that
 /// are written. All are written in one call, and in several.
-const BY_WRITES: &[(Pace, Result<(), RunError>, usize)] = &[
+const BY_WRITES: &[(Pace, Result<(), RunError>, usize)] = &rows! {
     (Pace(usize::MAX, 1, Then::Fail), Ok(()), 2_700_000),
     (Pace(1_000_000, 3, Then::Fail), Ok(()), 2_700_000),
-    (
-        Pace(1_000_000, 2, Then::TakeNothing),
-        Err(RunError::Write),
-        2_000_000,
-    ),
-];
+    (Pace(1_000_000, 2, Then::TakeNothing), Err(RunError::Write), 2_000_000),
+};
 
 #[test]
 fn answers_of_several_megabytes(rt: HostRuntime) {

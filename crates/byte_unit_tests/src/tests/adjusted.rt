@@ -26,25 +26,15 @@ const TIES_TO_EVEN_AND_UP: &[(u64, Unit, FormatSpec, &str)] = &[
     (1500, Unit::KB, precise!(0), "2 KB"),
 ];
 
-const SMALL_SIZES: &[(u64, Unit, FormatSpec, &str)] = &[
-    (
-        1,
-        Unit::MiB,
-        FormatSpec::PLAIN,
-        "0.00000095367431640625 MiB",
-    ),
-    (
-        1,
-        Unit::MiB,
-        FormatSpec::ALTERNATE,
-        "0.00000095367431640625 MiB",
-    ),
+const SMALL_SIZES: &[(u64, Unit, FormatSpec, &str)] = &rows! {
+    (1, Unit::MiB, FormatSpec::PLAIN, "0.00000095367431640625 MiB"),
+    (1, Unit::MiB, FormatSpec::ALTERNATE, "0.00000095367431640625 MiB"),
     (1, Unit::MiB, places!(18), "0.000000953674316406 MiB"),
     (1, Unit::MiB, places!(19), "0.0000009536743164062 MiB"),
     (1, Unit::MiB, precise!(18), "0.0000009536743164 MiB"),
     (1, Unit::MiB, precise!(19), "0.0000009536743164 MiB"),
     (1, Unit::MiB, precise!(20), "0.0000009536743164 MiB"),
-];
+};
 
 const SIZES_IN_THEIR_OWN_UNIT: &[(u64, Unit, FormatSpec, &str)] = &[
     (3, Unit::Bit, places!(2), "24 b"),
@@ -53,22 +43,12 @@ const SIZES_IN_THEIR_OWN_UNIT: &[(u64, Unit, FormatSpec, &str)] = &[
     (3, Unit::Bit, FormatSpec::ALTERNATE, "24 b"),
 ];
 
-const WHOLE_EXPANSIONS_OF_BYTES: &[(u64, Unit, FormatSpec, &str)] = &[
-    (
-        1,
-        Unit::GiB,
-        FormatSpec::PLAIN,
-        "0.000000000931322574615478515625 GiB",
-    ),
-    (
-        1,
-        Unit::GiB,
-        FormatSpec::ALTERNATE,
-        "0.000000000931322574615478515625 GiB",
-    ),
+const WHOLE_EXPANSIONS_OF_BYTES: &[(u64, Unit, FormatSpec, &str)] = &rows! {
+    (1, Unit::GiB, FormatSpec::PLAIN, "0.000000000931322574615478515625 GiB"),
+    (1, Unit::GiB, FormatSpec::ALTERNATE, "0.000000000931322574615478515625 GiB"),
     (1, Unit::YiB, FormatSpec::PLAIN, ONE_BYTE_IN_YIB),
     (1, Unit::YiB, FormatSpec::ALTERNATE, ONE_BYTE_IN_YIB),
-];
+};
 
 const WHOLE_EXPANSIONS_OF_BITS: &[(u64, Unit, FormatSpec, &str)] = &[
     (1, Unit::YiB, FormatSpec::PLAIN, ONE_BIT_IN_YIB),
@@ -93,39 +73,19 @@ const ONE_BIT_IN_84_PLACES: &str =
 const ONE_BIT_IN_94_PLACES: &str =
     "0.0000000000000000000000000001009741958682895110927012563561966373981704236939549446105957031250 RiB";
 
-const SHORT_EXPANSIONS_OF_BYTES: &[(u64, Unit, FormatSpec, &str)] = &[
+const SHORT_EXPANSIONS_OF_BYTES: &[(u64, Unit, FormatSpec, &str)] = &rows! {
     (10_000, Unit::KB, FormatSpec::PLAIN, "10 KB"),
     (10_000, Unit::KiB, FormatSpec::PLAIN, "9.765625 KiB"),
     (10_000, Unit::KiB, FormatSpec::ALTERNATE, "9.765625 KiB"),
     (1023, Unit::KB, FormatSpec::PLAIN, "1.023 KB"),
     (1023, Unit::KB, FormatSpec::ALTERNATE, "1.023 KB"),
-    (
-        1_048_575,
-        Unit::KiB,
-        FormatSpec::PLAIN,
-        "1023.9990234375 KiB",
-    ),
-    (
-        1_048_575,
-        Unit::KiB,
-        FormatSpec::ALTERNATE,
-        "1023.9990234375 KiB",
-    ),
-    (
-        50_840_000,
-        Unit::MiB,
-        FormatSpec::PLAIN,
-        "48.48480224609375 MiB",
-    ),
-    (
-        50_840_000,
-        Unit::MiB,
-        FormatSpec::ALTERNATE,
-        "48.48480224609375 MiB",
-    ),
+    (1_048_575, Unit::KiB, FormatSpec::PLAIN, "1023.9990234375 KiB"),
+    (1_048_575, Unit::KiB, FormatSpec::ALTERNATE, "1023.9990234375 KiB"),
+    (50_840_000, Unit::MiB, FormatSpec::PLAIN, "48.48480224609375 MiB"),
+    (50_840_000, Unit::MiB, FormatSpec::ALTERNATE, "48.48480224609375 MiB"),
     (125_952, Unit::KB, FormatSpec::PLAIN, "125.952 KB"),
     (125_952, Unit::KB, FormatSpec::ALTERNATE, "125.952 KB"),
-];
+};
 
 const SHORT_EXPANSIONS_OF_BITS: &[(u64, Unit, FormatSpec, &str)] = &[
     (10_000, Unit::Kbit, FormatSpec::PLAIN, "10 Kb"),
@@ -198,21 +158,16 @@ fn assert_texts_by(
     }
 }
 
-const BYTES_IN_APPROPRIATE_UNITS: &[(u64, UnitType, FormatSpec, &str)] = &[
+const BYTES_IN_APPROPRIATE_UNITS: &[(u64, UnitType, FormatSpec, &str)] = &rows! {
     (10_000, UnitType::Both, FormatSpec::PLAIN, "9.765625 KiB"),
     (1000, UnitType::Both, FormatSpec::PLAIN, "1 KB"),
     (1023, UnitType::Both, FormatSpec::PLAIN, "1.023 KB"),
     (0, UnitType::Both, FormatSpec::PLAIN, "0 B"),
     (7, UnitType::Both, FormatSpec::PLAIN, "7 B"),
-    (
-        1_048_575,
-        UnitType::Binary,
-        FormatSpec::PLAIN,
-        "1023.9990234375 KiB",
-    ),
+    (1_048_575, UnitType::Binary, FormatSpec::PLAIN, "1023.9990234375 KiB"),
     (10_000, UnitType::Decimal, FormatSpec::PLAIN, "10 KB"),
     (1_500_000, UnitType::Binary, places!(2), "1.43 MiB"),
-];
+};
 
 const BITS_IN_APPROPRIATE_UNITS: &[(u64, UnitType, FormatSpec, &str)] = &[
     (1000, UnitType::Binary, FormatSpec::PLAIN, "1000 b"),

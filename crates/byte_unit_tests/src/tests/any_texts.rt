@@ -24,20 +24,14 @@ const MANY: usize = 10_000;
 
 /// The text before the repetitions, the text that is repeated, and the text after them; then the results in bytes and
 /// in bits.
-const LONG_TEXTS: &[(&str, &str, &str, Expected, Expected)] = &[
+const LONG_TEXTS: &[(&str, &str, &str, Expected, Expected)] = &rows! {
     ("", "0", "1", Expected::Size(1), Expected::Size(1)),
-    (
-        "",
-        "1",
-        "",
-        Expected::NumberTooLong,
-        Expected::NumberTooLong,
-    ),
+    ("", "1", "", Expected::NumberTooLong, Expected::NumberTooLong),
     ("", "0", ".5", Expected::Size(1), Expected::Size(1)),
     ("", " ", "", Expected::NoValue, Expected::NoValue),
     ("1", " ", "", Expected::Size(1), Expected::Size(1)),
     ("1", " ", "KB", Expected::Size(1000), Expected::Size(8000)),
-];
+};
 
 #[test]
 fn long_texts(rt: HostRuntime) {

@@ -9,63 +9,36 @@ const MAX_SIZE: u128 = 999_999_999_999_999_999_999_999_999_999;
 /// The number of bytes in a ronnabyte, the limit of v1.
 const RONNA: u128 = 1_000_000_000_000_000_000_000_000_000;
 
-const BYTES_AT_THE_LIMIT: &[(&str, Expected)] = &[
+const BYTES_AT_THE_LIMIT: &[(&str, Expected)] = &rows! {
     ("999999999999999999999999999999", Expected::Size(MAX_SIZE)),
-    (
-        "999999999999999999999999999999.0000000000000000000000000001",
-        Expected::Exceeded(MAX_SIZE, 1),
-    ),
-    (
-        "1000000000000000000000000000000",
-        Expected::Exceeded(MAX_SIZE + 1, 0),
-    ),
-    (
-        "5192296858534827628530496329220095",
-        Expected::Exceeded(5_192_296_858_534_827_628_530_496_329_220_095, 0),
-    ),
+    ("999999999999999999999999999999.0000000000000000000000000001", Expected::Exceeded(MAX_SIZE, 1)),
+    ("1000000000000000000000000000000", Expected::Exceeded(MAX_SIZE + 1, 0)),
+    ("5192296858534827628530496329220095", Expected::Exceeded(5_192_296_858_534_827_628_530_496_329_220_095, 0)),
     ("1000 RB", Expected::Exceeded(1000, 0)),
     ("1000RB", Expected::Exceeded(1000, 0)),
     ("1000.00 RB", Expected::Exceeded(1000, 0)),
     ("1000000 YB", Expected::Exceeded(1_000_000, 0)),
     ("0001", Expected::Size(1)),
-];
+};
 
-const BITS_AT_THE_LIMIT: &[(&str, Expected)] = &[
-    (
-        "124.999999999999999999999999999 RB",
-        Expected::Size(999_999_999_999_999_999_999_999_999_992),
-    ),
-    (
-        "124.9999999999999999999999999999 RB",
-        Expected::Exceeded(124, 9_999_999_999_999_999_999_999_999_999),
-    ),
+const BITS_AT_THE_LIMIT: &[(&str, Expected)] = &rows! {
+    ("124.999999999999999999999999999 RB", Expected::Size(999_999_999_999_999_999_999_999_999_992)),
+    ("124.9999999999999999999999999999 RB", Expected::Exceeded(124, 9_999_999_999_999_999_999_999_999_999)),
     ("125 RB", Expected::Exceeded(125, 0)),
     ("1000.00 Rb", Expected::Exceeded(1000, 0)),
     ("999999999999999999999999999999", Expected::Size(MAX_SIZE)),
-    (
-        "1000000000000000000000000000000",
-        Expected::Exceeded(MAX_SIZE + 1, 0),
-    ),
-];
+    ("1000000000000000000000000000000", Expected::Exceeded(MAX_SIZE + 1, 0)),
+};
 
 /// Strings that v1 rejected at its limit, and v2 accepts.
-const BYTES_BEYOND_THE_LIMIT_OF_V1: &[(&str, Expected)] = &[
+const BYTES_BEYOND_THE_LIMIT_OF_V1: &[(&str, Expected)] = &rows! {
     ("999999999999999999999999999", Expected::Size(RONNA - 1)),
-    (
-        "999999999999999999999999999.0000000000000000000000000001",
-        Expected::Size(RONNA),
-    ),
+    ("999999999999999999999999999.0000000000000000000000000001", Expected::Size(RONNA)),
     ("1000000000000000000000000000", Expected::Size(RONNA)),
-    (
-        "79228162514264337593543950335",
-        Expected::Size(79_228_162_514_264_337_593_543_950_335),
-    ),
-    (
-        "79228162514264337593543950336",
-        Expected::Size(79_228_162_514_264_337_593_543_950_336),
-    ),
+    ("79228162514264337593543950335", Expected::Size(79_228_162_514_264_337_593_543_950_335)),
+    ("79228162514264337593543950336", Expected::Size(79_228_162_514_264_337_593_543_950_336)),
     ("1000 YB", Expected::Size(RONNA)),
-];
+};
 
 const BITS_BEYOND_THE_LIMIT_OF_V1: &[(&str, Expected)] = &[
     ("124.999999999999999999999999 YB", Expected::Size(RONNA - 8)),

@@ -40,7 +40,7 @@ const SIZES_EXACT_IN_NO_UNIT: &[(u128, Family, u128, usize)] = &[
 
 /// A size, the number of decimals, the number and the unit if there is one, and the step count: one for each trial and
 /// decimal.
-const STEP_COUNTS: &[(u128, usize, Option<(u128, u128, Unit)>, u64)] = &[
+const STEP_COUNTS: &[(u128, usize, Option<(u128, u128, Unit)>, u64)] = &rows! {
     (0, 28, None, 0),
     (1, 28, None, 2),
     // 500 is 2^2 * 5^3.
@@ -50,39 +50,14 @@ const STEP_COUNTS: &[(u128, usize, Option<(u128, u128, Unit)>, u64)] = &[
     (1088, 2, None, 8),
     // 1001 has no factor 2 or 5: three decimals in KB.
     (1001, 2, None, 2),
-    (
-        1088,
-        3,
-        Some((1, 880_000_000_000_000_000_000_000_000, Unit::KB)),
-        11,
-    ),
-    (
-        1088,
-        4,
-        Some((1, 625_000_000_000_000_000_000_000_000, Unit::KiB)),
-        12,
-    ),
+    (1088, 3, Some((1, 880_000_000_000_000_000_000_000_000, Unit::KB)), 11),
+    (1088, 4, Some((1, 625_000_000_000_000_000_000_000_000, Unit::KiB)), 12),
     // 2^9 * 6273: six decimals in MB, and one in KiB.
-    (
-        3_211_776,
-        3,
-        Some((3136, 5_000_000_000_000_000_000_000_000_000u128, Unit::KiB)),
-        12,
-    ),
-    (
-        3_211_776,
-        6,
-        Some((3, 2_117_760_000_000_000_000_000_000_000, Unit::MB)),
-        17,
-    ),
+    (3_211_776, 3, Some((3136, 5_000_000_000_000_000_000_000_000_000u128, Unit::KiB)), 12),
+    (3_211_776, 6, Some((3, 2_117_760_000_000_000_000_000_000_000, Unit::MB)), 17),
     // 10 * 321177: five decimals in MB.
-    (
-        3_211_770,
-        5,
-        Some((3, 2_117_700_000_000_000_000_000_000_000, Unit::MB)),
-        9,
-    ),
-];
+    (3_211_770, 5, Some((3, 2_117_700_000_000_000_000_000_000_000, Unit::MB)), 9),
+};
 
 #[test]
 fn chosen_units_and_step_counts(rt: HostRuntime) {
@@ -106,32 +81,20 @@ fn steps_of_two_choices(rt: HostRuntime) {
     assert_is(&rt, (once.count(), twice.count()), (11, 22));
 }
 
-const LARGEST_UNITS: &[(u128, Family, UnitType, u128, Option<Unit>)] = &[
+const LARGEST_UNITS: &[(u128, Family, UnitType, u128, Option<Unit>)] = &rows! {
     (10_000, Family::Bytes, UnitType::Both, 8, Some(Unit::KiB)),
     (1000, Family::Bytes, UnitType::Both, 8, Some(Unit::KB)),
     (1023, Family::Bytes, UnitType::Both, 8, Some(Unit::KB)),
     (0, Family::Bytes, UnitType::Both, 8, None),
     (10_000, Family::Bytes, UnitType::Binary, 8, Some(Unit::KiB)),
     (10_000, Family::Bytes, UnitType::Decimal, 8, Some(Unit::KB)),
-    (
-        1_048_575,
-        Family::Bytes,
-        UnitType::Binary,
-        8,
-        Some(Unit::KiB),
-    ),
-    (
-        1_500_000,
-        Family::Bytes,
-        UnitType::Binary,
-        8,
-        Some(Unit::MiB),
-    ),
+    (1_048_575, Family::Bytes, UnitType::Binary, 8, Some(Unit::KiB)),
+    (1_500_000, Family::Bytes, UnitType::Binary, 8, Some(Unit::MiB)),
     (1000, Family::Bits, UnitType::Binary, 1, None),
     (1030, Family::Bits, UnitType::Decimal, 1, Some(Unit::Kbit)),
     (125, Family::All, UnitType::Both, 8, Some(Unit::Kbit)),
     (u128::MAX, Family::All, UnitType::Both, 8, Some(Unit::RiB)),
-];
+};
 
 #[test]
 fn largest_unit_not_above_the_size(rt: HostRuntime) {

@@ -34,166 +34,44 @@ type Row = (
     &'static [u8],
 );
 
-const ROWS: &[Row] = &[
+const ROWS: &[Row] = &rows! {
     // The kind holds for the form and the limits.
-    (
-        &["", "--bits", "--to=K"],
-        b"1536 B\n",
-        sum!(12_288),
-        b"12.288 Kb\n",
-        b"",
-    ),
+    (&["", "--bits", "--to=K"], b"1536 B\n", sum!(12_288), b"12.288 Kb\n", b""),
     (&["", "--to=K"], b"1536 B\n", sum!(1536), b"1.536 KB\n", b""),
-    (
-        &["", "--bits", "--max=1KB"],
-        b"8000\n",
-        sum!(8000),
-        b"8 Kb\n",
-        b"",
-    ),
-    (
-        &["", "--bits", "--max=1KB"],
-        b"8001\n",
-        beyond!(8001),
-        b"8.001 Kb\n",
-        b"byte-unit: line 1: '8001': above the maximum\n",
-    ),
-    (
-        &["", "--min=999999999999999999999999999999"],
-        b"1\n",
-        beyond!(1),
-        b"1 B\n",
-        b"byte-unit: line 1: '1': below the minimum\n",
-    ),
-    (
-        &["", "--max=999999999999999999999999999999"],
-        b"1\n",
-        sum!(1),
-        b"1 B\n",
-        b"",
-    ),
+    (&["", "--bits", "--max=1KB"], b"8000\n", sum!(8000), b"8 Kb\n", b""),
+    (&["", "--bits", "--max=1KB"], b"8001\n", beyond!(8001),
+        b"8.001 Kb\n", b"byte-unit: line 1: '8001': above the maximum\n"),
+    (&["", "--min=999999999999999999999999999999"], b"1\n", beyond!(1),
+        b"1 B\n", b"byte-unit: line 1: '1': below the minimum\n"),
+    (&["", "--max=999999999999999999999999999999"], b"1\n", sum!(1), b"1 B\n", b""),
     // Case is ignored in each text of a unit.
-    (
-        &["", "-i", "--to=kb"],
-        b"8 kb\n",
-        sum!(8000),
-        b"8 KB\n",
-        b"",
-    ),
-    (
-        &["", "-i", "--max=8kb"],
-        b"8001\n",
-        beyond!(8001),
-        b"8.001 KB\n",
-        b"byte-unit: line 1: '8001': above the maximum\n",
-    ),
+    (&["", "-i", "--to=kb"], b"8 kb\n", sum!(8000), b"8 KB\n", b""),
+    (&["", "-i", "--max=8kb"], b"8001\n", beyond!(8001), b"8.001 KB\n",
+        b"byte-unit: line 1: '8001': above the maximum\n"),
     // Operands: each is one record, they have no header, and their output has lines.
-    (
-        &["", "1536", "2 KB"],
-        b"",
-        sum!(3536),
-        b"1.5 KiB\n2 KB\n",
-        b"",
-    ),
-    (
-        &["", "-z", "1536", "2 KB"],
-        b"",
-        sum!(3536),
-        b"1.5 KiB\x002 KB\x00",
-        b"",
-    ),
-    (
-        &["", "--header", "4096K"],
-        b"",
-        sum!(4_096_000),
-        b"4.096 MB\n",
-        b"",
-    ),
-    (
-        &["", "1KB\n2KB"],
-        b"",
-        Err(Stop::Rejected),
-        b"",
-        b"byte-unit: line 1: '1KB\\u{a}2KB': the character '\\n' is incorrect ('i' or no character is expected)\n",
-    ),
-    (
-        &["", "--invalid=warn", "1\n2", "x", ""],
-        b"",
-        Ok(Tally {
-            total: 0,
-            beyond: false,
-            rejected: true,
-        }),
-        b"1\n2\nx\n\n",
-        b"byte-unit: line 1: '1\\u{a}2': the character '\\n' is incorrect \
+    (&["", "1536", "2 KB"], b"", sum!(3536), b"1.5 KiB\n2 KB\n", b""),
+    (&["", "-z", "1536", "2 KB"], b"", sum!(3536), b"1.5 KiB\x002 KB\x00", b""),
+    (&["", "--header", "4096K"], b"", sum!(4_096_000), b"4.096 MB\n", b""),
+    (&["", "1KB\n2KB"], b"", Err(Stop::Rejected), b"",
+        b"byte-unit: line 1: '1KB\\u{a}2KB': the character '\\n' is incorrect ('i' or no character is expected)\n"),
+    (&["", "--invalid=warn", "1\n2", "x", ""], b"", Ok(Tally { total: 0, beyond: false, rejected: true }),
+        b"1\n2\nx\n\n", b"byte-unit: line 1: '1\\u{a}2': the character '\\n' is incorrect \
 ('B', 'K', 'M', 'G', 'T', 'P', 'E', 'Z', 'Y' or 'R' or no character is expected)
 byte-unit: line 2: 'x': the character 'x' is not a number
-byte-unit: line 3: '': no value can be found\n",
-    ),
+byte-unit: line 3: '': no value can be found\n"),
     // Lists of fields, of which none is lost.
-    (
-        &["", "-d,", "--field=1,2,3,4,5,6,7,8,9", "--to=plain"],
-        b"1K,1K,1K,1K,1K,1K,1K,1K,1K,1K\n",
-        sum!(9000),
-        b"1000,1000,1000,1000,1000,1000,1000,1000,1000,1K\n",
-        b"",
-    ),
-    (
-        &[
-            "",
-            "-d,",
-            "--field=-1,3-4,18446744073709551615-",
-            "--to=plain",
-        ],
-        b"1K,1K,1K,1K,1K\n",
-        sum!(3000),
-        b"1000,1K,1000,1000,1K\n",
-        b"",
-    ),
-    (
-        &["", "-d\\t", "--field=-", "--to=plain"],
-        b"1K\t1K\n",
-        sum!(2000),
-        b"1000\t1000\n",
-        b"",
-    ),
+    (&["", "-d,", "--field=1,2,3,4,5,6,7,8,9", "--to=plain"], b"1K,1K,1K,1K,1K,1K,1K,1K,1K,1K\n",
+        sum!(9000), b"1000,1000,1000,1000,1000,1000,1000,1000,1000,1K\n", b""),
+    (&["", "-d,", "--field=-1,3-4,18446744073709551615-", "--to=plain"],
+        b"1K,1K,1K,1K,1K\n", sum!(3000), b"1000,1K,1000,1000,1K\n", b""),
+    (&["", "-d\\t", "--field=-", "--to=plain"], b"1K\t1K\n", sum!(2000), b"1000\t1000\n", b""),
     // The exact form has 28 digits after the point at most; other forms have as many as are asked for.
-    (
-        &["", "-p", "30", "1073741825"],
-        b"",
-        sum!(1_073_741_825),
-        b"1.073741825 GB\n",
-        b"",
-    ),
-    (
-        &["", "-p30", "--to=GiB", "1073741825"],
-        b"",
-        sum!(1_073_741_825),
-        b"1.000000000931322574615478515625 GiB\n",
-        b"",
-    ),
-    (
-        &["", "-p", "0", "--padding", "-8", "--to=si", "1500"],
-        b"",
-        sum!(1500),
-        b"2 KB    \n",
-        b"",
-    ),
-    (
-        &["", "--padding=8", "1500"],
-        b"",
-        sum!(1500),
-        b"  1.5 KB\n",
-        b"",
-    ),
-    (
-        &["", "--header=2", "--total", "--to=plain"],
-        b"a\nb\n1K\n",
-        sum!(1000),
-        b"a\nb\n1000\n1000\n",
-        b"",
-    ),
-];
+    (&["", "-p", "30", "1073741825"], b"", sum!(1_073_741_825), b"1.073741825 GB\n", b""),
+    (&["", "-p30", "--to=GiB", "1073741825"], b"", sum!(1_073_741_825), b"1.000000000931322574615478515625 GiB\n", b""),
+    (&["", "-p", "0", "--padding", "-8", "--to=si", "1500"], b"", sum!(1500), b"2 KB    \n", b""),
+    (&["", "--padding=8", "1500"], b"", sum!(1500), b"  1.5 KB\n", b""),
+    (&["", "--header=2", "--total", "--to=plain"], b"a\nb\n1K\n", sum!(1000), b"a\nb\n1000\n1000\n", b""),
+};
 
 /// Parses the words of a call.
 fn matches_of(
@@ -250,66 +128,31 @@ fn what_calls_do(rt: HostRuntime) {
 }
 
 /// The words of a call, and its message.
-const WRONG: &[(&[&str], &str)] = &[
-    (
-        &["", "--to=GiBB"],
-        "--to: 'GiBB': not a form or a unit: the character 'B' is incorrect ('i' or no character is expected)",
-    ),
+const WRONG: &[(&[&str], &str)] = &rows! {
+    (&["", "--to=GiBB"],
+        "--to: 'GiBB': not a form or a unit: the character 'B' is incorrect ('i' or no character is expected)"),
     (&["", "--to="], "--to: '': not a form or a unit"),
     (&["", "--to= "], "--to: ' ': not a form or a unit"),
-    (
-        &["", "--to=\x1b[31mKB"],
+    (&["", "--to=\x1b[31mKB"],
         "--to: '\\u{1b}[31mKB': not a form or a unit: \
-the character '\\u{1b}' is incorrect ('B', 'K', 'M', 'G', 'T', 'P', 'E', 'Z', 'Y' or 'R' or no character is expected)",
-    ),
-    (
-        &["", "-d", ",;"],
-        "--delimiter: ',;': not one character of one byte",
-    ),
-    (
-        &["", "-d", ""],
-        "--delimiter: '': not one character of one byte",
-    ),
-    (
-        &["", "-d", "é"],
-        "--delimiter: 'é': not one character of one byte",
-    ),
-    (
-        &["", "--padding=0"],
-        "--padding: '0': not a number from 1 to 65535, or its negative",
-    ),
-    (
-        &["", "--padding=65536"],
-        "--padding: '65536': not a number from 1 to 65535, or its negative",
-    ),
-    (
-        &["", "--padding=+1"],
-        "--padding: '+1': not a number from 1 to 65535, or its negative",
-    ),
-    (
-        &["", "--padding=--1"],
-        "--padding: '--1': not a number from 1 to 65535, or its negative",
-    ),
-    (
-        &["", "--invalid=\u{85}"],
-        "--invalid: '\\u{85}': not abort, fail, warn or ignore",
-    ),
-    (
-        &["", "--max=1,5 GB"],
+the character '\\u{1b}' is incorrect ('B', 'K', 'M', 'G', 'T', 'P', 'E', 'Z', 'Y' or 'R' or no character is expected)"),
+    (&["", "-d", ",;"], "--delimiter: ',;': not one character of one byte"),
+    (&["", "-d", ""], "--delimiter: '': not one character of one byte"),
+    (&["", "-d", "é"], "--delimiter: 'é': not one character of one byte"),
+    (&["", "--padding=0"], "--padding: '0': not a number from 1 to 65535, or its negative"),
+    (&["", "--padding=65536"], "--padding: '65536': not a number from 1 to 65535, or its negative"),
+    (&["", "--padding=+1"], "--padding: '+1': not a number from 1 to 65535, or its negative"),
+    (&["", "--padding=--1"], "--padding: '--1': not a number from 1 to 65535, or its negative"),
+    (&["", "--invalid=\u{85}"], "--invalid: '\\u{85}': not abort, fail, warn or ignore"),
+    (&["", "--max=1,5 GB"],
         "--max: '1,5 GB': the character ',' is incorrect \
-('B', 'K', 'M', 'G', 'T', 'P', 'E', 'Z', 'Y' or 'R' or no character is expected)",
-    ),
-    (
-        &["", "--min=1000RB"],
-        "--min: '1000RB': the value 1000 exceeds the valid range",
-    ),
+('B', 'K', 'M', 'G', 'T', 'P', 'E', 'Z', 'Y' or 'R' or no character is expected)"),
+    (&["", "--min=1000RB"], "--min: '1000RB': the value 1000 exceeds the valid range"),
     (&["", "--max="], "--max: '': no value can be found"),
-    (
-        &["", "--min=x", "--max=y", "--to=z q"],
+    (&["", "--min=x", "--max=y", "--to=z q"],
         "--to: 'z q': not a form or a unit: \
-the character ' ' is incorrect ('B' or 'b' or no character is expected)",
-    ),
-];
+the character ' ' is incorrect ('B' or 'b' or no character is expected)"),
+};
 
 #[test]
 fn what_is_wrong_with_calls(rt: HostRuntime) {

@@ -8,41 +8,16 @@ use std::hash::{DefaultHasher, Hash, Hasher};
 use std::process::Abort;
 
 /// The mantissa, the scale, and the parts of the decimal.
-const DECIMALS_BY_MANTISSA_AND_SCALE: &[(u128, u32, Option<(u128, u128)>)] = &[
+const DECIMALS_BY_MANTISSA_AND_SCALE: &[(u128, u32, Option<(u128, u128)>)] = &rows! {
     (5084, 2, Some((50, 8_400_000_000_000_000_000_000_000_000))),
     (1000, 2, Some((10, 0))),
     (1, 29, None),
-    (
-        u128::MAX,
-        28,
-        Some((34_028_236_692, 938_463_463_374_607_431_768_211_455)),
-    ),
-    (
-        u128::MAX,
-        10,
-        Some((
-            34_028_236_692_093_846_346_337_460_743,
-            1_768_211_455_000_000_000_000_000_000,
-        )),
-    ),
-    (
-        u128::MAX,
-        9,
-        Some((
-            340_282_366_920_938_463_463_374_607_431,
-            7_682_114_550_000_000_000_000_000_000,
-        )),
-    ),
-    (
-        u128::MAX,
-        5,
-        Some((
-            3_402_823_669_209_384_634_633_746_074_317_682,
-            1_145_500_000_000_000_000_000_000_000,
-        )),
-    ),
+    (u128::MAX, 28, Some((34_028_236_692, 938_463_463_374_607_431_768_211_455))),
+    (u128::MAX, 10, Some((34_028_236_692_093_846_346_337_460_743, 1_768_211_455_000_000_000_000_000_000))),
+    (u128::MAX, 9, Some((340_282_366_920_938_463_463_374_607_431, 7_682_114_550_000_000_000_000_000_000))),
+    (u128::MAX, 5, Some((3_402_823_669_209_384_634_633_746_074_317_682, 1_145_500_000_000_000_000_000_000_000))),
     (u128::MAX, 4, None),
-];
+};
 
 /// Asserts the parts of each decimal.
 fn assert_parts(rt: &impl Abort, rows: &[(u128, u32, Option<(u128, u128)>)]) {
@@ -105,29 +80,17 @@ fn decimals_from_integers(rt: HostRuntime) {
     let seven = Some((7, 0));
     assert_each(
         &rt,
-        &[
+        &rows! {
             ("u8", Some(parts_of(Decimal::from(7u8))), seven),
             ("u16", Some(parts_of(Decimal::from(7u16))), seven),
             ("u32", Some(parts_of(Decimal::from(7u32))), seven),
             ("u64", Some(parts_of(Decimal::from(7u64))), seven),
             ("u128", Decimal::from_u128(7).map(parts_of), seven),
-            (
-                "a fraction of one",
-                Decimal::new(0, one).map(parts_of),
-                None,
-            ),
+            ("a fraction of one", Decimal::new(0, one).map(parts_of), None),
             ("2^112", Decimal::new(wholes, 0).map(parts_of), None),
-            (
-                "2^112 from u128",
-                Decimal::from_u128(wholes).map(parts_of),
-                None,
-            ),
-            (
-                "the greatest",
-                Some(parts_of(greatest)),
-                Some((wholes - 1, one - 1)),
-            ),
-        ],
+            ("2^112 from u128", Decimal::from_u128(wholes).map(parts_of), None),
+            ("the greatest", Some(parts_of(greatest)), Some((wholes - 1, one - 1))),
+        },
     );
     assert_is(&rt, greatest.places(), 28);
     assert_is(&rt, Decimal::from(7u8).places(), 0);

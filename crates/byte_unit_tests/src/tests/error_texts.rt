@@ -83,65 +83,28 @@ pub fn assert_unit_texts(
 const NO_UNIT: &str =
     "the character 'x' is incorrect ('B', 'K', 'M', 'G', 'T', 'P', 'E', 'Z', 'Y' or 'R' or no character is expected)";
 
-const UNIT_ERROR_MESSAGES: &[(char, &[char], bool, &str)] = &[
-    (
-        'é',
-        &['B', 'b'],
-        true,
-        "the character 'é' is incorrect ('B' or 'b' or no character is expected)",
-    ),
-    (
-        'x',
-        &['t'],
-        false,
-        "the character 'x' is incorrect ('t' is expected)",
-    ),
-    (
-        'x',
-        &['i'],
-        true,
-        "the character 'x' is incorrect ('i' or no character is expected)",
-    ),
-    (
-        'i',
-        &[],
-        true,
-        "the character 'i' is incorrect (no character is expected)",
-    ),
-    (
-        'x',
-        &['B', 'K', 'M'],
-        false,
-        "the character 'x' is incorrect ('B', 'K' or 'M' is expected)",
-    ),
+const UNIT_ERROR_MESSAGES: &[(char, &[char], bool, &str)] = &rows! {
+    ('é', &['B', 'b'], true, "the character 'é' is incorrect ('B' or 'b' or no character is expected)"),
+    ('x', &['t'], false, "the character 'x' is incorrect ('t' is expected)"),
+    ('x', &['i'], true, "the character 'x' is incorrect ('i' or no character is expected)"),
+    ('i', &[], true, "the character 'i' is incorrect (no character is expected)"),
+    ('x', &['B', 'K', 'M'], false, "the character 'x' is incorrect ('B', 'K' or 'M' is expected)"),
     ('x', &TEN, true, NO_UNIT),
-];
+};
 
 #[test]
 fn messages_of_errors(rt: HostRuntime) {
     let alloc = rt.alloc();
     let price = Decimal::from_u128_with_scale(5084, 2).expect(&rt, "a decimal");
     let ronna = Decimal::from_u128(1_000_000_000_000_000_000_000_000_000).expect(&rt, "a decimal");
-    for (error, wanted) in [
-        (
-            ValueParseError::ExceededBounds(price),
-            "the value 50.84 exceeds the valid range",
-        ),
-        (
-            ValueParseError::ExceededBounds(ronna),
-            "the value 1000000000000000000000000000 exceeds the valid range",
-        ),
-        (
-            ValueParseError::NotNumber('é'),
-            "the character 'é' is not a number",
-        ),
-        (
-            ValueParseError::NotNumber('\t'),
-            "the character '\\t' is not a number",
-        ),
+    for (error, wanted) in rows! {
+        (ValueParseError::ExceededBounds(price), "the value 50.84 exceeds the valid range"),
+        (ValueParseError::ExceededBounds(ronna), "the value 1000000000000000000000000000 exceeds the valid range"),
+        (ValueParseError::NotNumber('é'), "the character 'é' is not a number"),
+        (ValueParseError::NotNumber('\t'), "the character '\\t' is not a number"),
         (ValueParseError::NoValue, "no value can be found"),
         (ValueParseError::NumberTooLong, "value number is too long"),
-    ] {
+    } {
         assert_value_text(&rt, alloc, error, wanted);
     }
     assert_unit_texts(&rt, alloc, UNIT_ERROR_MESSAGES);

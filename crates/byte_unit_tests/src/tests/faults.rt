@@ -19,18 +19,12 @@ const NUMBER_ERRORS: &[(&str, Expected)] = &[
     ("\u{661}", Expected::NotNumber('\u{661}')),
 ];
 
-const NUMBERS_TOO_LONG: &[(&str, Expected)] = &[
+const NUMBERS_TOO_LONG: &[(&str, Expected)] = &rows! {
     ("9.00000000000000000000000000001", Expected::NumberTooLong),
     ("1.00000000000000000000000000000", Expected::NumberTooLong),
-    (
-        "5192296858534827628530496329220096",
-        Expected::NumberTooLong,
-    ),
-    (
-        "5192296858534827628530496329220096 x",
-        Expected::NumberTooLong,
-    ),
-];
+    ("5192296858534827628530496329220096", Expected::NumberTooLong),
+    ("5192296858534827628530496329220096 x", Expected::NumberTooLong),
+};
 
 const ERRORS_BEFORE_A_UNIT: &[(&str, Expected)] = &[
     ("1\tKB", Expected::Unit('\t', &TEN, true)),
@@ -69,19 +63,13 @@ const ERRORS_IGNORING_CASE: &[(&str, Expected)] = &[
     ("1bié", Expected::Unit('é', &['t'], false)),
 ];
 
-const LEFTMOST_ERROR: &[(&str, Expected)] = &[
+const LEFTMOST_ERROR: &[(&str, Expected)] = &rows! {
     ("x x", Expected::NotNumber('x')),
     ("1.x KX", Expected::NotNumber('x')),
     ("1000 YX", Expected::Unit('X', &['B', 'b'], true)),
-    (
-        "5192296858534827628530496329220095 x",
-        Expected::Unit('x', &TEN, true),
-    ),
-    (
-        "9999999999999999999999999999 bi",
-        Expected::Unit('i', &[], true),
-    ),
-];
+    ("5192296858534827628530496329220095 x", Expected::Unit('x', &TEN, true)),
+    ("9999999999999999999999999999 bi", Expected::Unit('i', &[], true)),
+};
 
 /// At each position where the parser switches from bytes to characters.
 const NON_ASCII_CHARACTER_IN_A_NUMBER: &[(&str, Expected)] = &[
@@ -91,28 +79,16 @@ const NON_ASCII_CHARACTER_IN_A_NUMBER: &[(&str, Expected)] = &[
     ("\u{1F600}", Expected::NotNumber('\u{1F600}')),
 ];
 
-const NON_ASCII_CHARACTER_AFTER_A_NUMBER: &[(&str, Expected)] = &[
+const NON_ASCII_CHARACTER_AFTER_A_NUMBER: &[(&str, Expected)] = &rows! {
     ("1\u{7F}", Expected::Unit('\u{7F}', &TEN, true)),
     ("1\u{80}", Expected::Unit('\u{80}', &TEN, true)),
     ("1.5\u{80}", Expected::Unit('\u{80}', &TEN, true)),
     ("1 \u{80}", Expected::Unit('\u{80}', &TEN, true)),
-    (
-        "9999999999999999999\u{80}",
-        Expected::Unit('\u{80}', &TEN, true),
-    ),
-    (
-        "10000000000000000000\u{80}",
-        Expected::Unit('\u{80}', &TEN, true),
-    ),
-    (
-        "1.1234567890123456789\u{80}",
-        Expected::Unit('\u{80}', &TEN, true),
-    ),
-    (
-        "1.12345678901234567891\u{80}",
-        Expected::Unit('\u{80}', &TEN, true),
-    ),
-];
+    ("9999999999999999999\u{80}", Expected::Unit('\u{80}', &TEN, true)),
+    ("10000000000000000000\u{80}", Expected::Unit('\u{80}', &TEN, true)),
+    ("1.1234567890123456789\u{80}", Expected::Unit('\u{80}', &TEN, true)),
+    ("1.12345678901234567891\u{80}", Expected::Unit('\u{80}', &TEN, true)),
+};
 
 const NON_ASCII_CHARACTER_IN_A_UNIT: &[(&str, Expected)] = &[
     ("1K\u{80}", Expected::Unit('\u{80}', &['B', 'b'], true)),

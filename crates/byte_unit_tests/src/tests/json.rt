@@ -35,7 +35,7 @@ fn sizes_and_units_round_trip(rt: HostRuntime) {
     assert_stored(
         &rt,
         rt.alloc(),
-        &[
+        &rows! {
             (bytes_in(4, Unit::GiB), "0.0000000037252902984619140625 GiB"),
             (bytes_in(1, Unit::MiB), "0.00000095367431640625 MiB"),
             (bytes_in(1536, Unit::MB), "0.001536 MB"),
@@ -43,12 +43,9 @@ fn sizes_and_units_round_trip(rt: HostRuntime) {
             (before_last, "999999999999999999999999999.998 KB"),
             (bits_in(15_500, Unit::Kbit), "15.5 Kb"),
             (bits_in(1536, Unit::Mbit), "0.001536 Mb"),
-            (
-                bits_in(4, Unit::Gibit),
-                "0.0000000037252902984619140625 Gib",
-            ),
+            (bits_in(4, Unit::Gibit), "0.0000000037252902984619140625 Gib"),
             (max_bits, "999999999999999999999999999.999 Kb"),
-        ],
+        },
     );
 }
 
@@ -69,18 +66,12 @@ const ONE_BIT_IN_RIB: &str =
 
 #[test]
 fn adjusted_sizes_with_too_many_decimals(rt: HostRuntime) {
-    for (shown, wanted) in [
-        (
-            bytes_in(1, Unit::GiB),
-            "0.000000000931322574615478515625 GiB",
-        ),
-        (
-            bytes_in(2, Unit::GiB),
-            "0.00000000186264514923095703125 GiB",
-        ),
+    for (shown, wanted) in rows! {
+        (bytes_in(1, Unit::GiB), "0.000000000931322574615478515625 GiB"),
+        (bytes_in(2, Unit::GiB), "0.00000000186264514923095703125 GiB"),
         (bytes_in(1, Unit::RiB), ONE_BYTE_IN_RIB),
         (bits_in(1, Unit::RiB), ONE_BIT_IN_RIB),
-    ] {
+    } {
         assert_too_long(&rt, rt.alloc(), &shown, wanted);
     }
     assert_is(&rt, ONE_BYTE_IN_RIB.len(), 2 + 90 + 4);

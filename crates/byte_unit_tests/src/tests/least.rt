@@ -60,35 +60,23 @@ const BITS_OF_THE_FIRST_VERSION: u128 = 8_000_000_000_000_000_000_000_000_000;
 
 const SEVENTH: u128 = 1_000_000_000_000_000_000_000;
 
-const FOUR_STEPS_EACH: &[Least] = &[
+const FOUR_STEPS_EACH: &[Least] = &rows! {
     (0, SEVENTH, 10_000_000, 100, Some(1)),
     (0, SEVENTH + 1, 10_000_000, 100, Some(2)),
-    (
-        0,
-        NINES,
-        YOBIBYTE,
-        BITS_OF_THE_FIRST_VERSION,
-        Some(YOBIBYTE),
-    ),
+    (0, NINES, YOBIBYTE, BITS_OF_THE_FIRST_VERSION, Some(YOBIBYTE)),
     (0, 1, YOBIBYTE, 2, Some(1)),
     (0, 1, YOBIBYTE, 1, None),
     (0, 0, YOBIBYTE, 2, Some(0)),
-];
+};
 
 /// The last two exceed the limit, and 128 bits.
-const IN_THE_LARGEST_UNIT: &[Least] = &[
+const IN_THE_LARGEST_UNIT: &[Least] = &rows! {
     (0, NINES, ROBIBYTE, BITS, Some(ROBIBYTE)),
     (0, 1, ROBIBYTE, BITS, Some(1)),
     (806, NINES, ROBIBYTE, BITS, Some(807 * ROBIBYTE)),
     (807, NINES, ROBIBYTE, BITS, None),
-    (
-        5_192_296_858_534_827_628_530_496_329_220_095,
-        NINES,
-        ROBIBYTE,
-        BITS,
-        None,
-    ),
-];
+    (5_192_296_858_534_827_628_530_496_329_220_095, NINES, ROBIBYTE, BITS, None),
+};
 
 const YOBI: u128 = 1_208_925_819_614_629_174_706_176;
 

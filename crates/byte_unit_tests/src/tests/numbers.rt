@@ -153,7 +153,7 @@ fn bytes_from_integers(rt: HostRuntime) {
     );
     assert_each(
         &rt,
-        &[
+        &rows! {
             ("i8", try_convert::<i8, Byte>(5).ok(), Some(five)),
             ("i16", try_convert::<i16, Byte>(5).ok(), Some(five)),
             ("i32", try_convert::<i32, Byte>(5).ok(), Some(five)),
@@ -161,24 +161,16 @@ fn bytes_from_integers(rt: HostRuntime) {
             ("i64", try_convert::<i64, Byte>(5).ok(), Some(five)),
             ("i128", try_convert::<i128, Byte>(5).ok(), Some(five)),
             ("u128", try_convert::<u128, Byte>(5).ok(), Some(five)),
-            (
-                "10^27",
-                try_convert::<u128, Byte>(1_000_000_000_000_000_000_000_000_000).ok(),
-                Some(Byte::RONNABYTE),
-            ),
-        ],
+            ("10^27", try_convert::<u128, Byte>(1_000_000_000_000_000_000_000_000_000).ok(), Some(Byte::RONNABYTE)),
+        },
     );
     let error = Some(ExceededBoundsError);
     assert_each(
         &rt,
-        &[
+        &rows! {
             ("below 0", try_convert::<i64, Byte>(-1).err(), error),
-            (
-                "10^30",
-                try_convert::<u128, Byte>(MAX_SIZE + 1).err(),
-                error,
-            ),
-        ],
+            ("10^30", try_convert::<u128, Byte>(MAX_SIZE + 1).err(), error),
+        },
     );
 }
 
@@ -197,7 +189,7 @@ fn bits_from_integers(rt: HostRuntime) {
     );
     assert_each(
         &rt,
-        &[
+        &rows! {
             ("i8", try_convert::<i8, Bit>(5).ok(), Some(five)),
             ("i16", try_convert::<i16, Bit>(5).ok(), Some(five)),
             ("i32", try_convert::<i32, Bit>(5).ok(), Some(five)),
@@ -205,12 +197,8 @@ fn bits_from_integers(rt: HostRuntime) {
             ("i64", try_convert::<i64, Bit>(5).ok(), Some(five)),
             ("i128", try_convert::<i128, Bit>(5).ok(), Some(five)),
             ("u128", try_convert::<u128, Bit>(5).ok(), Some(five)),
-            (
-                "10^27",
-                try_convert::<u128, Bit>(1_000_000_000_000_000_000_000_000_000).ok(),
-                Some(Bit::RONNABIT),
-            ),
-        ],
+            ("10^27", try_convert::<u128, Bit>(1_000_000_000_000_000_000_000_000_000).ok(), Some(Bit::RONNABIT)),
+        },
     );
     let error = Some(ExceededBoundsError);
     assert_each(
@@ -228,65 +216,38 @@ fn rejects<N, S: TryFrom<N, Error = TryFromIntError> + Drop>(size: N) -> bool {
 
 #[test]
 fn bytes_into_integers(rt: HostRuntime) {
-    for (number, holds) in [
+    for (number, holds) in rows! {
         ("u128", convert::<Byte, u128>(Byte::MAX) == MAX_SIZE),
         ("u64, cut", convert::<Byte, u64>(Byte::MAX) == u64::MAX),
         ("u64", convert::<Byte, u64>(Byte::KIBIBYTE) == 1024),
-        (
-            "u8",
-            try_convert::<Byte, u8>(Byte::from_u64(255)).ok() == Some(255),
-        ),
-        (
-            "u16",
-            try_convert::<Byte, u16>(Byte::from_u64(300)).ok() == Some(300),
-        ),
-        (
-            "u32",
-            try_convert::<Byte, u32>(Byte::from_u64(4_294_967_295)).ok() == Some(4_294_967_295),
-        ),
-        (
-            "usize",
-            try_convert::<Byte, usize>(Byte::KIBIBYTE).ok() == Some(1024),
-        ),
+        ("u8", try_convert::<Byte, u8>(Byte::from_u64(255)).ok() == Some(255)),
+        ("u16", try_convert::<Byte, u16>(Byte::from_u64(300)).ok() == Some(300)),
+        ("u32", try_convert::<Byte, u32>(Byte::from_u64(4_294_967_295)).ok() == Some(4_294_967_295)),
+        ("usize", try_convert::<Byte, usize>(Byte::KIBIBYTE).ok() == Some(1024)),
         ("no u8", rejects::<Byte, u8>(Byte::from_u64(300))),
         ("no u16", rejects::<Byte, u16>(Byte::from_u64(65_536))),
-        (
-            "no u32",
-            rejects::<Byte, u32>(Byte::from_u64(4_294_967_296)),
-        ),
+        ("no u32", rejects::<Byte, u32>(Byte::from_u64(4_294_967_296))),
         ("no usize", rejects::<Byte, usize>(Byte::MAX)),
-    ] {
+    } {
         assert_for(&rt, holds, number);
     }
 }
 
 #[test]
 fn bits_into_integers(rt: HostRuntime) {
-    for (number, holds) in [
+    for (number, holds) in rows! {
         ("u128", convert::<Bit, u128>(Bit::MAX) == MAX_SIZE),
         ("u64, cut", convert::<Bit, u64>(Bit::MAX) == u64::MAX),
         ("u64", convert::<Bit, u64>(Bit::KIBIBIT) == 1024),
-        (
-            "u8",
-            try_convert::<Bit, u8>(Bit::from_u64(255)).ok() == Some(255),
-        ),
-        (
-            "u16",
-            try_convert::<Bit, u16>(Bit::from_u64(300)).ok() == Some(300),
-        ),
-        (
-            "u32",
-            try_convert::<Bit, u32>(Bit::from_u64(4_294_967_295)).ok() == Some(4_294_967_295),
-        ),
-        (
-            "usize",
-            try_convert::<Bit, usize>(Bit::KIBIBIT).ok() == Some(1024),
-        ),
+        ("u8", try_convert::<Bit, u8>(Bit::from_u64(255)).ok() == Some(255)),
+        ("u16", try_convert::<Bit, u16>(Bit::from_u64(300)).ok() == Some(300)),
+        ("u32", try_convert::<Bit, u32>(Bit::from_u64(4_294_967_295)).ok() == Some(4_294_967_295)),
+        ("usize", try_convert::<Bit, usize>(Bit::KIBIBIT).ok() == Some(1024)),
         ("no u8", rejects::<Bit, u8>(Bit::from_u64(300))),
         ("no u16", rejects::<Bit, u16>(Bit::from_u64(65_536))),
         ("no u32", rejects::<Bit, u32>(Bit::from_u64(4_294_967_296))),
         ("no usize", rejects::<Bit, usize>(Bit::MAX)),
-    ] {
+    } {
         assert_for(&rt, holds, number);
     }
 }

@@ -29,131 +29,33 @@ fn assert_not_number_messages(rt: &impl Abort, alloc: Global, rows: &[(char, &st
     }
 }
 
-const CHARACTERS_OF_A_UNIT: &[(char, &[char], bool, &str)] = &[
-    (
-        'x',
-        &['B', 'b'],
-        true,
-        "the character 'x' is incorrect ('B' or 'b' or no character is expected)",
-    ),
-    (
-        '"',
-        &['B', 'b'],
-        true,
-        "the character '\"' is incorrect ('B' or 'b' or no character is expected)",
-    ),
-    (
-        '\\',
-        &['B', 'b'],
-        true,
-        "the character '\\\\' is incorrect ('B' or 'b' or no character is expected)",
-    ),
-    (
-        '\n',
-        &['B', 'b'],
-        true,
-        "the character '\\n' is incorrect ('B' or 'b' or no character is expected)",
-    ),
-    (
-        '\t',
-        &['B', 'b'],
-        true,
-        "the character '\\t' is incorrect ('B' or 'b' or no character is expected)",
-    ),
-    (
-        '\u{7F}',
-        &['B', 'b'],
-        true,
-        "the character '\\u{7f}' is incorrect ('B' or 'b' or no character is expected)",
-    ),
-    (
-        '\u{301}',
-        &['B', 'b'],
-        true,
-        "the character '\\u{301}' is incorrect ('B' or 'b' or no character is expected)",
-    ),
-    (
-        'é',
-        &['B', 'b'],
-        true,
-        "the character 'é' is incorrect ('B' or 'b' or no character is expected)",
-    ),
-    (
-        '\u{1F600}',
-        &['B', 'b'],
-        true,
-        "the character '\u{1F600}' is incorrect ('B' or 'b' or no character is expected)",
-    ),
-    (
-        '\u{20000}',
-        &['B', 'b'],
-        true,
-        "the character '\u{20000}' is incorrect ('B' or 'b' or no character is expected)",
-    ),
-    (
-        '\u{10FFFF}',
-        &['B', 'b'],
-        true,
-        "the character '\\u{10ffff}' is incorrect ('B' or 'b' or no character is expected)",
-    ),
-    (
-        '\u{FEFF}',
-        &['B', 'b'],
-        true,
-        "the character '\\u{feff}' is incorrect ('B' or 'b' or no character is expected)",
-    ),
-    (
-        '\u{3000}',
-        &['B', 'b'],
-        true,
-        "the character '\\u{3000}' is incorrect ('B' or 'b' or no character is expected)",
-    ),
-    (
-        '\0',
-        &['B', 'b'],
-        true,
-        "the character '\\0' is incorrect ('B' or 'b' or no character is expected)",
-    ),
-    (
-        '\'',
-        &['B', 'b'],
-        true,
-        "the character '\\'' is incorrect ('B' or 'b' or no character is expected)",
-    ),
-];
+const CHARACTERS_OF_A_UNIT: &[(char, &[char], bool, &str)] = &rows! {
+    ('x', &['B', 'b'], true, "the character 'x' is incorrect ('B' or 'b' or no character is expected)"),
+    ('"', &['B', 'b'], true, "the character '\"' is incorrect ('B' or 'b' or no character is expected)"),
+    ('\\', &['B', 'b'], true, "the character '\\\\' is incorrect ('B' or 'b' or no character is expected)"),
+    ('\n', &['B', 'b'], true, "the character '\\n' is incorrect ('B' or 'b' or no character is expected)"),
+    ('\t', &['B', 'b'], true, "the character '\\t' is incorrect ('B' or 'b' or no character is expected)"),
+    ('\u{7F}', &['B', 'b'], true, "the character '\\u{7f}' is incorrect ('B' or 'b' or no character is expected)"),
+    ('\u{301}', &['B', 'b'], true, "the character '\\u{301}' is incorrect ('B' or 'b' or no character is expected)"),
+    ('é', &['B', 'b'], true, "the character 'é' is incorrect ('B' or 'b' or no character is expected)"),
+    ('\u{1F600}', &['B', 'b'], true, "the character '\u{1F600}' is incorrect ('B' or 'b' or no character is expected)"),
+    ('\u{20000}', &['B', 'b'], true, "the character '\u{20000}' is incorrect ('B' or 'b' or no character is expected)"),
+    ('\u{10FFFF}', &['B', 'b'], true,
+        "the character '\\u{10ffff}' is incorrect ('B' or 'b' or no character is expected)"),
+    ('\u{FEFF}', &['B', 'b'], true, "the character '\\u{feff}' is incorrect ('B' or 'b' or no character is expected)"),
+    ('\u{3000}', &['B', 'b'], true, "the character '\\u{3000}' is incorrect ('B' or 'b' or no character is expected)"),
+    ('\0', &['B', 'b'], true, "the character '\\0' is incorrect ('B' or 'b' or no character is expected)"),
+    ('\'', &['B', 'b'], true, "the character '\\'' is incorrect ('B' or 'b' or no character is expected)"),
+};
 
-const EXPECTED_CHARACTERS_IN_MESSAGES: &[(char, &[char], bool, &str)] = &[
-    (
-        'x',
-        &['\n', '\'', 'é'],
-        false,
-        "the character 'x' is incorrect ('\\n', '\\'' or 'é' is expected)",
-    ),
-    (
-        '\u{1F600}',
-        &[],
-        false,
-        "the character '\u{1F600}' is incorrect (no character is expected)",
-    ),
-    (
-        'x',
-        &['\u{1F600}'],
-        true,
-        "the character 'x' is incorrect ('\u{1F600}' or no character is expected)",
-    ),
-    (
-        'x',
-        &['B', '\u{1F600}'],
-        true,
-        "the character 'x' is incorrect ('B' or '\u{1F600}' or no character is expected)",
-    ),
-    (
-        'x',
-        &['B', '\u{1F600}', '\u{10FFFF}', 'b'],
-        true,
-        "the character 'x' is incorrect ('B', '\u{1F600}', '\\u{10ffff}' or 'b' or no character is expected)",
-    ),
-];
+const EXPECTED_CHARACTERS_IN_MESSAGES: &[(char, &[char], bool, &str)] = &rows! {
+    ('x', &['\n', '\'', 'é'], false, "the character 'x' is incorrect ('\\n', '\\'' or 'é' is expected)"),
+    ('\u{1F600}', &[], false, "the character '\u{1F600}' is incorrect (no character is expected)"),
+    ('x', &['\u{1F600}'], true, "the character 'x' is incorrect ('\u{1F600}' or no character is expected)"),
+    ('x', &['B', '\u{1F600}'], true, "the character 'x' is incorrect ('B' or '\u{1F600}' or no character is expected)"),
+    ('x', &['B', '\u{1F600}', '\u{10FFFF}', 'b'], true,
+        "the character 'x' is incorrect ('B', '\u{1F600}', '\\u{10ffff}' or 'b' or no character is expected)"),
+};
 
 /// Asserts that each string is rejected, with the expected message.
 fn assert_rejected(rt: &impl Abort, alloc: Global, kind: Kind, rows: &[(&str, &str)]) {
@@ -165,54 +67,31 @@ fn assert_rejected(rt: &impl Abort, alloc: Global, kind: Kind, rows: &[(&str, &s
     }
 }
 
-const ERRORS_OF_TEXTS: &[(&str, &str)] = &[
+const ERRORS_OF_TEXTS: &[(&str, &str)] = &rows! {
     ("\u{1F600}", "the character '\u{1F600}' is not a number"),
     ("1.\u{1F600}", "the character '\u{1F600}' is not a number"),
-    (
-        "1K\u{1F600}",
-        "the character '\u{1F600}' is incorrect ('B' or 'b' or no character is expected)",
-    ),
-    (
-        "1bi\u{1F600}",
-        "the character '\u{1F600}' is incorrect ('t' is expected)",
-    ),
-    (
-        "1bits\u{1F600}",
-        "the character '\u{1F600}' is incorrect (no character is expected)",
-    ),
-];
+    ("1K\u{1F600}", "the character '\u{1F600}' is incorrect ('B' or 'b' or no character is expected)"),
+    ("1bi\u{1F600}", "the character '\u{1F600}' is incorrect ('t' is expected)"),
+    ("1bits\u{1F600}", "the character '\u{1F600}' is incorrect (no character is expected)"),
+};
 
 /// The message for a size out of range contains its number.
-const ERRORS_OF_BYTES_OUT_OF_RANGE: &[(&str, &str)] = &[
-    (
-        "999999999999999999999999999999.0000000000000000000000000001",
-        "the value 999999999999999999999999999999.0000000000000000000000000001 exceeds the valid range",
-    ),
-    (
-        "1000000000000000000000000000000",
-        "the value 1000000000000000000000000000000 exceeds the valid range",
-    ),
-    (
-        "5192296858534827628530496329220095",
-        "the value 5192296858534827628530496329220095 exceeds the valid range",
-    ),
+const ERRORS_OF_BYTES_OUT_OF_RANGE: &[(&str, &str)] = &rows! {
+    ("999999999999999999999999999999.0000000000000000000000000001",
+        "the value 999999999999999999999999999999.0000000000000000000000000001 exceeds the valid range"),
+    ("1000000000000000000000000000000", "the value 1000000000000000000000000000000 exceeds the valid range"),
+    ("5192296858534827628530496329220095", "the value 5192296858534827628530496329220095 exceeds the valid range"),
     ("1000RB", "the value 1000 exceeds the valid range"),
     ("1000.00 RB", "the value 1000 exceeds the valid range"),
     ("1000000 YB", "the value 1000000 exceeds the valid range"),
-];
+};
 
-const ERRORS_OF_BITS_OUT_OF_RANGE: &[(&str, &str)] = &[
-    (
-        "124.9999999999999999999999999999 RB",
-        "the value 124.9999999999999999999999999999 exceeds the valid range",
-    ),
+const ERRORS_OF_BITS_OUT_OF_RANGE: &[(&str, &str)] = &rows! {
+    ("124.9999999999999999999999999999 RB", "the value 124.9999999999999999999999999999 exceeds the valid range"),
     ("125 RB", "the value 125 exceeds the valid range"),
     ("1000.00 Rb", "the value 1000 exceeds the valid range"),
-    (
-        "1000000000000000000000000000000",
-        "the value 1000000000000000000000000000000 exceeds the valid range",
-    ),
-];
+    ("1000000000000000000000000000000", "the value 1000000000000000000000000000000 exceeds the valid range"),
+};
 
 #[test]
 fn messages_with_a_character(rt: HostRuntime) {

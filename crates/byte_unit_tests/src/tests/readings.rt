@@ -4,7 +4,7 @@ use super::asserting::{assert_are, assert_is};
 use byte_unit::{Bit, Byte, Decimal, Kind, Unit};
 use std::process::Abort;
 
-const BYTES_FROM_STRINGS: &[(&str, Expected)] = &[
+const BYTES_FROM_STRINGS: &[(&str, Expected)] = &rows! {
     ("0001", Expected::Size(1)),
     ("9 b", Expected::Size(2)),
     ("10 b", Expected::Size(2)),
@@ -13,11 +13,8 @@ const BYTES_FROM_STRINGS: &[(&str, Expected)] = &[
     ("1kb", Expected::Size(125)),
     ("1 K", Expected::Size(1000)),
     ("1zb", Expected::Size(125_000_000_000_000_000_000)),
-    (
-        "999999999999999999999999999",
-        Expected::Size(999_999_999_999_999_999_999_999_999),
-    ),
-];
+    ("999999999999999999999999999", Expected::Size(999_999_999_999_999_999_999_999_999)),
+};
 
 const BYTES_IGNORING_CASE: &[(&str, Expected)] = &[
     ("50.84 MB", Expected::Size(50_840_000)),
@@ -40,7 +37,7 @@ const WHITE_SPACE_AROUND_SIZES_IN_BITS: &[(&str, Expected)] = &[
     ("\u{b}\u{c}1Kb\u{85}\u{2028}\u{2029}", Expected::Size(1000)),
 ];
 
-const BITS_FROM_STRINGS: &[(&str, Expected)] = &[
+const BITS_FROM_STRINGS: &[(&str, Expected)] = &rows! {
     ("1KiB", Expected::Size(8192)),
     ("1K", Expected::Size(1000)),
     ("1 B", Expected::Size(8)),
@@ -54,15 +51,9 @@ const BITS_FROM_STRINGS: &[(&str, Expected)] = &[
     ("12 bits", Expected::Size(12)),
     ("50.84 Mb", Expected::Size(50_840_000)),
     ("1zb", Expected::Size(1_000_000_000_000_000_000_000)),
-    (
-        "124.999999999999999999999999 YB",
-        Expected::Size(999_999_999_999_999_999_999_999_992),
-    ),
-    (
-        "999999999999999999999999999",
-        Expected::Size(999_999_999_999_999_999_999_999_999),
-    ),
-];
+    ("124.999999999999999999999999 YB", Expected::Size(999_999_999_999_999_999_999_999_992)),
+    ("999999999999999999999999999", Expected::Size(999_999_999_999_999_999_999_999_999)),
+};
 
 #[test]
 fn sizes_from_strings(rt: HostRuntime) {
@@ -96,14 +87,9 @@ const YOTTA: u128 = 1_000_000_000_000_000_000_000_000;
 /// The number of bytes in a ronnabyte.
 const RONNA: u128 = 1_000_000_000_000_000_000_000_000_000;
 
-const NUMBERS_OF_A_UNIT: &[(Kind, u128, Unit, Option<u128>)] = &[
+const NUMBERS_OF_A_UNIT: &[(Kind, u128, Unit, Option<u128>)] = &rows! {
     (Kind::Byte, 17, Unit::Bit, Some(3)),
-    (
-        Kind::Byte,
-        8 * MAX_SIZE_OF_V1,
-        Unit::Bit,
-        Some(MAX_SIZE_OF_V1),
-    ),
+    (Kind::Byte, 8 * MAX_SIZE_OF_V1, Unit::Bit, Some(MAX_SIZE_OF_V1)),
     (Kind::Byte, 8 * MAX_SIZE_OF_V1 + 1, Unit::Bit, Some(RONNA)),
     (Kind::Byte, 8 * MAX_SIZE, Unit::Bit, Some(MAX_SIZE)),
     (Kind::Byte, 8 * MAX_SIZE + 1, Unit::Bit, None),
@@ -124,7 +110,7 @@ const NUMBERS_OF_A_UNIT: &[(Kind, u128, Unit, Option<u128>)] = &[
     (Kind::Bit, 125, Unit::RB, None),
     (Kind::Bit, u128::MAX, Unit::Bit, None),
     (Kind::Bit, 999, Unit::Ybit, Some(999 * YOTTA)),
-];
+};
 
 /// Returns the size of a decimal number of a unit.
 fn decimal_with_unit(kind: Kind, number: Decimal, unit: Unit) -> Option<u128> {
@@ -135,26 +121,14 @@ fn decimal_with_unit(kind: Kind, number: Decimal, unit: Unit) -> Option<u128> {
 }
 
 /// The kind, the number as a mantissa and a scale, the unit, and the size.
-const DECIMALS_OF_A_UNIT: &[(Kind, u128, u32, Unit, u128)] = &[
-    (
-        Kind::Byte,
-        9_999_999_999_999_999_999_999_999_999,
-        28,
-        Unit::YiB,
-        1_208_925_819_614_629_174_706_176,
-    ),
+const DECIMALS_OF_A_UNIT: &[(Kind, u128, u32, Unit, u128)] = &rows! {
+    (Kind::Byte, 9_999_999_999_999_999_999_999_999_999, 28, Unit::YiB, 1_208_925_819_614_629_174_706_176),
     (Kind::Byte, 1, 28, Unit::YiB, 1),
     (Kind::Byte, 5084, 2, Unit::B, 51),
-    (
-        Kind::Bit,
-        9_999_999_999_999_999_999_999_999_999,
-        28,
-        Unit::YiB,
-        9_671_406_556_917_033_397_649_408,
-    ),
+    (Kind::Bit, 9_999_999_999_999_999_999_999_999_999, 28, Unit::YiB, 9_671_406_556_917_033_397_649_408),
     (Kind::Bit, 1, 28, Unit::YiB, 1),
     (Kind::Bit, 5084, 2, Unit::Bit, 51),
-];
+};
 
 #[test]
 fn numbers_of_a_unit(rt: HostRuntime) {
@@ -178,41 +152,23 @@ fn numbers_of_other_types_in_a_unit(rt: HostRuntime) {
     let price = Decimal::from_u128_with_scale(5084, 2).expect(&rt, "a decimal");
     assert_are(
         &rt,
-        &[
-            (
-                Byte::from_u64_with_unit(15, Unit::KB),
-                Some(Byte::from_u64(15_000)),
-            ),
-            (
-                Byte::from_i128_with_unit(15, Unit::KB),
-                Some(Byte::from_u64(15_000)),
-            ),
-            (
-                Byte::from_i64_with_unit(15, Unit::KB),
-                Some(Byte::from_u64(15_000)),
-            ),
+        &rows! {
+            (Byte::from_u64_with_unit(15, Unit::KB), Some(Byte::from_u64(15_000))),
+            (Byte::from_i128_with_unit(15, Unit::KB), Some(Byte::from_u64(15_000))),
+            (Byte::from_i64_with_unit(15, Unit::KB), Some(Byte::from_u64(15_000))),
             (Byte::from_i64_with_unit(-1, Unit::KB), None),
             (Byte::from_decimal(price), Some(Byte::from_u64(51))),
-        ],
+        },
     );
     assert_are(
         &rt,
-        &[
-            (
-                Bit::from_u64_with_unit(15, Unit::Kbit),
-                Some(Bit::from_u64(15_000)),
-            ),
-            (
-                Bit::from_i128_with_unit(15, Unit::Kbit),
-                Some(Bit::from_u64(15_000)),
-            ),
-            (
-                Bit::from_i64_with_unit(15, Unit::Kbit),
-                Some(Bit::from_u64(15_000)),
-            ),
+        &rows! {
+            (Bit::from_u64_with_unit(15, Unit::Kbit), Some(Bit::from_u64(15_000))),
+            (Bit::from_i128_with_unit(15, Unit::Kbit), Some(Bit::from_u64(15_000))),
+            (Bit::from_i64_with_unit(15, Unit::Kbit), Some(Bit::from_u64(15_000))),
             (Bit::from_i64_with_unit(-1, Unit::KB), None),
             (Bit::from_i64_with_unit(-1, Unit::Kbit), None),
             (Bit::from_decimal(price), Some(Bit::from_u64(51))),
-        ],
+        },
     );
 }

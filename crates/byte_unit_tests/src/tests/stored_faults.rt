@@ -27,16 +27,13 @@ fn values_that_are_not_strings(rt: HostRuntime) {
 
 #[test]
 fn strings_that_are_not_sizes(rt: HostRuntime) {
-    for (text, wanted) in [
+    for (text, wanted) in rows! {
         ("1e3", Expected::Unit('3', &['B', 'b'], true)),
         ("", Expected::NoValue),
         ("x", Expected::NotNumber('x')),
-        (
-            "0.00000000000000000000000000001 GiB",
-            Expected::NumberTooLong,
-        ),
+        ("0.00000000000000000000000000001 GiB", Expected::NumberTooLong),
         ("1000 RB", Expected::Exceeded(1000, 0)),
-    ] {
+    } {
         let text = String::from_str(rt.alloc(), text).expect(&rt, "memory");
         assert_rejected_by_each(&rt, &Value::String(text), wanted);
     }

@@ -9,20 +9,13 @@ use std::alloc::{AllocError, Global};
 use std::process::Abort;
 
 /// A number, and the strings of the size of that number of bytes and of bits.
-const SIZES: &[(u128, &str, &str)] = &[
+const SIZES: &[(u128, &str, &str)] = &rows! {
     (0, "0 B", "0 b"),
-    (
-        18_446_744_073_709_551_615,
-        "18446744073709551.615 KB",
-        "18446744073709551.615 Kb",
-    ),
+    (18_446_744_073_709_551_615, "18446744073709551.615 KB", "18446744073709551.615 Kb"),
     (18_446_744_073_709_551_616, "16 EiB", "16 Eib"),
-    (
-        999_999_999_999_999_999_999_999_999_999,
-        "999999999999999999999999999.999 KB",
-        "999999999999999999999999999.999 Kb",
-    ),
-];
+    (999_999_999_999_999_999_999_999_999_999, "999999999999999999999999999.999 KB",
+        "999999999999999999999999999.999 Kb"),
+};
 
 /// Asserts that the sizes are this number of bytes, and of bits.
 fn assert_sizes(rt: &impl Abort, values: &Values, number: u128) {

@@ -13,96 +13,44 @@ const MAX_SIZE: u128 = 999_999_999_999_999_999_999_999_999_999;
 
 const PLUS: FormatSpec = spec!(false, Sign::Plus, None, None, None);
 
-const MINIMUM_AND_MAXIMUM_SIZES: &[(u128, FormatSpec, &str)] = &[
-    (
-        MAX_SIZE,
-        FormatSpec::ALTERNATE,
-        "999999999999999999999999999.999 KB",
-    ),
+const MINIMUM_AND_MAXIMUM_SIZES: &[(u128, FormatSpec, &str)] = &rows! {
+    (MAX_SIZE, FormatSpec::ALTERNATE, "999999999999999999999999999.999 KB"),
     (MAX_SIZE, precise!(9), "999999999999999999999.999999999 GB"),
     (MAX_SIZE, precise!(28), "999.999999999999999999999999999 RB"),
-    (
-        MAX_SIZE,
-        FormatSpec::PLAIN,
-        "999999999999999999999999999999",
-    ),
+    (MAX_SIZE, FormatSpec::PLAIN, "999999999999999999999999999999"),
     (500, FormatSpec::ALTERNATE, "500 B"),
     (0, FormatSpec::ALTERNATE, "0 B"),
     (0, PLUS, "+0"),
-];
+};
 
 /// Numbers with a few decimals, just below and above 2^64 in units of the last decimal.
-const FORMS_BEYOND_64_BITS: &[(u128, FormatSpec, &str)] = &[
-    (
-        18_446_744_073_709_551_615,
-        FormatSpec::ALTERNATE,
-        "18446744073709551.615 KB",
-    ),
-    (
-        18_446_744_073_709_551_617,
-        FormatSpec::ALTERNATE,
-        "18446744073709551.617 KB",
-    ),
-    (
-        18_446_744_073_709_551_620,
-        FormatSpec::ALTERNATE,
-        "18446744073709551.62 KB",
-    ),
-    (
-        18_446_744_073_709_551_700,
-        FormatSpec::ALTERNATE,
-        "18446744073709551.7 KB",
-    ),
-];
+const FORMS_BEYOND_64_BITS: &[(u128, FormatSpec, &str)] = &rows! {
+    (18_446_744_073_709_551_615, FormatSpec::ALTERNATE, "18446744073709551.615 KB"),
+    (18_446_744_073_709_551_617, FormatSpec::ALTERNATE, "18446744073709551.617 KB"),
+    (18_446_744_073_709_551_620, FormatSpec::ALTERNATE, "18446744073709551.62 KB"),
+    (18_446_744_073_709_551_700, FormatSpec::ALTERNATE, "18446744073709551.7 KB"),
+};
 
 /// The maximum size of v1.
 const OLD: u128 = 999_999_999_999_999_999_999_999_999;
 
 /// As v1 formatted it.
-const MAXIMUM_SIZE_OF_V1: &[(u128, FormatSpec, &str)] = &[
+const MAXIMUM_SIZE_OF_V1: &[(u128, FormatSpec, &str)] = &rows! {
     (OLD, FormatSpec::PLAIN, "999999999999999999999999999"),
-    (
-        OLD,
-        FormatSpec::ALTERNATE,
-        "999999999999999999999999.999 KB",
-    ),
+    (OLD, FormatSpec::ALTERNATE, "999999999999999999999999.999 KB"),
     (OLD, precise!(9), "999999999999999999.999999999 GB"),
     (OLD, precise!(28), "999.999999999999999999999999 YB"),
-];
+};
 
 /// 10^24 + 2^24, 2^89, 5^38, and 2^80 + 2^51, with precisions above 28, which count as 28.
-const SIZES_OF_FEW_FACTORS: &[(u128, FormatSpec, &str)] = &[
-    (
-        1_000_000_000_000_000_016_777_216,
-        precise!(28),
-        "1.000000000000000016777216 YB",
-    ),
-    (
-        1_000_000_000_000_000_016_777_216,
-        precise!(10),
-        "931322574615478.53125 GiB",
-    ),
-    (
-        1_000_000_000_000_000_016_777_216,
-        FormatSpec::ALTERNATE,
-        "953674316406250016 MiB",
-    ),
-    (
-        618_970_019_642_690_137_449_562_112,
-        FormatSpec::ALTERNATE,
-        "512 YiB",
-    ),
-    (
-        363_797_880_709_171_295_166_015_625,
-        precise!(28),
-        "363.797880709171295166015625 YB",
-    ),
-    (
-        1_208_925_821_866_428_988_391_424,
-        precise!(29),
-        "1.208925821866428988391424 YB",
-    ),
-];
+const SIZES_OF_FEW_FACTORS: &[(u128, FormatSpec, &str)] = &rows! {
+    (1_000_000_000_000_000_016_777_216, precise!(28), "1.000000000000000016777216 YB"),
+    (1_000_000_000_000_000_016_777_216, precise!(10), "931322574615478.53125 GiB"),
+    (1_000_000_000_000_000_016_777_216, FormatSpec::ALTERNATE, "953674316406250016 MiB"),
+    (618_970_019_642_690_137_449_562_112, FormatSpec::ALTERNATE, "512 YiB"),
+    (363_797_880_709_171_295_166_015_625, precise!(28), "363.797880709171295166015625 YB"),
+    (1_208_925_821_866_428_988_391_424, precise!(29), "1.208925821866428988391424 YB"),
+};
 
 const TEN: FormatSpec = spec!(true, Sign::Unset, None, Some(10), None);
 
@@ -322,20 +270,17 @@ fn assert_plain(rt: &impl Abort, alloc: Global, rows: &[(u128, &str)]) {
     }
 }
 
-const DIGITS_BEYOND_64_BITS: &[(u128, &str)] = &[
+const DIGITS_BEYOND_64_BITS: &[(u128, &str)] = &rows! {
     (0, "0"),
     (1, "1"),
     (10, "10"),
     (18_446_744_073_709_551_615, "18446744073709551615"),
     (18_446_744_073_709_551_616, "18446744073709551616"),
     (20_000_000_000_000_000_007, "20000000000000000007"),
-    (
-        1_000_000_000_000_000_000_000_000_000,
-        "1000000000000000000000000000",
-    ),
+    (1_000_000_000_000_000_000_000_000_000, "1000000000000000000000000000"),
     (MAX_SIZE, "999999999999999999999999999999"),
     (u128::MAX, "340282366920938463463374607431768211455"),
-];
+};
 
 #[test]
 fn appended_texts(rt: HostRuntime) {

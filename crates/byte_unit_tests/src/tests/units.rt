@@ -17,7 +17,7 @@ fn exact(kind: Kind, size: u128, allow: bool) -> Option<(u128, Unit)> {
     }
 }
 
-const EXACT_UNITS: &[(Kind, u128, bool, u128, Unit)] = &[
+const EXACT_UNITS: &[(Kind, u128, bool, u128, Unit)] = &rows! {
     (Kind::Byte, 50_840_000, false, 50_840, Unit::KB),
     (Kind::Byte, 437_500, false, 437_500, Unit::B),
     (Kind::Byte, 437_500, true, 3500, Unit::Kbit),
@@ -28,22 +28,10 @@ const EXACT_UNITS: &[(Kind, u128, bool, u128, Unit)] = &[
     (Kind::Bit, 16, true, 16, Unit::Bit),
     (Kind::Bit, 0, true, 0, Unit::Bit),
     // With units of either kind, it is a whole number of the larger `Rbit`.
-    (
-        Kind::Byte,
-        125_000_000_000_000_000_000_000_000,
-        true,
-        1,
-        Unit::Rbit,
-    ),
+    (Kind::Byte, 125_000_000_000_000_000_000_000_000, true, 1, Unit::Rbit),
     // As in v1.
-    (
-        Kind::Byte,
-        125_000_000_000_000_000_000_000_000,
-        false,
-        125,
-        Unit::YB,
-    ),
-];
+    (Kind::Byte, 125_000_000_000_000_000_000_000_000, false, 125, Unit::YB),
+};
 
 /// Returns the recoverable unit of a size.
 fn recoverable(kind: Kind, size: u128, allow: bool, precision: usize) -> Option<(Decimal, Unit)> {
@@ -131,78 +119,22 @@ const FIVES: u128 = 363_797_880_709_171_295_166_015_625;
 /// 5^42.
 const MORE_FIVES: u128 = 227_373_675_443_232_059_478_759_765_625;
 
-const RECOVERABLE_UNITS_OF_LARGE_SIZES: &[RecoverableUnit] = &[
+const RECOVERABLE_UNITS_OF_LARGE_SIZES: &[RecoverableUnit] = &rows! {
     (Kind::Byte, MAX_SIZE, true, 3, MAX_SIZE, 3, Unit::KB),
     (Kind::Byte, MAX_SIZE, true, 10, MAX_SIZE, 9, Unit::GB),
     (Kind::Byte, MAX_SIZE, true, 28, MAX_SIZE, 27, Unit::RB),
-    (
-        Kind::Byte,
-        MAX_SIZE_OF_V1,
-        true,
-        3,
-        MAX_SIZE_OF_V1,
-        3,
-        Unit::KB,
-    ),
-    (
-        Kind::Byte,
-        MAX_SIZE_OF_V1,
-        true,
-        10,
-        MAX_SIZE_OF_V1,
-        9,
-        Unit::GB,
-    ),
-    (
-        Kind::Byte,
-        MAX_SIZE_OF_V1,
-        false,
-        28,
-        MAX_SIZE_OF_V1,
-        24,
-        Unit::YB,
-    ),
+    (Kind::Byte, MAX_SIZE_OF_V1, true, 3, MAX_SIZE_OF_V1, 3, Unit::KB),
+    (Kind::Byte, MAX_SIZE_OF_V1, true, 10, MAX_SIZE_OF_V1, 9, Unit::GB),
+    (Kind::Byte, MAX_SIZE_OF_V1, false, 28, MAX_SIZE_OF_V1, 24, Unit::YB),
     (Kind::Byte, NEAR, false, 29, NEAR, 24, Unit::YB),
     (Kind::Byte, SUM, false, 28, SUM, 24, Unit::YB),
-    (
-        Kind::Byte,
-        SUM,
-        false,
-        10,
-        93_132_257_461_547_853_125,
-        5,
-        Unit::GiB,
-    ),
-    (
-        Kind::Byte,
-        SUM,
-        false,
-        3,
-        953_674_316_406_250_016,
-        0,
-        Unit::MiB,
-    ),
-    (
-        Kind::Byte,
-        618_970_019_642_690_137_449_562_112,
-        false,
-        3,
-        512,
-        0,
-        Unit::YiB,
-    ),
-    (
-        Kind::Byte,
-        633_825_300_114_114_700_748_351_602_688,
-        false,
-        3,
-        512,
-        0,
-        Unit::RiB,
-    ),
+    (Kind::Byte, SUM, false, 10, 93_132_257_461_547_853_125, 5, Unit::GiB),
+    (Kind::Byte, SUM, false, 3, 953_674_316_406_250_016, 0, Unit::MiB),
+    (Kind::Byte, 618_970_019_642_690_137_449_562_112, false, 3, 512, 0, Unit::YiB),
+    (Kind::Byte, 633_825_300_114_114_700_748_351_602_688, false, 3, 512, 0, Unit::RiB),
     (Kind::Byte, FIVES, false, 28, FIVES, 24, Unit::YB),
     (Kind::Byte, MORE_FIVES, false, 28, MORE_FIVES, 27, Unit::RB),
-];
+};
 
 /// The kind, the size, whether units of the other kind are allowed, and the precision; then the step count.
 const STEPS_OF_THE_CHOICE: &[(Kind, u128, bool, usize, u64)] = &[

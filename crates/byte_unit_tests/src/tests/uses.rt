@@ -10,6 +10,7 @@ use byte_unit_uses::defaults::default_limits;
 use byte_unit_uses::entry::{Entry, add, filter_below};
 use byte_unit_uses::limit::{limit, limit_ok, limit_or, rate, unwrap_limit_or};
 use byte_unit_uses::literal::{adjusted_unit, spaces, unit};
+use byte_unit_uses::log::{Log, Written};
 use byte_unit_uses::message::parse_argument;
 use byte_unit_uses::quota::{QuotaError, left, share};
 use byte_unit_uses::settings::{Settings, SettingsError, read_settings};
@@ -23,58 +24,26 @@ fn limits_from_strings(rt: HostRuntime) {
     let half = Some(Byte::from_u64(500_000_000));
     assert_each(
         &rt,
-        &[
-            (
-                "limit",
-                limit("1.5 GiB").ok(),
-                Some(Byte::from_u64(1_610_612_736)),
-            ),
-            (
-                "limit_ok",
-                limit_ok("20 mb"),
-                Some(Byte::from_u64(20_000_000)),
-            ),
+        &rows! {
+            ("limit", limit("1.5 GiB").ok(), Some(Byte::from_u64(1_610_612_736))),
+            ("limit_ok", limit_ok("20 mb"), Some(Byte::from_u64(20_000_000))),
             ("limit_ok of no size", limit_ok("20 x"), None),
-            (
-                "limit_or",
-                Some(limit_or("4 KiB", mib)),
-                Some(Byte::from_u64(4096)),
-            ),
-            (
-                "limit_or of no size",
-                Some(limit_or("much", mib)),
-                Some(mib),
-            ),
-            (
-                "unwrap_limit_or",
-                Some(unwrap_limit_or(limit("1 MB"), kib)),
-                Some(Byte::MEGABYTE),
-            ),
-            (
-                "unwrap_limit_or of no size",
-                Some(unwrap_limit_or(limit("1 x"), kib)),
-                Some(kib),
-            ),
-        ],
+            ("limit_or", Some(limit_or("4 KiB", mib)), Some(Byte::from_u64(4096))),
+            ("limit_or of no size", Some(limit_or("much", mib)), Some(mib)),
+            ("unwrap_limit_or", Some(unwrap_limit_or(limit("1 MB"), kib)), Some(Byte::MEGABYTE)),
+            ("unwrap_limit_or of no size", Some(unwrap_limit_or(limit("1 x"), kib)), Some(kib)),
+        },
     );
     assert_each(
         &rt,
-        &[
+        &rows! {
             ("below the maximum", limit_at_most("500 MB", max).ok(), half),
             ("the maximum", limit_at_most("1 GB", max).ok(), Some(max)),
-            (
-                "above the maximum",
-                limit_at_most("2 GB", max).ok(),
-                Some(max),
-            ),
-            (
-                "exceeded",
-                max_exceeded(&read_limit("2 GB", max)),
-                Some(max),
-            ),
+            ("above the maximum", limit_at_most("2 GB", max).ok(), Some(max)),
+            ("exceeded", max_exceeded(&read_limit("2 GB", max)), Some(max)),
             ("not exceeded", max_exceeded(&read_limit("1 GB", max)), None),
             ("no size", max_exceeded(&read_limit("2 X", max)), None),
-        ],
+        },
     );
     assert_is(&rt, rate("100 Mbit").ok(), Some(Bit::from_u64(100_000_000)));
 }
@@ -121,6 +90,24 @@ fn literals_and_quotas(rt: HostRuntime) {
         Some(Some(Byte::from_u64(3333))),
     );
     assert_is(&rt, share("10 KB", 0).ok(), Some(None));
+}
+
+#[test]
+fn log_rotated_by_size(rt: HostRuntime) {
+    let mut log = Log::new(Byte::from_u64(65_536));
+    for (entry, wanted, size) in rows! {
+        (20_480, Written::Added, 20_480),
+        (30_720, Written::Added, 51_200),
+        (14_336, Written::Added, 65_536),
+        (1, Written::Rotated(Byte::from_u64(65_536)), 1),
+        (100_000, Written::TooLarge, 1),
+        (60_000, Written::Added, 60_001),
+        (5632, Written::Rotated(Byte::from_u64(60_001)), 5632),
+    } {
+        let written = log.write(Byte::from_u64(entry));
+        let wanted = (wanted, Byte::from_u64(size));
+        assert_is(&rt, (written, log.size()), wanted);
+    }
 }
 
 /// Creates a JSON string.

@@ -46,54 +46,20 @@ fn assert_widest(rt: &impl Abort, alloc: Global, rows: &[Row]) {
 
 const MAXIMUM_DECIMALS: FormatSpec = spec!(false, Sign::Plus, Some(65_535), None, None);
 
-const MAXIMUM_PRECISION: &[Row] = &[
-    (
-        Kind::Byte,
-        MAX_SIZE,
-        Some(Unit::Kbit),
-        MAXIMUM_DECIMALS,
-        65_568,
-        &[
-            ("7999999999999999999999999999.992", 1),
-            ("0", 65_532),
-            ("  Kb", 1),
-        ],
-    ),
-    (
-        Kind::Bit,
-        MAX_SIZE,
-        Some(Unit::Kbit),
-        MAXIMUM_DECIMALS,
-        65_567,
-        &[
-            ("999999999999999999999999999.999", 1),
-            ("0", 65_532),
-            ("  Kb", 1),
-        ],
-    ),
-    (
-        Kind::Byte,
-        10_000,
-        Some(Unit::KB),
-        places!(65_535),
-        65_541,
-        &[("10.", 1), ("0", 65_535), (" KB", 1)],
-    ),
-];
+const MAXIMUM_PRECISION: &[Row] = &rows! {
+    (Kind::Byte, MAX_SIZE, Some(Unit::Kbit), MAXIMUM_DECIMALS, 65_568,
+        &[("7999999999999999999999999999.992", 1), ("0", 65_532), ("  Kb", 1)]),
+    (Kind::Bit, MAX_SIZE, Some(Unit::Kbit), MAXIMUM_DECIMALS, 65_567,
+        &[("999999999999999999999999999.999", 1), ("0", 65_532), ("  Kb", 1)]),
+    (Kind::Byte, 10_000, Some(Unit::KB), places!(65_535), 65_541, &[("10.", 1), ("0", 65_535), (" KB", 1)]),
+};
 
 const WIDE: FormatSpec = spec!(false, Sign::Unset, None, Some(65_535), None);
 
-const MAXIMUM_WIDTH_OF_A_PLAIN_TEXT: &[Row] = &[
-    (
-        Kind::Byte,
-        0,
-        None,
-        WIDE,
-        65_535,
-        &[(" ", 65_534), ("0", 1)],
-    ),
+const MAXIMUM_WIDTH_OF_A_PLAIN_TEXT: &[Row] = &rows! {
+    (Kind::Byte, 0, None, WIDE, 65_535, &[(" ", 65_534), ("0", 1)]),
     (Kind::Bit, 0, None, WIDE, 65_535, &[(" ", 65_534), ("0", 1)]),
-];
+};
 
 const RIGHT: FormatSpec = spec!(true, Sign::Unset, None, Some(65_535), Some(Align::Right));
 
@@ -127,108 +93,34 @@ const BOTH_WITH_UNIT: FormatSpec = spec!(
 );
 
 /// A precision does not change a plain text, and one above 28 counts as 28.
-const MAXIMUM_WIDTH_AND_PRECISION_OF_SIZES: &[Row] = &[
-    (
-        Kind::Byte,
-        MAX_SIZE,
-        None,
-        BOTH,
-        65_535,
-        &[(" ", 65_505), ("999999999999999999999999999999", 1)],
-    ),
-    (
-        Kind::Bit,
-        MAX_SIZE,
-        None,
-        BOTH,
-        65_535,
-        &[(" ", 65_505), ("999999999999999999999999999999", 1)],
-    ),
-    (
-        Kind::Byte,
-        MAX_SIZE,
-        None,
-        BOTH_WITH_UNIT,
-        65_535,
-        &[(" ", 65_501), ("999.999999999999999999999999999 RB", 1)],
-    ),
-    (
-        Kind::Bit,
-        MAX_SIZE,
-        None,
-        BOTH_WITH_UNIT,
-        65_535,
-        &[(" ", 65_501), ("999.999999999999999999999999999 Rb", 1)],
-    ),
-];
+const MAXIMUM_WIDTH_AND_PRECISION_OF_SIZES: &[Row] = &rows! {
+    (Kind::Byte, MAX_SIZE, None, BOTH, 65_535, &[(" ", 65_505), ("999999999999999999999999999999", 1)]),
+    (Kind::Bit, MAX_SIZE, None, BOTH, 65_535, &[(" ", 65_505), ("999999999999999999999999999999", 1)]),
+    (Kind::Byte, MAX_SIZE, None, BOTH_WITH_UNIT, 65_535, &[(" ", 65_501), ("999.999999999999999999999999999 RB", 1)]),
+    (Kind::Bit, MAX_SIZE, None, BOTH_WITH_UNIT, 65_535, &[(" ", 65_501), ("999.999999999999999999999999999 Rb", 1)]),
+};
 
 /// The requested decimals exceed the width.
-const MORE_DECIMALS_THAN_WIDTH: &[Row] = &[
-    (
-        Kind::Byte,
-        MAX_SIZE,
-        Some(Unit::KB),
-        BOTH,
-        65_566,
-        &[
-            ("999999999999999999999999999.999", 1),
-            ("0", 65_532),
-            (" KB", 1),
-        ],
-    ),
-    (
-        Kind::Bit,
-        MAX_SIZE,
-        Some(Unit::Kbit),
-        BOTH,
-        65_566,
-        &[
-            ("999999999999999999999999999.999", 1),
-            ("0", 65_532),
-            (" Kb", 1),
-        ],
-    ),
-];
+const MORE_DECIMALS_THAN_WIDTH: &[Row] = &rows! {
+    (Kind::Byte, MAX_SIZE, Some(Unit::KB), BOTH, 65_566,
+        &[("999999999999999999999999999.999", 1), ("0", 65_532), (" KB", 1)]),
+    (Kind::Bit, MAX_SIZE, Some(Unit::Kbit), BOTH, 65_566,
+        &[("999999999999999999999999999.999", 1), ("0", 65_532), (" Kb", 1)]),
+};
 
 /// With an alternate spec, a precision above 16 counts as 16.
-const SIXTEEN_DECIMALS: &[Row] = &[
-    (
-        Kind::Byte,
-        MAX_SIZE,
-        Some(Unit::KB),
-        BOTH_WITH_UNIT,
-        65_535,
-        &[(" ", 65_501), ("999999999999999999999999999.999 KB", 1)],
-    ),
-    (
-        Kind::Bit,
-        MAX_SIZE,
-        Some(Unit::Kbit),
-        BOTH_WITH_UNIT,
-        65_535,
-        &[(" ", 65_501), ("999999999999999999999999999.999 Kb", 1)],
-    ),
-];
+const SIXTEEN_DECIMALS: &[Row] = &rows! {
+    (Kind::Byte, MAX_SIZE, Some(Unit::KB), BOTH_WITH_UNIT, 65_535,
+        &[(" ", 65_501), ("999999999999999999999999999.999 KB", 1)]),
+    (Kind::Bit, MAX_SIZE, Some(Unit::Kbit), BOTH_WITH_UNIT, 65_535,
+        &[(" ", 65_501), ("999999999999999999999999999.999 Kb", 1)]),
+};
 
 /// In the base unit a precision is ignored, unless the spec is alternate.
-const MAXIMUM_WIDTH_AND_PRECISION_OF_SHORT_TEXTS: &[Row] = &[
-    (
-        Kind::Bit,
-        MAX_SIZE,
-        Some(Unit::Bit),
-        BOTH,
-        65_535,
-        &[(" ", 65_503), ("999999999999999999999999999999 b", 1)],
-    ),
-    (
-        Kind::Byte,
-        1,
-        Some(Unit::MiB),
-        BOTH_WITH_UNIT,
-        65_535,
-        &[(" ", 65_513), ("0.0000009536743164 MiB", 1)],
-    ),
-];
+const MAXIMUM_WIDTH_AND_PRECISION_OF_SHORT_TEXTS: &[Row] = &rows! {
+    (Kind::Bit, MAX_SIZE, Some(Unit::Bit), BOTH, 65_535, &[(" ", 65_503), ("999999999999999999999999999999 b", 1)]),
+    (Kind::Byte, 1, Some(Unit::MiB), BOTH_WITH_UNIT, 65_535, &[(" ", 65_513), ("0.0000009536743164 MiB", 1)]),
+};
 
 const TO_LEFT: FormatSpec = spec!(false, Sign::Unset, None, Some(65_535), Some(Align::Left));
 

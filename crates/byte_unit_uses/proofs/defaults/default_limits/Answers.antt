@@ -1,4 +1,4 @@
--- What the text is parsed as is computed: a JSON object, in which the string at each key is parsed as its size.
+-- What the text is parsed as is computed: a JSON object with a size at each key.
 use Rattle.std.proofs.Common.{◌≡◌, ◌∙◌, ◌*◌, ◌^◌, ℕ, List, Option, Some, None, Result, Ok, Err, Bor, IsOk, IsSome, codes, false, refl, sym, ap}
 use Rattle.std.specs.Prelude.{⊤, option_and_then, option_map}
 use Rattle.std.proofs.lemmas.Option.{same_Some}
@@ -24,21 +24,22 @@ use Rattle.byte_unit_uses.proofs.defaults.default_limits.Goals as goal
 abbrev size_of : Option Data → Option (Result ℕ Fault)
 size_of content = option_map (parsed_size Byte false) (option_and_then as_str content)
 
--- the same for the value at a key of a JSON text
-abbrev size_at : List ℕ → List ℕ → Option (Result ℕ Fault)
-size_at key text = size_of (option_and_then (get key) (read_text text))
+-- The default limits have this size at the key.
+record HasSize (key : List ℕ) (n : ℕ) : Type 0 where
+  computed : size_of (option_and_then (get key) (read_text DEFAULTS.now)) ≡ Some (Ok n)
 
--- the value that is found at a key of a text has the size that the text has there
-size_found : (key text : List ℕ) (size : Result ℕ Fault) (found : Option (Bor Value)) (document : Data)
-    → size_at key text ≡ Some size → read_text text ≡ Some document → option_map (λ v. view v.now) found ≡ get key document
-    → size_of (option_map (λ v. view v.now) found) ≡ Some size
-size_found key text size found document computed is_text finds =
-    ap size_of (finds ∙ ap (option_and_then (get key)) (sym is_text)) ∙ computed
+cache : HasSize (codes "cache") (64 * 2 ^ 20)
+unfolding serde_json_on_literals byte_unit_on_literals
+cache = record { computed = refl }
 
--- a search that finds a size finds a value
-is_found : (found : Option (Bor Value)) (size : Result ℕ Fault) → size_of (option_map (λ v. view v.now) found) ≡ Some size → IsSome found
-is_found (Some value) size computed = refl
-is_found None size computed = absurd (let z : ⊥ = cc in z)
+upload : HasSize (codes "upload") (20 * 10 ^ 6)
+unfolding serde_json_on_literals byte_unit_on_literals
+upload = record { computed = refl }
+
+-- a value with a size is there
+is_some : (found : Option (Bor Value)) (size : Result ℕ Fault) → size_of (option_map (λ v. view v.now) found) ≡ Some size → IsSome found
+is_some (Some value) size computed = refl
+is_some None size computed = absurd (let z : ⊥ = cc in z)
 
 -- a JSON string is parsed as its size
 is_parsed : (text : Option (List ℕ)) (n : ℕ) (result : Result ℕ JsonSizeError)
@@ -48,17 +49,28 @@ is_parsed (Some bytes) n result computed reads =
     reads.2 ∙ ap (string_answer size_errors) (reads.1.reads n (accepted_literal Byte false bytes n (same_Some _ _ computed)))
 is_parsed None n result computed reads = absurd (let z : ⊥ = cc in z)
 
--- the value that is found is parsed as its size
-size_is : (found : Option (Bor Value)) (value : Bor Value) (n : ℕ) (result : Result ℕ JsonSizeError)
-    → size_of (option_map (λ v. view v.now) found) ≡ Some (Ok n) → found ≡ Some value
-    → ReadsString size_errors (IsSizeReading Byte false) (as_str (view value.now)) result → result ≡ Ok n
-size_is found value n result computed is reads =
-    is_parsed (as_str (view value.now)) n result (ap (λ f. size_of (option_map (λ v. view v.now) f)) (sym is) ∙ computed) reads
+-- What is found at the key of a size has the size, so it is there. It is parsed as the size, so without an error.
+module _ {key : List ℕ} {n : ℕ} (size : HasSize key n) (document : Data) (is_text : read_text DEFAULTS.now ≡ Some document)
+    (found : Option (Bor Value)) (finds : option_map (λ v. view v.now) found ≡ get key document) where
 
--- a size is no error
-is_ok_size : {E : Type 0} (result : Result ℕ E) (n : ℕ) → result ≡ Ok n → IsOk result
-is_ok_size (Ok m) n e = refl
-is_ok_size (Err error) n e = absurd (let z : ⊥ = cc in z)
+  has_size : size_of (option_map (λ v. view v.now) found) ≡ Some (Ok n)
+  has_size = ap size_of (finds ∙ ap (option_and_then (get key)) (sym is_text)) ∙ size.computed
+
+  is_found : IsSome found
+  is_found = is_some found _ has_size
+
+  module _ {value : Bor Value} (result : Result ℕ JsonSizeError) (is : found ≡ Some value)
+      (reads : ReadsString size_errors (IsSizeReading Byte false) (as_str (view value.now)) result) where
+
+    parsed : result ≡ Ok n
+    parsed =
+      is_parsed (as_str (view value.now)) n result (ap (λ f. size_of (option_map (λ v. view v.now) f)) (sym is) ∙ has_size) reads
+
+    is_ok : IsOk result
+    is_ok = rw parsed refl
+
+    is_size : {m : ℕ} → result ≡ Ok m → m ≡ n
+    is_size {m} e = let same : Ok m ≡ Ok n = sym e ∙ parsed in cc
 
 pub returns-in_err-settings-clause-memory : goal.returns-in_err-settings-clause-memory
 unfolding serde_json_on_literals
@@ -67,41 +79,25 @@ returns-in_err-settings-clause-memory c =
     rw (p.1, p.2) (IsMemory-from_err {T = ⊤} (Err c.in_err-settings.field-0.0) _ c.in_err-settings.ensures.err refl)
 
 pub unwrap-cache-requires : goal.unwrap-cache-requires
-unfolding serde_json_on_literals byte_unit_on_literals
-unwrap-cache-requires c = is_found c.get.result _ (size_found (codes "cache") DEFAULTS.now _ c.get.result _ refl c.in_ok-settings.ensures.ok c.get.ensures)
+unwrap-cache-requires c = is_found cache _ c.in_ok-settings.ensures.ok _ c.get.ensures
 
 pub unwrap-upload-requires : goal.unwrap-upload-requires
-unfolding serde_json_on_literals byte_unit_on_literals
-unwrap-upload-requires c = is_found c.get-2.result _ (size_found (codes "upload") DEFAULTS.now _ c.get-2.result _ refl c.in_ok-settings.ensures.ok c.get-2.ensures)
+unwrap-upload-requires c = is_found upload _ c.in_ok-settings.ensures.ok _ c.get-2.ensures
 
 pub unwrap-requires : goal.unwrap-requires
-unfolding serde_json_on_literals byte_unit_on_literals
 unwrap-requires c =
-    let found = size_found (codes "cache") DEFAULTS.now (Ok _) c.get.result _ refl c.in_ok-settings.ensures.ok c.get.ensures in
-    is_ok_size c.from_json.result _ (size_is c.get.result c.unwrap-cache.result _ c.from_json.result found
-    c.unwrap-cache.ensures c.from_json.ensures)
+    is_ok cache _ c.in_ok-settings.ensures.ok _ c.get.ensures _ c.unwrap-cache.ensures c.from_json.ensures
 
 pub unwrap-requires-2 : goal.unwrap-requires-2
-unfolding serde_json_on_literals byte_unit_on_literals
 unwrap-requires-2 c =
-    let found = size_found (codes "upload") DEFAULTS.now (Ok _) c.get-2.result _ refl c.in_ok-settings.ensures.ok c.get-2.ensures in
-    is_ok_size c.from_json-2.result _ (size_is c.get-2.result c.unwrap-upload.result _ c.from_json-2.result found
-    c.unwrap-upload.ensures c.from_json-2.ensures)
+    is_ok upload _ c.in_ok-settings.ensures.ok _ c.get-2.ensures _ c.unwrap-upload.ensures c.from_json-2.ensures
 
 pub returns-clause-cache : goal.returns-clause-cache
-unfolding serde_json_on_literals byte_unit_on_literals
 returns-clause-cache c =
-    let found = size_found (codes "cache") DEFAULTS.now (Ok (64 * 2 ^ 20)) c.get.result _ refl c.in_ok-settings.ensures.ok c.get.ensures in
-    let parsed = size_is c.get.result c.unwrap-cache.result (64 * 2 ^ 20) c.from_json.result found c.unwrap-cache.ensures
-    c.from_json.ensures in
-    let same : Ok c.unwrap.result ≡ Ok (64 * 2 ^ 20) = sym c.unwrap.ensures ∙ parsed in
-    cc
+    is_size cache _ c.in_ok-settings.ensures.ok _ c.get.ensures _ c.unwrap-cache.ensures c.from_json.ensures
+    c.unwrap.ensures
 
 pub returns-clause-upload : goal.returns-clause-upload
-unfolding serde_json_on_literals byte_unit_on_literals
 returns-clause-upload c =
-    let found = size_found (codes "upload") DEFAULTS.now (Ok (20 * 10 ^ 6)) c.get-2.result _ refl c.in_ok-settings.ensures.ok c.get-2.ensures in
-    let parsed = size_is c.get-2.result c.unwrap-upload.result (20 * 10 ^ 6) c.from_json-2.result found c.unwrap-upload.ensures
-    c.from_json-2.ensures in
-    let same : Ok c.unwrap-2.result ≡ Ok (20 * 10 ^ 6) = sym c.unwrap-2.ensures ∙ parsed in
-    cc
+    is_size upload _ c.in_ok-settings.ensures.ok _ c.get-2.ensures _ c.unwrap-upload.ensures c.from_json-2.ensures
+    c.unwrap-2.ensures

@@ -1,5 +1,5 @@
--- What the text is parsed as is computed: a TOML document, in which the string at each key is parsed as its size.
-use Rattle.std.proofs.Common.{◌≡◌, ◌∙◌, ◌*◌, ◌^◌, ℕ, List, Option, Some, None, Result, Ok, Err, Bor, IsOk, IsSome, codes, string_bytes, nat_cmp, false, refl, sym, ap, arith}
+-- What the text is parsed as is computed: a TOML document with a size at each key.
+use Rattle.std.proofs.Common.{◌≡◌, ◌∙◌, ◌*◌, ◌^◌, ℕ, List, Option, Some, None, Result, Ok, Bor, IsOk, IsSome, codes, string_bytes, nat_cmp, false, refl, sym, ap, arith}
 use Rattle.std.specs.Prelude.{option_and_then, option_map}
 use Rattle.std.specs.BTreeMap.{is_at}
 use Rattle.std.specs.Cmp.Lexicographic.{slice_cmp}
@@ -29,23 +29,35 @@ use Rattle.example_limits.proofs.defaults.default_limits.Goals as goal
 abbrev size_of : Kind → Option Data → Option (Result ℕ Fault)
 size_of kind content = option_map (parsed_size kind false) (option_and_then as_str content)
 
--- the same for the value at a key of a TOML text
-abbrev size_at : Kind → List ℕ → List ℕ → Option (Result ℕ Fault)
-size_at kind key text = size_of kind (option_and_then (get_member key) (parse_document text))
+-- The default limits have this size at the key.
+record HasSize (kind : Kind) (key : List ℕ) (n : ℕ) : Type 0 where
+  computed : size_of kind (option_and_then (get_member key) (parse_document DEFAULTS.now)) ≡ Some (Ok n)
 
--- the value that is found at a key of a text has the size that the text has there
-size_found : (kind : Kind) (key text : List ℕ) (size : Result ℕ Fault) (found : Option (Bor Value)) (entries : List Entry)
-    → size_at kind key text ≡ Some size → parse_document text ≡ Some (members_view entries)
-    → option_map (λ x. x.now) found ≡ lookup (is_at (λ x. slice_cmp nat_cmp key (string_bytes x))) entries
-    → size_of kind (option_map (λ x. view x.now) found) ≡ Some size
-size_found kind key text size found entries computed is_text finds =
-    ap (size_of kind) (table_get found key entries finds ∙ ap (option_and_then (get_member key)) (sym is_text)) ∙ computed
+file : HasSize Byte (codes "file") (20 * 10 ^ 6)
+unfolding toml_on_literals byte_unit_on_literals
+file = record { computed = refl }
 
--- a search that finds a size finds a value
-is_found : (kind : Kind) (found : Option (Bor Value)) (size : Result ℕ Fault)
+total : HasSize Byte (codes "total") (1536 * 2 ^ 20)
+unfolding toml_on_literals byte_unit_on_literals
+total = record { computed = refl }
+
+cache : HasSize Byte (codes "cache") (256 * 2 ^ 20)
+unfolding toml_on_literals byte_unit_on_literals
+cache = record { computed = refl }
+
+disk : HasSize Byte (codes "disk") (2 * 2 ^ 30)
+unfolding toml_on_literals byte_unit_on_literals
+disk = record { computed = refl }
+
+rate : HasSize Bit (codes "rate") (10 ^ 6)
+unfolding toml_on_literals byte_unit_on_literals
+rate = record { computed = refl }
+
+-- a value with a size is there
+is_some : (kind : Kind) (found : Option (Bor Value)) (size : Result ℕ Fault)
     → size_of kind (option_map (λ x. view x.now) found) ≡ Some size → IsSome found
-is_found kind (Some value) size computed = refl
-is_found kind None size computed = absurd (let z : ⊥ = cc in z)
+is_some kind (Some value) size computed = refl
+is_some kind None size computed = absurd (let z : ⊥ = cc in z)
 
 -- a TOML string is parsed as its size
 is_parsed : (kind : Kind) (text : Option (List ℕ)) (n : ℕ) (result : Result ℕ TomlSizeError)
@@ -55,17 +67,32 @@ is_parsed kind (Some bytes) n result computed reads =
     reads.2 ∙ ap (string_answer size_errors) (reads.1.reads n (accepted_literal kind false bytes n (same_Some _ _ computed)))
 is_parsed kind None n result computed reads = absurd (let z : ⊥ = cc in z)
 
--- the value that is found is parsed as its size
-size_is : (kind : Kind) (found : Option (Bor Value)) (value : Bor Value) (n : ℕ) (result : Result ℕ TomlSizeError)
-    → size_of kind (option_map (λ x. view x.now) found) ≡ Some (Ok n) → found ≡ Some value
-    → ReadsString size_errors (IsSizeReading kind false) (as_str (view value.now)) result → result ≡ Ok n
-size_is kind found value n result computed is reads =
-    is_parsed kind (as_str (view value.now)) n result (ap (λ f. size_of kind (option_map (λ x. view x.now) f)) (sym is) ∙ computed) reads
+-- What is found at the key of a size has the size, so it is there. It is parsed as the size, so without an error.
+module _ {kind : Kind} {key : List ℕ} {n : ℕ} (size : HasSize kind key n)
+    (entries : List Entry) (is_text : parse_document DEFAULTS.now ≡ Some (members_view entries)) (found : Option (Bor Value))
+    (finds : option_map (λ x. x.now) found ≡ lookup (is_at (λ x. slice_cmp nat_cmp key (string_bytes x))) entries) where
 
--- a size is no error
-is_ok_size : {E : Type 0} (result : Result ℕ E) (n : ℕ) → result ≡ Ok n → IsOk result
-is_ok_size (Ok m) n e = refl
-is_ok_size (Err error) n e = absurd (let z : ⊥ = cc in z)
+  has_size : size_of kind (option_map (λ x. view x.now) found) ≡ Some (Ok n)
+  has_size =
+    ap (size_of kind) (table_get found key entries finds ∙ ap (option_and_then (get_member key)) (sym is_text))
+    ∙ size.computed
+
+  is_found : IsSome found
+  is_found = is_some kind found _ has_size
+
+  module _ {value : Bor Value} (result : Result ℕ TomlSizeError) (is : found ≡ Some value)
+      (reads : ReadsString size_errors (IsSizeReading kind false) (as_str (view value.now)) result) where
+
+    parsed : result ≡ Ok n
+    parsed =
+      is_parsed kind (as_str (view value.now)) n result
+      (ap (λ f. size_of kind (option_map (λ x. view x.now) f)) (sym is) ∙ has_size) reads
+
+    is_ok : IsOk result
+    is_ok = rw parsed refl
+
+    is_size : {m : ℕ} → result ≡ Ok m → m ≡ n
+    is_size {m} e = let same : Ok m ≡ Ok n = sym e ∙ parsed in cc
 
 -- a document that is computed is not rejected
 is_document : {A : Type 0} (document : Option A) → IsSome document → document ≡ None → ⊥
@@ -79,124 +106,64 @@ unreachable-requires c =
     is_document (parse_document DEFAULTS.now) refl (c.in-Err.ensures.refused other)
 
 pub unwrap-file-requires : goal.unwrap-file-requires
-unfolding toml_on_literals byte_unit_on_literals
-unwrap-file-requires c =
-    is_found Byte c.get.result _ (size_found Byte (codes "file") DEFAULTS.now _ c.get.result _ refl c.in-Ok.ensures.ok
-    c.get.ensures.value)
+unwrap-file-requires c = is_found file _ c.in-Ok.ensures.ok _ c.get.ensures.value
 
 pub unwrap-total-requires : goal.unwrap-total-requires
-unfolding toml_on_literals byte_unit_on_literals
-unwrap-total-requires c =
-    is_found Byte c.get-2.result _ (size_found Byte (codes "total") DEFAULTS.now _ c.get-2.result _ refl c.in-Ok.ensures.ok
-    c.get-2.ensures.value)
+unwrap-total-requires c = is_found total _ c.in-Ok.ensures.ok _ c.get-2.ensures.value
 
 pub unwrap-cache-requires : goal.unwrap-cache-requires
-unfolding toml_on_literals byte_unit_on_literals
-unwrap-cache-requires c =
-    is_found Byte c.get-3.result _ (size_found Byte (codes "cache") DEFAULTS.now _ c.get-3.result _ refl c.in-Ok.ensures.ok
-    c.get-3.ensures.value)
+unwrap-cache-requires c = is_found cache _ c.in-Ok.ensures.ok _ c.get-3.ensures.value
 
 pub unwrap-disk-requires : goal.unwrap-disk-requires
-unfolding toml_on_literals byte_unit_on_literals
-unwrap-disk-requires c =
-    is_found Byte c.get-4.result _ (size_found Byte (codes "disk") DEFAULTS.now _ c.get-4.result _ refl c.in-Ok.ensures.ok
-    c.get-4.ensures.value)
+unwrap-disk-requires c = is_found disk _ c.in-Ok.ensures.ok _ c.get-4.ensures.value
 
 pub unwrap-rate-requires : goal.unwrap-rate-requires
-unfolding toml_on_literals byte_unit_on_literals
-unwrap-rate-requires c =
-    is_found Bit c.get-5.result _ (size_found Bit (codes "rate") DEFAULTS.now _ c.get-5.result _ refl c.in-Ok.ensures.ok
-    c.get-5.ensures.value)
+unwrap-rate-requires c = is_found rate _ c.in-Ok.ensures.ok _ c.get-5.ensures.value
 
 pub unwrap-requires : goal.unwrap-requires
-unfolding toml_on_literals byte_unit_on_literals
 unwrap-requires c =
-    let found = size_found Byte (codes "file") DEFAULTS.now (Ok _) c.get.result _ refl c.in-Ok.ensures.ok
-    c.get.ensures.value in
-    is_ok_size c.byte_from_toml.result _ (size_is Byte c.get.result c.unwrap-file.result _ c.byte_from_toml.result found
-    c.unwrap-file.ensures c.byte_from_toml.ensures)
+    is_ok file _ c.in-Ok.ensures.ok _ c.get.ensures.value _ c.unwrap-file.ensures c.byte_from_toml.ensures
 
 pub unwrap-requires-2 : goal.unwrap-requires-2
-unfolding toml_on_literals byte_unit_on_literals
 unwrap-requires-2 c =
-    let found = size_found Byte (codes "total") DEFAULTS.now (Ok _) c.get-2.result _ refl c.in-Ok.ensures.ok
-    c.get-2.ensures.value in
-    is_ok_size c.byte_from_toml-2.result _ (size_is Byte c.get-2.result c.unwrap-total.result _ c.byte_from_toml-2.result found
-    c.unwrap-total.ensures c.byte_from_toml-2.ensures)
+    is_ok total _ c.in-Ok.ensures.ok _ c.get-2.ensures.value _ c.unwrap-total.ensures c.byte_from_toml-2.ensures
 
 pub unwrap-requires-3 : goal.unwrap-requires-3
-unfolding toml_on_literals byte_unit_on_literals
 unwrap-requires-3 c =
-    let found = size_found Byte (codes "cache") DEFAULTS.now (Ok _) c.get-3.result _ refl c.in-Ok.ensures.ok
-    c.get-3.ensures.value in
-    is_ok_size c.byte_from_toml-3.result _ (size_is Byte c.get-3.result c.unwrap-cache.result _ c.byte_from_toml-3.result found
-    c.unwrap-cache.ensures c.byte_from_toml-3.ensures)
+    is_ok cache _ c.in-Ok.ensures.ok _ c.get-3.ensures.value _ c.unwrap-cache.ensures c.byte_from_toml-3.ensures
 
 pub unwrap-requires-4 : goal.unwrap-requires-4
-unfolding toml_on_literals byte_unit_on_literals
 unwrap-requires-4 c =
-    let found = size_found Byte (codes "disk") DEFAULTS.now (Ok _) c.get-4.result _ refl c.in-Ok.ensures.ok
-    c.get-4.ensures.value in
-    is_ok_size c.byte_from_toml-4.result _ (size_is Byte c.get-4.result c.unwrap-disk.result _ c.byte_from_toml-4.result found
-    c.unwrap-disk.ensures c.byte_from_toml-4.ensures)
+    is_ok disk _ c.in-Ok.ensures.ok _ c.get-4.ensures.value _ c.unwrap-disk.ensures c.byte_from_toml-4.ensures
 
 pub unwrap-requires-5 : goal.unwrap-requires-5
-unfolding toml_on_literals byte_unit_on_literals
 unwrap-requires-5 c =
-    let found = size_found Bit (codes "rate") DEFAULTS.now (Ok _) c.get-5.result _ refl c.in-Ok.ensures.ok
-    c.get-5.ensures.value in
-    is_ok_size c.bit_from_toml.result _ (size_is Bit c.get-5.result c.unwrap-rate.result _ c.bit_from_toml.result found
-    c.unwrap-rate.ensures c.bit_from_toml.ensures)
+    is_ok rate _ c.in-Ok.ensures.ok _ c.get-5.ensures.value _ c.unwrap-rate.ensures c.bit_from_toml.ensures
 
 pub returns-clause-file : goal.returns-clause-file
-unfolding toml_on_literals byte_unit_on_literals
 returns-clause-file c =
-    let found = size_found Byte (codes "file") DEFAULTS.now (Ok (20 * 10 ^ 6)) c.get.result _ refl c.in-Ok.ensures.ok
-    c.get.ensures.value in
-    let parsed = size_is Byte c.get.result c.unwrap-file.result (20 * 10 ^ 6) c.byte_from_toml.result found
-    c.unwrap-file.ensures c.byte_from_toml.ensures in
-    let same : Ok c.unwrap.result ≡ Ok (20 * 10 ^ 6) = sym c.unwrap.ensures ∙ parsed in
-    cc
+    is_size file _ c.in-Ok.ensures.ok _ c.get.ensures.value _ c.unwrap-file.ensures c.byte_from_toml.ensures
+    c.unwrap.ensures
 
 pub returns-clause-total : goal.returns-clause-total
-unfolding toml_on_literals byte_unit_on_literals
 returns-clause-total c =
-    let found = size_found Byte (codes "total") DEFAULTS.now (Ok (1536 * 2 ^ 20)) c.get-2.result _ refl c.in-Ok.ensures.ok
-    c.get-2.ensures.value in
-    let parsed = size_is Byte c.get-2.result c.unwrap-total.result (1536 * 2 ^ 20) c.byte_from_toml-2.result found
-    c.unwrap-total.ensures c.byte_from_toml-2.ensures in
-    let same : Ok c.unwrap-2.result ≡ Ok (1536 * 2 ^ 20) = sym c.unwrap-2.ensures ∙ parsed in
-    cc
+    is_size total _ c.in-Ok.ensures.ok _ c.get-2.ensures.value _ c.unwrap-total.ensures c.byte_from_toml-2.ensures
+    c.unwrap-2.ensures
 
 pub returns-clause-cache : goal.returns-clause-cache
-unfolding toml_on_literals byte_unit_on_literals
 returns-clause-cache c =
-    let found = size_found Byte (codes "cache") DEFAULTS.now (Ok (256 * 2 ^ 20)) c.get-3.result _ refl c.in-Ok.ensures.ok
-    c.get-3.ensures.value in
-    let parsed = size_is Byte c.get-3.result c.unwrap-cache.result (256 * 2 ^ 20) c.byte_from_toml-3.result found
-    c.unwrap-cache.ensures c.byte_from_toml-3.ensures in
-    let same : Ok c.unwrap-3.result ≡ Ok (256 * 2 ^ 20) = sym c.unwrap-3.ensures ∙ parsed in
-    cc
+    ap Some (is_size cache _ c.in-Ok.ensures.ok _ c.get-3.ensures.value _ c.unwrap-cache.ensures
+    c.byte_from_toml-3.ensures c.unwrap-3.ensures)
 
 pub returns-clause-disk : goal.returns-clause-disk
-unfolding toml_on_literals byte_unit_on_literals
 returns-clause-disk c =
-    let found = size_found Byte (codes "disk") DEFAULTS.now (Ok (2 * 2 ^ 30)) c.get-4.result _ refl c.in-Ok.ensures.ok
-    c.get-4.ensures.value in
-    let parsed = size_is Byte c.get-4.result c.unwrap-disk.result (2 * 2 ^ 30) c.byte_from_toml-4.result found
-    c.unwrap-disk.ensures c.byte_from_toml-4.ensures in
-    let same : Ok c.unwrap-4.result ≡ Ok (2 * 2 ^ 30) = sym c.unwrap-4.ensures ∙ parsed in
-    cc
+    is_size disk _ c.in-Ok.ensures.ok _ c.get-4.ensures.value _ c.unwrap-disk.ensures c.byte_from_toml-4.ensures
+    c.unwrap-4.ensures
 
 pub returns-clause-rate : goal.returns-clause-rate
-unfolding toml_on_literals byte_unit_on_literals
 returns-clause-rate c =
-    let found = size_found Bit (codes "rate") DEFAULTS.now (Ok (10 ^ 6)) c.get-5.result _ refl c.in-Ok.ensures.ok
-    c.get-5.ensures.value in
-    let parsed = size_is Bit c.get-5.result c.unwrap-rate.result (10 ^ 6) c.bit_from_toml.result found
-    c.unwrap-rate.ensures c.bit_from_toml.ensures in
-    let same : Ok c.unwrap-5.result ≡ Ok (10 ^ 6) = sym c.unwrap-5.ensures ∙ parsed in
-    cc
+    is_size rate _ c.in-Ok.ensures.ok _ c.get-5.ensures.value _ c.unwrap-rate.ensures c.bit_from_toml.ensures
+    c.unwrap-5.ensures
 
 pub returns-clause-valid : goal.returns-clause-valid
 returns-clause-valid c FileInTotal = λ broken. omega (arith, broken, returns-clause-file c, returns-clause-total c)
