@@ -166,13 +166,13 @@ fn unit_error(error: &sys::Error) -> UnitParseError {
 /// Returns the list that the bytes spell, up to the first zero, if it is one that errors name.
 fn expected_characters(bytes: &[u8; 16]) -> &'static [char] {
     match bytes {
+        b"BKMGTPEZYR\0\0\0\0\0\0" => &['B', 'K', 'M', 'G', 'T', 'P', 'E', 'Z', 'Y', 'R'],
+        [b'B', b'b', 0, ..] => &['B', 'b'],
+        [b'B', 0, ..] => &['B'],
+        [b'b', 0, ..] => &['b'],
         [b'i', 0, ..] => &['i'],
         [b't', 0, ..] => &['t'],
         [b's', 0, ..] => &['s'],
-        [b'B', 0, ..] => &['B'],
-        [b'b', 0, ..] => &['b'],
-        [b'B', b'b', 0, ..] => &['B', 'b'],
-        b"BKMGTPEZYR\0\0\0\0\0\0" => &['B', 'K', 'M', 'G', 'T', 'P', 'E', 'Z', 'Y', 'R'],
         _ => &[],
     }
 }

@@ -49,7 +49,7 @@ pub(crate) const UNITS: [Unit; 38] = [
 
 /// The names of the units, each at the unit's index.
 #[rustfmt::skip]
-const NAMES: [&str; 38] = [
+const NAMES: [&str; UNITS.len()] = [
     "b", "B",
     "Kb", "Kib", "KB", "KiB",
     "Mb", "Mib", "MB", "MiB",
@@ -63,10 +63,10 @@ const NAMES: [&str; 38] = [
 ];
 
 /// The bits of the units, each at the unit's index.
-const BITS: [u128; 38] = {
-    let mut bits = [0; 38];
+const BITS: [u128; UNITS.len()] = {
+    let mut bits = [0; UNITS.len()];
     let mut code = 0;
-    while code < 38 {
+    while code < UNITS.len() {
         let unit = UNITS[code];
         // After `Bit` and `B`, four units have each prefix.
         let power = (code as u32 + 2) / 4;

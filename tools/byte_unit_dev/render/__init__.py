@@ -1,6 +1,7 @@
 """Renders files, and parts of files, from the sources that own what they say.
 
     bits         byte_unit_bit from byte_unit_byte, and modules of byte_unit_serde
+    bindings     the lists of units, constants and expected characters in `bindings/`, from tables of the library
     calling      the contracts in CALLING.md, from what `byte_unit` exports
     definitions  the lists of docs/DEFINITIONS.md, from the definitions that contracts lead to
     laws         the table of laws in docs/PROVED.md, from their comments
@@ -16,12 +17,12 @@ import os
 from itertools import zip_longest
 
 from ..common import Failure, one_of, path, read, report, write
-from . import bits, calling, definitions, pages, vectors
+from . import bindings, bits, calling, definitions, pages, vectors
 
 # Each yields the name and the text of each file that it renders, or no text for one that has to go, and may end by a
 # failure for what else is wrong.
-PARTS = {"bits": bits.made, "calling": calling.made, "definitions": definitions.made, "laws": pages.laws,
-         "guide": pages.guide, "tools": pages.tools, "vectors": vectors.made}
+PARTS = {"bits": bits.made, "bindings": bindings.made, "calling": calling.made, "definitions": definitions.made,
+         "laws": pages.laws, "guide": pages.guide, "tools": pages.tools, "vectors": vectors.made}
 
 
 def arguments(parser):

@@ -1,0 +1,67 @@
+"""The lists of the bindings that follow from tables of the library: units, their names and codes, constants, and the
+characters that errors name as expected."""
+
+import re
+import textwrap
+
+from ..source import line_of, source
+from .pages import with_parts
+
+TABLES, SCAN = "crates/byte_unit_base/src/unit/tables.rt", "crates/byte_unit_base/src/unit/scan.rt"
+CONSTANTS = "crates/byte_unit_byte/src/byte/constants.rt"
+HEADER, RUST = "bindings/c/byte_unit.h", "bindings/rust/src"
+
+
+def prefixes():
+    """Returns the letter of each prefix, and its units in the order of their codes."""
+    rows = re.findall(r"'(\w)' ((?:\w+ ){4})\d", source(TABLES).part("macro_rules! with_prefixes"))
+    return {letter: units.split() for letter, units in rows}
+
+
+def in_lines(form, indent, end):
+    """Returns the units in a form, those of a prefix in a line; `end` follows the last."""
+    rows = [["Bit", "B"], *prefixes().values()]
+    return ",\n".join(indent + ", ".join(map(form, row)) for row in rows) + end
+
+
+def name_of(unit):
+    return unit.lower()[0] if unit == "Bit" else unit.replace("bit", "b")
+
+
+def expected():
+    """Returns the lists of expected characters, in the order of the variants."""
+    body = source(SCAN).part("body fn Expected::characters").replace("&BEGINNING", str(["B", *prefixes()]))
+    return [re.findall(r"'(\w)'", row) for row in re.findall(r"\[[^\]]+\]", line_of(body))]
+
+
+def pattern(characters):
+    """Returns the pattern of a list in sixteen bytes that end in zeros; `rustfmt` breaks a longer one of bytes."""
+    if len(characters) > 2:
+        return 'b"%s"' % "".join(characters).ljust(16, "0").replace("0", "\\0")
+    return "[%s, 0, ..]" % ", ".join(f"b'{c}'" for c in characters)
+
+
+def constants():
+    """Returns the names and units of the constants of each paragraph that has any, in lines."""
+    for paragraph in source(CONSTANTS).text.split("\n\n"):
+        found = re.findall(r"/// 1 (\w+) is .*\n *pub const (\w+):", paragraph)
+        pairs = ", ".join(f"{name}_{unit}" for unit, name in found)
+        if pairs:
+            indent = " " * 12
+            yield textwrap.fill(pairs, 119, initial_indent=indent, subsequent_indent=indent).replace("_", " ")
+
+
+def made():
+    codes = in_lines(lambda unit: f"BYTE_UNIT_{unit.upper()}", "    ", "")
+    yield HEADER, with_parts(HEADER, (r"The codes of the units\. \*/\nenum \{\n", r"\n\};", codes))
+    yield f"{RUST}/unit.rs", with_parts(
+        f"{RUST}/unit.rs",
+        (r"^pub enum Unit \{\n", r"\n\}", in_lines(str, "    ", ",")),
+        (r"^pub\(crate\) const UNITS: ", r"\n\];",
+         f"[Unit; {2 + 4 * len(prefixes())}] = [\n" + in_lines(lambda unit: f"Unit::{unit}", "    ", ",")),
+        (r"^const NAMES: .*?\[\n", r"\n\];", in_lines(lambda unit: f'"{name_of(unit)}"', "    ", ",")))
+    yield f"{RUST}/constants.rs", with_parts(
+        f"{RUST}/constants.rs", (r"constants! \{ @units \$Size \$kind,\n", r"\n        \}", ",\n".join(constants())))
+    arms = "".join(f"        {pattern(row)} => &[{', '.join(map(repr, row))}],\n" for row in expected())
+    yield f"{RUST}/library.rs", with_parts(
+        f"{RUST}/library.rs", (r"match bytes \{\n", r"        _ => &\[\]", arms))
