@@ -9,6 +9,7 @@ use byte_unit_command::operands::joined;
 use byte_unit_command::options::Options;
 use byte_unit_command::run::run;
 use byte_unit_command::stop::Stop;
+use byte_unit_command::streams::Streams;
 use byte_unit_command::values::values_of;
 use byte_unit_command::wrong::{Reason, Wrong, escaped_lines, with_marks};
 use byte_unit_stream::{Reading, Writing};
@@ -35,18 +36,14 @@ fn convert<R: Read + Drop>(
     word: &'static str,
     input: R,
 ) -> u8 {
-    let mut reader = Reading::new(input);
-    let mut writer = Writing::new(io::writer(rt));
-    let mut errors = Writing::new(rt.stderr());
-    let ended = run(
-        rt.alloc(),
-        options,
+    let mut streams = Streams {
+        reader: Reading::new(input),
         word,
-        &mut reader,
-        &mut writer,
-        &mut errors,
-    );
-    if writer.closed() {
+        writer: Writing::new(io::writer(rt)),
+        errors: Writing::new(rt.stderr()),
+    };
+    let ended = run(rt.alloc(), options, &mut streams);
+    if streams.writer.closed() {
         return CLOSED;
     }
     if let Err(stop) = ended {

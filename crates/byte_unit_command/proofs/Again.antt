@@ -1,5 +1,6 @@
 -- Lemmas: what is shown can be read again.
-use Rattle.std.proofs.Common.{◌≡◌, ◌≢◌, ℕ, ◌-◌, ◌<◌, Bool, true, false, List, ◌++◌, length, replicate, Option, refl, sym, ap, subst, ◌∙◌}
+use Rattle.std.proofs.Common.{◌≡◌, ◌≢◌, ℕ, ◌-◌, ◌<◌, Bool, true, false, List, ◌++◌, length, replicate, Option, refl}
+use Rattle.std.proofs.Common.{sym, ap, subst, ◌∙◌}
 use Rattle.std.proofs.Common.{arith, append-nil}
 use Rattle.byte_unit.specs.Accepted.{IsAccepted}
 use Rattle.byte_unit.specs.Bounds.{size_limit}
@@ -28,7 +29,8 @@ padded-no_width false width text none =
     ap (λ count. replicate count 32 ++ text) spaces
 
 -- a text in a lossless form is parsed as its size
-form_is_read : SizeFormReadsBack → PlainFormReadsBack → (kind : Kind) (form : Form) (precision : Option ℕ) (size : ℕ) (ignore_case : Bool)
+form_is_read : SizeFormReadsBack → PlainFormReadsBack → (kind : Kind) (form : Form) (precision : Option ℕ) (size : ℕ)
+    (ignore_case : Bool)
     (text : List ℕ) → size < size_limit → IsLossless form → IsFormText kind form precision size text
     → IsAccepted kind ignore_case text size
 form_is_read exact digits kind Exact precision size ignore_case text below lossless is_text =
@@ -37,13 +39,15 @@ form_is_read exact digits kind Plain precision size ignore_case text below lossl
     let Accepts : List ℕ → Type 0 = λ text. IsAccepted kind ignore_case text size in
     subst Accepts (sym is_text) (digits kind size plain_spec ignore_case below unset_is_not_plus)
 form_is_read exact digits kind (InUnit unit) precision size ignore_case text below lossless is_text = absurd lossless
-form_is_read exact digits kind (Largest unit_type) precision size ignore_case text below lossless is_text = absurd lossless
+form_is_read exact digits kind (Largest unit_type) precision size ignore_case text below lossless is_text =
+    absurd lossless
 
 pub shown_is_read : SizeFormReadsBack → PlainFormReadsBack → ShownSizesAreRead
 shown_is_read exact digits = λ options others size text below lossless no_width same_kind (form, is_form, shown_is).
     let is = shown_is ∙ padded-no_width options.align_left options.width form no_width in
     let ignore_case = ignores_case others.kind others.ignore_case in
-    let at = form_is_read exact digits options.kind options.form options.precision size ignore_case form below lossless is_form in
+    let at = form_is_read exact digits options.kind options.form options.precision size ignore_case form below
+    lossless is_form in
     let Accepts : List ℕ → Type 0 = λ text. IsAccepted options.kind ignore_case text size in
     subst (λ kind. IsAccepted kind ignore_case text size) (sym same_kind) (subst Accepts (sym is) at)
 

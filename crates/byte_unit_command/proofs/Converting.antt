@@ -1,24 +1,27 @@
 -- Lemmas: what is appended for a field, a record, and records one after another.
-use Rattle.std.proofs.Common.{◌≡◌, ℕ, suc, ◌-◌, Bool, true, false, ◌||◌, List, [], ◌∷◌, ◌++◌, length, Some, None, Result, Ok, Err, OnOk}
-use Rattle.std.proofs.Common.{refl, sym, ap, subst, ◌∙◌, arith, append_assoc, append-nil, inl}
+use Rattle.std.proofs.Common.{◌≡◌, ℕ, suc, ◌-◌, Bool, true, false, ◌||◌, List, [], ◌∷◌, ◌++◌, length, Some, None}
+use Rattle.std.proofs.Common.{Result, Ok, Err, OnOk, refl, sym, ap, subst, ◌∙◌, arith, append_assoc, append-nil, inl}
 use Rattle.std.specs.Prelude.{⊤}
 use Rattle.std.proofs.lemmas.List.{length-append}
 use Rattle.byte_unit_command.specs.Field.{Found, IsSize, IsNoSize, other, size, rejected}
 use Rattle.byte_unit_command.specs.Fields.{IsChosen, fields_of}
-use Rattle.byte_unit_command.specs.Messages.{AreFieldMessages, AreLimitMessages, AreMessagesOfFields, AreMessagesToRejected}
+use Rattle.byte_unit_command.specs.Messages.{AreFieldMessages, AreLimitMessages, AreMessagesOfFields}
+use Rattle.byte_unit_command.specs.Messages.{AreMessagesToRejected}
 use Rattle.byte_unit_command.specs.Messages.{AreRecordMessages, AreMessages, IsMessageIf, next_place, last_place}
 use Rattle.byte_unit_command.specs.Messages.{other as other_told, size as size_told}
 use Rattle.byte_unit_command.specs.Outcome.{Passes}
 use Rattle.byte_unit_command.specs.Output.{AreFields, IsRecord, AreRecords, HasRejectedField}
-use Rattle.byte_unit_command.specs.Progress.{AddsField, AddsFields, AddsRecords, Aborts, IsRejectedField, State, tally_with, tally_after}
+use Rattle.byte_unit_command.specs.Progress.{AddsField, AddsFields, AddsRecords, Aborts, IsRejectedField, State}
+use Rattle.byte_unit_command.specs.Progress.{after, at_next, messages_of, tally_after, tally_with}
 use Rattle.byte_unit_command.specs.Shown.{IsShown}
 use Rattle.byte_unit_command.specs.Sums.{has_rejected, is_above, is_below, is_beyond}
+use Rattle.byte_unit_command.specs.declared.converter.Converter.{Converter}
 use Rattle.byte_unit_command.specs.declared.notice.Reason.{Reason}
 use Rattle.byte_unit_command.specs.declared.notice.Reason.TheVariants.{Above, Below}
 use Rattle.byte_unit_command.specs.declared.options.Options.{Options}
 use Rattle.byte_unit_command.specs.declared.options.Invalid.TheVariants.{Abort}
 use Rattle.byte_unit_command.specs.declared.tally.Tally.{Tally}
-use Rattle.byte_unit_command.proofs.Tallies.{tally_after-then, Passes-append}
+use Rattle.byte_unit_command.proofs.Tallies.{tally_after-append, tally_after-then, Passes-append}
 
 -- if a disjunction is false, both its parts are
 or-false-left : (a b : Bool) → (a || b) ≡ false → a ≡ false
@@ -30,94 +33,151 @@ or-false-right true b is = cc
 or-false-right false b is = is
 
 -- a size that is beyond no limit has no message
-pub AreLimitMessages-none : (options : Options) (word : List ℕ) (place number : ℕ) (field : List ℕ) (n : ℕ) → is_beyond options n ≡ false
+pub AreLimitMessages-none : (options : Options) (word : List ℕ) (place number : ℕ) (field : List ℕ) (n : ℕ)
+    → is_beyond options n ≡ false
     → AreLimitMessages options word place number field n []
 AreLimitMessages-none options word place number field n within =
-    let none : (told : Bool) (reason : Reason) → told ≡ false → IsMessageIf told options word place number field reason [] =
-    λ told reason is. subst (λ told. IsMessageIf told options word place number field reason []) (sym is) refl in
-    ([], [], none (is_above options.max n) Above (or-false-left _ _ within), none (is_below options.min n) Below (or-false-right _ _ within), refl)
+    let none : (told : Bool) (reason : Reason) → told ≡ false
+    → IsMessageIf told options word place number field reason [] =
+    λ told reason is. subst (λ told. IsMessageIf told options word place number field reason []) (sym is) refl in (
+      [],
+      [],
+      none (is_above options.max n) Above (or-false-left _ _ within),
+      none (is_below options.min n) Below
+          (or-false-right _ _ within),
+      refl,
+    )
 
-module _ (options : Options) (word : List ℕ) (place number : ℕ) (field : List ℕ) (old new : Tally)
-    (old_text old_messages new_text new_messages : List ℕ) where
+-- the messages of a converter
+abbrev pub messages_in : {A : Type 0} → Converter A → List ℕ
+messages_in converter = messages_of converter.notices
+
+-- the state after a text, where messages and tally were written before it
+pub after-is : (options : Options) (old between : State) (text messages : List ℕ) (found : List Found) (tally : Tally)
+    → between ≡ record old { tally = tally; messages = old.messages ++ messages } → tally
+    ≡ tally_after options old.tally found
+    → (out : List ℕ) → out ≡ old.out ++ text → record between { out = out } ≡ after options old text messages found
+after-is options old between text messages found tally between_is tally_is out out_is =
+    let With : Tally → List ℕ → State = λ tally out. record old
+    { tally = tally; out = out; messages = old.messages ++ messages } in
+    ap {A = State} (λ state. record state { out = out }) between_is ∙ ap (λ tally. With tally out) tally_is
+    ∙ ap (With (tally_after options old.tally found)) out_is
+
+-- what was appended and counted after what was appended and counted before
+pub after-then : (options : Options) (old between new : State) (text own messages own_messages : List ℕ)
+    (found own_found : List Found)
+    → between ≡ after options old text messages found → new ≡ after options between own own_messages own_found
+    → new ≡ after options old (text ++ own) (messages ++ own_messages) (found ++ own_found)
+after-then options old between new text own messages own_messages found own_found first second =
+    let With : Tally → List ℕ → List ℕ → State = λ tally out told. record old
+    { tally = tally; out = out; messages = told } in
+    let tally = tally_after options (tally_after options old.tally found) own_found in
+    let all = tally_after options old.tally (found ++ own_found) in
+    let out = (old.out ++ text) ++ own in
+    let told = (old.messages ++ messages) ++ own_messages in
+    second
+    ∙ ap (λ state. after options state own own_messages own_found) first
+    ∙ ap (λ tally. With tally out told) (sym (tally_after-append options old.tally found own_found))
+    ∙ ap (λ out. With all out told) (append_assoc old.out text own)
+    ∙ ap (λ told. With all (old.out ++ (text ++ own)) told) (append_assoc old.messages messages own_messages)
+
+-- more bytes after the text
+pub after-more : (options : Options) (old new : State) (text messages more : List ℕ) (found : List Found)
+    → new ≡ after options old text messages found
+    → record new { out = new.out ++ more } ≡ after options old (text ++ more) messages found
+after-more options old new text messages more found new_is =
+    let all = after options old text messages found in
+    ap {A = State} (λ state. record state { out = state.out ++ more }) new_is
+    ∙ ap (λ out. record all { out = out }) (append_assoc old.out text more)
+
+module _ (options : Options) (number : ℕ) (field : List ℕ) (old new : State) where
   -- a field that is not chosen was copied
-  pub AddsField-other : ¬ IsChosen options.fields.now number → new_text ≡ old_text ++ field → new_messages ≡ old_messages → new ≡ old
-      → AddsField options word place number field old old_text old_messages new new_text new_messages
-  AddsField-other not_chosen text_is messages_are tally_is = record {
+  pub AddsField-other : ¬ IsChosen options.fields.now number → new ≡ record old { out = old.out ++ field }
+      → AddsField options number field old new
+  AddsField-other not_chosen new_is = record {
     text = field;
     messages = [];
     found = [];
     is_field = other not_chosen refl refl;
     are_messages = other_told not_chosen refl refl;
     passes = λ mode. refl;
-    text_is = text_is;
-    messages_are = messages_are ∙ sym (append-nil old_messages);
-    tally_is = tally_is;
+    new_is =
+        new_is ∙ ap (λ messages. record old { out = old.out ++ field; messages = messages })
+        (sym (append-nil old.messages));
   }
 
   -- the text of a size was appended, and the size counted
   pub AddsField-size : (n : ℕ) (shown messages : List ℕ) → IsChosen options.fields.now number → IsSize options field n
-      → IsShown options n shown → new_text ≡ old_text ++ shown → new ≡ tally_with options old (Some n)
-      → AreLimitMessages options word place number field n messages → new_messages ≡ old_messages ++ messages
-      → AddsField options word place number field old old_text old_messages new new_text new_messages
-  AddsField-size n shown messages chosen is_size is_shown text_is tally_is are_messages messages_are = record {
+      → IsShown options n shown → AreLimitMessages options old.word old.place number field n messages
+      → new ≡ after options old shown messages (Some n ∷ []) → AddsField options number field old new
+  AddsField-size n shown messages chosen is_size is_shown are_messages new_is = record {
     text = shown;
     messages = messages;
     found = Some n ∷ [];
     is_field = size n chosen is_size is_shown refl;
     are_messages = size_told n chosen is_size refl are_messages;
     passes = λ mode. refl;
-    text_is = text_is;
-    messages_are = messages_are;
-    tally_is = tally_is;
+    new_is = new_is;
   }
 
-  -- a call that copies a rejected field and counts it, unless it aborts
-  pub AddsField-rejected : {E : Type 0} (result : Result ⊤ E) → IsChosen options.fields.now number → IsNoSize options field
-      → (messages : List ℕ) → AreFieldMessages options word place number field true messages → new_messages ≡ old_messages ++ messages
-      → OnOk result (¬ (options.invalid ≡ Abort)) → OnOk result (new_text ≡ old_text ++ field)
-      → OnOk result (new ≡ tally_with options old None)
-      → OnOk result (AddsField options word place number field old old_text old_messages new new_text new_messages)
-  AddsField-rejected (Ok _) chosen none messages are_messages messages_are mode text_is tally_is = record {
-    text = field;
-    messages = messages;
-    found = None ∷ [];
-    is_field = rejected chosen none refl refl;
-    are_messages = are_messages;
-    passes = λ abort. absurd (mode abort);
-    text_is = text_is;
-    messages_are = messages_are;
-    tally_is = tally_is;
-  }
-  AddsField-rejected (Err _) chosen none messages are_messages messages_are mode text_is tally_is = tt
+-- a call that copies a rejected field and counts it, unless it aborts
+pub AddsField-rejected : {E : Type 0} (options : Options) (number : ℕ) (field : List ℕ) (old : State)
+    (result : Result ⊤ E)
+    (messages new_messages out : List ℕ) (tally : Tally) → IsChosen options.fields.now number → IsNoSize options field
+    → AreFieldMessages options old.word old.place number field true messages
+    → new_messages ≡ old.messages ++ messages → OnOk result (¬ (options.invalid ≡ Abort))
+    → OnOk result (out ≡ old.out ++ field) → OnOk result (tally ≡ tally_with options old.tally None)
+    → OnOk result (AddsField options number field old (record old
+    { tally = tally; out = out; messages = new_messages }))
+AddsField-rejected options number field old (Err _) messages new_messages out tally chosen none are messages_are
+    goes_on out_is tally_is =
+    tt
+AddsField-rejected options number field old (Ok _) messages new_messages out tally chosen none are messages_are
+    goes_on out_is tally_is =
+    let With : List ℕ → State = λ messages. record old { tally = tally; messages = messages } in record {
+      text = field;
+      messages = messages;
+      found = None ∷ [];
+      is_field = rejected chosen none refl refl;
+      are_messages = are;
+      passes = λ abort. absurd (goes_on abort);
+      new_is = after-is options old (With new_messages) field messages (None ∷ []) tally (ap With messages_are)
+          tally_is out
+          out_is;
+    }
 
 -- a record without a delimiter is one field
-module _ (options : Options) (word : List ℕ) (place : ℕ) (bytes : List ℕ) (old_messages new_messages : List ℕ) where
-  pub AddsFields-whole : (old new : Tally) (old_text new_text : List ℕ) → options.delimiter ≡ None
-      → AddsField options word place 1 bytes old old_text old_messages new new_text new_messages
-      → AddsFields options word place bytes old old_text old_messages new new_text new_messages
-  AddsFields-whole old new old_text new_text no_delimiter adds =
-      let messages : AreMessagesOfFields options word place 1 (bytes ∷ []) adds.messages =
+module _ (options : Options) (bytes : List ℕ) (old : State) where
+  pub AddsFields-whole : (new : State) → options.delimiter ≡ None → AddsField options 1 bytes old new
+      → AddsFields options bytes old new
+  AddsFields-whole new no_delimiter adds =
+      let own : AreMessagesOfFields options old.word old.place 1 (bytes ∷ []) adds.messages =
       (adds.messages, [], has_rejected adds.found, adds.are_messages, refl, sym (append-nil adds.messages)) in record {
         text = adds.text;
         messages = adds.messages;
         found = adds.found;
-        are_fields = subst (λ mark. AreFields options 1 (fields_of mark bytes) adds.text adds.found) (sym no_delimiter) adds.is_field;
-        are_messages = subst (λ mark. AreMessagesOfFields options word place 1 (fields_of mark bytes) adds.messages) (sym no_delimiter) messages;
+        are_fields = subst (λ mark. AreFields options 1 (fields_of mark bytes) adds.text adds.found)
+            (sym no_delimiter) adds.is_field;
+        are_messages =
+            subst (λ mark. AreMessagesOfFields options old.word old.place 1 (fields_of mark bytes) adds.messages)
+            (sym no_delimiter) own;
         passes = adds.passes;
-        text_is = adds.text_is;
-        messages_are = adds.messages_are;
-        tally_is = adds.tally_is;
+        new_is = adds.new_is;
       }
 
   -- its one field is rejected
-  pub Aborts-whole : options.delimiter ≡ None → IsRejectedField options word place 1 bytes old_messages new_messages
-      → Aborts options word place bytes old_messages new_messages
-  Aborts-whole no_delimiter is = record {
+  pub Aborts-whole : (new_messages : List ℕ) → options.delimiter ≡ None
+      → IsRejectedField options 1 bytes old new_messages
+      → Aborts options bytes old new_messages
+  Aborts-whole new_messages no_delimiter is = record {
     mode = is.mode;
-    has_rejected = subst (λ mark. HasRejectedField options 1 (fields_of mark bytes)) (sym no_delimiter) (inl (is.chosen, is.no_size));
+    has_rejected = subst (λ mark. HasRejectedField options 1 (fields_of mark bytes)) (sym no_delimiter)
+        (inl (is.chosen, is.no_size));
     messages = is.messages;
     to_rejected =
-        subst (λ mark. AreMessagesToRejected options word place 1 (fields_of mark bytes) is.messages) (sym no_delimiter) (inl is.are_messages);
+        subst (λ mark. AreMessagesToRejected options old.word old.place 1 (fields_of mark bytes) is.messages)
+        (sym no_delimiter)
+        (inl is.are_messages);
     messages_are = is.messages_are;
   }
 
@@ -128,43 +188,60 @@ module _ (options : Options) (bytes : List ℕ) (old new : State) where
       → new.header ≡ old.header - 1 → new.word ≡ old.word → new.place ≡ next_place old.place
       → new.out ≡ old.out ++ own ++ options.output_end ∷ [] → new.messages ≡ old.messages ++ messages
       → new.tally ≡ tally_after options old.tally found → AddsRecords options (bytes ∷ []) old new
-  AddsRecords-one own messages found is_record are_messages passes header_is word_is place_is out_is messages_are tally_is = record {
-    text = own ++ options.output_end ∷ [];
-    messages = messages;
-    found = found;
-    are_records = (own, [], found, [], is_record, (refl, refl), sym (append-nil (own ++ options.output_end ∷ [])), sym (append-nil found));
-    are_messages = (messages, [], are_messages, refl, sym (append-nil messages));
-    passes = passes;
-    header_is = header_is;
-    word_is = word_is;
-    place_is = place_is;
-    out_is = out_is ∙ append_assoc old.out own (options.output_end ∷ []);
-    messages_are = messages_are;
-    tally_is = tally_is;
-  }
+  AddsRecords-one own messages found is_record are_messages passes header_is word_is place_is out_is messages_are
+      tally_is = record {
+        text = own ++ options.output_end ∷ [];
+        messages = messages;
+        found = found;
+        are_records = (
+          own,
+          [],
+          found,
+          [],
+          is_record,
+          (refl, refl),
+          sym (append-nil (own ++ options.output_end ∷ [])),
+          sym
+              (append-nil found),
+        );
+        are_messages = (messages, [], are_messages, refl, sym (append-nil messages));
+        passes = passes;
+        header_is = header_is;
+        word_is = word_is;
+        place_is = place_is;
+        out_is = out_is ∙ append_assoc old.out own (options.output_end ∷ []);
+        messages_are = messages_are;
+        tally_is = tally_is;
+      }
 
   -- a header record is copied
-  pub AddsRecords-header : (text : List ℕ) (left : ℕ) → old.header ≡ suc left → new.header ≡ left → new.word ≡ old.word
-      → new.place ≡ next_place old.place → text ≡ old.out ++ bytes → new.out ≡ text ++ options.output_end ∷ []
-      → new.messages ≡ old.messages → new.tally ≡ old.tally → AddsRecords options (bytes ∷ []) old new
-  AddsRecords-header text left some left_is word_is place_is copied out_is messages_are tally_is =
+  pub AddsRecords-header : (left : ℕ) → old.header ≡ suc left
+      → new ≡ record (at_next old) { header = left; out = old.out ++ bytes ++ options.output_end ∷ [] }
+      → AddsRecords options (bytes ∷ []) old new
+  AddsRecords-header left some new_is =
+      let header : new.header ≡ left = ap (λ state. state.header) new_is in
       AddsRecords-one bytes [] [] (subst (λ header. IsRecord options header bytes bytes []) (sym some) (refl, refl))
-      (subst (λ header. AreRecordMessages options old.word (next_place old.place) header bytes []) (sym some) refl) (λ mode. refl)
-      (omega (arith, some, left_is)) word_is place_is (out_is ∙ ap (λ text. text ++ options.output_end ∷ []) copied)
-      (messages_are ∙ sym (append-nil old.messages)) tally_is
+      (subst (λ header. AreRecordMessages options old.word (next_place old.place) header bytes []) (sym some) refl)
+      (λ mode. refl)
+      (omega (arith, some, header)) (ap (λ state. state.word) new_is) (ap (λ state. state.place) new_is)
+      (ap (λ state. state.out) new_is) (ap (λ state. state.messages) new_is ∙ sym (append-nil old.messages))
+      (ap (λ state. state.tally) new_is)
 
   -- of any other record the fields are replaced
-  pub AddsRecords-fields : (text : List ℕ) → old.header ≡ 0 → new.header ≡ old.header → new.word ≡ old.word
-      → new.place ≡ next_place old.place
-      → AddsFields options old.word (next_place old.place) bytes old.tally old.out old.messages new.tally text new.messages
-      → new.out ≡ text ++ options.output_end ∷ [] → AddsRecords options (bytes ∷ []) old new
-  AddsRecords-fields text none same word_is place_is adds out_is =
+  pub AddsRecords-fields : (between : State) → old.header ≡ 0 → AddsFields options bytes (at_next old) between
+      → new ≡ record between { out = between.out ++ options.output_end ∷ [] } → AddsRecords options (bytes ∷ []) old new
+  AddsRecords-fields between none adds new_is =
+      let all = new_is
+      ∙ after-more options (at_next old) between adds.text adds.messages (options.output_end ∷ []) adds.found
+      adds.new_is in
+      let header : new.header ≡ old.header = ap (λ state. state.header) all in
       AddsRecords-one adds.text adds.messages adds.found
       (subst (λ header. IsRecord options header bytes adds.text adds.found) (sym none) adds.are_fields)
-      (subst (λ header. AreRecordMessages options old.word (next_place old.place) header bytes adds.messages) (sym none) adds.are_messages)
-      adds.passes (omega (arith, none, same)) word_is place_is
-      (out_is ∙ ap (λ text. text ++ options.output_end ∷ []) adds.text_is)
-      adds.messages_are adds.tally_is
+      (subst (λ header. AreRecordMessages options old.word (next_place old.place) header bytes adds.messages)
+      (sym none) adds.are_messages)
+      adds.passes (omega (arith, none, header)) (ap (λ state. state.word) all) (ap (λ state. state.place) all)
+      (ap (λ state. state.out) all ∙ sym (append_assoc old.out adds.text (options.output_end ∷ [])))
+      (ap (λ state. state.messages) all) (ap (λ state. state.tally) all)
 
 -- two lists of records, one after the other
 AreRecords-append : (options : Options) (header : ℕ) (before records : List (List ℕ)) (front back : List ℕ)
@@ -191,7 +268,8 @@ AreRecords-append options header (bytes ∷ before) records front back front_fou
     )
 
 -- the messages about two lists of records, one after the other
-AreMessages-append : (options : Options) (word : List ℕ) (place header : ℕ) (before records : List (List ℕ)) (front back : List ℕ)
+AreMessages-append : (options : Options) (word : List ℕ) (place header : ℕ) (before records : List (List ℕ))
+    (front back : List ℕ)
     → AreMessages options word place header before front
     → AreMessages options word (last_place place before) (header - length before) records back
     → AreMessages options word place header (before ++ records) (front ++ back)
@@ -199,9 +277,11 @@ AreMessages-append options word place header [] records front back none are =
     let same : header - 0 ≡ header = omega arith in
     let at = subst (λ header. AreMessages options word place header records back) same are in
     subst (λ text. AreMessages options word place header records (text ++ back)) (sym none) at
-AreMessages-append options word place header (bytes ∷ before) records front back (own, rest, of_record, are_messages, front_is) are =
+AreMessages-append options word place header (bytes ∷ before) records front back
+    (own, rest, of_record, are_messages, front_is) are =
     let same : header - length (bytes ∷ before) ≡ header - 1 - length before = omega arith in
-    let at = subst (λ header. AreMessages options word (last_place (next_place place) before) header records back) same are in (
+    let at = subst (λ header. AreMessages options word (last_place (next_place place) before) header records back)
+    same are in (
       own,
       rest ++ back,
       of_record,
@@ -217,32 +297,41 @@ last_place-append place (bytes ∷ before) records = last_place-append (next_pla
 
 -- records appended after others
 pub AddsRecords-append : (options : Options) (before records : List (List ℕ)) (old between new : State)
-    → AddsRecords options before old between → AddsRecords options records between new → AddsRecords options (before ++ records) old new
+    → AddsRecords options before old between → AddsRecords options records between new
+    → AddsRecords options (before ++ records) old new
 AddsRecords-append options before records old between new first second =
-    let at = subst (λ header. AreRecords options header records second.text second.found) first.header_is second.are_records in
-    let told_by = subst (λ word. AreMessages options word between.place between.header records second.messages) first.word_is second.are_messages in
-    let told_at = subst (λ place. AreMessages options old.word place between.header records second.messages) first.place_is told_by in
-    let told = subst (λ header. AreMessages options old.word (last_place old.place before) header records second.messages) first.header_is told_at in
+    let at = subst (λ header. AreRecords options header records second.text second.found) first.header_is
+    second.are_records in
+    let told_by = subst (λ word. AreMessages options word between.place between.header records second.messages)
+    first.word_is second.are_messages in
+    let told_at = subst (λ place. AreMessages options old.word place between.header records second.messages)
+    first.place_is told_by in
+    let told = subst (λ header. AreMessages options old.word (last_place old.place before) header records
+    second.messages) first.header_is told_at in
     record {
       text = first.text ++ second.text;
       messages = first.messages ++ second.messages;
       found = first.found ++ second.found;
-      are_records = AreRecords-append options old.header before records first.text second.text first.found second.found first.are_records at;
+      are_records = AreRecords-append options old.header before records first.text second.text first.found
+          second.found first.are_records at;
       are_messages =
-          AreMessages-append options old.word old.place old.header before records first.messages second.messages first.are_messages told;
+          AreMessages-append options old.word old.place old.header before records first.messages second.messages
+          first.are_messages told;
       passes = Passes-append options first.found second.found first.passes second.passes;
       header_is =
           let long = length-append {A = List ℕ} before records in
           omega (arith, first.header_is, second.header_is, long);
       word_is = second.word_is ∙ first.word_is;
       place_is =
-          second.place_is ∙ ap (λ place. last_place place records) first.place_is ∙ sym (last_place-append old.place before records);
+          second.place_is ∙ ap (λ place. last_place place records) first.place_is
+          ∙ sym (last_place-append old.place before records);
       out_is =
           second.out_is ∙ ap (λ out. out ++ second.text) first.out_is ∙ append_assoc old.out first.text second.text;
       messages_are =
           second.messages_are ∙ ap (λ messages. messages ++ second.messages) first.messages_are
           ∙ append_assoc old.messages first.messages second.messages;
-      tally_is = tally_after-then options old.tally between.tally new.tally first.found second.found first.tally_is second.tally_is;
+      tally_is = tally_after-then options old.tally between.tally new.tally first.found second.found first.tally_is
+          second.tally_is;
     }
 
 -- no records
@@ -262,11 +351,14 @@ AddsRecords-none options state = record {
   tally_is = refl;
 }
 
+-- a state, after other bytes and other messages
+abbrev pub behind : List ℕ → List ℕ → State → State
+behind front told state = record state { out = front ++ state.out; messages = told ++ state.messages }
+
 -- the same records, after other bytes and other messages
 pub AddsRecords-after : (options : Options) (records : List (List ℕ)) (front told : List ℕ) (old new : State)
     → AddsRecords options records old new
-    → AddsRecords options records (record old { out = front ++ old.out; messages = told ++ old.messages })
-    (record new { out = front ++ new.out; messages = told ++ new.messages })
+    → AddsRecords options records (behind front told old) (behind front told new)
 AddsRecords-after options records front told old new adds = record {
   text = adds.text;
   messages = adds.messages;
@@ -278,23 +370,7 @@ AddsRecords-after options records front told old new adds = record {
   word_is = adds.word_is;
   place_is = adds.place_is;
   out_is = ap (λ out. front ++ out) adds.out_is ∙ sym (append_assoc front old.out adds.text);
-  messages_are = ap (λ messages. told ++ messages) adds.messages_are ∙ sym (append_assoc told old.messages adds.messages);
+  messages_are = ap (λ messages. told ++ messages) adds.messages_are
+      ∙ sym (append_assoc told old.messages adds.messages);
   tally_is = adds.tally_is;
-}
-
--- the same fields, with bytes, messages and tally replaced by equal ones
-pub AddsFields-same : (options : Options) (word : List ℕ) (place : ℕ) (bytes : List ℕ) (old : Tally) {between new : Tally}
-    {old_text text new_text old_messages messages new_messages : List ℕ}
-    → AddsFields options word place bytes old old_text old_messages between text messages → new ≡ between → new_text ≡ text
-    → new_messages ≡ messages → AddsFields options word place bytes old old_text old_messages new new_text new_messages
-AddsFields-same options word place bytes old adds tally_is text_is messages_are = record {
-  text = adds.text;
-  messages = adds.messages;
-  found = adds.found;
-  are_fields = adds.are_fields;
-  are_messages = adds.are_messages;
-  passes = adds.passes;
-  text_is = text_is ∙ adds.text_is;
-  messages_are = messages_are ∙ adds.messages_are;
-  tally_is = tally_is ∙ adds.tally_is;
 }

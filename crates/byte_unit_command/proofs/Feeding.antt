@@ -1,24 +1,48 @@
 -- Lemmas: the loop over the records that end in a chunk.
-use Rattle.std.proofs.Common.{◌≡◌, ℕ, ◌+◌, List, [], ◌∷◌, ◌++◌, take, drop, refl, sym, ap, subst, ◌∙◌, append_assoc, append-nil, ◌⊎◌, inl, inr, ◌==◌, true, length}
-use Rattle.byte_unit_command.specs.Messages.{AreMessages, AreRecordMessages, last_place, next_place}
+use Rattle.std.proofs.Common.{◌≡◌, ℕ, ◌+◌, List, [], ◌∷◌, ◌++◌, take, drop, refl, sym, ap, subst, ◌∙◌, append_assoc}
+use Rattle.std.proofs.Common.{append-nil, ◌⊎◌, inl, inr, ◌==◌, true, length}
+use Rattle.std.specs.Prelude.{vec_capacity, vec_len}
 use Rattle.byte_unit_stream.specs.Chunks.{ended_records, begun_record, IsUnbroken}
-use Rattle.byte_unit_command.specs.Progress.{AddsRecords, Aborts, State, Stops}
+use Rattle.byte_unit_command.specs.Progress.{AddsRecords, Aborts, State, Stops, at_next}
 use Rattle.byte_unit_command.specs.declared.options.Options.{Options}
 use Rattle.std.proofs.lemmas.Bool.{eqb-true}
 use Rattle.std.proofs.lemmas.List.{nil_from_length}
-use Rattle.byte_unit_command.specs.Progress.{state_of}
+use Rattle.byte_unit_command.specs.Progress.{RecordHasNoMessage, RecordsHaveNoMessage, state_of}
+use Rattle.byte_unit_command.specs.declared.buffers.Buffers.{Buffers}
 use Rattle.byte_unit_command.specs.declared.stop.Stop.{Stop}
-use Rattle.byte_unit_command.specs.declared.records.Progress.{Progress}
 use Rattle.byte_unit_command.specs.declared.stop.Stop.TheVariants.{Memory, Rejected}
 use Rattle.byte_unit_stream.proofs.Ends.{EndsAt, ended_records-EndsAt, begun_record-EndsAt}
 use Rattle.byte_unit_command.proofs.Converting.{AddsRecords-append, AddsRecords-none}
-use Rattle.byte_unit_command.proofs.Untold.{record-untold, records-untold}
+use Rattle.byte_unit_command.proofs.Untold.{next-untold, record-untold}
 
 -- the state between two records of a chunk: the part of a record so far, the bytes that are left, and what was appended
 pub record Feed : Type 0 where
   pub part : List ℕ
   pub rest : List ℕ
   pub state : State
+
+-- that of the buffers of a run
+abbrev pub feed_of : {A : Type 0} → Buffers A → List ℕ → Feed
+feed_of buffers rest = record { part = buffers.part.items; rest = rest; state = state_of buffers.converter }
+
+-- what was converted, and the lengths and capacities of the buffers, as functions of them
+abbrev pub state_in : {A : Type 0} → Buffers A → State
+state_in buffers = state_of buffers.converter
+
+abbrev pub part_in : {A : Type 0} → Buffers A → List ℕ
+part_in buffers = buffers.part.items
+
+abbrev pub part_len : {A : Type 0} → Buffers A → ℕ
+part_len buffers = vec_len buffers.part
+
+abbrev pub part_capacity : {A : Type 0} → Buffers A → ℕ
+part_capacity buffers = vec_capacity buffers.part
+
+abbrev pub waiting_len : {A : Type 0} → Buffers A → ℕ
+waiting_len buffers = vec_len buffers.converter.waiting
+
+abbrev pub waiting_capacity : {A : Type 0} → Buffers A → ℕ
+waiting_capacity buffers = vec_capacity buffers.converter.waiting
 
 -- from `start` to `now` some records were converted, and the rest gives the other records and the same unfinished
 -- record
@@ -31,7 +55,13 @@ pub record IsFed (options : Options) (start now : Feed) : Type 0 where
 
 -- before the first record
 pub IsFed-start : (options : Options) (start : Feed) → IsFed options start start
-IsFed-start options start = record { converted = []; added = AddsRecords-none options start.state; ended = refl; begun = refl }
+IsFed-start options start = record {
+  converted = [];
+  added = AddsRecords-none options start.state;
+  ended =
+      refl;
+  begun = refl;
+}
 
 -- the record that ends at this place is the first one of the rest
 pub record IsNext (options : Options) (now : Feed) (place : ℕ) (bytes : List ℕ) : Type 0 where
@@ -48,7 +78,8 @@ ended_records-next options now place bytes next =
 
 -- one more record keeps the invariant
 pub IsFed-step : (options : Options) (start now : Feed) (place : ℕ) (bytes : List ℕ) → IsFed options start now
-    → IsNext options now place bytes → (next : Feed) → AddsRecords options (bytes ∷ []) now.state next.state → next.part ≡ []
+    → IsNext options now place bytes → (next : Feed) → AddsRecords options (bytes ∷ []) now.state next.state
+    → next.part ≡ []
     → next.rest ≡ drop (place + 1) now.rest → IsFed options start next
 IsFed-step options start now place bytes fed is_next next adds part_is rest_is =
     let end = options.record_end in
@@ -67,19 +98,23 @@ IsFed-step options start now place bytes fed is_next next adds part_is rest_is =
     }
 
 -- after the last record that ends in the chunk: all of them are converted
-pub AddsRecords-all : (options : Options) (start now : Feed) → IsFed options start now → IsUnbroken options.record_end now.rest
+pub AddsRecords-all : (options : Options) (start now : Feed) → IsFed options start now
+    → IsUnbroken options.record_end now.rest
     → AddsRecords options (ended_records options.record_end start.part start.rest) start.state now.state
 AddsRecords-all options start now fed unbroken =
     let all : fed.converted ≡ ended_records options.record_end start.part start.rest =
-    sym (append-nil fed.converted) ∙ ap (λ records. fed.converted ++ records) (sym (unbroken now.part).0) ∙ sym fed.ended in
+    sym (append-nil fed.converted) ∙ ap (λ records. fed.converted ++ records) (sym (unbroken now.part).0)
+    ∙ sym fed.ended in
     subst (λ records. AddsRecords options records start.state now.state) all fed.added
 
-pub begun_record-all : (options : Options) (start now : Feed) → IsFed options start now → IsUnbroken options.record_end now.rest
+pub begun_record-all : (options : Options) (start now : Feed) → IsFed options start now
+    → IsUnbroken options.record_end now.rest
     → now.part ++ now.rest ≡ begun_record options.record_end start.part start.rest
 begun_record-all options start now fed unbroken = sym (unbroken now.part).1 ∙ sym fed.begun
 
 -- out of memory, with nothing more appended
-pub Stops-memory : (options : Options) (start now : Feed) → IsFed options start now → (out messages : List ℕ) → now.state.out ≡ out
+pub Stops-memory : (options : Options) (start now : Feed) → IsFed options start now → (out messages : List ℕ)
+    → now.state.out ≡ out
     → now.state.messages ≡ messages
     → Stops options (ended_records options.record_end start.part start.rest) start.state Memory out messages
 Stops-memory options start now fed out messages same told =
@@ -88,7 +123,7 @@ Stops-memory options start now fed out messages same told =
 -- a rejected field in the next record
 pub Stops-rejected : (options : Options) (start now : Feed) (place : ℕ) (bytes : List ℕ) → IsFed options start now
     → IsNext options now place bytes → (out messages : List ℕ) → now.state.out ≡ out → now.state.header ≡ 0
-    → Aborts options now.state.word (next_place now.state.place) bytes now.state.messages messages
+    → Aborts options bytes (at_next now.state) messages
     → Stops options (ended_records options.record_end start.part start.rest) start.state Rejected out messages
 Stops-rejected options start now place bytes fed next out messages same header aborts = (
   fed.converted,
@@ -107,41 +142,30 @@ pub Stops-record : (options : Options) (start now : Feed) (place : ℕ) (bytes :
     → IsNext options now place bytes → (out messages : List ℕ) → now.state.out ≡ out → (error : Stop)
     → (error ≡ Memory) ⊎ (error ≡ Rejected) → (error ≡ Memory → messages ≡ now.state.messages)
     → (error ≡ Rejected → (now.state.header ≡ 0)
-    × Aborts options now.state.word (next_place now.state.place) bytes now.state.messages messages)
+    × Aborts options bytes (at_next now.state) messages)
     → Stops options (ended_records options.record_end start.part start.rest) start.state error out messages
 Stops-record options start now place bytes fed next out messages same error (inl memory) kept aborts =
-    subst (λ error. Stops options (ended_records options.record_end start.part start.rest) start.state error out messages) (sym memory)
+    subst (λ error. Stops options (ended_records options.record_end start.part start.rest) start.state error out
+    messages) (sym memory)
     (Stops-memory options start now fed out messages same (sym (kept memory)))
 Stops-record options start now place bytes fed next out messages same error (inr rejected) kept aborts =
     let at = aborts rejected in
-    subst (λ error. Stops options (ended_records options.record_end start.part start.rest) start.state error out messages) (sym rejected)
+    subst (λ error. Stops options (ended_records options.record_end start.part start.rest) start.state error out
+    messages) (sym rejected)
     (Stops-rejected options start now place bytes fed next out messages same at.0 at.1)
 
 -- a part whose length is tested to be 0 is empty
 pub empty_from_length : (part : List ℕ) (count : ℕ) → count ≡ length part → true ≡ (count == 0) → part ≡ []
 empty_from_length part count count_is none = nil_from_length part (sym count_is ∙ eqb-true count 0 (sym none))
 
--- appended records, with the state replaced by an equal one
-pub AddsRecords-same : (options : Options) (records : List (List ℕ)) (old : State) {progress same : Progress}
-    {out now messages told : List ℕ} → AddsRecords options records old (state_of progress out messages) → same ≡ progress → now ≡ out
-    → told ≡ messages → AddsRecords options records old (state_of same now told)
-AddsRecords-same options records old {progress} {same} {out} {now} {messages} {told} adds progress_is out_is told_is =
-    subst (λ told. AddsRecords options records old (state_of same now told)) (sym told_is)
-    (subst (λ now. AddsRecords options records old (state_of same now messages)) (sym out_is)
-    (subst (λ progress. AddsRecords options records old (state_of progress out messages)) (sym progress_is) adds))
-
 -- if there is no message about the records of the chunk, there is none about the next one
 pub IsNext-untold : (options : Options) (start now : Feed) (place : ℕ) (bytes : List ℕ) → IsFed options start now
     → IsNext options now place bytes
-    → AreMessages options start.state.word start.state.place start.state.header (ended_records options.record_end start.part start.rest) []
-    → AreRecordMessages options now.state.word (next_place now.state.place) now.state.header bytes []
+    → RecordsHaveNoMessage options (ended_records options.record_end start.part start.rest) start.state
+    → RecordHasNoMessage options bytes now.state
 IsNext-untold options start now place bytes fed next untold =
     let others = ended_records options.record_end [] (drop (place + 1) now.rest) in
-    let added = fed.added in
     let all = fed.ended ∙ ap (λ records. fed.converted ++ records) (ended_records-next options now place bytes next) in
-    let later = records-untold options start.state.word start.state.place start.state.header fed.converted (bytes ∷ others)
-    (subst (λ records. AreMessages options start.state.word start.state.place start.state.header records []) all untold) in
+    let both = subst (λ records. RecordsHaveNoMessage options records start.state) all untold in
     record-untold options now.state.word now.state.place now.state.header bytes others
-    (subst (λ word. AreMessages options word now.state.place now.state.header (bytes ∷ others) []) (sym added.word_is)
-    (subst (λ place. AreMessages options start.state.word place now.state.header (bytes ∷ others) []) (sym added.place_is)
-    (subst (λ header. AreMessages options start.state.word (last_place start.state.place fed.converted) header (bytes ∷ others) []) (sym added.header_is) later)))
+    (next-untold options fed.converted (bytes ∷ others) start.state now.state fed.added both)

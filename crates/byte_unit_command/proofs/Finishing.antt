@@ -1,11 +1,12 @@
 -- Lemmas: the end of a run.
-use Rattle.std.proofs.Common.{◌≡◌, ◌≢◌, ℕ, List, [], ◌∷◌, ◌++◌, true, false, Option, Result, Ok, Err, OnOk, OnErr, IfErr}
+use Rattle.std.proofs.Common.{◌≡◌, ◌≢◌, ℕ, List, [], ◌∷◌, ◌++◌, true, false, Option, Result, Ok, Err, OnOk, OnErr}
+use Rattle.std.proofs.Common.{IfErr}
 use Rattle.std.proofs.Common.{refl, sym, subst, append-nil, inl, inr, MatchBool, ◌⊎◌}
 use Rattle.std.specs.Prelude.{⊤, IsErrAnd}
 use Rattle.std.specs.Io.KnownBytes.{Appends}
 use Rattle.byte_unit_stream.specs.Prefix.{IsPrefix}
-use Rattle.byte_unit_command.specs.Messages.{next_place}
 use Rattle.byte_unit_command.specs.Progress.{Aborts, AddsRecords, State, IsTotalFor, IsTotalWritten, IsFinished}
+use Rattle.byte_unit_command.specs.Progress.{at_next, idle}
 use Rattle.byte_unit_stream.specs.Chunks.{nonempty_record}
 use Rattle.byte_unit_command.specs.declared.options.Options.{Options}
 use Rattle.byte_unit_command.specs.declared.stop.Stop.{Stop}
@@ -24,6 +25,15 @@ rejected_is_not_write same = cc
 total_is_not_write : Total ≢ Write
 total_is_not_write same = cc
 
+-- records that were added where nothing was to be written and told before
+pub AddsRecords-idle : (options : Options) (records : List (List ℕ)) (before new : State) → before.out ≡ []
+    → before.messages ≡ []
+    → AddsRecords options records before new → AddsRecords options records (idle before) new
+AddsRecords-idle options records before new none untold adds =
+    let From : List ℕ → List ℕ → Type 0 = λ out messages. AddsRecords options records
+    (record before { out = out; messages = messages }) new in
+    subst (λ out. From out []) none (subst (From before.out) untold adds)
+
 -- the effect of a call that writes these bytes: it appends them, or it fails with `Write` and appends a prefix of them
 pub record IsWrittenBy (held holds : Option (List ℕ)) (bytes : List ℕ) (result : Result ⊤ Stop) : Type 0 where
   pub whole : OnOk result (Appends held holds bytes)
@@ -35,10 +45,12 @@ module _ (options : Options) (total : ℕ) (before : List ℕ) where
   pub IsTotalWritten-memory : (result : Result ⊤ Stop) → IsErrAnd result (λ error. error ≡ Memory)
       → IsTotalWritten options total before result []
   IsTotalWritten-memory (Ok _) is = absurd is
-  IsTotalWritten-memory (Err error) is = subst (λ error. IsTotalWritten options total before (Err error) []) (sym is) refl
+  IsTotalWritten-memory (Err error) is = subst (λ error. IsTotalWritten options total before (Err error) []) (sym is)
+      refl
 
   -- a call that writes the line of the total too
-  pub IsTotalWritten-line : {held holds : Option (List ℕ)} (line bytes : List ℕ) → IsTotalFor options total line → bytes ≡ before ++ line
+  pub IsTotalWritten-line : {held holds : Option (List ℕ)} (line bytes : List ℕ) → IsTotalFor options total line
+      → bytes ≡ before ++ line
       → (result : Result ⊤ Stop) → IsWrittenBy held holds bytes result
       → (written : List ℕ) × Appends held holds written × IsTotalWritten options total before result written
   IsTotalWritten-line line bytes is_for are (Ok _) by = (bytes, by.whole, (line, is_for, are))
@@ -49,9 +61,11 @@ module _ (options : Options) (total : ℕ) (before : List ℕ) where
   IsTotalWritten-line line bytes is_for are (Err Rejected) by = absurd (rejected_is_not_write by.error)
   IsTotalWritten-line line bytes is_for are (Err Total) by = absurd (total_is_not_write by.error)
 
-module _ (options : Options) (part : List ℕ) (old new : State) (adds : AddsRecords options (nonempty_record part) old new) where
+module _ (options : Options) (part : List ℕ) (old new : State)
+    (adds : AddsRecords options (nonempty_record part) old new) where
   -- the total is asked for
-  pub IsFinished-total_ok : options.total ≡ true → (written : List ℕ) → IsTotalWritten options new.tally.total new.out (Ok tt) written
+  pub IsFinished-total_ok : options.total ≡ true → (written : List ℕ)
+      → IsTotalWritten options new.tally.total new.out (Ok tt) written
       → IsFinished options part old (Ok new.tally) written new.messages
   IsFinished-total_ok asked written (line, is_for, is) =
       let For : Type 0 = IsTotalFor options new.tally.total line in
@@ -77,19 +91,28 @@ module _ (options : Options) (part : List ℕ) (old new : State) (adds : AddsRec
   IsFinished-plain_ok not_asked =
       let For : Type 0 = IsTotalFor options new.tally.total [] in
       let Nothing : Type 0 = ◌≡◌ {A = List ℕ} [] [] in
-      let nothing : Nothing = refl in
-      (new, [], adds, refl, subst (λ total. MatchBool total For Nothing) (sym not_asked) nothing, sym (append-nil new.out), refl)
+      let nothing : Nothing = refl in (
+        new,
+        [],
+        adds,
+        refl,
+        subst (λ total. MatchBool total For Nothing) (sym not_asked) nothing,
+        sym
+            (append-nil new.out),
+        refl,
+      )
 
   pub IsFinished-plain_error : (error : Stop) (written : List ℕ) → error ≡ Write → IsPrefix written new.out
       → IsFinished options part old (Err error) written new.messages
   IsFinished-plain_error error written is begins =
       let whole : IsPrefix written (new.out ++ []) = subst (IsPrefix written) (sym (append-nil new.out)) begins in
-      subst (λ error. IsFinished options part old (Err error) written new.messages) (sym is) (new, [], adds, inl refl, whole, refl)
+      subst (λ error. IsFinished options part old (Err error) written new.messages) (sym is)
+      (new, [], adds, inl refl, whole, refl)
 
 -- the last record was not converted
 pub IsFinished-stopped : (options : Options) (part : List ℕ) (old : State) (messages : List ℕ) (error : Stop)
     → (error ≡ Memory) ⊎ (error ≡ Rejected) → (error ≡ Memory → messages ≡ [])
-    → (error ≡ Rejected → (old.header ≡ 0) × Aborts options old.word (next_place old.place) part old.messages messages
+    → (error ≡ Rejected → (old.header ≡ 0) × Aborts options part (at_next old) messages
     × (nonempty_record part ≡ part ∷ [])) → IsFinished options part old (Err error) [] messages
 IsFinished-stopped options part old messages error (inl memory) kept aborts =
     subst (λ error. IsFinished options part old (Err error) [] messages) (sym memory) (refl, inl (kept memory))
@@ -98,7 +121,8 @@ IsFinished-stopped options part old messages error (inr rejected) kept aborts =
     subst (λ error. IsFinished options part old (Err error) [] messages) (sym rejected) (refl, at.0, at.1, at.2)
 
 -- what is right for an error is right for the result with it
-pub IsFinished-error : (options : Options) (part : List ℕ) (old : State) (written messages : List ℕ) (result : Result Tally Stop)
+pub IsFinished-error : (options : Options) (part : List ℕ) (old : State) (written messages : List ℕ)
+    (result : Result Tally Stop)
     (error : Stop) → IsErrAnd result (λ other. other ≡ error) → IsFinished options part old (Err error) written messages
     → IsFinished options part old result written messages
 IsFinished-error options part old written messages (Ok _) error is at = absurd is

@@ -1,5 +1,6 @@
 -- Lemmas: the items of a list of fields.
-use Rattle.std.proofs.Common.{◌≡◌, ◌≢◌, ◌<◌, ℕ, zero, suc, List, [], ◌∷◌, ◌++◌, length, get_or, Option, Some, None, MatchOption}
+use Rattle.std.proofs.Common.{◌≡◌, ◌≢◌, ◌<◌, ℕ, zero, suc, List, [], ◌∷◌, ◌++◌, length, get_or, Option, Some, None}
+use Rattle.std.proofs.Common.{MatchOption}
 use Rattle.std.proofs.Common.{inl, inr, subst, sym, refl, ◌∙◌, arith, lit<}
 use Rattle.std.specs.Borrow.{Bor}
 use Rattle.std.specs.Char.{digit_value}
@@ -27,23 +28,27 @@ hyphens_are_no_digits [] after digits = hyphen_is_no_digit 45 digits.0 refl
 hyphens_are_no_digits (c ∷ cs) after digits = hyphens_are_no_digits cs after digits.1
 
 -- nothing before a first hyphen of a range is a hyphen
-firsts_lack_hyphens : (before : List ℕ) (first : ℕ) → IsFirst before first → (i : ℕ) → i < length before → get_or before i 0 ≢ 45
+firsts_lack_hyphens : (before : List ℕ) (first : ℕ) → IsFirst before first → (i : ℕ) → i < length before
+    → get_or before i 0 ≢ 45
 firsts_lack_hyphens [] first is i bound = absurd (omega arith)
 firsts_lack_hyphens (c ∷ cs) first is i bound = digits_lack_hyphens (c ∷ cs) is.is_numeral.1 i bound
 
 -- a range, cut at its first hyphen
-pub cut_range : (item : List ℕ) (range : FieldRange) (r : Option (Bor (List ℕ) × Bor (List ℕ))) → IsSplitOnceResult 45 item r
+pub cut_range : (item : List ℕ) (range : FieldRange) (r : Option (Bor (List ℕ) × Bor (List ℕ)))
+    → IsSplitOnceResult 45 item r
     → IsRange item range
     → MatchOption r (IsPositive item range.first × (range.last ≡ Some range.first))
     (λ parts. IsFirst parts.0.now range.first × IsLast parts.1.now range.first range.last)
 cut_range item range None split (inl single) = single
 cut_range item range None split (inr (before, after, item_is, is_first, is_last)) =
-    absurd (split_after 45 item before after None split (lit< tt) item_is (firsts_lack_hyphens before range.first is_first))
+    absurd (split_after 45 item before after None split (lit< tt) item_is
+    (firsts_lack_hyphens before range.first is_first))
 cut_range item range (Some parts) split (inl single) =
     let whole = (split_parts 45 item (Some parts) split (lit< tt)).0 in
     absurd (hyphens_are_no_digits parts.0.now parts.1.now (subst (AllDigits 10) whole single.0.is_numeral.1))
 cut_range item range (Some parts) split (inr (before, after, item_is, is_first, is_last)) =
-    let same = split_after 45 item before after (Some parts) split (lit< tt) item_is (firsts_lack_hyphens before range.first is_first) in (
+    let same = split_after 45 item before after (Some parts) split (lit< tt) item_is
+    (firsts_lack_hyphens before range.first is_first) in (
       subst (λ text. IsFirst text range.first) (sym same.0) is_first,
       subst (λ text. IsLast text range.first range.last) (sym same.1) is_last,
     )
@@ -61,7 +66,8 @@ without_first item r parts split is none range is_range =
     none range.first (cut_range item range (Some parts) (subst (IsSplitOnceResult 45 item) is split) is_range).0
 
 -- the same after it
-pub without_last : (item : List ℕ) (r : Option (Bor (List ℕ) × Bor (List ℕ))) (parts : Bor (List ℕ) × Bor (List ℕ)) (first : ℕ)
+pub without_last : (item : List ℕ) (r : Option (Bor (List ℕ) × Bor (List ℕ))) (parts : Bor (List ℕ) × Bor (List ℕ))
+    (first : ℕ)
     → IsSplitOnceResult 45 item r → r ≡ Some parts → IsFirst parts.0.now first
     → ((last : Option ℕ) → ¬ IsLast parts.1.now first last) → (range : FieldRange) → ¬ IsRange item range
 without_last item r parts first split is is_first none range is_range =
@@ -81,13 +87,15 @@ pub AreRanges-append : (texts : List (List ℕ)) (ranges : List FieldRange) (tex
 AreRanges-append [] [] text range are is = (is, tt)
 AreRanges-append [] (first ∷ ranges) text range are is = absurd are
 AreRanges-append (first ∷ texts) [] text range are is = absurd are
-AreRanges-append (first ∷ texts) (one ∷ ranges) text range are is = (are.0, AreRanges-append texts ranges text range are.1 is)
+AreRanges-append (first ∷ texts) (one ∷ ranges) text range are is =
+    (are.0, AreRanges-append texts ranges text range are.1 is)
 
 -- each of the texts is a range
 pub AreRanges-at : (texts : List (List ℕ)) (ranges : List FieldRange) (text : List ℕ) (k : ℕ) → AreRanges texts ranges
     → k < length texts → text ≡ get_or texts k text → (range : FieldRange) × IsRange text range
 AreRanges-at [] ranges text k are bound is = absurd (omega arith)
 AreRanges-at (first ∷ texts) [] text k are bound is = absurd are
-AreRanges-at (first ∷ texts) (one ∷ ranges) text zero are bound is = (one, subst (λ text. IsRange text one) (sym is) are.0)
+AreRanges-at (first ∷ texts) (one ∷ ranges) text zero are bound is =
+    (one, subst (λ text. IsRange text one) (sym is) are.0)
 AreRanges-at (first ∷ texts) (one ∷ ranges) text (suc k) are bound is =
     AreRanges-at texts ranges text k are.1 (omega arith) is

@@ -14,7 +14,8 @@ joined [] = []
 joined (text ∷ texts) = text ++ 0 ∷ joined texts
 
 -- one more text
-pub joined-append : (texts : List (List ℕ)) (text : List ℕ) → joined (texts ++ text ∷ []) ≡ (joined texts ++ text) ++ 0 ∷ []
+pub joined-append : (texts : List (List ℕ)) (text : List ℕ) → joined (texts ++ text ∷ []) ≡ (joined texts ++ text)
+    ++ 0 ∷ []
 joined-append [] text = refl
 joined-append (first ∷ texts) text =
     ap (λ rest. first ++ 0 ∷ rest) (joined-append texts text)
@@ -22,11 +23,14 @@ joined-append (first ∷ texts) text =
     ∙ ap (λ begun. begun ++ 0 ∷ []) (sym (append_assoc first (0 ∷ joined texts) text))
 
 -- the first of the records is the first part, if another follows
-first_record : (text : List ℕ) (split : List (List ℕ)) → IsSplit split → but_empty_last (text ∷ split) ≡ text ∷ but_empty_last split
+first_record : (text : List ℕ) (split : List (List ℕ)) → IsSplit split → but_empty_last (text ∷ split)
+    ≡ text ∷ but_empty_last split
 first_record text split (own, others, split_is) =
-    subst (λ split. but_empty_last (text ∷ split) ≡ text ∷ but_empty_last split) (sym split_is) (first_of text own others)
+    subst (λ split. but_empty_last (text ∷ split) ≡ text ∷ but_empty_last split) (sym split_is)
+    (first_of text own others)
   where
-    first_of : (text own : List ℕ) (others : List (List ℕ)) → but_empty_last (text ∷ own ∷ others) ≡ text ∷ but_empty_last (own ∷ others)
+    first_of : (text own : List ℕ) (others : List (List ℕ)) → but_empty_last (text ∷ own ∷ others)
+        ≡ text ∷ but_empty_last (own ∷ others)
     first_of text own others = refl
 
 -- texts without zero bytes are the records of the input that they are joined to
@@ -34,7 +38,8 @@ pub joined-HasOperands : (texts : List (List ℕ)) → HasOperands texts (joined
 joined-HasOperands [] none = refl
 joined-HasOperands (text ∷ texts) none =
     let own = All-head (All (λ byte. byte ≢ 0)) text texts none in
-    let cut = slice_split_at (λ byte. eqb byte 0) text 0 (joined texts) (λ k d bound. ne_eqb _ _ (own k d bound)) refl in
+    let cut = slice_split_at (λ byte. eqb byte 0) text 0 (joined texts) (λ k d bound. ne_eqb _ _ (own k d bound)) refl
+    in
     ap but_empty_last cut
     ∙ first_record text (parts 0 (joined texts)) (parts_IsSplit 0 (joined texts))
     ∙ ap (λ records. text ∷ records) (joined-HasOperands texts (All-tail (All (λ byte. byte ≢ 0)) text texts none))

@@ -1,5 +1,6 @@
 -- Lemmas: the most bytes of the text of a size in a given unit.
-use Rattle.std.proofs.Common.{◌≡◌, ℕ, ◌+◌, ◌*◌, ◌/◌, ◌^◌, ◌<◌, ◌≤◌, true, false, if◌then◌else◌, max, List, length, Option, None, Some, arith, ap}
+use Rattle.std.proofs.Common.{ℕ, ◌+◌, ◌*◌, ◌/◌, ◌^◌, ◌<◌, ◌≤◌, true, false, if◌then◌else◌, List, length}
+use Rattle.std.proofs.Common.{Option, None, Some, arith, ap}
 use Rattle.std.proofs.Math.Nat.{mul-le-mul_left, pow-le-pow_right, le_of_mul-le-mul_right, div-le_of_le-mul, one-le-pow}
 use Rattle.std.proofs.lemmas.Fmt.{length-decimal-le_wide}
 use Rattle.std.proofs.lemmas.List.{length-append}
@@ -7,7 +8,7 @@ use Rattle.std.specs.Fmt.{decimal}
 use Rattle.byte_unit.specs.Bounds.{size_limit}
 use Rattle.byte_unit_math.specs.Bounds.{expansion_places}
 use Rattle.byte_unit_math.specs.Digits.{at_places}
-use Rattle.byte_unit_math.specs.Finite.{Finite, IsExpansion, value_of_digits}
+use Rattle.byte_unit_math.specs.Finite.{Finite, value_of_digits}
 use Rattle.byte_unit_math.specs.Numeral.{text_of, fraction_text}
 use Rattle.byte_unit_math.proofs.Digits.{length_last_digits}
 use Rattle.byte_unit_base.specs.Kinds.{bits_in}
@@ -32,18 +33,24 @@ digits_few whole digits some few small =
 
 -- a decimal is as long as its whole part, the point, and the digits after it, at most
 text_of-length : (e : Finite) → length (text_of e) ≤ length (decimal e.whole) + 1 + length e.digits
-text_of-length e = omega (arith, length-append {A = ℕ} (decimal e.whole) (fraction_text e.digits), length_of_fraction_text e.digits)
+text_of-length e = omega (
+  arith,
+  length-append {A = ℕ} (decimal e.whole) (fraction_text e.digits),
+  length_of_fraction_text e.digits,
+)
 
 module _ (num : ℕ) (unit : UnitName) (small : num < 10 ^ 31) where
   -- the whole part of a quotient is at most the dividend
-  full-length : (number : List ℕ) → IsNumeralBy full num (bits (shape_of unit)) number → length number ≤ 33 + expansion_places
+  full-length : (number : List ℕ) → IsNumeralBy full num (bits (shape_of unit)) number → length number
+      ≤ 33 + expansion_places
   full-length number (e, is, number_is) =
       let den = bits (shape_of unit) in
       let power = 10 ^ length e.digits in
       let ulps = e.whole * power + value_of_digits e.digits in
       let once : ulps * 1 ≤ ulps * den = mul-le-mul_left ulps (some_bits (shape_of unit)) in
       let scaled : e.whole * power ≤ num * power = omega (arith, is.exact, once) in
-      let below : e.whole ≤ num = le_of_mul-le-mul_right {k = power} scaled (one-le-pow (length e.digits) 10 (omega arith)) in
+      let below : e.whole ≤ num = le_of_mul-le-mul_right {k = power} scaled
+      (one-le-pow (length e.digits) 10 (omega arith)) in
       let whole = digits_few e.whole 32 (omega arith) (omega arith) (omega (arith, below, small)) in
       omega (arith, ap length number_is, text_of-length e, whole, is.least expansion_places (exact_in_unit num unit))
 
@@ -62,11 +69,13 @@ module _ (num : ℕ) (unit : UnitName) (small : num < 10 ^ 31) where
       omega (arith, ap length number_is, text_of-length e, whole, length_last_digits places q)
 
   number-length : (precision : Option ℕ) (number : List ℕ)
-      → IsNumeralBy (rule_of precision false (shape_of unit)) num (bits (shape_of unit)) number → length number ≤ 33 + unit_places precision
+      → IsNumeralBy (rule_of precision false (shape_of unit)) num (bits (shape_of unit)) number → length number
+      ≤ 33 + unit_places precision
   number-length None number is = full-length number is
   number-length (Some places) number is =
       let By : Rule → Type 0 = λ rule. IsNumeralBy rule num (bits (shape_of unit)) number in
-      elim (has_no_prefix (shape_of unit)) as (λ none. By (if none then full else round_to places) → length number ≤ 33 + unit_places (Some places)) [
+      elim (has_no_prefix (shape_of unit)) as (λ none. By (if none then full else round_to places) → length number
+      ≤ 33 + unit_places (Some places)) [
         | true ↦ λ is. omega (arith, full-length number is)
         | false ↦ λ is. omega (arith, round-length places number is)
       ] is
@@ -76,9 +85,18 @@ bits_few Byte size below = omega (arith, below)
 bits_few Bit size below = omega (arith, below)
 
 -- the text of a size in a unit
-pub adjusted-length : (kind : Kind) (size : ℕ) (unit : UnitName) (precision : Option ℕ) (text : List ℕ) → size < size_limit
+pub adjusted-length : (kind : Kind) (size : ℕ) (unit : UnitName) (precision : Option ℕ) (text : List ℕ)
+    → size < size_limit
     → IsAdjustedForm kind size unit (adjusted_spec precision) text → length text ≤ unit_text_max precision
 adjusted-length kind size unit precision text below form =
     let name = unit_name_in current (shape_of unit) in
-    let number = number-length (size * bits_in kind) unit (bits_few kind size below) precision form.number form.number_is in
-    omega (arith, ap length form.text_is, layout_fills_width form.number name (adjusted_spec precision), name_short (shape_of unit), number)
+    let number = number-length (size * bits_in kind) unit (bits_few kind size below) precision form.number
+    form.number_is in
+    omega (
+      arith,
+      ap length form.text_is,
+      layout_fills_width form.number name (adjusted_spec precision),
+      name_short
+          (shape_of unit),
+      number,
+    )

@@ -16,10 +16,12 @@ OnOk-map (Err _) gives holds = tt
 pub error-passed : {T E : Type 0} (result : Result T E) (error target : E) → IsErrAnd result (λ other. other ≡ error)
     → result ≡ Err target → error ≡ target
 error-passed {T} {E} result error target passed is =
-    let Passed : Result T E → Type 0 = λ result. IsErrAnd result (λ other. other ≡ error) in sym (subst Passed is passed)
+    let Passed : Result T E → Type 0 = λ result. IsErrAnd result (λ other. other ≡ error) in sym
+    (subst Passed is passed)
 
 -- a fact of the error that `?` passes on
-pub IfErr-passed : {T E : Type 0} (P : E → Type 0) (result : Result T E) (error : E) → IsErrAnd result (λ other. other ≡ error)
+pub IfErr-passed : {T E : Type 0} (P : E → Type 0) (result : Result T E) (error : E)
+    → IsErrAnd result (λ other. other ≡ error)
     → P error → IfErr result P
 IfErr-passed P (Ok _) error passed holds = tt
 IfErr-passed P (Err other) error passed holds = subst P (sym passed) holds

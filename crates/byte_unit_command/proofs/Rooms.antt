@@ -1,11 +1,13 @@
 -- Lemmas: the bytes that texts take while they are appended.
-use Rattle.std.proofs.Common.{◌≡◌, ℕ, ◌+◌, ◌-◌, ◌*◌, ◌<◌, ◌≤◌, Option, None, Some, arith, List, [], length, vec_len, ap, sym, subst, ◌∙◌}
+use Rattle.std.proofs.Common.{◌≡◌, ℕ, ◌+◌, ◌-◌, ◌*◌, ◌<◌, ◌≤◌, Option, None, Some, arith, List, [], length, vec_len}
+use Rattle.std.proofs.Common.{ap, sym, subst, ◌∙◌}
 use Rattle.std.proofs.Math.Nat.{mul-add, mul-le-mul_left, mul-one}
 use Rattle.std.specs.Prelude.{vec_capacity}
 use Rattle.std.specs.declared.vec.Vec.{Vec}
-use Rattle.byte_unit_command.specs.Capacity.{text_room, fields_max, fields_room, record_room, end_room, read_fields_max, read_room, SufficeFor}
-use Rattle.byte_unit_command.specs.Fields.{fields_of}
+use Rattle.byte_unit_command.specs.Capacity.{text_room, fields_max, fields_room, record_room, end_room}
+use Rattle.byte_unit_command.specs.Capacity.{read_fields_max, read_room, SufficeFor}
 use Rattle.byte_unit_command.specs.Messages.{AreMessagesOfFields}
+use Rattle.byte_unit_command.specs.Progress.{State}
 use Rattle.byte_unit_stream.specs.Records.{parts}
 use Rattle.byte_unit_command.specs.declared.options.Options.{Options}
 
@@ -17,7 +19,8 @@ times-le room some others all few =
     subst (λ bytes. bytes ≤ room * all) both most
 
 -- the room of one field, without a delimiter
-pub fields_room-whole : (options : Options) (bytes : ℕ) → options.delimiter ≡ None → fields_room options bytes ≡ text_room options + bytes
+pub fields_room-whole : (options : Options) (bytes : ℕ) → options.delimiter ≡ None → fields_room options bytes
+    ≡ text_room options + bytes
 fields_room-whole options bytes none =
     let room = text_room options in
     ap (λ mark. room * fields_max mark bytes + bytes) none ∙ ap (λ texts. texts + bytes) (mul-one room)
@@ -37,7 +40,8 @@ pub split_room-step : (room rest place : ℕ) → place < rest
 split_room-step room rest place fits =
     let left = rest - (place + 1) in
     let one : room * 1 ≡ room = mul-one room in
-    let texts : room * 1 + room * (left + 1) ≤ room * (rest + 1) = times-le room 1 (left + 1) (rest + 1) (omega (arith, fits)) in
+    let texts : room * 1 + room * (left + 1) ≤ room * (rest + 1) =
+    times-le room 1 (left + 1) (rest + 1) (omega (arith, fits)) in
     omega (arith, one, texts, fits)
 
 -- one field more fits
@@ -62,7 +66,8 @@ module _ (options : Options) where
       → record_room options (part + place) + feed_room options 0 (rest - (place + 1)) ≤ feed_room options part rest
   feed_room-step part rest place fits =
       let mark = options.delimiter in
-      let texts = times-le (text_room options) (fields_max mark (part + place)) (read_fields_max mark 0 (rest - (place + 1)))
+      let texts = times-le (text_room options) (fields_max mark (part + place))
+      (read_fields_max mark 0 (rest - (place + 1)))
       (read_fields_max mark part rest) (fields-step mark part rest place fits) in
       omega (arith, texts, fits)
 
@@ -75,14 +80,17 @@ module _ (options : Options) where
   pub feed_room-read : (part rest : ℕ) → feed_room options part rest ≤ read_room options part rest
   feed_room-read part rest =
       let fields = read_fields_max options.delimiter part rest in
-      let texts : text_room options * fields ≤ text_room options * (fields + 1) = mul-le-mul_left (text_room options) (omega arith) in
+      let texts : text_room options * fields ≤ text_room options * (fields + 1) =
+      mul-le-mul_left (text_room options) (omega arith) in
       omega (arith, texts)
 
-  pub read_room-more : (part rest longest chunk : ℕ) → part ≤ longest → rest ≤ chunk → read_room options part rest ≤ read_room options longest chunk
+  pub read_room-more : (part rest longest chunk : ℕ) → part ≤ longest → rest ≤ chunk → read_room options part rest
+      ≤ read_room options longest chunk
   read_room-more part rest longest chunk short few =
       let mark = options.delimiter in
       let fields = fields-more mark part rest longest chunk short few in
-      let texts : text_room options * (read_fields_max mark part rest + 1) ≤ text_room options * (read_fields_max mark longest chunk + 1) =
+      let texts : text_room options * (read_fields_max mark part rest + 1)
+      ≤ text_room options * (read_fields_max mark longest chunk + 1) =
       mul-le-mul_left (text_room options) (omega (arith, fields)) in
       omega (arith, texts, short, few)
 
@@ -92,7 +100,8 @@ module _ (options : Options) where
   fields-end (Some delimiter) part longest chunk short some = omega (arith, short, some)
 
   -- nor does the end of the input
-  pub end_room-read : (part longest chunk : ℕ) → part ≤ longest → 0 < chunk → end_room options part ≤ read_room options longest chunk
+  pub end_room-read : (part longest chunk : ℕ) → part ≤ longest → 0 < chunk → end_room options part
+      ≤ read_room options longest chunk
   end_room-read part longest chunk short some =
       let mark = options.delimiter in
       let room = text_room options in
@@ -103,23 +112,35 @@ module _ (options : Options) where
       omega (arith, one, texts, short, some)
 
   -- buffers that suffice for a longer record and a longer read suffice
-  pub SufficeFor-less : {Z : Type 0} (part rest longest chunk : ℕ) (parts_now waiting : Vec ℕ Z) → part ≤ longest → rest ≤ chunk
+  pub SufficeFor-less : {Z : Type 0} (part rest longest chunk : ℕ) (parts_now waiting : Vec ℕ Z) → part ≤ longest
+      → rest ≤ chunk
       → SufficeFor options longest chunk parts_now waiting → SufficeFor options part rest parts_now waiting
-  SufficeFor-less part rest longest chunk parts_now waiting short few (part_fits, waiting_fits) =
-      (omega (arith, part_fits, short, few), omega (arith, waiting_fits, read_room-more part rest longest chunk short few))
+  SufficeFor-less part rest longest chunk parts_now waiting short few (part_fits, waiting_fits) = (
+    omega (arith, part_fits, short, few),
+    omega (
+      arith,
+      waiting_fits,
+      read_room-more part rest longest chunk short
+          few,
+    ),
+  )
 
 -- between two fields of a record: the text has grown by no more than the bytes that are no longer left account for, no
 -- capacity has fallen, and if there is no message about the record, there is none about the fields that are left
-pub record IsSplitWithin {Z : Type 0} (options : Options) (word : List ℕ) (place delimiter : ℕ) (bytes : List ℕ) (text : Vec ℕ Z)
+pub record IsSplitWithin {Z : Type 0} (options : Options) (old : State) (delimiter : ℕ) (bytes : List ℕ)
+    (text : Vec ℕ Z)
     (number : ℕ) (rest : List ℕ) (text_now : Vec ℕ Z) : Type 0 where
-  pub len : vec_len text_now + split_room (text_room options) (length rest) ≤ vec_len text + split_room (text_room options) (length bytes)
+  pub len : vec_len text_now + split_room (text_room options) (length rest)
+      ≤ vec_len text + split_room (text_room options) (length bytes)
   pub capacity : vec_capacity text ≤ vec_capacity text_now
-  pub untold : AreMessagesOfFields options word place 1 (parts delimiter bytes) []
-      → AreMessagesOfFields options word place number (parts delimiter rest) []
+  pub untold : AreMessagesOfFields options old.word old.place 1 (parts delimiter bytes) []
+      → AreMessagesOfFields options old.word old.place number (parts delimiter rest) []
 
 -- in a text with capacity for the record, there is room for the fields that are left
-pub IsSplitWithin-fits : {Z : Type 0} {options : Options} {word : List ℕ} {place delimiter : ℕ} {bytes : List ℕ} {text : Vec ℕ Z}
-    {number : ℕ} {rest : List ℕ} {text_now : Vec ℕ Z} → IsSplitWithin options word place delimiter bytes text number rest text_now
+pub IsSplitWithin-fits : {Z : Type 0} {options : Options} {old : State} {delimiter : ℕ} {bytes : List ℕ}
+    {text : Vec ℕ Z}
+    {number : ℕ} {rest : List ℕ} {text_now : Vec ℕ Z} → IsSplitWithin options old delimiter bytes text number rest
+    text_now
     → options.delimiter ≡ Some delimiter → vec_len text + fields_room options (length bytes) ≤ vec_capacity text
     → vec_len text_now + split_room (text_room options) (length rest) ≤ vec_capacity text_now
 IsSplitWithin-fits {options = options} {delimiter = delimiter} {bytes = bytes} within is room =
@@ -135,7 +156,8 @@ split_len-step room old all text rest place added ended left fits so_far more en
 
 -- from the start to now, the buffers have grown by no more than the bytes that are no longer left account for, and no
 -- capacity has fallen
-pub record IsFedWithin {Z : Type 0} (options : Options) (part waiting : Vec ℕ Z) (bytes : List ℕ) (part_now waiting_now : Vec ℕ Z)
+pub record IsFedWithin {Z : Type 0} (options : Options) (part waiting : Vec ℕ Z) (bytes : List ℕ)
+    (part_now waiting_now : Vec ℕ Z)
     (rest : List ℕ) : Type 0 where
   pub part_len : vec_len part_now + length rest ≤ vec_len part + length bytes
   pub waiting_len : vec_len waiting_now + feed_room options (vec_len part_now) (length rest)
@@ -155,11 +177,13 @@ feed_len-step options most waiting part rest place added bytes next left fits so
     (omega (arith, feed_room-step options part rest place fits, so_far, taken)))
 
 -- in buffers that suffice, there is room for the next record
-pub IsFedWithin-fits : {Z : Type 0} {options : Options} {part waiting : Vec ℕ Z} {bytes : List ℕ} {part_now waiting_now : Vec ℕ Z}
+pub IsFedWithin-fits : {Z : Type 0} {options : Options} {part waiting : Vec ℕ Z} {bytes : List ℕ}
+    {part_now waiting_now : Vec ℕ Z}
     {rest : List ℕ} → IsFedWithin options part waiting bytes part_now waiting_now rest
     → SufficeFor options (vec_len part) (length bytes) part waiting → (place count : ℕ) → place < length rest
     → count ≡ vec_len part_now + place → vec_len waiting_now + record_room options count ≤ vec_capacity waiting_now
-IsFedWithin-fits {options = options} {part = part} {bytes = bytes} {part_now = part_now} {waiting_now = waiting_now} {rest = rest} within
+IsFedWithin-fits {options = options} {part = part} {bytes = bytes} {part_now = part_now} {waiting_now = waiting_now}
+    {rest = rest} within
     suffice place count ends count_is =
     let read = feed_room-read options (vec_len part) (length bytes) in
     let step = feed_room-step options (vec_len part_now) (length rest) place ends in

@@ -1,5 +1,6 @@
 -- Lemmas: the command as clap's parser reads it.
-use Rattle.std.proofs.Common.{◌≡◌, ◌∙◌, ℕ, Bool, true, false, ◌&&◌, List, [], ◌∷◌, ◌++◌, refl, sym, ap, ap₂, arith, length, length-append}
+use Rattle.std.proofs.Common.{◌≡◌, ◌∙◌, ℕ, Bool, true, false, ◌&&◌, List, [], ◌∷◌, ◌++◌, refl, sym, ap, ap₂, arith}
+use Rattle.std.proofs.Common.{length, length-append}
 use Rattle.std.proofs.lemmas.Bool.{ne_eqb}
 use Rattle.std.specs.Borrow.{Bor}
 use Rattle.clap.specs.Adds.{AddsConflicts, AddsRequirements}
@@ -32,24 +33,28 @@ excluding old new id rule is (new_is, added) = record {
   rule_is =
       let same : rule_of new ≡ record (rule_of old) { is_free = is_free_arg new } =
       ap rule_of new_is ∙ ap (λ arg. record (rule_of old) { is_free = is_free_arg arg }) (sym new_is) in
-      let free : is_free_arg new ≡ false = fails_second _ _ _ (longer_is_not_empty old.conflicts.items new.conflicts.items id added) in
+      let free : is_free_arg new ≡ false = fails_second _ _ _
+      (longer_is_not_empty old.conflicts.items new.conflicts.items id added) in
       same ∙ ap₂ (λ (rule : Rule) (free : Bool). record rule { is_free = free }) is.rule_is free;
   not_global = ap (λ (arg : Arg). arg.global) new_is ∙ is.not_global;
 }
 
 -- an argument that needs another
-pub needing : (old new : Arg) (need : ArgPredicate × Bor (List ℕ)) (rule : Rule) → IsArg rule old → AddsRequirements old new (need ∷ [])
+pub needing : (old new : Arg) (need : ArgPredicate × Bor (List ℕ)) (rule : Rule) → IsArg rule old
+    → AddsRequirements old new (need ∷ [])
     → IsArg (record rule { is_free = false }) new
 needing old new need rule is (new_is, added) = record {
   rule_is =
       let same : rule_of new ≡ record (rule_of old) { is_free = is_free_arg new } =
       ap rule_of new_is ∙ ap (λ arg. record (rule_of old) { is_free = is_free_arg arg }) (sym new_is) in
-      let free : is_free_arg new ≡ false = fails_third _ _ _ _ (longer_is_not_empty old.needs.items new.needs.items need added) in
+      let free : is_free_arg new ≡ false = fails_third _ _ _ _
+      (longer_is_not_empty old.needs.items new.needs.items need added) in
       same ∙ ap₂ (λ (rule : Rule) (free : Bool). record rule { is_free = free }) is.rule_is free;
   not_global = ap (λ (arg : Arg). arg.global) new_is ∙ is.not_global;
 }
 
 -- a command with one more argument
-pub with_one : (old new : Command) (arg : Arg) (rule : Rule) (app : App) → app_of old ≡ app → IsArg rule arg → AddsArg old arg new
+pub with_one : (old new : Command) (arg : Arg) (rule : Rule) (app : App) → app_of old ≡ app → IsArg rule arg
+    → AddsArg old arg new
     → app_of new ≡ with_rule app rule
 with_one old new arg rule app old_is is adds = adds.shape is.not_global ∙ ap₂ with_rule old_is is.rule_is

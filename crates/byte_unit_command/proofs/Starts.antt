@@ -17,13 +17,15 @@ module _ (options : Options) (word : List ℕ) (records : List (List ℕ)) (new 
   -- they are converted
   pub converted-from_start : AreConverted options records new.out adds.found
   converted-from_start = record {
-    are_records = subst (λ text. AreRecords options options.header records text adds.found) (sym adds.out_is) adds.are_records;
+    are_records = subst (λ text. AreRecords options options.header records text adds.found) (sym adds.out_is)
+        adds.are_records;
     passes = adds.passes;
   }
 
   -- and told
   pub messages-from_start : AreMessages options word 0 options.header records new.messages
-  messages-from_start = subst (AreMessages options word 0 options.header records) (sym adds.messages_are) adds.are_messages
+  messages-from_start = subst (AreMessages options word 0 options.header records) (sym adds.messages_are)
+      adds.are_messages
 
   -- and counted
   pub tally-from_start : new.tally ≡ tally_of options adds.found
@@ -40,15 +42,22 @@ module _ (options : Options) (word : List ℕ) (records : List (List ℕ)) (new 
       let counted : new.tally.total ≡ min (sum_of adds.found) size_limit = ap (λ tally. tally.total) tally-from_start in
       omega (arith, large, counted)
 
-  pub total_line-from_start : (line : List ℕ) → MatchBool options.total (IsTotalFor options new.tally.total line) (line ≡ [])
+  pub total_line-from_start : (line : List ℕ) → MatchBool options.total (IsTotalFor options new.tally.total line)
+      (line ≡ [])
       → IsTotalLine options adds.found line
   total_line-from_start line at =
       let For : Type 0 = IsTotalFor options new.tally.total line in
       let sum = sum_of adds.found in
-      let Line : Type 0 = (shown : List ℕ) × (sum < size_limit) × IsShown options sum shown × (line ≡ shown ++ options.output_end ∷ []) in
+      let Line : Type 0 = (shown : List ℕ) × (sum < size_limit) × IsShown options sum shown
+      × (line ≡ shown ++ options.output_end ∷ []) in
       elim options.total as (λ asked. MatchBool asked For (line ≡ []) → MatchBool asked Line (line ≡ [])) [
         | true ↦ λ (shown, small, is_shown, is).
-            let same = sum-from_start small in
-            (shown, subst (λ total. total < size_limit) same small, subst (λ total. IsShown options total shown) same is_shown, is)
+            let same = sum-from_start small in (
+              shown,
+              subst (λ total. total < size_limit) same small,
+              subst (λ total. IsShown options total shown) same
+                  is_shown,
+              is,
+            )
         | false ↦ λ none. none
       ] at

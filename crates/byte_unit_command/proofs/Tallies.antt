@@ -14,11 +14,13 @@ use Rattle.byte_unit_command.specs.declared.tally.Tally.{Tally}
 pub tally_after-append : (options : Options) (tally : Tally) (front back : List Found)
     → tally_after options tally (front ++ back) ≡ tally_after options (tally_after options tally front) back
 tally_after-append options tally [] back = refl
-tally_after-append options tally (one ∷ front) back = tally_after-append options (tally_with options tally one) front back
+tally_after-append options tally (one ∷ front) back = tally_after-append options (tally_with options tally one) front
+    back
 
 -- the same for tallies that are given by equations
 pub tally_after-then : (options : Options) (old between new : Tally) (front back : List Found)
-    → between ≡ tally_after options old front → new ≡ tally_after options between back → new ≡ tally_after options old (front ++ back)
+    → between ≡ tally_after options old front → new ≡ tally_after options between back → new
+    ≡ tally_after options old (front ++ back)
 tally_after-then options old between new front back first second =
     second ∙ ap (λ tally. tally_after options tally back) first ∙ sym (tally_after-append options old front back)
 
@@ -48,7 +50,8 @@ or_true true = refl
 or_true false = refl
 
 -- saturating after each addition gives the same as saturating once, after all of them
-saturating-sum : (total size sum limit : ℕ) → min (min (total + size) limit + sum) limit ≡ min (total + (size + sum)) limit
+saturating-sum : (total size sum limit : ℕ) → min (min (total + size) limit + sum) limit
+    ≡ min (total + (size + sum)) limit
 saturating-sum total size sum limit = omega arith
 
 -- the total after more fields is the sum of the earlier total and their sizes, at most the limit
@@ -76,17 +79,22 @@ beyond-after options tally (Some size ∷ found) =
 rejected-after : (options : Options) (tally : Tally) (found : List Found)
     → (tally_after options tally found).rejected ≡ (tally.rejected || has_rejected found)
 rejected-after options tally [] = or_false tally.rejected
-rejected-after options tally (None ∷ found) = rejected-after options (tally_with options tally None) found ∙ or_true tally.rejected
+rejected-after options tally (None ∷ found) = rejected-after options (tally_with options tally None) found
+    ∙ or_true tally.rejected
 rejected-after options tally (Some size ∷ found) = rejected-after options (tally_with options tally (Some size)) found
 
 abbrev tally_by : ℕ → Bool → Bool → Tally
 tally_by total beyond rejected = record { total = total; beyond = beyond; rejected = rejected }
 
 -- the tally after some fields, from none on, is the tally of these fields
-pub tally_after-tally_of : (options : Options) (found : List Found) → tally_after options no_tally found ≡ tally_of options found
+pub tally_after-tally_of : (options : Options) (found : List Found) → tally_after options no_tally found
+    ≡ tally_of options found
 tally_after-tally_of options found =
     let tally = tally_after options no_tally found in
-    let total : tally.total ≡ min (sum_of found) size_limit = total-after options no_tally found (omega arith) ∙ ap (λ n. min n size_limit) (zero-add (sum_of found)) in
+    let total : tally.total ≡ min (sum_of found) size_limit = total-after options no_tally found (omega arith)
+    ∙ ap (λ n. min n size_limit) (zero-add (sum_of found)) in
     ap (λ total. tally_by total tally.beyond tally.rejected) total
-    ∙ ap (λ beyond. tally_by (min (sum_of found) size_limit) beyond tally.rejected) (beyond-after options no_tally found)
-    ∙ ap (λ rejected. tally_by (min (sum_of found) size_limit) (any_beyond options (sizes_of found)) rejected) (rejected-after options no_tally found)
+    ∙ ap (λ beyond. tally_by (min (sum_of found) size_limit) beyond tally.rejected)
+    (beyond-after options no_tally found)
+    ∙ ap (λ rejected. tally_by (min (sum_of found) size_limit) (any_beyond options (sizes_of found)) rejected)
+    (rejected-after options no_tally found)

@@ -18,12 +18,14 @@ pub IsTold-more : (before after : Bool) (messages more told rest : List ℕ) →
 IsTold-more true after messages more told rest so_far tells =
     let stays = tells.stays refl in
     let nothing : told ++ rest ≡ told = ap (λ rest. told ++ rest) stays.0 ∙ append-nil told in record {
-      begins = subst (λ told. IsPrefix told (messages ++ more)) (sym nothing) (IsPrefix-longer told messages more so_far.begins);
+      begins = subst (λ told. IsPrefix told (messages ++ more)) (sym nothing)
+          (IsPrefix-longer told messages more so_far.begins);
       all = λ is. cc;
     }
 IsTold-more false after messages more told rest so_far tells =
     let same = so_far.all refl in record {
       begins =
-          subst (λ told. IsPrefix (told ++ rest) (messages ++ more)) (sym same) (IsPrefix-after messages rest more tells.begins);
+          subst (λ told. IsPrefix (told ++ rest) (messages ++ more)) (sym same)
+          (IsPrefix-after messages rest more tells.begins);
       all = λ is. ap (λ told. told ++ rest) same ∙ ap (λ rest. messages ++ rest) (tells.all is);
     }

@@ -1,12 +1,14 @@
 -- Lemmas: texts that are written to a buffer, and then appended.
-use Rattle.std.proofs.Common.{◌≡◌, ◌+◌, ◌-◌, ◌≤◌, ℕ, replicate, Bool, true, false, List, ◌++◌, length, take, drop, ap, ◌∙◌, append-nil, arith}
+use Rattle.std.proofs.Common.{◌≡◌, ◌+◌, ◌-◌, ◌≤◌, ℕ, replicate, Bool, true, false, List, ◌++◌, length, take, drop, ap}
+use Rattle.std.proofs.Common.{◌∙◌, append-nil, arith}
 use Rattle.std.proofs.Math.Seq.{take-append_seam, take-append-add}
 use Rattle.std.proofs.lemmas.List.{take-take, length-append, length-take-le}
 use Rattle.byte_unit.specs.Written.{WritesForm}
 use Rattle.byte_unit_command.specs.Shown.{padded}
 
 -- the bytes that were written are the text
-pub written_bytes : {IsForm : List ℕ → Type 0} (old new : List ℕ) (needed : ℕ) (writes : WritesForm IsForm old new needed)
+pub written_bytes : {IsForm : List ℕ → Type 0} (old new : List ℕ) (needed : ℕ)
+    (writes : WritesForm IsForm old new needed)
     → needed ≤ length old → take needed new ≡ writes.form
 written_bytes old new needed writes room =
     let text = writes.form in
@@ -28,7 +30,8 @@ pub first_bytes : (old bytes all : List ℕ) (len : ℕ) → all ≡ old ++ take
     → take (length all - (64 - len)) all ≡ old ++ take len bytes
 first_bytes old bytes all len all_is long short =
     let whole : length all ≡ length old + 64 =
-    ap length all_is ∙ length-append {A = ℕ} old (take 64 bytes) ∙ ap (λ more. length old + more) (length-take-le {A = ℕ} 64 bytes long) in
+    ap length all_is ∙ length-append {A = ℕ} old (take 64 bytes)
+    ∙ ap (λ more. length old + more) (length-take-le {A = ℕ} 64 bytes long) in
     let count_is : length all - (64 - len) ≡ length old + len = omega (arith, whole, short) in
     ap (λ count. take count all) count_is
     ∙ ap (take (length old + len)) all_is

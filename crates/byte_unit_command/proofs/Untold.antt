@@ -4,9 +4,11 @@ use Rattle.std.proofs.Common.{refl, sym, ap, subst, ◌∙◌, arith}
 use Rattle.byte_unit.specs.SizeLaws.{TextsAreAcceptedOrRejected}
 use Rattle.byte_unit_command.specs.Field.{IsSize, IsNoSize, ignores_case}
 use Rattle.byte_unit_command.specs.Fields.{IsChosen}
-use Rattle.byte_unit_command.specs.Messages.{AreFieldMessages, AreLimitMessages, AreMessagesOfFields, AreRecordMessages, AreMessages}
+use Rattle.byte_unit_command.specs.Messages.{AreFieldMessages, AreLimitMessages, AreMessagesOfFields}
+use Rattle.byte_unit_command.specs.Messages.{AreRecordMessages, AreMessages}
 use Rattle.byte_unit_command.specs.Messages.{IsMessage, IsMessageIf, other, size, rejected, ignored}
 use Rattle.byte_unit_command.specs.Messages.{last_place, next_place, tells_rejected}
+use Rattle.byte_unit_command.specs.Progress.{AddsRecords, RecordsHaveNoMessage, State}
 use Rattle.byte_unit_command.specs.Sums.{is_above, is_below, is_beyond}
 use Rattle.byte_unit_command.specs.declared.notice.Reason.{Reason}
 use Rattle.byte_unit_command.specs.declared.notice.Reason.TheVariants.{Above, Below}
@@ -39,24 +41,29 @@ module _ (options : Options) (word : List ℕ) (place number : ℕ) (field : Lis
   limits-none : (n : ℕ) → AreLimitMessages options word place number field n [] → is_beyond options n ≡ false
   limits-none n (above, below, above_told, below_told, none) =
       let empty = append-empty above below none in
-      ap (λ yes. yes || is_below options.min n) (IsMessageIf-none (is_above options.max n) Above above empty.0 above_told)
+      ap (λ yes. yes || is_below options.min n) (IsMessageIf-none (is_above options.max n) Above above empty.0
+      above_told)
       ∙ IsMessageIf-none (is_below options.min n) Below below empty.1 below_told
 
   pub within-untold : TextsAreAcceptedOrRejected → (n : ℕ) (is_rejected : Bool) → IsChosen options.fields.now number
-      → IsSize options field n → AreFieldMessages options word place number field is_rejected [] → is_beyond options n ≡ false
+      → IsSize options field n → AreFieldMessages options word place number field is_rejected [] → is_beyond options n
+      ≡ false
   within-untold law n is_rejected chosen is (other not _ _) = absurd (not chosen)
   within-untold law n is_rejected chosen is (size same _ also _ messages) =
-      let one = (law options.kind (ignores_case options.kind options.ignore_case) field).one_meaning same n also.1 is.1 in
+      let one = (law options.kind (ignores_case options.kind options.ignore_case) field).one_meaning same n also.1
+      is.1 in
       subst (λ n. is_beyond options n ≡ false) one (limits-none same messages)
   within-untold law n is_rejected chosen is (rejected reason _ _ _ _ message) = absurd (IsMessage-some reason message)
-  within-untold law n is_rejected chosen is (ignored _ none _ _ _) = absurd (no_size_is_rejected law options field n is none)
+  within-untold law n is_rejected chosen is (ignored _ none _ _ _) =
+      absurd (no_size_is_rejected law options field n is none)
 
   -- a rejected field about which there is no message is ignored
   pub ignored-untold : TextsAreAcceptedOrRejected → (is_rejected : Bool) → IsChosen options.fields.now number
       → IsNoSize options field → AreFieldMessages options word place number field is_rejected []
       → tells_rejected options.invalid ≡ false
   ignored-untold law is_rejected chosen none (other not _ _) = absurd (not chosen)
-  ignored-untold law is_rejected chosen none (size n _ is _ _) = absurd (no_size_is_rejected law options field n is none)
+  ignored-untold law is_rejected chosen none (size n _ is _ _) =
+      absurd (no_size_is_rejected law options field n is none)
   ignored-untold law is_rejected chosen none (rejected reason _ _ _ _ message) = absurd (IsMessage-some reason message)
   ignored-untold law is_rejected chosen none (ignored _ _ _ is _) = is
 
@@ -65,8 +72,11 @@ module _ (options : Options) (word : List ℕ) where
   pub first-untold : (place number : ℕ) (field : List ℕ) (others : List (List ℕ))
       → AreMessagesOfFields options word place number (field ∷ others) []
       → (is_rejected : Bool) × AreFieldMessages options word place number field is_rejected []
-  first-untold place number field others (own, rest, is_rejected, are, _, none) =
-      (is_rejected, subst (AreFieldMessages options word place number field is_rejected) (append-empty own rest none).0 are)
+  first-untold place number field others (own, rest, is_rejected, are, _, none) = (
+    is_rejected,
+    subst (AreFieldMessages options word place number field is_rejected)
+        (append-empty own rest none).0 are,
+  )
 
   pub others-untold : (place number : ℕ) (field : List ℕ) (others : List (List ℕ))
       → AreMessagesOfFields options word place number (field ∷ others) []
@@ -81,12 +91,26 @@ module _ (options : Options) (word : List ℕ) where
   record-untold place header bytes others (own, rest, are, _, none) =
       subst (AreRecordMessages options word (next_place place) header bytes) (append-empty own rest none).0 are
 
-  pub records-untold : (place header : ℕ) (front back : List (List ℕ)) → AreMessages options word place header (front ++ back) []
+  records-untold : (place header : ℕ) (front back : List (List ℕ))
+      → AreMessages options word place header (front ++ back) []
       → AreMessages options word (last_place place front) (header - length front) back []
   records-untold place header [] back are =
-      let same : header ≡ header - 0 = omega arith in subst (λ header. AreMessages options word place header back []) same are
+      let same : header ≡ header - 0 = omega arith in subst (λ header. AreMessages options word place header back [])
+      same are
   records-untold place header (bytes ∷ front) back (own, rest, _, are, none) =
       let same : header - 1 - length front ≡ header - length (bytes ∷ front) = omega arith in
-      let others = subst (AreMessages options word (next_place place) (header - 1) (front ++ back)) (append-empty own rest none).1 are in
+      let others = subst (AreMessages options word (next_place place) (header - 1) (front ++ back))
+      (append-empty own rest none).1 are in
       subst (λ header. AreMessages options word (last_place (next_place place) front) header back []) same
       (records-untold (next_place place) (header - 1) front back others)
+
+-- if there is no message about these records and those before them, there is none about these
+pub next-untold : (options : Options) (before records : List (List ℕ)) (old new : State)
+    → AddsRecords options before old new
+    → RecordsHaveNoMessage options (before ++ records) old → RecordsHaveNoMessage options records new
+next-untold options before records old new added untold =
+    let at = records-untold options old.word old.place old.header before records untold in
+    subst (λ word. AreMessages options word new.place new.header records []) (sym added.word_is)
+    (subst (λ place. AreMessages options old.word place new.header records []) (sym added.place_is)
+    (subst (λ header. AreMessages options old.word (last_place old.place before) header records [])
+    (sym added.header_is) at))

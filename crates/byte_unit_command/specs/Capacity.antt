@@ -74,8 +74,9 @@ SufficeFor options longest chunk part waiting =
 
 -- the buffers of a run are empty
 abbrev pub AreEmpty : {A : Type 0} → Buffers A → Type 0
-AreEmpty buffers = (buffers.part.items ≡ []) × (buffers.waiting.items ≡ []) × (messages_of buffers.notices ≡ [])
+AreEmpty buffers =
+    (buffers.part.items ≡ []) × (buffers.converter.waiting.items ≡ []) × (messages_of buffers.converter.notices ≡ [])
 
 -- the buffers of a run suffice for records of at most `longest` bytes and reads of at most `chunk` bytes
 abbrev pub HaveCapacity : {A : Type 0} → Options → ℕ → ℕ → Buffers A → Type 0
-HaveCapacity options longest chunk buffers = SufficeFor options longest chunk buffers.part buffers.waiting
+HaveCapacity options longest chunk buffers = SufficeFor options longest chunk buffers.part buffers.converter.waiting

@@ -1,5 +1,6 @@
 -- The exit status of a run, and its message.
-use Rattle.std.specs.Prelude.{ℕ, List, Bool, ◌&&◌, true, false, if◌then◌else◌, Option, Some, None, Result, Ok, Err, codes}
+use Rattle.std.specs.Prelude.{ℕ, List, Bool, ◌&&◌, true, false, if◌then◌else◌, Option, Some, None, Result, Ok, Err}
+use Rattle.std.specs.Prelude.{codes}
 use Rattle.byte_unit_command.specs.declared.options.Invalid.{Invalid}
 use Rattle.byte_unit_command.specs.declared.options.Invalid.TheVariants.{Abort, Fail, Warn, Ignore}
 use Rattle.byte_unit_command.specs.declared.stop.Stop.{Stop}

@@ -1,6 +1,8 @@
 -- The messages about fields, for standard error.
-use Rattle.std.specs.Prelude.{◌≡◌, ℕ, zero, suc, ◌+◌, ◌-◌, ◌^◌, ◌/◌, ◌%◌, ◌⊎◌, min, Bool, true, false, ◌&&◌, ◌||◌, nat_lt, nat_le, IfSome}
-use Rattle.std.specs.Prelude.{if◌then◌else◌, MatchBool, List, [], ◌∷◌, ◌++◌, Option, Some, None, length, take, slice_index, codes}
+use Rattle.std.specs.Prelude.{◌≡◌, ℕ, zero, suc, ◌+◌, ◌-◌, ◌^◌, ◌/◌, ◌%◌, ◌⊎◌, min, Bool, true, false, ◌&&◌, ◌||◌}
+use Rattle.std.specs.Prelude.{nat_lt, nat_le, IfSome}
+use Rattle.std.specs.Prelude.{if◌then◌else◌, MatchBool, List, [], ◌∷◌, ◌++◌, Option, Some, None, length, take}
+use Rattle.std.specs.Prelude.{slice_index, codes}
 use Rattle.std.specs.Char.{is_control, encode_utf8}
 use Rattle.std.specs.Fmt.{decimal, digits, digit_glyph}
 use Rattle.std.specs.List.{flat_map}

@@ -1,5 +1,6 @@
 -- What a run has written, by the records that it has read and how it ended.
-use Rattle.std.specs.Prelude.{◌≡◌, ◌≤◌, ◌<◌, ◌-◌, ◌⊎◌, ℕ, true, false, MatchBool, List, [], ◌∷◌, ◌++◌, length, Result, Ok, Err}
+use Rattle.std.specs.Prelude.{◌≡◌, ◌≤◌, ◌<◌, ◌-◌, ◌⊎◌, ℕ, true, false, MatchBool, List, [], ◌∷◌, ◌++◌, length, Result}
+use Rattle.std.specs.Prelude.{Ok, Err}
 use Rattle.byte_unit.specs.Bounds.{size_limit}
 use Rattle.byte_unit_command.specs.Field.{Found}
 use Rattle.byte_unit_command.specs.Fields.{fields_of}

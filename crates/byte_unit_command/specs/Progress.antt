@@ -1,10 +1,12 @@
 -- Private but for `no_tally`, `messages_of`: how far a run has come, step by step.
-use Rattle.std.specs.Prelude.{◌≡◌, ℕ, ◌+◌, ◌-◌, ◌≤◌, min, true, false, ◌||◌, if◌then◌else◌, ◌==◌, List, [], ◌∷◌, ◌++◌, Some, None}
+use Rattle.std.specs.Prelude.{◌≡◌, ℕ, ◌+◌, ◌-◌, ◌≤◌, min, true, false, ◌||◌, List, [], ◌∷◌, ◌++◌}
+use Rattle.std.specs.Prelude.{Some, None}
 use Rattle.std.specs.Prelude.{length, ◌<◌, ◌⊎◌, Bool, MatchBool, IsTrue, Result, Ok, Err, ⊤}
 use Rattle.byte_unit.specs.Bounds.{size_limit}
 use Rattle.byte_unit_command.specs.Field.{Found, IsField, IsNoSize}
 use Rattle.byte_unit_command.specs.Fields.{IsChosen, fields_of}
-use Rattle.byte_unit_command.specs.Messages.{AreFieldMessages, AreMessagesOfFields, AreMessagesToRejected, AreMessages}
+use Rattle.byte_unit_command.specs.Messages.{AreFieldMessages, AreMessagesOfFields, AreMessagesToRejected}
+use Rattle.byte_unit_command.specs.Messages.{AreRecordMessages, AreMessages}
 use Rattle.byte_unit_command.specs.Messages.{next_place, last_place}
 use Rattle.byte_unit_command.specs.Outcome.{Passes}
 use Rattle.byte_unit_stream.specs.Prefix.{IsPrefix}
@@ -14,7 +16,7 @@ use Rattle.byte_unit_command.specs.Sums.{is_beyond, has_rejected}
 use Rattle.byte_unit_command.specs.declared.notice.Notices.{Notices}
 use Rattle.byte_unit_command.specs.declared.options.Invalid.TheVariants.{Abort}
 use Rattle.byte_unit_command.specs.declared.options.Options.{Options}
-use Rattle.byte_unit_command.specs.declared.records.Progress.{Progress}
+use Rattle.byte_unit_command.specs.declared.converter.Converter.{Converter}
 use Rattle.byte_unit_command.specs.declared.stop.Stop.{Stop}
 use Rattle.byte_unit_command.specs.declared.stop.Stop.TheVariants.{Memory, Read, Write, Rejected, Total}
 use Rattle.byte_unit_command.specs.declared.tally.Tally.{Tally}
@@ -39,52 +41,6 @@ tally_after options tally (one ∷ others) = tally_after options (tally_with opt
 abbrev pub messages_of : {A : Type 0} → Notices A → List ℕ
 messages_of notices = notices.messages.items
 
--- the text of a field and the messages about it were appended, and the field was counted
-pub record AddsField (options : Options) (word : List ℕ) (place number : ℕ) (field : List ℕ)
-    (old : Tally) (old_text old_messages : List ℕ) (new : Tally) (new_text new_messages : List ℕ) : Type 0 where
-  pub text : List ℕ
-  pub messages : List ℕ
-  pub found : List Found
-  pub is_field : IsField options number field text found
-  pub are_messages : AreFieldMessages options word place number field (has_rejected found) messages
-  pub passes : Passes options found
-  pub text_is : new_text ≡ old_text ++ text
-  pub messages_are : new_messages ≡ old_messages ++ messages
-  pub tally_is : new ≡ tally_after options old found
-
--- in the mode `abort`, a field is rejected, and the messages about it were appended
-pub record IsRejectedField (options : Options) (word : List ℕ) (place number : ℕ) (field : List ℕ)
-    (old_messages new_messages : List ℕ) : Type 0 where
-  pub mode : options.invalid ≡ Abort
-  pub chosen : IsChosen options.fields.now number
-  pub no_size : IsNoSize options field
-  pub messages : List ℕ
-  pub are_messages : AreFieldMessages options word place number field true messages
-  pub messages_are : new_messages ≡ old_messages ++ messages
-
--- the texts of the fields of a record, which is no header record, and the messages about them were appended, and they
--- were counted
-pub record AddsFields (options : Options) (word : List ℕ) (place : ℕ) (bytes : List ℕ)
-    (old : Tally) (old_text old_messages : List ℕ) (new : Tally) (new_text new_messages : List ℕ) : Type 0 where
-  pub text : List ℕ
-  pub messages : List ℕ
-  pub found : List Found
-  pub are_fields : AreFields options 1 (fields_of options.delimiter bytes) text found
-  pub are_messages : AreMessagesOfFields options word place 1 (fields_of options.delimiter bytes) messages
-  pub passes : Passes options found
-  pub text_is : new_text ≡ old_text ++ text
-  pub messages_are : new_messages ≡ old_messages ++ messages
-  pub tally_is : new ≡ tally_after options old found
-
--- in the mode `abort`, a field of this record is rejected, and the messages up to those about it were appended
-pub record Aborts (options : Options) (word : List ℕ) (place : ℕ) (bytes : List ℕ) (old_messages new_messages : List ℕ)
-    : Type 0 where
-  pub mode : options.invalid ≡ Abort
-  pub has_rejected : HasRejectedField options 1 (fields_of options.delimiter bytes)
-  pub messages : List ℕ
-  pub to_rejected : AreMessagesToRejected options word place 1 (fields_of options.delimiter bytes) messages
-  pub messages_are : new_messages ≡ old_messages ++ messages
-
 -- how far a run has come: the number of header records to come, what a record is called and the number of the last
 -- one, what was counted, what is to be written, and the messages to be told
 pub record State : Type 0 where
@@ -96,20 +52,94 @@ pub record State : Type 0 where
   pub messages : List ℕ
 
 -- the state of a run
-abbrev pub state_of : Progress → List ℕ → List ℕ → State
-state_of progress out messages = record {
-  header = progress.header;
-  word = progress.place.word.now;
-  place = progress.place.number;
-  tally = progress.tally;
-  out = out;
-  messages = messages;
+abbrev pub state_of : {A : Type 0} → Converter A → State
+state_of converter = record {
+  header = converter.progress.header;
+  word = converter.progress.place.word.now;
+  place = converter.progress.place.number;
+  tally = converter.progress.tally;
+  out = converter.waiting.items;
+  messages = messages_of converter.notices;
 }
 
 -- the state of a run that has not begun
 abbrev pub start_of : Options → List ℕ → State
 start_of options word =
     record { header = options.header; word = word; place = 0; tally = no_tally; out = []; messages = [] }
+
+-- the same state, with nothing to be written and no messages to be told
+abbrev pub idle : State → State
+idle state = record state { out = []; messages = [] }
+
+-- the same state, at the next record
+abbrev pub at_next : State → State
+at_next state = record state { place = next_place state.place }
+
+-- the state after this text and these messages were appended, and what was found was counted
+abbrev pub after : Options → State → List ℕ → List ℕ → List Found → State
+after options state text messages found = record state {
+  tally = tally_after options state.tally found;
+  out = state.out ++ text;
+  messages = state.messages ++ messages;
+}
+
+-- the text of the field with this number and the messages about it were appended, and the field was counted
+pub record AddsField (options : Options) (number : ℕ) (field : List ℕ) (old new : State) : Type 0 where
+  pub text : List ℕ
+  pub messages : List ℕ
+  pub found : List Found
+  pub is_field : IsField options number field text found
+  pub are_messages : AreFieldMessages options old.word old.place number field (has_rejected found) messages
+  pub passes : Passes options found
+  pub new_is : new ≡ after options old text messages found
+
+-- in the mode `abort`, a field is rejected, and the messages about it were appended
+pub record IsRejectedField (options : Options) (number : ℕ) (field : List ℕ) (old : State) (new_messages : List ℕ) :
+    Type 0 where
+  pub mode : options.invalid ≡ Abort
+  pub chosen : IsChosen options.fields.now number
+  pub no_size : IsNoSize options field
+  pub messages : List ℕ
+  pub are_messages : AreFieldMessages options old.word old.place number field true messages
+  pub messages_are : new_messages ≡ old.messages ++ messages
+
+-- the texts of the fields of a record, which is no header record, and the messages about them were appended, and they
+-- were counted
+pub record AddsFields (options : Options) (bytes : List ℕ) (old new : State) : Type 0 where
+  pub text : List ℕ
+  pub messages : List ℕ
+  pub found : List Found
+  pub are_fields : AreFields options 1 (fields_of options.delimiter bytes) text found
+  pub are_messages : AreMessagesOfFields options old.word old.place 1 (fields_of options.delimiter bytes) messages
+  pub passes : Passes options found
+  pub new_is : new ≡ after options old text messages found
+
+-- in the mode `abort`, a field of this record is rejected, and the messages up to those about it were appended
+pub record Aborts (options : Options) (bytes : List ℕ) (old : State) (new_messages : List ℕ) : Type 0 where
+  pub mode : options.invalid ≡ Abort
+  pub has_rejected : HasRejectedField options 1 (fields_of options.delimiter bytes)
+  pub messages : List ℕ
+  pub to_rejected : AreMessagesToRejected options old.word old.place 1 (fields_of options.delimiter bytes) messages
+  pub messages_are : new_messages ≡ old.messages ++ messages
+
+-- there is no message about the field with this number
+abbrev pub FieldHasNoMessage : Options → ℕ → List ℕ → State → Type 0
+FieldHasNoMessage options number field state =
+    (is_rejected : Bool) × AreFieldMessages options state.word state.place number field is_rejected []
+
+-- there is none about the fields of a record, which is no header record
+abbrev pub FieldsHaveNoMessage : Options → List ℕ → State → Type 0
+FieldsHaveNoMessage options bytes state =
+    AreMessagesOfFields options state.word state.place 1 (fields_of options.delimiter bytes) []
+
+-- there is none about the next record
+abbrev pub RecordHasNoMessage : Options → List ℕ → State → Type 0
+RecordHasNoMessage options bytes state =
+    AreRecordMessages options state.word (next_place state.place) state.header bytes []
+
+-- there is none about the next records
+abbrev pub RecordsHaveNoMessage : Options → List (List ℕ) → State → Type 0
+RecordsHaveNoMessage options records state = AreMessages options state.word state.place state.header records []
 
 -- the texts of these records and the messages about them were appended, and they were counted
 pub record AddsRecords (options : Options) (records : List (List ℕ)) (old new : State) : Type 0 where
@@ -136,7 +166,7 @@ Stops options records old Memory out messages =
 Stops options records old Rejected out messages =
     (before after : List (List ℕ)) × (bytes : List ℕ) × (new : State) × (records ≡ before ++ bytes ∷ after)
     × AddsRecords options before old new × (new.out ≡ out) × (new.header ≡ 0)
-    × Aborts options new.word (next_place new.place) bytes new.messages messages
+    × Aborts options bytes (at_next new) messages
 Stops options records old _ out messages = ⊥
 
 -- what a call has written that converts these records, reads nothing and returns this result, and the messages that it
@@ -183,7 +213,7 @@ IsFinished options part old (Err Memory) written messages =
     × ((messages ≡ [])
     ⊎ ((new : State) × AddsRecords options (nonempty_record part) old new × (messages ≡ new.messages)))
 IsFinished options part old (Err Rejected) written messages =
-    (written ≡ []) × (old.header ≡ 0) × Aborts options old.word (next_place old.place) part old.messages messages
+    (written ≡ []) × (old.header ≡ 0) × Aborts options part (at_next old) messages
     × (nonempty_record part ≡ part ∷ [])
 IsFinished options part old (Err Total) written messages =
     (new : State) × AddsRecords options (nonempty_record part) old new × (options.total ≡ true)

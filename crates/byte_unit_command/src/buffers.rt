@@ -5,8 +5,11 @@ ghost use Rattle.byte_unit_command.specs.Capacity.{AreEmpty, HaveCapacity};
 ghost use Rattle.byte_unit_command.specs.Capacity.{form_max as most_of_form, read_room as room_of_read};
 ghost use Rattle.byte_unit_command.specs.Capacity.{text_room as room_of_text, unit_places as places_in_unit};
 
+use crate::converter::{Converter, Progress};
 use crate::notice::Notices;
 use crate::options::{Form, Options};
+use crate::place::Place;
+use crate::tally::Tally;
 use crate::text::AT_ONCE;
 use std::alloc::{AllocError, Allocator};
 
@@ -22,10 +25,8 @@ const UNIT_PLACES: usize = 93;
 pub struct Buffers<A: Allocator> {
     /// The part that was read of a record whose end was not read yet.
     pub(crate) part: Vec<u8, A>,
-    /// Whole texts that are not written yet.
-    pub(crate) waiting: Vec<u8, A>,
-    /// Messages that are not written yet.
-    pub(crate) notices: Notices<A>,
+    /// What was converted and is not written yet.
+    pub(crate) converter: Converter<A>,
 }
 
 impl<A: Allocator + Copy> Buffers<A> {
@@ -33,10 +34,21 @@ impl<A: Allocator + Copy> Buffers<A> {
     pub fn new(alloc: A) -> Buffers<A>
         ensures { AreEmpty result }
     {
+        let progress = Progress {
+            header: 0,
+            tally: Tally::new(),
+            place: Place {
+                word: "",
+                number: 0,
+            },
+        };
         Buffers {
             part: Vec::new(alloc),
-            waiting: Vec::new(alloc),
-            notices: Notices::new(alloc),
+            converter: Converter {
+                progress,
+                waiting: Vec::new(alloc),
+                notices: Notices::new(alloc),
+            },
         }
     }
 
@@ -59,7 +71,7 @@ impl<A: Allocator + Copy> Buffers<A> {
         let part = longest.checked_add(chunk).ok_or(AllocError)?;
         let waiting = read_room(options, longest, chunk).ok_or(AllocError)?;
         buffers.part.try_reserve_exact(part)?;
-        buffers.waiting.try_reserve_exact(waiting)?;
+        buffers.converter.waiting.try_reserve_exact(waiting)?;
         Ok(buffers)
     }
 }

@@ -3,6 +3,7 @@
 
 pub mod arguments;
 pub mod buffers;
+mod converter;
 pub mod ending;
 mod field;
 pub mod field_list;
@@ -15,10 +16,10 @@ pub mod options;
 mod place;
 mod positive;
 mod quote;
-mod records;
 pub mod run;
 mod size;
 pub mod stop;
+pub mod streams;
 pub mod tally;
 mod text;
 pub mod values;

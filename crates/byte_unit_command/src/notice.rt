@@ -174,24 +174,21 @@ pub(crate) fn add_limit_notice<A: Allocator>(
     ensures kept { IsPrefix (messages_of notices.old) (messages_of notices.new) }
 {
     let (above, below) = (is_above(options, size), is_below(options, size));
-    add_message_if(
-        above,
-        options,
-        place,
+    let field = Field {
         number,
-        field,
-        &Reason::Above,
-        notices,
-    )?;
-    add_message_if(
-        below,
-        options,
-        place,
-        number,
-        field,
-        &Reason::Below,
-        notices,
-    )
+        bytes: field,
+    };
+    add_message_if(above, options, place, &field, &Reason::Above, notices)?;
+    add_message_if(below, options, place, &field, &Reason::Below, notices)
+}
+
+/// A field that a message is about.
+#[derive(Drop)]
+struct Field<'a> {
+    /// Its number.
+    number: u64,
+    /// What it is.
+    bytes: &'a [u8],
 }
 
 /// Appends a message if it is to be told.
@@ -203,18 +200,17 @@ fn add_message_if<A: Allocator>(
     told: bool,
     options: &Options,
     place: &Place,
-    number: u64,
-    field: &[u8],
+    field: &Field,
     reason: &Reason,
     notices: &mut Notices<A>,
 ) -> Result<(), AllocError>
     ensures ok { OnOk result ((text : List ℕ)
-        × IsMessageIf told options.now place.now.word.now place.now.number number field.now reason.now text
-        × (messages_of notices.new ≡ messages_of notices.old ++ text)) }
+        × IsMessageIf told options.now place.now.word.now place.now.number field.now.number field.now.bytes.now
+        reason.now text × (messages_of notices.new ≡ messages_of notices.old ++ text)) }
     ensures kept { IsPrefix (messages_of notices.old) (messages_of notices.new) }
 {
     if told {
-        add_message(options, place, number, field, reason, notices)
+        add_message(options, place, field.number, field.bytes, reason, notices)
     } else {
         Ok(())
     }

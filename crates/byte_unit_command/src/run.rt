@@ -6,24 +6,23 @@ ghost use Rattle.std.specs.Prelude.{◌≡◌, ◌+◌, ◌<◌, ◌≤◌, ◌�
 ghost use Rattle.std.specs.Prelude.{IsTrue, IsOk, IsErrOf, IfErr, OnOk, OnErr, IfOk, Err};
 ghost use Rattle.byte_unit.specs.Forms.{text_limit};
 ghost use Rattle.byte_unit_command.specs.Capacity.{AreEmpty, HaveCapacity, SufficeFor};
-ghost use Rattle.byte_unit_command.specs.Messages.{AreMessages};
-ghost use Rattle.byte_unit_stream.specs.Prefix.{IsPrefix};
 ghost use Rattle.byte_unit_command.specs.Outcome.{IsWritten};
-ghost use Rattle.byte_unit_command.specs.Progress.{AddsRecords, IsAnswered, Stops, Tells, messages_of, state_of};
+ghost use Rattle.byte_unit_command.specs.Progress.{AddsRecords, IsAnswered, RecordsHaveNoMessage, Stops, Tells};
+ghost use Rattle.byte_unit_command.specs.Progress.{idle, messages_of, state_of};
+ghost use Rattle.byte_unit_command.specs.Told.{AreRunMessages, IsMessageDue, IsTold};
 ghost use Rattle.byte_unit_stream.specs.Chunks.{ended_records, begun_record};
+ghost use Rattle.byte_unit_stream.specs.Prefix.{IsPrefix};
 ghost use Rattle.byte_unit_stream.specs.Records.{finished_records, records_of, longest_record};
 ghost use Rattle.byte_unit_stream.specs.Streams.{HasRead, HasReadAll, reading_failed};
 ghost use Rattle.byte_unit_stream.specs.Streams.{HasWritten, writing_failed};
-ghost use Rattle.byte_unit_command.specs.Told.{AreRunMessages, IsMessageDue, IsTold};
 
 use crate::buffers::Buffers;
-use crate::finish::finish;
-use crate::notice::Notices;
+use crate::converter::Progress;
 use crate::options::Options;
-use crate::records::{Progress, add_record};
 use crate::stop::Stop;
+use crate::streams::Streams;
 use crate::tally::Tally;
-use byte_unit_stream::{Reading, Writing, end_of, write_whole};
+use byte_unit_stream::{Writing, end_of, write_whole};
 use std::alloc::{AllocError, Allocator, Global};
 use std::io::{Read, Write};
 
@@ -35,8 +34,7 @@ pub(crate) const DIGITS: usize = 65600;
 
 /// Reads the whole input, and writes each record, with the chosen fields replaced.
 ///
-/// Messages about fields are written to `errors`, which records a failure; the run goes on without them then. `word` is
-/// what a message calls a record.
+/// Messages about fields are written to `streams.errors`. After a failure of it, the run goes on without them.
 ///
 /// On `Ok` the whole output has been written. Returns what was counted.
 ///
@@ -50,37 +48,25 @@ pub(crate) const DIGITS: usize = 65600;
 pub fn run<R: Read, W: Write, E: Write>(
     alloc: Global,
     options: &Options,
-    word: &'static str,
-    reader: &mut Reading<R>,
-    writer: &mut Writing<W>,
-    errors: &mut Writing<E>,
+    streams: &mut Streams<R, W, E>,
 ) -> Result<Tally, Stop>
     ensures run { (read written : List ℕ)
-        × HasRead R.remaining reader.old reader.new read
-        × HasWritten W.contents writer.old writer.new written
+        × HasRead R.remaining streams.old.reader streams.new.reader read
+        × HasWritten W.contents streams.old.writer streams.new.writer written
         × IsWritten options.now (finished_records options.now.record_end read)
-        (records_of options.now.record_end read) (HasReadAll R.remaining reader.new) result written }
+        (records_of options.now.record_end read) (HasReadAll R.remaining streams.new.reader) result written }
     ensures told { (read messages told : List ℕ)
-        × HasRead R.remaining reader.old reader.new read
-        × HasWritten E.contents errors.old errors.new told
-        × IsTold (writing_failed errors.new) messages told
-        × AreRunMessages options.now word.now (finished_records options.now.record_end read)
-        (records_of options.now.record_end read) (HasReadAll R.remaining reader.new) result messages }
-    ensures read_failed { IsErrOf result Stop.Read → IsTrue (reading_failed reader.new) }
-    ensures write_failed { IsErrOf result Stop.Write → IsTrue (writing_failed writer.new) }
+        × HasRead R.remaining streams.old.reader streams.new.reader read
+        × HasWritten E.contents streams.old.errors streams.new.errors told
+        × IsTold (writing_failed streams.new.errors) messages told
+        × AreRunMessages options.now streams.old.word.now (finished_records options.now.record_end read)
+        (records_of options.now.record_end read) (HasReadAll R.remaining streams.new.reader) result messages }
+    ensures read_failed { IsErrOf result Stop.Read → IsTrue (reading_failed streams.new.reader) }
+    ensures write_failed { IsErrOf result Stop.Write → IsTrue (writing_failed streams.new.writer) }
 {
     let mut buffer = [0u8; CHUNK];
     let mut digits = [0u8; DIGITS];
-    run_in(
-        &alloc,
-        options,
-        word,
-        &mut buffer,
-        &mut digits,
-        reader,
-        writer,
-        errors,
-    )
+    run_in(&alloc, options, &mut buffer, &mut digits, streams)
 }
 
 /// Does what [`run`] does, with any allocator, and with reads of at most the length of `buffer`.
@@ -91,41 +77,28 @@ pub fn run<R: Read, W: Write, E: Write>(
 pub fn run_in<A: Allocator, R: Read, W: Write, E: Write>(
     alloc: &A,
     options: &Options,
-    word: &'static str,
     buffer: &mut [u8],
     digits: &mut [u8],
-    reader: &mut Reading<R>,
-    writer: &mut Writing<W>,
-    errors: &mut Writing<E>,
+    streams: &mut Streams<R, W, E>,
 ) -> Result<Tally, Stop>
     requires some { 0 < length buffer.old }
     requires capacity { text_limit ≤ length digits.old }
     ensures run { (read written : List ℕ)
-        × HasRead R.remaining reader.old reader.new read
-        × HasWritten W.contents writer.old writer.new written
+        × HasRead R.remaining streams.old.reader streams.new.reader read
+        × HasWritten W.contents streams.old.writer streams.new.writer written
         × IsWritten options.now (finished_records options.now.record_end read)
-        (records_of options.now.record_end read) (HasReadAll R.remaining reader.new) result written }
+        (records_of options.now.record_end read) (HasReadAll R.remaining streams.new.reader) result written }
     ensures told { (read messages told : List ℕ)
-        × HasRead R.remaining reader.old reader.new read
-        × HasWritten E.contents errors.old errors.new told
-        × IsTold (writing_failed errors.new) messages told
-        × AreRunMessages options.now word.now (finished_records options.now.record_end read)
-        (records_of options.now.record_end read) (HasReadAll R.remaining reader.new) result messages }
-    ensures read_failed { IsErrOf result Stop.Read → IsTrue (reading_failed reader.new) }
-    ensures write_failed { IsErrOf result Stop.Write → IsTrue (writing_failed writer.new) }
+        × HasRead R.remaining streams.old.reader streams.new.reader read
+        × HasWritten E.contents streams.old.errors streams.new.errors told
+        × IsTold (writing_failed streams.new.errors) messages told
+        × AreRunMessages options.now streams.old.word.now (finished_records options.now.record_end read)
+        (records_of options.now.record_end read) (HasReadAll R.remaining streams.new.reader) result messages }
+    ensures read_failed { IsErrOf result Stop.Read → IsTrue (reading_failed streams.new.reader) }
+    ensures write_failed { IsErrOf result Stop.Write → IsTrue (writing_failed streams.new.writer) }
 {
     let mut buffers = Buffers::new(alloc);
-    run_with_buffers(
-        &mut buffers,
-        options,
-        word,
-        usize::MAX,
-        buffer,
-        digits,
-        reader,
-        writer,
-        errors,
-    )
+    run_with_buffers(&mut buffers, options, usize::MAX, buffer, digits, streams)
 }
 
 /// Does what [`run_in`] does, for records of at most `longest` bytes. Allocates only at the start, and for messages.
@@ -145,54 +118,40 @@ pub fn run_in<A: Allocator, R: Read, W: Write, E: Write>(
 pub fn run_with_capacity<A: Allocator, R: Read, W: Write, E: Write>(
     alloc: &A,
     options: &Options,
-    word: &'static str,
     longest: usize,
     buffer: &mut [u8],
     digits: &mut [u8],
-    reader: &mut Reading<R>,
-    writer: &mut Writing<W>,
-    errors: &mut Writing<E>,
+    streams: &mut Streams<R, W, E>,
 ) -> Result<Result<Tally, Stop>, AllocError>
     requires some { 0 < length buffer.old }
     requires capacity { text_limit ≤ length digits.old }
     ensures run { IfOk result (λ ended. (read written : List ℕ)
-        × HasRead R.remaining reader.old reader.new read
-        × HasWritten W.contents writer.old writer.new written
+        × HasRead R.remaining streams.old.reader streams.new.reader read
+        × HasWritten W.contents streams.old.writer streams.new.writer written
         × IsWritten options.now (finished_records options.now.record_end read)
-        (records_of options.now.record_end read) (HasReadAll R.remaining reader.new) ended written) }
+        (records_of options.now.record_end read) (HasReadAll R.remaining streams.new.reader) ended written) }
     ensures told { IfOk result (λ ended. (read messages told : List ℕ)
-        × HasRead R.remaining reader.old reader.new read
-        × HasWritten E.contents errors.old errors.new told
-        × IsTold (writing_failed errors.new) messages told
-        × AreRunMessages options.now word.now (finished_records options.now.record_end read)
-        (records_of options.now.record_end read) (HasReadAll R.remaining reader.new) ended messages) }
+        × HasRead R.remaining streams.old.reader streams.new.reader read
+        × HasWritten E.contents streams.old.errors streams.new.errors told
+        × IsTold (writing_failed streams.new.errors) messages told
+        × AreRunMessages options.now streams.old.word.now (finished_records options.now.record_end read)
+        (records_of options.now.record_end read) (HasReadAll R.remaining streams.new.reader) ended messages) }
     ensures memory { IfOk result (λ ended. IsErrOf ended Stop.Memory → (read : List ℕ)
-        × HasRead R.remaining reader.old reader.new read
+        × HasRead R.remaining streams.old.reader streams.new.reader read
         × ((longest < longest_record options.now.record_end read)
-        ⊎ IsMessageDue options.now word.now (finished_records options.now.record_end read)
-        (records_of options.now.record_end read) (HasReadAll R.remaining reader.new))) }
+        ⊎ IsMessageDue options.now streams.old.word.now (finished_records options.now.record_end read)
+        (records_of options.now.record_end read) (HasReadAll R.remaining streams.new.reader))) }
     ensures bound { IfOk result (λ ended. OnOk ended ((read : List ℕ)
-        × HasRead R.remaining reader.old reader.new read
+        × HasRead R.remaining streams.old.reader streams.new.reader read
         × (longest_record options.now.record_end read < longest + length buffer.old))) }
     ensures read_failed { IfOk result
-        (λ ended. IsErrOf ended Stop.Read → IsTrue (reading_failed reader.new)) }
+        (λ ended. IsErrOf ended Stop.Read → IsTrue (reading_failed streams.new.reader)) }
     ensures write_failed { IfOk result
-        (λ ended. IsErrOf ended Stop.Write → IsTrue (writing_failed writer.new)) }
-    ensures unstarted { OnErr result
-        ((reader.new ≡ reader.old) × (writer.new ≡ writer.old) × (errors.new ≡ errors.old)) }
+        (λ ended. IsErrOf ended Stop.Write → IsTrue (writing_failed streams.new.writer)) }
+    ensures unstarted { OnErr result (streams.new ≡ streams.old) }
 {
     let mut buffers = Buffers::with_capacity(alloc, options, longest, buffer.len())?;
-    Ok(run_with_buffers(
-        &mut buffers,
-        options,
-        word,
-        longest,
-        buffer,
-        digits,
-        reader,
-        writer,
-        errors,
-    ))
+    Ok(run_with_buffers(&mut buffers, options, longest, buffer, digits, streams))
 }
 
 /// Does what [`run_in`] does, for records of at most `longest` bytes, in the caller's buffers.
@@ -208,171 +167,157 @@ pub fn run_with_capacity<A: Allocator, R: Read, W: Write, E: Write>(
 pub fn run_with_buffers<A: Allocator, R: Read, W: Write, E: Write>(
     buffers: &mut Buffers<A>,
     options: &Options,
-    word: &'static str,
     longest: usize,
     buffer: &mut [u8],
     digits: &mut [u8],
-    reader: &mut Reading<R>,
-    writer: &mut Writing<W>,
-    errors: &mut Writing<E>,
+    streams: &mut Streams<R, W, E>,
 ) -> Result<Tally, Stop>
     requires empty { AreEmpty buffers.old }
     requires some { 0 < length buffer.old }
     requires capacity { text_limit ≤ length digits.old }
     ensures run { (read written : List ℕ)
-        × HasRead R.remaining reader.old reader.new read
-        × HasWritten W.contents writer.old writer.new written
+        × HasRead R.remaining streams.old.reader streams.new.reader read
+        × HasWritten W.contents streams.old.writer streams.new.writer written
         × IsWritten options.now (finished_records options.now.record_end read)
-        (records_of options.now.record_end read) (HasReadAll R.remaining reader.new) result written }
+        (records_of options.now.record_end read) (HasReadAll R.remaining streams.new.reader) result written }
     ensures told { (read messages told : List ℕ)
-        × HasRead R.remaining reader.old reader.new read
-        × HasWritten E.contents errors.old errors.new told
-        × IsTold (writing_failed errors.new) messages told
-        × AreRunMessages options.now word.now (finished_records options.now.record_end read)
-        (records_of options.now.record_end read) (HasReadAll R.remaining reader.new) result messages }
+        × HasRead R.remaining streams.old.reader streams.new.reader read
+        × HasWritten E.contents streams.old.errors streams.new.errors told
+        × IsTold (writing_failed streams.new.errors) messages told
+        × AreRunMessages options.now streams.old.word.now (finished_records options.now.record_end read)
+        (records_of options.now.record_end read) (HasReadAll R.remaining streams.new.reader) result messages }
     ensures memory { HaveCapacity options.now longest (length buffer.old) buffers.old
         → IsErrOf result Stop.Memory → (read : List ℕ)
-        × HasRead R.remaining reader.old reader.new read
+        × HasRead R.remaining streams.old.reader streams.new.reader read
         × ((longest < longest_record options.now.record_end read)
-        ⊎ IsMessageDue options.now word.now (finished_records options.now.record_end read)
-        (records_of options.now.record_end read) (HasReadAll R.remaining reader.new)) }
+        ⊎ IsMessageDue options.now streams.old.word.now (finished_records options.now.record_end read)
+        (records_of options.now.record_end read) (HasReadAll R.remaining streams.new.reader)) }
     ensures bound { OnOk result ((read : List ℕ)
-        × HasRead R.remaining reader.old reader.new read
+        × HasRead R.remaining streams.old.reader streams.new.reader read
         × (longest_record options.now.record_end read < longest + length buffer.old)) }
-    ensures read_failed { IsErrOf result Stop.Read → IsTrue (reading_failed reader.new) }
-    ensures write_failed { IsErrOf result Stop.Write → IsTrue (writing_failed writer.new) }
+    ensures read_failed { IsErrOf result Stop.Read → IsTrue (reading_failed streams.new.reader) }
+    ensures write_failed { IsErrOf result Stop.Write → IsTrue (writing_failed streams.new.writer) }
 {
-    let mut progress = Progress::new(options, word);
+    buffers.converter.progress = Progress::new(options, streams.word);
     'reads: loop {
-        match reader.read(buffer) {
+        match streams.reader.read(buffer) {
             None => return Err(Stop::Read),
             Some(0) => break 'reads,
-            Some(n) => answer_piece(
-                options,
-                &mut buffers.part,
-                &buffer[..n],
-                digits,
-                &mut progress,
-                &mut buffers.waiting,
-                &mut buffers.notices,
-                writer,
-                errors,
-            )?,
+            Some(n) => {
+                buffers.answer_piece(
+                    options,
+                    &buffer[..n],
+                    digits,
+                    &mut streams.writer,
+                    &mut streams.errors,
+                )?;
+            }
         }
         if buffers.part.len() > longest {
             return Err(Stop::Memory);
         }
     }
-    finish(
+    buffers.converter.finish(
         options,
         &buffers.part,
         digits,
-        &mut progress,
-        &mut buffers.waiting,
-        &mut buffers.notices,
-        writer,
-        errors,
+        &mut streams.writer,
+        &mut streams.errors,
     )
 }
 
-/// Converts the records that end in `bytes`, and writes them.
-///
-/// `part` is the part of the first of them that was read before, and then the part of the next one that was read.
-///
-/// Preconditions (proved at every call): `waiting` and `notices` are empty, and `digits` has capacity for the text of
-/// any size.
-///
-/// # Errors
-///
-/// - `Memory` if allocation fails. Some first records have been written.
-/// - `Rejected` if a field is rejected in the mode `abort`. The records before it have been written.
-/// - `Write` if a write fails. A prefix of the records has been written.
-fn answer_piece<A: Allocator, W: Write, E: Write>(
-    options: &Options,
-    part: &mut Vec<u8, A>,
-    bytes: &[u8],
-    digits: &mut [u8],
-    progress: &mut Progress,
-    waiting: &mut Vec<u8, A>,
-    notices: &mut Notices<A>,
-    writer: &mut Writing<W>,
-    errors: &mut Writing<E>,
-) -> Result<(), Stop>
-    requires empty { waiting.old.items ≡ [] }
-    requires untold { messages_of notices.old ≡ [] }
-    requires capacity { text_limit ≤ length digits.old }
-    ensures written { (written messages told : List ℕ)
-        × HasWritten W.contents writer.old writer.new written
-        × HasWritten E.contents errors.old errors.new told
-        × Tells (writing_failed errors.old) (writing_failed errors.new) messages told
-        × IsAnswered options.now (ended_records options.now.record_end part.old.items bytes.now)
-        (state_of progress.old [] []) (state_of progress.new [] []) result written messages }
-    ensures part { OnOk result
-        (part.new.items ≡ begun_record options.now.record_end part.old.items bytes.now) }
-    ensures waiting { OnOk result (waiting.new.items ≡ []) }
-    ensures notices { OnOk result (messages_of notices.new ≡ []) }
-    ensures failed { IsErrOf result Stop.Write → IsTrue (writing_failed writer.new) }
-    ensures no_total { ¬ (result ≡ Err Stop.Total) }
-    ensures no_read { ¬ (result ≡ Err Stop.Read) }
-    ensures memory { SufficeFor options.now (vec_len part.old) (length bytes.now) part.old waiting.old
-        → AreMessages options.now progress.old.place.word.now progress.old.place.number progress.old.header
-        (ended_records options.now.record_end part.old.items bytes.now) [] → ¬ IsErrOf result Stop.Memory }
-    ensures part_capacity { vec_capacity part.old ≤ vec_capacity part.new }
-    ensures waiting_capacity { vec_capacity waiting.old ≤ vec_capacity waiting.new }
-{
-    let fed = feed(options, part, bytes, digits, progress, waiting, notices);
-    // Even if the call stopped, the records before are written.
-    write_whole(writer, waiting, Stop::Write)?;
-    waiting.clear();
-    notices.tell(errors);
-    fed
-}
-
-/// Appends the texts of the records that end in `bytes` to `waiting`.
-///
-/// `part` is the part of the first of them that was read before, and then the part of the next one that was read.
-///
-/// # Errors
-///
-/// - `Memory` if allocation fails. The texts of some first records have been appended.
-/// - `Rejected` if a field is rejected in the mode `abort`. Those of the records before have been appended.
-fn feed<A: Allocator>(
-    options: &Options,
-    part: &mut Vec<u8, A>,
-    bytes: &[u8],
-    digits: &mut [u8],
-    progress: &mut Progress,
-    waiting: &mut Vec<u8, A>,
-    notices: &mut Notices<A>,
-) -> Result<(), Stop>
-    requires { text_limit ≤ length digits.old }
-    ensures ok { OnOk result
-        (AddsRecords options.now (ended_records options.now.record_end part.old.items bytes.now)
-        (state_of progress.old waiting.old.items (messages_of notices.old))
-        (state_of progress.new waiting.new.items (messages_of notices.new))) }
-    ensures part { OnOk result
-        (part.new.items ≡ begun_record options.now.record_end part.old.items bytes.now) }
-    ensures stop { IfErr result (λ stop. Stops options.now
-        (ended_records options.now.record_end part.old.items bytes.now)
-        (state_of progress.old waiting.old.items (messages_of notices.old)) stop waiting.new.items
-        (messages_of notices.new)) }
-    ensures succeeds { SufficeFor options.now (vec_len part.old) (length bytes.now) part.old waiting.old
-        → AreMessages options.now progress.old.place.word.now progress.old.place.number progress.old.header
-        (ended_records options.now.record_end part.old.items bytes.now) [] → IsOk result }
-    ensures part_capacity { vec_capacity part.old ≤ vec_capacity part.new }
-    ensures waiting_capacity { vec_capacity waiting.old ≤ vec_capacity waiting.new }
-{
-    let mut rest = bytes;
-    while let Some(n) = end_of(rest, options.record_end) {
-        if part.is_empty() {
-            add_record(options, &rest[..n], digits, progress, waiting, notices)?;
-        } else {
-            part.extend_from_slice(&rest[..n])?;
-            add_record(options, part, digits, progress, waiting, notices)?;
-            part.clear();
-        }
-        rest = &rest[n + 1..];
+impl<A: Allocator> Buffers<A> {
+    /// Converts the records that end in `bytes`, and writes them.
+    ///
+    /// The part that was read before begins the first of them; the part of the next one is kept.
+    ///
+    /// Preconditions (proved at every call): nothing waits to be written or told, and `digits` has capacity for the
+    /// text of any size.
+    ///
+    /// # Errors
+    ///
+    /// - `Memory` if allocation fails. Some first records have been written.
+    /// - `Rejected` if a field is rejected in the mode `abort`. The records before it have been written.
+    /// - `Write` if a write fails. A prefix of the records has been written.
+    fn answer_piece<W: Write, E: Write>(
+        &mut self,
+        options: &Options,
+        bytes: &[u8],
+        digits: &mut [u8],
+        writer: &mut Writing<W>,
+        errors: &mut Writing<E>,
+    ) -> Result<(), Stop>
+        requires empty { self.old.converter.waiting.items ≡ [] }
+        requires untold { messages_of self.old.converter.notices ≡ [] }
+        requires capacity { text_limit ≤ length digits.old }
+        ensures written { (written messages told : List ℕ)
+            × HasWritten W.contents writer.old writer.new written
+            × HasWritten E.contents errors.old errors.new told
+            × Tells (writing_failed errors.old) (writing_failed errors.new) messages told
+            × IsAnswered options.now (ended_records options.now.record_end self.old.part.items bytes.now)
+            (idle (state_of self.old.converter)) (state_of self.new.converter) result written messages }
+        ensures part { OnOk result
+            (self.new.part.items ≡ begun_record options.now.record_end self.old.part.items bytes.now) }
+        ensures waiting { OnOk result (self.new.converter.waiting.items ≡ []) }
+        ensures notices { OnOk result (messages_of self.new.converter.notices ≡ []) }
+        ensures failed { IsErrOf result Stop.Write → IsTrue (writing_failed writer.new) }
+        ensures no_total { ¬ (result ≡ Err Stop.Total) }
+        ensures no_read { ¬ (result ≡ Err Stop.Read) }
+        ensures memory { SufficeFor options.now (vec_len self.old.part) (length bytes.now) self.old.part
+            self.old.converter.waiting → RecordsHaveNoMessage options.now
+            (ended_records options.now.record_end self.old.part.items bytes.now)
+            (state_of self.old.converter) → ¬ IsErrOf result Stop.Memory }
+        ensures part_capacity { vec_capacity self.old.part ≤ vec_capacity self.new.part }
+        ensures waiting_capacity { vec_capacity self.old.converter.waiting ≤ vec_capacity self.new.converter.waiting }
+    {
+        let fed = self.feed(options, bytes, digits);
+        // Even if the call stopped, the records before are written.
+        write_whole(writer, &self.converter.waiting, Stop::Write)?;
+        self.converter.waiting.clear();
+        self.converter.notices.tell(errors);
+        fed
     }
-    part.extend_from_slice(rest)?;
-    Ok(())
+
+    /// Converts the records that end in `bytes`.
+    ///
+    /// The part that was read before begins the first of them; the part of the next one is kept.
+    ///
+    /// Precondition (proved at every call): `digits` has capacity for the text of any size.
+    ///
+    /// # Errors
+    ///
+    /// - `Memory` if allocation fails. The texts of some first records have been appended.
+    /// - `Rejected` if a field is rejected in the mode `abort`. Those of the records before have been appended.
+    fn feed(&mut self, options: &Options, bytes: &[u8], digits: &mut [u8]) -> Result<(), Stop>
+        requires { text_limit ≤ length digits.old }
+        ensures ok { OnOk result
+            (AddsRecords options.now (ended_records options.now.record_end self.old.part.items bytes.now)
+            (state_of self.old.converter) (state_of self.new.converter)) }
+        ensures part { OnOk result
+            (self.new.part.items ≡ begun_record options.now.record_end self.old.part.items bytes.now) }
+        ensures stop { IfErr result (λ stop. Stops options.now
+            (ended_records options.now.record_end self.old.part.items bytes.now)
+            (state_of self.old.converter) stop self.new.converter.waiting.items
+            (messages_of self.new.converter.notices)) }
+        ensures succeeds { SufficeFor options.now (vec_len self.old.part) (length bytes.now) self.old.part
+            self.old.converter.waiting → RecordsHaveNoMessage options.now
+            (ended_records options.now.record_end self.old.part.items bytes.now)
+            (state_of self.old.converter) → IsOk result }
+        ensures part_capacity { vec_capacity self.old.part ≤ vec_capacity self.new.part }
+        ensures waiting_capacity { vec_capacity self.old.converter.waiting ≤ vec_capacity self.new.converter.waiting }
+    {
+        let mut rest = bytes;
+        while let Some(n) = end_of(rest, options.record_end) {
+            if self.part.is_empty() {
+                self.converter.add_record(options, &rest[..n], digits)?;
+            } else {
+                self.part.extend_from_slice(&rest[..n])?;
+                self.converter.add_record(options, &self.part, digits)?;
+                self.part.clear();
+            }
+            rest = &rest[n + 1..];
+        }
+        self.part.extend_from_slice(rest)?;
+        Ok(())
+    }
 }

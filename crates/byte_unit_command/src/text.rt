@@ -67,30 +67,7 @@ fn add_first<A: Allocator>(
     if len > AT_ONCE {
         return text.extend_from_slice(&bytes[..len]);
     }
-    add_short(bytes, len, text)
-}
-
-/// Appends the first `len` of `bytes`, by a copy of a constant length. It takes a few instructions, and no branch
-/// depends on `len`.
-///
-/// Preconditions (proved at every call): `len` is at most [`AT_ONCE`], and `bytes` has that many bytes or more.
-///
-/// # Errors
-///
-/// Returns `AllocError` if allocation fails.
-fn add_short<A: Allocator>(
-    bytes: &[u8],
-    len: usize,
-    text: &mut Vec<u8, A>,
-) -> Result<(), AllocError>
-    requires short { len ≤ 64 }
-    requires long { 64 ≤ length bytes.now }
-    ensures ok { OnOk result (text.new.items ≡ text.old.items ++ take len bytes.now) }
-    ensures kept { IsPrefix text.old.items text.new.items }
-    ensures succeeds { vec_len text.old + short_room ≤ vec_capacity text.old → IsOk result }
-    ensures len { vec_len text.new ≤ vec_len text.old + len }
-    ensures capacity { vec_capacity text.old ≤ vec_capacity text.new }
-{
+    // A copy of a constant length takes a few instructions, and no branch depends on `len`.
     text.extend_from_slice(&bytes[..AT_ONCE])?;
     text.truncate(text.len() - (AT_ONCE - len));
     Ok(())

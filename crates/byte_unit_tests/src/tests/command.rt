@@ -2,6 +2,7 @@
 use byte_unit_command::options::{FieldRange, Form, Invalid, Kind, Options};
 use byte_unit_command::run::run;
 use byte_unit_command::stop::Stop;
+use byte_unit_command::streams::Streams;
 use byte_unit_command::tally::Tally;
 use byte_unit_stream::paced::{MemoryReader, MemoryWriter, Pace};
 use byte_unit_stream::{Reading, Writing};
@@ -50,24 +51,26 @@ pub fn assert_run(
     (name, number): (&str, usize),
 ) {
     let alloc = rt.alloc();
-    let mut reader = Reading::new(MemoryReader {
-        rest: input,
-        pace: reads,
-    });
-    let mut writer = Writing::new(MemoryWriter {
-        taken: Vec::with_capacity(alloc, LONGEST).expect(rt, "memory"),
-        pace: writes,
-    });
-    let mut errors = Writing::new(Vec::with_capacity(alloc, LONGEST).expect(rt, "memory"));
-    let result = run(
-        alloc,
-        options,
-        "line",
-        &mut reader,
-        &mut writer,
-        &mut errors,
-    );
+    let mut streams = Streams {
+        reader: Reading::new(MemoryReader {
+            rest: input,
+            pace: reads,
+        }),
+        word: "line",
+        writer: Writing::new(MemoryWriter {
+            taken: Vec::with_capacity(alloc, LONGEST).expect(rt, "memory"),
+            pace: writes,
+        }),
+        errors: Writing::new(Vec::with_capacity(alloc, LONGEST).expect(rt, "memory")),
+    };
+    let result = run(alloc, options, &mut streams);
     allocated(result).expect(rt, "memory");
+    let Streams {
+        reader: _reader,
+        word: _,
+        writer,
+        errors,
+    } = streams;
     let (written, told) = (writer.into_inner().taken, errors.into_inner());
     let found = (result, written.as_slice(), told.as_slice());
     assert_eq!(rt; found, wanted, "{name} {number}");

@@ -8,6 +8,7 @@ use byte_unit_command::buffers::Buffers;
 use byte_unit_command::options::{FieldRange, Form, Invalid, Options};
 use byte_unit_command::run::{run_with_buffers, run_with_capacity};
 use byte_unit_command::stop::Stop;
+use byte_unit_command::streams::Streams;
 use byte_unit_command::tally::Tally;
 use byte_unit_stream::paced::{AT_ONCE, MemoryReader, MemoryWriter};
 use byte_unit_stream::{Reading, Writing};
@@ -72,26 +73,32 @@ fn expect(
     let mut buffers = Buffers::with_capacity(&arena, options, longest, step).expect(rt, "memory");
     let _rest = filled(rt, &arena, 0);
     let mut buffer = b" ".repeat(alloc, step.max(1)).expect(rt, "memory");
-    let mut reader = Reading::new(MemoryReader {
-        rest: input,
-        pace: AT_ONCE,
-    });
-    let mut writer = Writing::new(MemoryWriter {
-        taken: Vec::new(alloc),
-        pace: AT_ONCE,
-    });
-    let mut errors = Writing::new(Vec::new(alloc));
+    let mut streams = Streams {
+        reader: Reading::new(MemoryReader {
+            rest: input,
+            pace: AT_ONCE,
+        }),
+        word: "line",
+        writer: Writing::new(MemoryWriter {
+            taken: Vec::new(alloc),
+            pace: AT_ONCE,
+        }),
+        errors: Writing::new(Vec::new(alloc)),
+    };
     let result = run_with_buffers(
         &mut buffers,
         options,
-        "line",
         longest,
         &mut buffer,
         &mut [0u8; DIGITS],
-        &mut reader,
-        &mut writer,
-        &mut errors,
+        &mut streams,
     );
+    let Streams {
+        reader: _reader,
+        word: _,
+        writer,
+        errors: _errors,
+    } = streams;
     let written = writer.into_inner().taken;
     let found = (result, written.as_slice());
     assert_eq!(rt;
@@ -211,22 +218,29 @@ fn the_start(rt: HostRuntime) {
         let arena = Bump::try_with_capacity(alloc, ARENA).expect(&rt, "memory");
         arena.set_allocation_limit(Some(0));
         let _rest = filled(&rt, &arena, *bytes);
-        let mut reader = Reading::new(MemoryReader {
-            rest: b"1000\n2KB",
-            pace: AT_ONCE,
-        });
-        let mut writer = Writing::new(Vec::new(alloc));
+        let mut streams = Streams {
+            reader: Reading::new(MemoryReader {
+                rest: b"1000\n2KB",
+                pace: AT_ONCE,
+            }),
+            word: "line",
+            writer: Writing::new(Vec::new(alloc)),
+            errors: Writing::new(Vec::new(alloc)),
+        };
         let started = run_with_capacity(
             &arena,
             &PLAIN,
-            "line",
             *longest,
             &mut [0u8; 8],
             &mut [0u8; DIGITS],
-            &mut reader,
-            &mut writer,
-            &mut Writing::new(Vec::new(alloc)),
+            &mut streams,
         );
+        let Streams {
+            reader,
+            word: _,
+            writer,
+            errors: _errors,
+        } = streams;
         let left = reader.into_inner().rest.len();
         let found = (started.ok(), left, writer.into_inner().len());
         let wanted = if *starts {

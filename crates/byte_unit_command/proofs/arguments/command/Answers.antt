@@ -10,9 +10,11 @@ pub returns : goal.returns
 returns c =
     let start = new_app (codes "byte-unit") in
     let version : app_of c.version.result ≡ record start { top = record start.top { has_version = true } } =
-    ap app_of_fields c.version.ensures ∙ ap (λ (app : App). record app { top = record app.top { has_version = true } }) c.new.ensures.app in
+    ap app_of_fields c.version.ensures ∙ ap (λ (app : App). record app
+    { top = record app.top { has_version = true } }) c.new.ensures.app in
     let text : app_of c.after_help-command.result ≡ record start { top = record start.top { has_version = true } } =
-    ap app_of_fields c.after_help-command.ensures ∙ ap app_of_fields c.override_usage.ensures ∙ ap app_of_fields c.about.ensures ∙ version in
+    ap app_of_fields c.after_help-command.ensures ∙ ap app_of_fields c.override_usage.ensures
+    ∙ ap app_of_fields c.about.ensures ∙ version in
     let bits = with_one _ _ _ _ _ text c.flag.ensures c.in_ok-arg.ensures in
     let ignore_case = with_one _ _ _ _ _ bits c.in_ok-ignore_case.ensures c.in_ok-arg-2.ensures in
     let to = with_one _ _ _ _ _ ignore_case c.value.ensures c.in_ok-arg-3.ensures in
@@ -26,4 +28,5 @@ returns c =
     let max = with_one _ _ _ _ _ total c.value-3.ensures c.in_ok-arg-11.ensures in
     let min = with_one _ _ _ _ _ max c.value-4.ensures c.in_ok-arg-12.ensures in
     let zero_terminated = with_one _ _ _ _ _ min c.zero_terminated.ensures c.in_ok-arg-13.ensures in
-    IfOk-weaker c.arg-14.result _ _ (λ command adds. with_one _ command _ _ _ zero_terminated c.operands.ensures adds) c.arg-14.ensures
+    IfOk-weaker c.arg-14.result _ _ (λ command adds. with_one _ command _ _ _ zero_terminated c.operands.ensures adds)
+    c.arg-14.ensures

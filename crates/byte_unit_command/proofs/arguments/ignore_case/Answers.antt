@@ -8,4 +8,5 @@ use Rattle.byte_unit_command.proofs.arguments.ignore_case.Goals as goal
 pub returns : goal.returns
 returns c =
     let with_letter : IsArg (record (flag (codes "ignore-case")) { short = Some 105 }) c.short.result = search rules in
-    IfOk-weaker c.conflicts_with.result _ _ (λ arg adds. excluding c.short.result arg _ _ with_letter adds) c.conflicts_with.ensures
+    IfOk-weaker c.conflicts_with.result _ _ (λ arg adds. excluding c.short.result arg _ _ with_letter adds)
+    c.conflicts_with.ensures

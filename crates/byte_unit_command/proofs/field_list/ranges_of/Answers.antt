@@ -20,13 +20,15 @@ with_item items item ranges more range are is more_is =
 
 pub loop-item-preserved : goal.loop-item-preserved
 loop-item-preserved c =
-    with_item c.loop-item.yielded c.in-Some.item c.loop-item.fields.items _ c.in-Some-range_of.range c.loop-item.invariant
+    with_item c.loop-item.yielded c.in-Some.item c.loop-item.fields.items _ c.in-Some-range_of.range
+    c.loop-item.invariant
     c.in-Some-range_of.ensures c.in_ok-push-in-Some-range_of.ensures.items
 
 pub returns-in-None-range_of : goal.returns-in-None-range_of
 returns-in-None-range_of c =
     let parts = YieldsList-from_str_split 44 c.args.list.now (lit< tt) (cc) (cc) (cc) in
-    let turn = YieldsList-turn parts c.loop-item.yielded _ c.loop-item.yielded_by _ _ c.in-Some.item c.in-Some.is c.next.ensures.steps in
+    let turn = YieldsList-turn parts c.loop-item.yielded _ c.loop-item.yielded_by _ _ c.in-Some.item c.in-Some.is
+    c.next.ensures.steps in
     λ ranges are.
     let range = AreRanges-at _ ranges c.in-Some.item.now (length c.loop-item.yielded) are turn.0 turn.1 in
     c.in-None-range_of.ensures range.0 range.1

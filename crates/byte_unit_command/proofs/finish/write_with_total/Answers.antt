@@ -10,7 +10,8 @@ pub returns-in_err-extend_from_slice-clause-written : goal.returns-in_err-extend
 returns-in_err-extend_from_slice-clause-written g c = (
   [],
   Appends-nil (g.W.Write.contents (writer_of c.args.writer.now)),
-  IsTotalWritten-memory c.args.options.now c.args.total c.args.waiting.now.items c.from_residual-in_err-extend_from_slice.result
+  IsTotalWritten-memory c.args.options.now c.args.total c.args.waiting.now.items
+      c.from_residual-in_err-extend_from_slice.result
       c.from_residual-in_err-extend_from_slice.ensures.1,
 )
 
@@ -31,5 +32,7 @@ returns-clause-written g c =
     ∙ ap (λ text. text ++ mark) shown.2
     ∙ append_assoc waiting shown.0 mark in
     let write = c.write_whole-2.ensures in
-    let by : IsWrittenBy held holds bytes c.write_whole-2.result = record { whole = write.ok; part = write.err; error = write.write } in
-    IsTotalWritten-line options c.args.total waiting line bytes (shown.0, small, shown.1, refl) are c.write_whole-2.result by
+    let by : IsWrittenBy held holds bytes c.write_whole-2.result =
+    record { whole = write.ok; part = write.err; error = write.write } in
+    IsTotalWritten-line options c.args.total waiting line bytes (shown.0, small, shown.1, refl) are
+    c.write_whole-2.result by

@@ -15,14 +15,16 @@ returns-in_err-width-clause-err c =
     let values = c.args.values.now in
     let wrong = c.in_err-width.field-0.0 in
     handed_on (IsFirstWrong values) _ wrong c.from_residual-in_err-width.ensures
-    (wrong_padding values wrong _ c.kind_of-kind.ensures _ c.in_ok-form.ensures.ok _ c.in_ok-delimiter.ensures.ok c.in_err-width.ensures.err)
+    (wrong_padding values wrong _ c.kind_of-kind.ensures _ c.in_ok-form.ensures.ok _ c.in_ok-delimiter.ensures.ok
+    c.in_err-width.ensures.err)
 
 pub returns-in_err-invalid-clause-err : goal.returns-in_err-invalid-clause-err
 returns-in_err-invalid-clause-err c =
     let values = c.args.values.now in
     let wrong = c.in_err-invalid.field-0.0 in
     handed_on (IsFirstWrong values) _ wrong c.from_residual-in_err-invalid.ensures
-    (wrong_mode values wrong _ c.kind_of-kind.ensures _ c.in_ok-form.ensures.ok _ c.in_ok-delimiter.ensures.ok _ _ c.in_ok-width.ensures.ok
+    (wrong_mode values wrong _ c.kind_of-kind.ensures _ c.in_ok-form.ensures.ok _ c.in_ok-delimiter.ensures.ok _ _
+    c.in_ok-width.ensures.ok
     c.in_err-invalid.ensures.err)
 
 pub returns-in_err-max-clause-err : goal.returns-in_err-max-clause-err
@@ -30,7 +32,8 @@ returns-in_err-max-clause-err c =
     let values = c.args.values.now in
     let wrong = c.in_err-max.field-0.0 in
     handed_on (IsFirstWrong values) _ wrong c.from_residual-in_err-max.ensures
-    (wrong_max values wrong _ c.kind_of-kind.ensures _ c.in_ok-form.ensures.ok _ c.in_ok-delimiter.ensures.ok _ _ c.in_ok-width.ensures.ok _
+    (wrong_max values wrong _ c.kind_of-kind.ensures _ c.in_ok-form.ensures.ok _ c.in_ok-delimiter.ensures.ok _ _
+    c.in_ok-width.ensures.ok _
     c.in_ok-invalid.ensures.ok c.in_err-max.ensures.err)
 
 pub returns-in_err-min-clause-err : goal.returns-in_err-min-clause-err
@@ -38,5 +41,6 @@ returns-in_err-min-clause-err c =
     let values = c.args.values.now in
     let wrong = c.in_err-min.field-0.0 in
     handed_on (IsFirstWrong values) _ wrong c.from_residual-in_err-min.ensures
-    (wrong_min values wrong _ c.kind_of-kind.ensures _ c.in_ok-form.ensures.ok _ c.in_ok-delimiter.ensures.ok _ _ c.in_ok-width.ensures.ok _
+    (wrong_min values wrong _ c.kind_of-kind.ensures _ c.in_ok-form.ensures.ok _ c.in_ok-delimiter.ensures.ok _ _
+    c.in_ok-width.ensures.ok _
     c.in_ok-invalid.ensures.ok _ c.in_ok-max.ensures.ok c.in_err-min.ensures.err)

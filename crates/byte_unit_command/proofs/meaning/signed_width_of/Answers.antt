@@ -6,7 +6,8 @@ use Rattle.byte_unit_command.proofs.Paddings.{without_hyphen}
 use Rattle.byte_unit_command.proofs.meaning.signed_width_of.Goals as goal
 
 lacks_hyphen : (text : List ℕ) (r : Option (Bor (List ℕ))) → r ≡ None
-    → MatchOption r ((rest : List ℕ) → text ≢ 45 ∷ rest) (λ rest. text ≡ 45 ∷ rest.now) → (rest : List ℕ) → text ≢ 45 ∷ rest
+    → MatchOption r ((rest : List ℕ) → text ≢ 45 ∷ rest) (λ rest. text ≡ 45 ∷ rest.now) → (rest : List ℕ)
+    → text ≢ 45 ∷ rest
 lacks_hyphen text r is stripped =
     subst (λ r. MatchOption r ((rest : List ℕ) → text ≢ 45 ∷ rest) (λ rest. text ≡ 45 ∷ rest.now)) is stripped
 
@@ -23,5 +24,6 @@ returns-in_err-width_of-in-None c =
     let text = c.args.text.now in
     no_padding text _ c.from_residual-in_err-width_of-in-None.ensures
     (without_hyphen text
-    (lacks_hyphen text c.strip_prefix.result c.in-None.is (strip_prefix_char 45 text c.strip_prefix.result c.strip_prefix.ensures.cases (lit< tt)))
+    (lacks_hyphen text c.strip_prefix.result c.in-None.is
+    (strip_prefix_char 45 text c.strip_prefix.result c.strip_prefix.ensures.cases (lit< tt)))
     c.in_err-width_of-in-None.ensures)

@@ -16,7 +16,8 @@ returns-clause-ok g c =
     let field = c.args.field.now in
     let before = messages_of c.args.notices.now in
     let above = c.in_ok-add_message_if.ensures.ok in
-    let is_above = subst (λ told. IsMessageIf told options word place number field Above above.0) c.is_above-above.ensures above.1 in
+    let is_above = subst (λ told. IsMessageIf told options word place number field Above above.0)
+    c.is_above-above.ensures above.1 in
     OnOk-map c.add_message_if-2.result (λ below. (
       above.0 ++ below.0,
       (

@@ -8,7 +8,8 @@ pub returns-then-told-clause-ok : goal.returns-then-told-clause-ok
 returns-then-told-clause-ok g c =
     OnOk-map c.add_message.result (λ added. (
       added.0,
-      subst (λ (told : Bool). IsMessageIf told c.args.options.now c.args.place.now.word.now c.args.place.now.number c.args.number
-          c.args.field.now c.args.reason.now added.0) (sym c.if-told.true) added.1,
+      subst (λ (told : Bool). IsMessageIf told c.args.options.now c.args.place.now.word.now c.args.place.now.number
+          c.args.field.now.number
+          c.args.field.now.bytes.now c.args.reason.now added.0) (sym c.if-told.true) added.1,
       added.2,
     )) c.add_message.ensures.ok

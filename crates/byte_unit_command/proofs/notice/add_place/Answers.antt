@@ -22,4 +22,5 @@ returns-in-Some g c =
     OnOk-map c.write-in-Some.result (λ wrote. wrote
     ∙ ap (λ text. text ++ field_part) c.in_ok-write.ensures.bytes
     ∙ append_assoc before record_part field_part
-    ∙ ap (λ mark. before ++ (record_part ++ field_text mark c.args.number)) (sym c.in-Some.is)) c.write-in-Some.ensures.bytes
+    ∙ ap (λ mark. before ++ (record_part ++ field_text mark c.args.number)) (sym c.in-Some.is))
+    c.write-in-Some.ensures.bytes

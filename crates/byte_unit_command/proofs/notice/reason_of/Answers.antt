@@ -10,7 +10,8 @@ use Rattle.byte_unit_command.specs.Field.{IsNoSize, ignores_case}
 use Rattle.byte_unit_command.specs.declared.options.Options.{Options}
 use Rattle.byte_unit_command.proofs.notice.reason_of.Goals as goal
 
-no_size_is_accepted : (options : Options) (field : List ℕ) {answer : Option (Result ℕ ParseError)} {found : Result ℕ ParseError} {n : ℕ}
+no_size_is_accepted : (options : Options) (field : List ℕ) {answer : Option (Result ℕ ParseError)}
+    {found : Result ℕ ParseError} {n : ℕ}
     → TextsAreAcceptedOrRejected → IsNoSize options field → answer ≡ Some found → found ≡ Ok n
     → IsBytesReading options.kind (ignores_case options.kind options.ignore_case) field answer → ⊥
 no_size_is_accepted options field law none answer_is found_is reading =
@@ -23,7 +24,8 @@ no_size_is_accepted options field law none answer_is found_is reading =
           (law options.kind ignore_case field).not_both _ rejected.1.0 here.1.found rejected.1.1
     ]
 
-rejected_for : (options : Options) (field : List ℕ) {answer : Option (Result ℕ ParseError)} {found : Result ℕ ParseError} {error : ParseError}
+rejected_for : (options : Options) (field : List ℕ) {answer : Option (Result ℕ ParseError)}
+    {found : Result ℕ ParseError} {error : ParseError}
     → answer ≡ Some found → found ≡ Err error
     → IsBytesReading options.kind (ignores_case options.kind options.ignore_case) field answer
     → IsUtf8 field × IsRejected options.kind (ignores_case options.kind options.ignore_case) field (size_fault error)

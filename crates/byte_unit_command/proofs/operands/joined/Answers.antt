@@ -9,7 +9,8 @@ pub loop-operand-preserved : goal.loop-operand-preserved
 loop-operand-preserved c =
     let operands = c.args.operands.now in
     let at = c.loop-operand.operand-index in
-    let more = map_more (λ (operand : Bor (List ℕ)). operand.now) operands at (record { ref_ptr = (0, 0); now = [] }) c.loop-operand-test.true in
+    let more = map_more (λ (operand : Bor (List ℕ)). operand.now) operands at (record { ref_ptr = (0, 0); now = [] })
+    c.loop-operand-test.true in
     let begun = map (λ (operand : Bor (List ℕ)). operand.now) (take at operands) in
     c.in_ok-push.ensures.items
     ∙ ap (λ front. front ++ 0 ∷ []) (c.in_ok-extend_from_slice.ensures.items
@@ -22,6 +23,7 @@ pub returns : goal.returns
 returns c =
     let operands = c.args.operands.now in
     let all = take_all c.loop-operand.operand-index operands c.loop-operand-test.false in
-    let whole = c.loop-operand.invariant ∙ ap (λ operands. joined (map (λ (operand : Bor (List ℕ)). operand.now) operands)) all in
+    let whole = c.loop-operand.invariant ∙ ap (λ operands. joined
+    (map (λ (operand : Bor (List ℕ)). operand.now) operands)) all in
     subst (HasOperands (map (λ (operand : Bor (List ℕ)). operand.now) operands)) (sym whole)
     (joined-HasOperands (map (λ (operand : Bor (List ℕ)). operand.now) operands))

@@ -11,7 +11,8 @@ use Rattle.byte_unit_command.proofs.quote.add_escaped.Goals as goal
 
 escape-text : (bytes : List ℕ) → IsUtf8 bytes → escape bytes ≡ flat_map escape_char (chars bytes)
 escape-text bytes is =
-    ap (λ yes. if yes then flat_map escape_char (chars bytes) else flat_map escape_byte bytes) (is_utf8-from_IsUtf8 bytes is)
+    ap (λ yes. if yes then flat_map escape_char (chars bytes) else flat_map escape_byte bytes)
+    (is_utf8-from_IsUtf8 bytes is)
 
 escape-bytes : (bytes : List ℕ) → ¬ IsUtf8 bytes → escape bytes ≡ flat_map escape_byte bytes
 escape-bytes bytes is_not =
@@ -30,4 +31,5 @@ pub returns-in-Err : goal.returns-in-Err
 returns-in-Err g c =
     let before = string_bytes c.args.line.now in
     OnOk-map c.add_escaped_bytes.result (λ added. added
-    ∙ ap (λ text. before ++ text) (sym (escape-bytes c.args.bytes.now c.in-Err.ensures.cases.0))) c.add_escaped_bytes.ensures
+    ∙ ap (λ text. before ++ text) (sym (escape-bytes c.args.bytes.now c.in-Err.ensures.cases.0)))
+    c.add_escaped_bytes.ensures

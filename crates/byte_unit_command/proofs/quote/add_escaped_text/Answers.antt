@@ -11,6 +11,7 @@ use Rattle.byte_unit_command.proofs.quote.add_escaped_text.Goals as goal
 pub returns : goal.returns
 returns g c =
     let text = c.args.text.now in
-    let all = YieldsList-end (YieldsList-from_chars text c.utf8.text cc) c.loop-c.yielded _ c.loop-c.yielded_by _ _ c.in-None.is c.next.ensures.steps in
+    let all = YieldsList-end (YieldsList-from_chars text c.utf8.text cc) c.loop-c.yielded _ c.loop-c.yielded_by _ _
+    c.in-None.is c.next.ensures.steps in
     c.loop-c.invariant
     ∙ ap (λ cs. string_bytes c.args.line.now ++ flat_map escape_char cs) (sym (map-id c.loop-c.yielded) ∙ all.0)

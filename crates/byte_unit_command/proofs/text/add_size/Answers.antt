@@ -14,7 +14,12 @@ returns-then-options-eq0-clause-ok g c =
     let room : write.result ≤ length c.args.digits.now = omega (arith, write.ensures.small, c.requires.capacity) in
     let taken = written_bytes c.args.digits.now write.new.out write.result written room in
     let shown_is = sym (padded-none options.width options.align_left written.form c.if-options-eq0.true) in
-    OnOk-map c.add_first.result (λ added. (written.form, (written.form, written.is_form, shown_is), added ∙ ap (λ text. before ++ text) taken))
+    OnOk-map c.add_first.result (λ added. (
+      written.form,
+      (written.form, written.is_form, shown_is),
+      added
+          ∙ ap (λ text. before ++ text) taken,
+    ))
     c.add_first.ensures.ok
 
 pub returns-clause-ok : goal.returns-clause-ok
@@ -27,5 +32,10 @@ returns-clause-ok g c =
     let taken = written_bytes c.args.digits.now write.new.out write.result written room in
     let shown = padded options.width options.align_left written.form in
     OnOk-map c.add_padded.result
-    (λ added. (shown, (written.form, written.is_form, refl), added ∙ ap (λ text. before ++ padded options.width options.align_left text) taken))
+    (λ added. (
+      shown,
+      (written.form, written.is_form, refl),
+      added
+          ∙ ap (λ text. before ++ padded options.width options.align_left text) taken,
+    ))
     c.add_padded.ensures.ok

@@ -1,28 +1,27 @@
 -- After an error, truncating leaves what was there before, since it is a prefix of what is there then. The messages stay
 -- if a field was rejected.
-use Rattle.std.proofs.Common.{◌≢◌, List, ℕ, Err, take, refl, sym, ap, subst, ◌∙◌, arith}
-use Rattle.byte_unit_command.specs.Messages.{next_place}
-use Rattle.byte_unit_command.specs.Progress.{Aborts, messages_of}
+use Rattle.std.proofs.Common.{◌≢◌, Err, take, refl, sym, ap, subst, ◌∙◌, arith}
+use Rattle.byte_unit_command.specs.Progress.{Aborts, at_next, messages_of, state_of}
 use Rattle.byte_unit_command.specs.declared.stop.Stop.TheVariants.{Memory, Rejected}
 use Rattle.byte_unit_stream.proofs.Prefixes.{take-IsPrefix}
 use Rattle.byte_unit_command.proofs.Results.{error-passed}
-use Rattle.byte_unit_command.proofs.records.add_record.Goals as goal
+use Rattle.byte_unit_command.proofs.converter.Converter.add_record.Goals as goal
 
 rejected_is_not_memory : Rejected ≢ Memory
 rejected_is_not_memory same = cc
 
 pub returns-in-Err-clause-err : goal.returns-in-Err-clause-err
 returns-in-Err-clause-err g c =
-    let before = c.args.waiting.now.items in
-    let after = c.append_record.new.text.items in
+    let before = c.args.self.now.waiting.items in
+    let after = c.append_record.new.self.waiting.items in
     c.truncate.ensures.items
-    ∙ ap (λ count. take count after) (omega (arith, c.len-len.ensures, c.args.waiting.now.ok.0))
+    ∙ ap (λ count. take count after) (omega (arith, c.len-len.ensures, c.args.self.now.waiting.ok.0))
     ∙ take-IsPrefix before after c.in-Err.ensures.kept
 
 pub returns-in-Err-clause-memory : goal.returns-in-Err-clause-memory
 returns-in-Err-clause-memory g c = λ is.
-    let before = messages_of c.args.notices.now in
-    let after = messages_of c.append_record.new.notices in
+    let before = messages_of c.args.self.now.notices in
+    let after = messages_of c.append_record.new.self.notices in
     let stop = error-passed (Err c.in-Err.stop) c.in-Err.stop Memory refl is in
     c.undo.ensures.memory stop ∙ ap (λ count. take count after) c.len-messages.ensures
     ∙ take-IsPrefix before after c.in-Err.ensures.kept_messages
@@ -32,8 +31,4 @@ returns-in-Err-clause-rejected g c = λ is.
     let stop = error-passed (Err c.in-Err.stop) c.in-Err.stop Rejected refl is in
     let same = c.undo.ensures.other (λ memory. rejected_is_not_memory (sym stop ∙ memory)) in
     let at = c.in-Err.ensures.rejected is in
-    let place = c.args.progress.now.place in (
-      at.0,
-      subst (λ (messages : List ℕ). Aborts c.args.options.now place.word.now (next_place place.number) c.args.bytes.now
-          (messages_of c.args.notices.now) messages) (sym same) at.1,
-    )
+    (at.0, subst (Aborts c.args.options.now c.args.bytes.now (at_next (state_of c.args.self.now))) (sym same) at.1)

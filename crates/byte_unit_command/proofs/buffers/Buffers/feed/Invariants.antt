@@ -1,0 +1,14 @@
+-- The records before the rest were added, within their room; the rest gets shorter.
+use Rattle.std.proofs.Common.{length}
+use Rattle.byte_unit_command.proofs.Feeding.{IsFed, feed_of}
+use Rattle.byte_unit_command.proofs.Rooms.{IsFedWithin}
+use Rattle.byte_unit_command.proofs.buffers.Buffers.feed.Given as goal
+
+abbrev pub invariant-loop-n : goal.invariant-loop-n
+invariant-loop-n g l =
+    let start = l.initial.self in
+    IsFed l.options (feed_of start l.bytes) (feed_of l.self l.rest)
+    × IsFedWithin l.options start.part start.converter.waiting l.bytes l.self.part l.self.converter.waiting l.rest
+
+abbrev pub decreases-loop-n : goal.decreases-loop-n
+decreases-loop-n g l = length l.rest

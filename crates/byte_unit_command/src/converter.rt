@@ -1,0 +1,355 @@
+//! Converts records, field by field.
+
+ghost use Rattle.std.specs.Prelude.{◌≡◌, ◌+◌, ◌≤◌, ◌⊎◌, ◌∷◌, ◌++◌, [], Some, None, length};
+ghost use Rattle.std.specs.Prelude.{OnOk, OnErr, IsOk, IfErr, IsErrOf, vec_len, vec_capacity};
+ghost use Rattle.byte_unit.specs.Forms.{text_limit};
+ghost use Rattle.byte_unit_command.specs.Capacity.{field_room, fields_room, record_room};
+ghost use Rattle.byte_unit_command.specs.Field.{IsSize, IsNoSize};
+ghost use Rattle.byte_unit_command.specs.Fields.{IsChosen};
+ghost use Rattle.byte_unit_command.specs.Progress.{AddsField, AddsFields, AddsRecords};
+ghost use Rattle.byte_unit_command.specs.Progress.{Aborts, IsRejectedField};
+ghost use Rattle.byte_unit_command.specs.Progress.{FieldHasNoMessage, FieldsHaveNoMessage, RecordHasNoMessage};
+ghost use Rattle.byte_unit_command.specs.Progress.{at_next, messages_of, no_tally, state_of, tally_with};
+ghost use Rattle.byte_unit_stream.specs.Prefix.{IsPrefix};
+
+use crate::field::{is_chosen, is_past};
+use crate::notice::{Notices, add_limit_notice, add_reject_notice};
+use crate::options::{Invalid, Options};
+use crate::place::Place;
+use crate::size::accepted;
+use crate::stop::Stop;
+use crate::tally::Tally;
+use crate::text::add_size;
+use byte_unit::laws::texts_are_accepted_or_refused;
+use byte_unit_stream::end_of;
+use std::alloc::Allocator;
+
+/// How far a run has come.
+#[derive(Debug, Clone, Copy)]
+pub(crate) struct Progress {
+    /// The number of header records that are still to come.
+    pub header: u64,
+    /// What was counted so far.
+    pub tally: Tally,
+    /// The number of the record, and what a record is called.
+    pub place: Place,
+}
+
+impl Progress {
+    /// Creates the progress of a run that has not begun.
+    pub(crate) fn new(options: &Options, word: &'static str) -> Progress
+        ensures header { result.header ≡ options.now.header }
+        ensures tally { result.tally ≡ no_tally }
+        ensures word { result.place.word.now ≡ word.now }
+        ensures number { result.place.number ≡ 0 }
+    {
+        Progress {
+            header: options.header,
+            tally: Tally::new(),
+            place: Place { word, number: 0 },
+        }
+    }
+}
+
+/// Converts records. Keeps how far the run has come, and what is not written yet.
+#[derive(Drop)]
+pub(crate) struct Converter<A: Allocator> {
+    /// How far the run has come.
+    pub progress: Progress,
+    /// Whole texts that are not written yet.
+    pub waiting: Vec<u8, A>,
+    /// Messages that are not written yet.
+    pub notices: Notices<A>,
+}
+
+impl<A: Allocator> Converter<A> {
+    /// Appends what is written for a record, with its end byte, and counts what is found in it.
+    ///
+    /// Precondition (proved at every call): `digits` has capacity for the text of any size.
+    ///
+    /// # Errors
+    ///
+    /// - `Rejected` if a field is not a size, in the mode `abort`.
+    /// - `Memory` if allocation fails.
+    ///
+    /// Then nothing is appended, and no message but the ones up to that on the rejected field.
+    #[inline(always)]
+    pub(crate) fn add_record(
+        &mut self,
+        options: &Options,
+        bytes: &[u8],
+        digits: &mut [u8],
+    ) -> Result<(), Stop>
+        requires { text_limit ≤ length digits.old }
+        ensures ok { OnOk result
+            (AddsRecords options.now (bytes.now ∷ []) (state_of self.old) (state_of self.new)) }
+        ensures err { OnErr result (self.new.waiting.items ≡ self.old.waiting.items) }
+        ensures memory { IsErrOf result Stop.Memory
+            → messages_of self.new.notices ≡ messages_of self.old.notices }
+        ensures rejected { IsErrOf result Stop.Rejected → (self.old.progress.header ≡ 0)
+            × Aborts options.now bytes.now (at_next (state_of self.old)) (messages_of self.new.notices) }
+        ensures stop { IfErr result (λ stop. (stop ≡ Stop.Memory) ⊎ (stop ≡ Stop.Rejected)) }
+        ensures succeeds { vec_len self.old.waiting + record_room options.now (length bytes.now)
+            ≤ vec_capacity self.old.waiting
+            → RecordHasNoMessage options.now bytes.now (state_of self.old) → IsOk result }
+        ensures len { vec_len self.new.waiting
+            ≤ vec_len self.old.waiting + record_room options.now (length bytes.now) }
+        ensures capacity { vec_capacity self.old.waiting ≤ vec_capacity self.new.waiting }
+    {
+        let len = self.waiting.len();
+        let messages = self.notices.len();
+        match self.append_record(options, bytes, digits) {
+            Ok(()) => Ok(()),
+            Err(stop) => {
+                self.waiting.truncate(len);
+                self.notices.undo(messages, stop);
+                Err(stop)
+            }
+        }
+    }
+
+    /// Does what [`add_record`](Converter::add_record) does, but leaves what was appended before an error.
+    #[inline(always)]
+    fn append_record(
+        &mut self,
+        options: &Options,
+        bytes: &[u8],
+        digits: &mut [u8],
+    ) -> Result<(), Stop>
+        requires { text_limit ≤ length digits.old }
+        ensures ok { OnOk result
+            (AddsRecords options.now (bytes.now ∷ []) (state_of self.old) (state_of self.new)) }
+        ensures kept { IsPrefix self.old.waiting.items self.new.waiting.items }
+        ensures kept_messages { IsPrefix (messages_of self.old.notices) (messages_of self.new.notices) }
+        ensures rejected { IsErrOf result Stop.Rejected → (self.old.progress.header ≡ 0)
+            × Aborts options.now bytes.now (at_next (state_of self.old)) (messages_of self.new.notices) }
+        ensures stop { IfErr result (λ stop. (stop ≡ Stop.Memory) ⊎ (stop ≡ Stop.Rejected)) }
+        ensures succeeds { vec_len self.old.waiting + record_room options.now (length bytes.now)
+            ≤ vec_capacity self.old.waiting
+            → RecordHasNoMessage options.now bytes.now (state_of self.old) → IsOk result }
+        ensures len { vec_len self.new.waiting
+            ≤ vec_len self.old.waiting + record_room options.now (length bytes.now) }
+        ensures capacity { vec_capacity self.old.waiting ≤ vec_capacity self.new.waiting }
+    {
+        self.progress.place.number = self.progress.place.number.saturating_add(1);
+        if self.progress.header > 0 {
+            self.progress.header -= 1;
+            self.waiting.extend_from_slice(bytes)?;
+        } else {
+            self.add_fields(options, bytes, digits)?;
+        }
+        self.waiting.extend_from_slice(&[options.output_end])?;
+        Ok(())
+    }
+
+    /// Appends what is written for the fields of a record, which is no header record, and counts what is found in them.
+    ///
+    /// Precondition (proved at every call): `digits` has capacity for the text of any size.
+    ///
+    /// # Errors
+    ///
+    /// - `Rejected` if a field is not a size, in the mode `abort`.
+    /// - `Memory` if allocation fails.
+    #[inline(always)]
+    fn add_fields(&mut self, options: &Options, bytes: &[u8], digits: &mut [u8]) -> Result<(), Stop>
+        requires { text_limit ≤ length digits.old }
+        ensures ok { OnOk result
+            (AddsFields options.now bytes.now (state_of self.old) (state_of self.new)) }
+        ensures kept { IsPrefix self.old.waiting.items self.new.waiting.items }
+        ensures kept_messages { IsPrefix (messages_of self.old.notices) (messages_of self.new.notices) }
+        ensures rejected { IsErrOf result Stop.Rejected
+            → Aborts options.now bytes.now (state_of self.old) (messages_of self.new.notices) }
+        ensures stop { IfErr result (λ stop. (stop ≡ Stop.Memory) ⊎ (stop ≡ Stop.Rejected)) }
+        ensures succeeds { vec_len self.old.waiting + fields_room options.now (length bytes.now)
+            ≤ vec_capacity self.old.waiting
+            → FieldsHaveNoMessage options.now bytes.now (state_of self.old) → IsOk result }
+        ensures len { vec_len self.new.waiting
+            ≤ vec_len self.old.waiting + fields_room options.now (length bytes.now) }
+        ensures capacity { vec_capacity self.old.waiting ≤ vec_capacity self.new.waiting }
+    {
+        match options.delimiter {
+            None => self.add_field(options, 1, bytes, digits),
+            Some(delimiter) => self.add_split(options, delimiter, bytes, digits),
+        }
+    }
+
+    /// Does what [`add_fields`](Converter::add_fields) does, with the fields between delimiters.
+    fn add_split(
+        &mut self,
+        options: &Options,
+        delimiter: u8,
+        bytes: &[u8],
+        digits: &mut [u8],
+    ) -> Result<(), Stop>
+        requires delimiter { options.now.delimiter ≡ Some delimiter }
+        requires capacity { text_limit ≤ length digits.old }
+        ensures ok { OnOk result
+            (AddsFields options.now bytes.now (state_of self.old) (state_of self.new)) }
+        ensures kept { IsPrefix self.old.waiting.items self.new.waiting.items }
+        ensures kept_messages { IsPrefix (messages_of self.old.notices) (messages_of self.new.notices) }
+        ensures rejected { IsErrOf result Stop.Rejected
+            → Aborts options.now bytes.now (state_of self.old) (messages_of self.new.notices) }
+        ensures stop { IfErr result (λ stop. (stop ≡ Stop.Memory) ⊎ (stop ≡ Stop.Rejected)) }
+        ensures succeeds { vec_len self.old.waiting + fields_room options.now (length bytes.now)
+            ≤ vec_capacity self.old.waiting
+            → FieldsHaveNoMessage options.now bytes.now (state_of self.old) → IsOk result }
+        ensures len { vec_len self.new.waiting
+            ≤ vec_len self.old.waiting + fields_room options.now (length bytes.now) }
+        ensures capacity { vec_capacity self.old.waiting ≤ vec_capacity self.new.waiting }
+    {
+        // For the proof: there are fewer fields than a `u64` counts.
+        let _len = bytes.len();
+        let mut rest = bytes;
+        let mut number = 1u64;
+        while let Some(n) = end_of(rest, delimiter) {
+            self.add_field(options, number, &rest[..n], digits)?;
+            self.waiting.extend_from_slice(&[delimiter])?;
+            rest = &rest[n + 1..];
+            number += 1;
+            if is_past(options.fields, number) {
+                self.waiting.extend_from_slice(rest)?;
+                return Ok(());
+            }
+        }
+        self.add_field(options, number, rest, digits)
+    }
+
+    /// Appends what is written for the field with this number, and counts what is found in it.
+    ///
+    /// Precondition (proved at every call): `digits` has capacity for the text of any size.
+    ///
+    /// # Errors
+    ///
+    /// - `Rejected` if the field is not a size, in the mode `abort`.
+    /// - `Memory` if allocation fails.
+    #[inline(always)]
+    fn add_field(
+        &mut self,
+        options: &Options,
+        number: u64,
+        field: &[u8],
+        digits: &mut [u8],
+    ) -> Result<(), Stop>
+        requires { text_limit ≤ length digits.old }
+        ensures ok { OnOk result
+            (AddsField options.now number field.now (state_of self.old) (state_of self.new)) }
+        ensures kept { IsPrefix self.old.waiting.items self.new.waiting.items }
+        ensures kept_messages { IsPrefix (messages_of self.old.notices) (messages_of self.new.notices) }
+        ensures rejected { IsErrOf result Stop.Rejected → IsRejectedField
+            options.now number field.now (state_of self.old) (messages_of self.new.notices) }
+        ensures stop { IfErr result (λ stop. (stop ≡ Stop.Memory) ⊎ (stop ≡ Stop.Rejected)) }
+        ensures succeeds { vec_len self.old.waiting + field_room options.now (length field.now)
+            ≤ vec_capacity self.old.waiting
+            → FieldHasNoMessage options.now number field.now (state_of self.old) → IsOk result }
+        ensures len { vec_len self.new.waiting
+            ≤ vec_len self.old.waiting + field_room options.now (length field.now) }
+        ensures capacity { vec_capacity self.old.waiting ≤ vec_capacity self.new.waiting }
+    {
+        if !is_chosen(options.fields, number) {
+            self.waiting.extend_from_slice(field)?;
+            return Ok(());
+        }
+        match accepted(options, field) {
+            Some(size) => self.add_found(options, number, field, size, digits),
+            None => self.add_rejected(options, number, field),
+        }
+    }
+
+    /// Does what [`add_field`](Converter::add_field) does, for a field that is a size.
+    ///
+    /// Preconditions (proved at every call): the field with this number is chosen, this is its size, and `digits` has
+    /// capacity for the text of any size.
+    #[inline(always)]
+    fn add_found(
+        &mut self,
+        options: &Options,
+        number: u64,
+        field: &[u8],
+        size: u128,
+        digits: &mut [u8],
+    ) -> Result<(), Stop>
+        requires capacity { text_limit ≤ length digits.old }
+        requires chosen { IsChosen options.now.fields.now number }
+        requires size { IsSize options.now field.now size }
+        ensures ok { OnOk result
+            (AddsField options.now number field.now (state_of self.old) (state_of self.new)) }
+        ensures kept { IsPrefix self.old.waiting.items self.new.waiting.items }
+        ensures kept_messages { IsPrefix (messages_of self.old.notices) (messages_of self.new.notices) }
+        ensures stop { IfErr result (λ stop. stop ≡ Stop.Memory) }
+        ensures succeeds { vec_len self.old.waiting + field_room options.now (length field.now)
+            ≤ vec_capacity self.old.waiting
+            → FieldHasNoMessage options.now number field.now (state_of self.old) → IsOk result }
+        ensures len { vec_len self.new.waiting
+            ≤ vec_len self.old.waiting + field_room options.now (length field.now) }
+        ensures capacity { vec_capacity self.old.waiting ≤ vec_capacity self.new.waiting }
+    {
+        // For the proof: no text has two sizes, or is both a size and rejected.
+        texts_are_accepted_or_refused();
+        if self.progress.tally.add(options, size) {
+            let place = &self.progress.place;
+            add_limit_notice(options, place, number, field, size, &mut self.notices)?;
+        }
+        add_size(options, size, digits, &mut self.waiting)?;
+        Ok(())
+    }
+
+    /// Does what [`add_field`](Converter::add_field) does, for a field that is not a size.
+    ///
+    /// Preconditions (proved at every call): the field with this number is chosen, and it is not a size.
+    #[cold]
+    #[inline(never)]
+    fn add_rejected(&mut self, options: &Options, number: u64, field: &[u8]) -> Result<(), Stop>
+        requires chosen { IsChosen options.now.fields.now number }
+        requires none { IsNoSize options.now field.now }
+        ensures ok { OnOk result
+            (AddsField options.now number field.now (state_of self.old) (state_of self.new)) }
+        ensures kept { IsPrefix self.old.waiting.items self.new.waiting.items }
+        ensures kept_messages { IsPrefix (messages_of self.old.notices) (messages_of self.new.notices) }
+        ensures rejected { IsErrOf result Stop.Rejected → IsRejectedField
+            options.now number field.now (state_of self.old) (messages_of self.new.notices) }
+        ensures stop { IfErr result (λ stop. (stop ≡ Stop.Memory) ⊎ (stop ≡ Stop.Rejected)) }
+        ensures succeeds { vec_len self.old.waiting + field_room options.now (length field.now)
+            ≤ vec_capacity self.old.waiting
+            → FieldHasNoMessage options.now number field.now (state_of self.old) → IsOk result }
+        ensures len { vec_len self.new.waiting
+            ≤ vec_len self.old.waiting + field_room options.now (length field.now) }
+        ensures capacity { vec_capacity self.old.waiting ≤ vec_capacity self.new.waiting }
+    {
+        // For the proof: no text is both a size and rejected.
+        texts_are_accepted_or_refused();
+        let place = &self.progress.place;
+        add_reject_notice(options, place, number, field, &mut self.notices)?;
+        copy_rejected(options, field, &mut self.progress.tally, &mut self.waiting)
+    }
+}
+
+/// Copies a rejected field to `text`, and counts it.
+///
+/// # Errors
+///
+/// - `Rejected` in the mode `abort`.
+/// - `Memory` if allocation fails.
+fn copy_rejected<A: Allocator>(
+    options: &Options,
+    field: &[u8],
+    tally: &mut Tally,
+    text: &mut Vec<u8, A>,
+) -> Result<(), Stop>
+    ensures mode { OnOk result (¬ (options.now.invalid ≡ Invalid.Abort)) }
+    ensures text { OnOk result (text.new.items ≡ text.old.items ++ field.now) }
+    ensures kept { IsPrefix text.old.items text.new.items }
+    ensures tally { OnOk result (tally.new ≡ tally_with options.now tally.old None) }
+    ensures rejected { IsErrOf result Stop.Rejected → options.now.invalid ≡ Invalid.Abort }
+    ensures stop { IfErr result (λ stop. (stop ≡ Stop.Memory) ⊎ (stop ≡ Stop.Rejected)) }
+    ensures succeeds { vec_len text.old + length field.now ≤ vec_capacity text.old
+        → ¬ (options.now.invalid ≡ Invalid.Abort) → IsOk result }
+    ensures len { vec_len text.new ≤ vec_len text.old + length field.now }
+    ensures capacity { vec_capacity text.old ≤ vec_capacity text.new }
+{
+    if options.invalid == Invalid::Abort {
+        return Err(Stop::Rejected);
+    }
+    tally.reject(options);
+    text.extend_from_slice(field)?;
+    Ok(())
+}
