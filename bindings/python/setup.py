@@ -64,7 +64,7 @@ def version_of(header):
 
 
 def extension(header, archive):
-    names = ["values", "parse", "columns", "format", "module"]
+    names = ["arguments", "values", "texts", "parse", "format", "columns", "buffers", "results", "module"]
     return Extension(
         "byte_unit._native",
         sources=[f"native/{name}.c" for name in names],
