@@ -166,6 +166,9 @@ class Changes(unittest.TestCase):
 
     def parse_while(self, change: "Callable[[], None]", data: object, offsets: object) -> "list[Column | None]":
         """Returns what the calls of two seconds return, while another thread changes something. `None` is an error."""
+        return self.call_while(change, lambda: byte_unit.parse_buffers(data, offsets))
+
+    def call_while(self, change: "Callable[[], None]", call: "Callable[[], Column]") -> "list[Column | None]":
         results: list[Column | None] = []
         end = time.monotonic() + 2
 
@@ -177,11 +180,47 @@ class Changes(unittest.TestCase):
         worker.start()
         while time.monotonic() < end:
             try:
-                results.append(byte_unit.parse_buffers(data, offsets))
+                results.append(call())
             except ByteUnitError:
                 results.append(None)
         worker.join(60)
         return results
+
+    def test_validity(self) -> None:
+        data, offsets = layout([b"1.5 KiB"] * 20_000, "q")
+        bits = bytearray(b"\xff" * 2500)
+
+        def change() -> None:
+            bits[:] = bytes(2500)
+            bits[:] = b"\xff" * 2500
+
+        for column in self.call_while(change, lambda: byte_unit.parse_buffers(data, offsets, validity=bits)):
+            self.assertTrue(column and set(column.codes) <= {0, 7} and not any(column.codes.strip(b"\0\7")))
+
+    def test_strict_data(self) -> None:
+        """The text of an error is that which was rejected, or what is there by then."""
+        data, offsets = layout([b"1.5 KiB"] * 5000, "q")
+        changing = bytearray(data)
+
+        def change() -> None:
+            changing[:] = b"\xf0.5 KiB" * 5000
+            changing[:] = data
+
+        seen = self.call_while(change, lambda: byte_unit.parse_buffers(changing, offsets, errors="raise"))
+        self.assertTrue(all(column is None or column.sum() == 5000 * 1536 for column in seen))
+
+    def test_lists(self) -> None:
+        """The texts are those of the list when the call began."""
+        texts: list[str | None] = ["1.5 KiB", None] * 40_000
+        changing, wanted = texts[:], byte_unit.parse_many(texts)
+
+        def change() -> None:
+            changing.clear()
+            changing.extend(texts)
+
+        seen = self.call_while(change, lambda: byte_unit.parse_many(changing))
+        self.assertTrue(all(column in (wanted, byte_unit.parse_many([])) for column in seen))
+        self.assertIn(wanted, seen)
 
     def test_offsets(self) -> None:
         for code, huge in (("q", 2**63 - 1), ("q", -(2**63)), ("i", 2**31 - 1)):

@@ -7,7 +7,10 @@ import importlib.resources
 import importlib.util
 import inspect
 import os
+import re
+import subprocess
 import sys
+import tempfile
 import threading
 import time
 import tracemalloc
@@ -20,6 +23,12 @@ from byte_unit import _columns, _errors, _native
 
 CALLS = [name for name in byte_unit.__all__ if inspect.isbuiltin(getattr(byte_unit, name))]
 HAS_PANDAS = importlib.util.find_spec("pandas") is not None
+# Names of modules that only type checkers see, and a default of typing.Sequence that the stub of Python leaves out.
+ONLY_TYPES = [
+    r"byte_unit\._columns\.(Errors|Final|Iterable|Iterator|Literal|Overflow|SupportsIndex|TypeAlias|overload)",
+    r"byte_unit\._columns\.Sequence\.index",
+    r"byte_unit\._errors\.Decimal",
+]
 HAS_MYPY = importlib.util.find_spec("mypy") is not None
 README = os.path.join(os.path.dirname(os.path.abspath(__file__)), "../README.md")
 
@@ -81,6 +90,34 @@ class Package(unittest.TestCase):
             if isinstance(node, ast.AnnAssign) and isinstance(node.target, ast.Name) and node.value is None:
                 names.add(node.target.id)
         self.assertEqual(names, {name for name in vars(_native) if not name.startswith("__")})
+
+    @unittest.skipUnless(HAS_MYPY, "mypy is not installed")
+    def test_stubs(self) -> None:
+        """All modules are as their types say, but for names that only type checkers see."""
+        with tempfile.TemporaryDirectory() as folder:
+            allowed = os.path.join(folder, "allowed")
+            with open(allowed, "w", encoding="utf-8") as file:
+                file.write("\n".join(ONLY_TYPES))
+            words = [sys.executable, "-m", "mypy.stubtest", "--concise", "--ignore-unused-allowlist", "--allowlist", allowed]
+            modules = ["byte_unit"] if HAS_PANDAS else ["byte_unit._columns", "byte_unit._errors", "byte_unit._native"]
+            ran = subprocess.run([*words, *modules], cwd=folder, text=True, stdout=subprocess.PIPE, check=False)
+        self.assertEqual((ran.returncode, ran.stdout), (0, ""))
+
+    def test_needs(self) -> None:
+        """The extension module needs nothing newer than the tag of its wheel says: glibc 2.17."""
+        name = _native.__file__
+        assert name
+        with open(name, "rb") as file:
+            found = {tuple(map(int, number.split(b"."))) for number in re.findall(rb"GLIBC_([0-9.]+)\0", file.read())}
+        self.assertTrue(found)
+        self.assertLessEqual(max(found), (2, 17))
+        self.assertTrue(name.endswith(".abi3.so"))
+
+    def test_metadata(self) -> None:
+        metadata = importlib.metadata.metadata("byte_unit")
+        self.assertEqual((metadata["Author"], metadata["License"]), ("Nedlufa maintainers", "MIT"))
+        self.assertIn("Original, https://github.com/magiclen/Byte-Unit", metadata.get_all("Project-URL"))
+        self.assertIn("parse_many", metadata.get_payload())
 
     def test_constants(self) -> None:
         self.assertEqual(byte_unit.SIZE_LIMIT, 10**30)

@@ -89,7 +89,8 @@ class Column(Sequence["int | None"]):
         """Returns the size at a place, or `None` if it has none; of a slice, a column."""
         rows = range(len(self._codes))[place]
         if isinstance(rows, range):
-            return Column(*_native.part(self._sizes, self._codes, rows.start, rows.step, len(rows)))
+            start = rows.start if rows else 0  # -1, if an empty range begins before the first row
+            return Column(*_native.part(self._sizes, self._codes, start, rows.step, len(rows)))
         return _native.ints(self._sizes, self._codes, rows, rows + 1)[0]
 
     def __iter__(self) -> "Iterator[int | None]":
@@ -121,7 +122,9 @@ class Column(Sequence["int | None"]):
     if TYPE_CHECKING:
 
         @overload
-        def errors(self) -> Iterator[tuple[int, str]]: ...
+        def errors(
+            self, texts: None = None, *, bits: bool = False, ignore_case: bool = False
+        ) -> Iterator[tuple[int, str]]: ...
 
         @overload
         def errors(
