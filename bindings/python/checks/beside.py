@@ -2,9 +2,9 @@
 
     beside.py BEFORE AFTER [ROUNDS]
 
-BEFORE and AFTER are folders that have the package byte_unit, as `setup.py build --build-lib` fills them. The builds take
-turns in processes of their own; a figure is the minimum of the rounds. `import` is the time of the process, less that of
-a process that imports nothing, which has a line of its own.
+BEFORE and AFTER are folders that have the package byte_unit, as `setup.py build --build-lib` fills them. The builds
+take turns in processes of their own; a figure is the minimum of the rounds, in nanoseconds of a call or of a text.
+`import` is the whole process; one that imports nothing has a line of its own.
 """
 
 import json

@@ -15,13 +15,17 @@ static int place_of(const signature *signature, PyObject *name)
 {
     Py_ssize_t len;
     const char *word = PyUnicode_AsUTF8AndSize(name, &len);
-    int i = 0;
-    while (i < signature->count &&
-           !(word && strcmp(word, signature->parameters[i]) == 0 && (size_t)len == strlen(word))) {
-        i++;
+    if (!word) { /* it has a lone surrogate */
+        PyErr_Clear();
+        return signature->count;
     }
-    PyErr_Clear(); /* of a name that is not Unicode */
-    return i;
+    for (int i = 0; i < signature->count; i++) {
+        const char *parameter = signature->parameters[i];
+        if (*parameter == *word && strcmp(parameter, word) == 0 && strlen(parameter) == (size_t)len) {
+            return i;
+        }
+    }
+    return signature->count;
 }
 
 static bool place_one(const signature *signature, PyObject *name, PyObject *argument, PyObject **given)

@@ -77,9 +77,10 @@
     "no such unit, it is `B` or `b`.\n" \
     "\n" \
     "`width` is the least number of columns, filled with spaces: between the number and the unit, or before the\n" \
-    "number with `align=\"right\"`. Digits alone are aligned as `align` says, to the right if it is `None`.\n" \
-    "`sign=\"plus\"` puts a plus sign before digits alone, and pads the unit and the space before it to four\n" \
-    "columns; `sign=\"minus\"` leaves that space out. A width and a precision are at most 65535.\n" \
+    "number with `align=\"right\"`. Digits alone are aligned as `align` says, which is \"left\", \"center\" or\n" \
+    "\"right\", to the right if it is `None`. `sign=\"plus\"` puts a plus sign before digits alone, and pads the\n" \
+    "unit and the space before it to four columns; `sign=\"minus\"` leaves that space out. A width and a precision\n" \
+    "are at most 65535. Numbers are `int`, or what `operator.index` accepts.\n" \
     "\n" \
     "Raises `ByteUnitError` if an argument is out of range.\n" \
     "\n" \
@@ -118,7 +119,7 @@
     "--\n" \
     "\n" \
     "Returns the largest unit of the kind and of the type that is not above the size, or `B` or `b` if there is\n" \
-    "none.\n" \
+    "none. The type is \"binary\", \"decimal\" or \"both\".\n" \
     "\n" \
     "Raises `ByteUnitError` if an argument is out of range.\n" \
     "\n" \

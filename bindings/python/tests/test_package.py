@@ -98,9 +98,10 @@ class Package(unittest.TestCase):
             allowed = os.path.join(folder, "allowed")
             with open(allowed, "w", encoding="utf-8") as file:
                 file.write("\n".join(ONLY_TYPES))
-            words = [sys.executable, "-m", "mypy.stubtest", "--concise", "--ignore-unused-allowlist", "--allowlist", allowed]
+            options = ["--concise", "--ignore-unused-allowlist", "--allowlist", allowed]
             modules = ["byte_unit"] if HAS_PANDAS else ["byte_unit._columns", "byte_unit._errors", "byte_unit._native"]
-            ran = subprocess.run([*words, *modules], cwd=folder, text=True, stdout=subprocess.PIPE, check=False)
+            words = [sys.executable, "-m", "mypy.stubtest", *options, *modules]
+            ran = subprocess.run(words, cwd=folder, text=True, stdout=subprocess.PIPE, check=False)
         self.assertEqual((ran.returncode, ran.stdout), (0, ""))
 
     def test_needs(self) -> None:
@@ -156,8 +157,8 @@ class Arguments(unittest.TestCase):
 
     def test_private_calls(self) -> None:
         """The other functions reject what the modules above them never pass."""
-        for call in ("parse_many", "parse_buffers", "ints", "part", "sum", "extremum", "first_large", "int64", "float64",
-                     "mask"):
+        names = "parse_many parse_buffers ints part sum extremum first_large int64 float64 mask"
+        for call in names.split():
             with self.subTest(call), self.assertRaises(TypeError):
                 getattr(_native, call)()
         for call, more in [("ints", (0, 1)), ("part", (0, 1, 1)), ("sum", ()), ("extremum", (True,)),
@@ -171,9 +172,9 @@ class Arguments(unittest.TestCase):
         for rows in [(0, 2), (2, 1), (2, 2), (-1, 1), (0, 2**64)]:
             with self.subTest(rows), self.assertRaises((IndexError, OverflowError)):
                 _native.ints(bytes(16), bytes(1), *rows)
-        for part in [(0, 1, 2), (1, 1, 1), (1, -1, 1), (0, 2**62, 2), (0, -(2**63), 1), (2**64, 1, 0), (0, 2**63, 1)]:
+        for part in [(0, 1, 2), (1, 1, 1), (1, -1, 1), (0, 2**62, 2), (1, -(2**63), 1), (2**64, 1, 0), (0, 2**63, 1)]:
             with self.subTest(part), self.assertRaises((IndexError, OverflowError)):
-                _native.part(bytes(16), bytes(1), *(part if part != (0, -(2**63), 1) else (1, -(2**63), 1)))
+                _native.part(bytes(16), bytes(1), *part)
 
 
 class Threads(unittest.TestCase):

@@ -66,7 +66,8 @@ class ToSizes(unittest.TestCase):
         for size in (2**63 - 1, 2**63, 2**64, 10**30 - 1):
             quota, large = pandas.Series(["1", None, str(size)]), size >= 2**63
             with self.subTest(size):
-                self.assertEqual(to_sizes(quota, overflow="null").tolist(), [1, pandas.NA, pandas.NA if large else size])
+                null = to_sizes(quota, overflow="null").tolist()
+                self.assertEqual(null, [1, pandas.NA, pandas.NA if large else size])
                 self.assertEqual(to_sizes(quota, overflow="saturate").tolist(), [1, pandas.NA, min(size, 2**63 - 1)])
                 if large:
                     with self.assertRaisesRegex(ByteUnitError, "^row 2: the size"):

@@ -29,6 +29,19 @@ def column_of(sizes: list[int | None]) -> Column:
     return byte_unit.parse_many([None if size is None else str(size) for size in sizes])
 
 
+class Listed:
+    """An array that is no sequence."""
+
+    def __init__(self, items: Any) -> None:
+        self.items = items
+
+    def __iter__(self) -> Any:
+        raise AssertionError("it has a list")
+
+    def tolist(self) -> Any:
+        return self.items
+
+
 class Nulls(unittest.TestCase):
     def test_codes(self) -> None:
         column = byte_unit.parse_many(TEXTS)
@@ -37,6 +50,13 @@ class Nulls(unittest.TestCase):
         self.assertEqual(column.sizes, b"".join((size or 0).to_bytes(16, "little") for size in SIZES))
         self.assertEqual(byte_unit.ERROR_NAMES[7], "null")
         self.assertEqual([byte_unit.ERROR_NAMES[code] for code in CODES[1:4]], ["no_value", "null", "unit"])
+
+    def test_an_array_by_tolist(self) -> None:
+        """Of an array, as those of numpy and pyarrow are, its list is parsed."""
+        self.assertEqual(byte_unit.parse_many(Listed(["1 KB", None])).ints(), [1000, None])
+        for wrong in ("1 KB", b"1 KB", 1, None, [["1 KB"]]):
+            with self.subTest(wrong), self.assertRaises(TypeError):
+                byte_unit.parse_many(Listed(wrong))
 
     def test_all_are_null(self) -> None:
         column = byte_unit.parse_many([None] * 3)
@@ -73,8 +93,8 @@ class Nulls(unittest.TestCase):
 
     def test_validity_that_does_not_fit(self) -> None:
         offsets = array("q", [0, 1, 2])
-        for bits, start in [(b"", 0), (b"\3", 7), (b"\3", 8), (b"\3", -1), (b"\3", 2**63), (b"\3", 2**64), (b"\3", -(2**70)),
-                            (b"\3", 2**62)]:  # fmt: skip
+        starts = [7, 8, -1, 2**62, 2**63 - 1, 2**63, 2**64, -(2**70)]
+        for bits, start in [(b"", 0), *((b"\3", start) for start in starts)]:
             with self.subTest(bits, start=start), self.assertRaisesRegex(ByteUnitError, "a bit for each text"):
                 byte_unit.parse_buffers(b"12", offsets, validity=bits, validity_offset=start)
         for wrong in (3, "1", [1], object()):
@@ -95,8 +115,8 @@ class Raised(unittest.TestCase):
         return caught.exception
 
     def test_row_text_and_reason(self) -> None:
-        for row, wrong in [(0, "1 x"), (2, ""), (1, b"\xff"), (1, "\ud800"), (1, "x" * 80), (1, "x" * 81), (0, b"x" * 99),
-                           (70_000, "1000.5 RB")]:  # fmt: skip
+        rows = [(0, "1 x"), (2, ""), (1, b"\xff"), (1, "\ud800"), (1, "x" * 80), (1, "x" * 81), (0, b"x" * 99)]
+        for row, wrong in [*rows, (70_000, "1000.5 RB")]:
             texts: list[Any] = ["1", None, "2", *["3"] * 70_000]
             texts[row] = wrong
             error = self.caught(byte_unit.parse_many, [*texts, "y"])
@@ -110,8 +130,8 @@ class Raised(unittest.TestCase):
 
     def test_buffers(self) -> None:
         texts = [b"1 KB"] * 2500
-        for row, wrong, text in [(0, b"1 x", "1 x"), (1023, "ö".encode(), "ö"), (1024, b"", ""), (2499, b"\xff", b"\xff"),
-                                 (1500, b"x" * 5000, "x" * 5000)]:  # fmt: skip
+        rows = [(0, b"1 x", "1 x"), (1023, "ö".encode(), "ö"), (1024, b"", ""), (2499, b"\xff", b"\xff")]
+        for row, wrong, text in [*rows, (1500, b"x" * 5000, "x" * 5000)]:
             many = [*texts[:row], wrong, *texts[row:], b"later"]
             data, offsets = b"##" + b"".join(many), array("q", accumulate(map(len, many), initial=2))
             error = self.caught(byte_unit.parse_buffers, data, offsets)
