@@ -67,8 +67,8 @@ typedef struct piece {
 } piece;
 
 /* A piece has at most so many texts, and no text more once it has so many bytes. It is long, since a thread that takes
- * the GIL back may wait some milliseconds; one of less than FEW texts and bytes is parsed without releasing it. */
-enum { PIECE = 65536, PIECE_BYTES = 4194304, FEW = 4096 };
+ * the GIL back may wait some milliseconds; one with few texts and bytes is parsed without releasing it. */
+enum { PIECE = 65536, PIECE_BYTES = 4194304, FEW = 4096, FEW_BYTES = 65536 };
 
 static bool new_piece(size_t count, piece *piece)
 {
@@ -92,7 +92,7 @@ static bool copy_text(const text *text, piece *piece)
 {
     size_t len = (size_t)text->len, needed = piece->len + len;
     if (needed > piece->room) {
-        size_t room = needed + needed / 2 + 64;
+        size_t room = needed < PIECE_BYTES ? needed + needed / 2 + 64 : needed;
         char *bytes = PyMem_Realloc(piece->bytes, room);
         if (!bytes) {
             PyErr_NoMemory();
@@ -161,7 +161,7 @@ static void parse_texts(const piece *piece, uint32_t flags, byte_unit_number *si
 
 static void parse_piece(const piece *piece, uint32_t flags, byte_unit_number *sizes, uint8_t *codes)
 {
-    if (piece->count < FEW && piece->len < FEW) {
+    if (piece->count < FEW && piece->len < FEW_BYTES) {
         parse_texts(piece, flags, sizes, codes);
         return;
     }
