@@ -1,6 +1,7 @@
 """Many texts in one call: lists, buffers, numpy and pandas."""
 
 import copy
+import faulthandler
 import importlib.util
 import mmap
 import pickle
@@ -163,6 +164,10 @@ class Buffers(unittest.TestCase):
 
 class Changes(unittest.TestCase):
     """Another thread changes a buffer during the call."""
+
+    @classmethod
+    def setUpClass(cls) -> None:
+        faulthandler.enable()  # says where, if the interpreter ends
 
     def parse_while(self, change: "Callable[[], None]", data: object, offsets: object) -> "list[Column | None]":
         """Returns what the calls of two seconds return, while another thread changes something. `None` is an error."""
