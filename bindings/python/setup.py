@@ -3,17 +3,20 @@
 The header byte_unit.h and the archive libbyte_unit.a are those of the first of these that is there:
 
 1. the folder BYTE_UNIT_LIBRARY_DIR, which `tools/make-libraries DIR` filled, or a prefix with `include` and `lib`;
-2. what `pkg-config byte_unit` names, after `tools/dev install PREFIX`;
-3. the repository around this folder, if `tools/make-libraries` was run in it.
+2. the folder `library` beside this file, which a source distribution has;
+3. what `pkg-config byte_unit` names, after `tools/dev install PREFIX`;
+4. the repository around this folder, if `tools/make-libraries` was run in it.
 """
 
 import os
+import platform
 import re
 import shutil
 import subprocess
 import sys
 
 from setuptools import Extension, setup
+from setuptools.command.sdist import sdist
 
 HERE = os.path.dirname(os.path.abspath(__file__))
 HEADER, ARCHIVE = "byte_unit.h", "libbyte_unit.a"
@@ -52,6 +55,10 @@ def from_pkg_config():
     return pair(os.path.join(variable("includedir"), HEADER), os.path.join(variable("libdir"), ARCHIVE))
 
 
+def from_distribution():
+    return pair(os.path.join(HERE, "library", HEADER), os.path.join(HERE, "library", ARCHIVE))
+
+
 def from_repository():
     root = os.path.dirname(os.path.dirname(HERE))
     return pair(os.path.join(root, "bindings/c", HEADER), os.path.join(root, "crates/byte_unit_c/out/libbyte_unit_c.a"))
@@ -64,7 +71,7 @@ def version_of(header):
 
 
 def extension(header, archive):
-    names = ["values", "parse", "columns", "format", "module"]
+    names = ["arguments", "values", "texts", "parse", "format", "columns", "buffers", "results", "module"]
     return Extension(
         "byte_unit._native",
         sources=[f"native/{name}.c" for name in names],
@@ -76,12 +83,25 @@ def extension(header, archive):
     )
 
 
-found = from_variable() or from_pkg_config() or from_repository()
+class WithLibrary(sdist):
+    """A source distribution with the header and the archive, so that another machine builds it."""
+
+    def make_release_tree(self, base_dir, files):
+        super().make_release_tree(base_dir, files)
+        os.makedirs(os.path.join(base_dir, "library"), exist_ok=True)
+        for name, path in zip((HEADER, ARCHIVE), found):
+            shutil.copyfile(path, os.path.join(base_dir, "library", name))
+
+
+found = from_variable() or from_distribution() or from_pkg_config() or from_repository()
 if not found:
     sys.exit(NOT_FOUND)
+# The functions of glibc that the module needs are older than 2.17: tests/test_package.py.
+tag = {"plat_name": "manylinux_2_17_x86_64"} if platform.libc_ver()[0] == "glibc" else {}
 setup(
     version=version_of(found[0]),
     ext_modules=[extension(*map(os.path.abspath, found))],
     # Always compiled again: a file of an earlier build may have another library inside.
-    options={"bdist_wheel": {"py_limited_api": "cp311"}, "build_ext": {"force": True}},
+    options={"bdist_wheel": {"py_limited_api": "cp311", **tag}, "build_ext": {"force": True}},
+    cmdclass={"sdist": WithLibrary},
 )

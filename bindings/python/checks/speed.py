@@ -117,13 +117,17 @@ def columns(count: int) -> None:
         ("`parse_many` of a list", lambda: byte_unit.parse_many(texts)),
         ("its `ints()`", column.ints),
         ("its `int64()`", column.int64),
+        ("its `sum()`", column.sum),
         ("`parse` for each", lambda: [byte_unit.parse(text) for text in texts]),
         ("split, `float`, dictionary", lambda: [naive(text) for text in texts]),
     ]
     if pandas:
+        from byte_unit.pandas import to_sizes
+
         series = pandas.Series(texts)
         ways += [("`series.map(parse)` of pandas", lambda: series.map(byte_unit.parse)),
-                 ("`parse_many(series)`", lambda: byte_unit.parse_many(series))]
+                 ("`parse_many(series)`", lambda: byte_unit.parse_many(series)),
+                 ("`to_sizes(series)`", lambda: to_sizes(series))]
     print(f"nanoseconds per text ({count} texts)")
     for name, call in ways:
         line(f"A text: Python, {name}", nanoseconds(call) / count)

@@ -1,12 +1,8 @@
 """Columns of texts with numpy, pandas and Dask, each if it is installed. Stops at a result that is not as expected."""
 
 from array import array
-from typing import TYPE_CHECKING
 
 import byte_unit
-
-if TYPE_CHECKING:
-    import pandas
 
 
 def with_numpy() -> None:
@@ -16,27 +12,25 @@ def with_numpy() -> None:
     data = numpy.frombuffer(b"1 KB1 x2 KiB", numpy.uint8)
     offsets = numpy.array([0, 4, 7, 12], numpy.int64)
     column = byte_unit.parse_buffers(data, offsets)
-    sizes = numpy.asarray(column.int64())
-    codes = numpy.frombuffer(column.codes, numpy.uint8)
+    sizes, missing = numpy.asarray(column.int64()), numpy.asarray(column.mask())
     assert sizes.tolist() == [1000, 0, 2048] and not sizes.flags.owndata
-    assert sizes[codes == 0].sum() == 3048
+    assert missing.tolist() == [False, True, False]
+    assert sizes[~missing].sum() == 3048 == column.sum()
 
 
 def with_pandas() -> None:
     """Parses a series, in which a missing text and one that is not a size become missing numbers."""
     import pandas
 
+    from byte_unit.pandas import format_sizes, to_sizes
+
     quota = pandas.Series(["1 KB", None, "1 x", "2 KiB"], ["a", "b", "c", "d"])
-    sizes = sizes_of(quota)
+    sizes = to_sizes(quota)
     assert sizes.dropna().to_dict() == {"a": 1000, "d": 2048}
     assert sizes.dtype == "Int64"
-
-
-def sizes_of(quota: "pandas.Series") -> "pandas.Series":
-    """Returns the sizes of a series of texts, below 2^63."""
-    import pandas
-
-    return pandas.Series(byte_unit.parse_many(quota.fillna("")).ints(), quota.index, "Int64")
+    assert format_sizes(sizes).dropna().to_dict() == {"a": "1 KB", "d": "2 KiB"}
+    rejected = byte_unit.parse_many(quota).errors(quota)
+    assert [(quota.index[row], error.text, error.name) for row, error in rejected] == [("c", "1 x", "unit")]
 
 
 def with_dask() -> None:
@@ -44,9 +38,11 @@ def with_dask() -> None:
     import pandas
     from dask import dataframe
 
+    from byte_unit.pandas import to_sizes
+
     texts = pandas.Series([f"{number} KiB" for number in range(1000)])
     quota = dataframe.from_pandas(texts, npartitions=4)
-    sizes = quota.map_partitions(sizes_of, meta=("quota", "Int64"))
+    sizes = quota.map_partitions(to_sizes, meta=("quota", "Int64"))
     assert sizes.sum().compute() == 1024 * 499500
 
 
@@ -55,6 +51,9 @@ def with_the_standard_library() -> None:
     column = byte_unit.parse_buffers(b"1 KB1 x999 RB", array("i", [0, 4, 7, 13]))
     assert column.ints() == [1000, None, 999 * 10**27]
     assert column.validity() == b"\5"
+    assert column.int64(overflow="saturate").tolist() == [1000, 0, 2**63 - 1]
+    column = byte_unit.parse_buffers(b"1 KB2 KB", array("i", [0, 4, 4, 8]), validity=b"\5")
+    assert column.ints() == [1000, None, 2000] and not list(column.errors())
 
 
 for part in (with_the_standard_library, with_numpy, with_pandas, with_dask):

@@ -80,6 +80,12 @@ def columns() -> None:
     column = byte_unit.parse_many(["1 KB", "1 x", "2 KiB"])
     look("many", column.ints(), [1000, None, 2048])
     look("errors of many", list(column.errors()), [(1, "unit")])
+    look("a sum", column.sum(), 3048)
+    look("a null", byte_unit.parse_many(["1 KB", None, ""]).codes, b"\0\7\1")
+    try:
+        byte_unit.parse_many(["1 KB", "1 byte"], errors="raise")
+    except byte_unit.SizeError as error:
+        look("the first error", (error.row, error.text, error.name), (1, "1 byte", "unit"))
     column = byte_unit.parse_buffers(b"1 KB2 KiB", array("q", [0, 4, 9]))
     look("buffers", column.int64().tolist(), [1000, 2048])
 

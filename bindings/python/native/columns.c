@@ -1,16 +1,9 @@
-/* Parsing of many texts. */
+/* Parsing of many texts: what lists and buffers share, and lists. */
 #include "native.h"
 
-#include <stdlib.h>
 #include <string.h>
 
-/* What parsing many texts gives: a bytes object of a byte_unit_number each, and one of a code each. */
-typedef struct column {
-    PyObject *sizes;
-    PyObject *codes;
-} column;
-
-static bool new_column(Py_ssize_t count, column *column)
+bool new_column(Py_ssize_t count, column *column)
 {
     column->sizes = column->codes = NULL;
     if (count > PY_SSIZE_T_MAX / (Py_ssize_t)sizeof(byte_unit_number)) {
@@ -22,18 +15,17 @@ static bool new_column(Py_ssize_t count, column *column)
     return column->sizes && column->codes;
 }
 
-static byte_unit_number *sizes_of(column *column)
+byte_unit_number *sizes_of(column *column)
 {
     return (byte_unit_number *)(void *)PyBytes_AsString(column->sizes);
 }
 
-static uint8_t *codes_of(column *column)
+uint8_t *codes_of(column *column)
 {
     return (uint8_t *)PyBytes_AsString(column->codes);
 }
 
-/* Returns both parts as a tuple if `holds`, else NULL. */
-static PyObject *from_column(column *column, bool holds)
+PyObject *from_column(column *column, bool holds)
 {
     PyObject *pair = holds ? PyTuple_Pack(2, column->sizes, column->codes) : NULL;
     Py_CLEAR(column->sizes);
@@ -41,38 +33,169 @@ static PyObject *from_column(column *column, bool holds)
     return pair;
 }
 
-/* Names the item if it has the wrong type. Returns false. */
-static bool wrong_item(PyObject *item, Py_ssize_t i)
+size_t first_rejected(const uint8_t *codes, size_t count)
 {
-    char name[32];
-    PyOS_snprintf(name, sizeof name, "texts[%zd]", i);
-    return PyErr_ExceptionMatches(PyExc_TypeError) && wrong_type(name, "str or bytes", item);
+    size_t i = 0;
+    while (i < count && (codes[i] == BYTE_UNIT_OK || codes[i] == NULL_TEXT)) {
+        i++;
+    }
+    return i;
 }
 
-/* Parses the texts of a list. */
-static bool parse_list(PyObject *list, uint32_t flags, column *column)
+bool reject_row(PyObject *module, PyObject *object, uint32_t flags, size_t row)
 {
-    byte_unit_number *sizes = sizes_of(column);
-    uint8_t *codes = codes_of(column);
-    Py_ssize_t count = PyBytes_Size(column->codes);
-    for (Py_ssize_t i = 0; i < count; i++) {
-        text text;
-        PyObject *item = PyList_GetItem(list, i);
-        if (!borrow_text(item, &text)) {
-            return wrong_item(item, i);
-        }
-        sizes[i] = (byte_unit_number){0, 0};
-        codes[i] = (uint8_t)byte_unit_parse(text.bytes, (size_t)text.len, flags, &sizes[i], NULL);
+    text text;
+    byte_unit_number size;
+    byte_unit_error error;
+    if (borrow_text(object, &text)) {
+        uint32_t code = byte_unit_parse(text.bytes, (size_t)text.len, flags, &size, &error);
+        const rejection rejection = {object, text, flags, code, &error, (Py_ssize_t)row};
+        reject(module, &rejection, byte_unit_explain);
         release_text(&text);
+    }
+    return false;
+}
+
+/* A piece of a list: copies of the texts, one after the other, which are parsed while the GIL is released. */
+typedef struct piece {
+    size_t count;
+    char *bytes;
+    size_t len, room; /* the length of what is copied to `bytes`, and of `bytes` */
+    int64_t *offsets; /* of PIECE + 1 */
+    uint8_t *nulls;   /* of PIECE: whether a text is null */
+    bool has_null;
+} piece;
+
+/* A piece has at most so many texts, and no text more once it has so many bytes. It is long, since a thread that takes
+ * the GIL back may wait some milliseconds; one with few texts and bytes is parsed without releasing it. */
+enum { PIECE = 65536, PIECE_BYTES = 4194304, FEW = 4096, FEW_BYTES = 65536 };
+
+static bool new_piece(size_t count, piece *piece)
+{
+    size_t most = count < PIECE ? count : PIECE;
+    *piece = (struct piece){.offsets = PyMem_Malloc((most + 1) * sizeof *piece->offsets), .nulls = PyMem_Malloc(most)};
+    if (!piece->offsets || !piece->nulls) {
+        PyErr_NoMemory();
+    }
+    return piece->offsets && piece->nulls;
+}
+
+static void free_piece(piece *piece)
+{
+    PyMem_Free(piece->bytes);
+    PyMem_Free(piece->offsets);
+    PyMem_Free(piece->nulls);
+}
+
+/* Adds the bytes of a text. */
+static bool copy_text(const text *text, piece *piece)
+{
+    size_t len = (size_t)text->len, needed = piece->len + len;
+    if (needed > piece->room) {
+        size_t room = needed < PIECE_BYTES ? needed + needed / 2 + 64 : needed;
+        char *bytes = PyMem_Realloc(piece->bytes, room);
+        if (!bytes) {
+            PyErr_NoMemory();
+            return false;
+        }
+        piece->bytes = bytes;
+        piece->room = room;
+    }
+    if (len) {
+        memcpy(piece->bytes + piece->len, text->bytes, len);
+    }
+    piece->len = needed;
+    return true;
+}
+
+/* Names the item if it has the wrong type. Returns false. */
+static bool wrong_item(PyObject *item, size_t i)
+{
+    char name[32];
+    PyOS_snprintf(name, sizeof name, "texts[%zu]", i);
+    return !PyErr_Occurred() && wrong_type(name, "str, bytes or null", item);
+}
+
+/* Adds a text of the list, or an empty one if it is null. */
+static bool add_item(PyObject *module, PyObject *list, size_t i, piece *piece)
+{
+    text text;
+    PyObject *item = PyList_GetItem(list, (Py_ssize_t)i);
+    bool is_text = borrow_text(item, &text);
+    if (!is_text && (PyErr_Occurred() || !is_null(module, item))) {
+        return wrong_item(item, i);
+    }
+    if (is_text && !copy_text(&text, piece)) {
+        release_text(&text);
+        return false;
+    }
+    release_text(&text);
+    piece->has_null |= !is_text;
+    piece->nulls[piece->count++] = !is_text;
+    piece->offsets[piece->count] = (int64_t)piece->len;
+    return true;
+}
+
+/* Copies the texts of the list from the first on. */
+static bool fill_piece(PyObject *module, PyObject *list, size_t first, piece *piece)
+{
+    size_t left = (size_t)PyList_Size(list) - first;
+    piece->count = piece->len = 0;
+    piece->has_null = false;
+    piece->offsets[0] = 0;
+    while (piece->count < left && piece->count < PIECE && piece->len < PIECE_BYTES) {
+        if (!add_item(module, list, first + piece->count, piece)) {
+            return false;
+        }
     }
     return true;
 }
 
+static void parse_texts(const piece *piece, uint32_t flags, byte_unit_number *sizes, uint8_t *codes)
+{
+    byte_unit_parse_many(piece->bytes, piece->len, piece->offsets, piece->count, flags, sizes, codes);
+    for (size_t i = 0; piece->has_null && i < piece->count; i++) {
+        codes[i] = piece->nulls[i] ? NULL_TEXT : codes[i];
+    }
+}
+
+static void parse_piece(const piece *piece, uint32_t flags, byte_unit_number *sizes, uint8_t *codes)
+{
+    if (piece->count < FEW && piece->len < FEW_BYTES) {
+        parse_texts(piece, flags, sizes, codes);
+        return;
+    }
+    Py_BEGIN_ALLOW_THREADS
+    parse_texts(piece, flags, sizes, codes);
+    Py_END_ALLOW_THREADS
+}
+
+/* Parses the texts of a list. If it is strict, stops at the first that is rejected. */
+static bool parse_list(PyObject *module, PyObject *list, uint32_t flags, bool is_strict, column *column)
+{
+    size_t first = 0, count = (size_t)PyList_Size(list), rejected = count;
+    piece piece;
+    bool holds = new_piece(count, &piece);
+    while (holds && first < count && rejected == count) {
+        uint8_t *codes = codes_of(column) + first;
+        holds = fill_piece(module, list, first, &piece);
+        if (holds) {
+            parse_piece(&piece, flags, sizes_of(column) + first, codes);
+            size_t place = is_strict ? first_rejected(codes, piece.count) : piece.count;
+            rejected = place < piece.count ? first + place : count;
+        }
+        first += piece.count;
+    }
+    free_piece(&piece);
+    return holds && (rejected == count ||
+                     reject_row(module, PyList_GetItem(list, (Py_ssize_t)rejected), flags, rejected));
+}
+
+/* parse_many(texts, bits, ignore_case, is_strict) */
 PyObject *parse_many(PyObject *module, PyObject *const *args, Py_ssize_t count)
 {
-    (void)module;
-    uint32_t flags;
-    if (!has_arguments(count, 3) || !parse_flags(args + 1, &flags)) {
+    uint32_t flags, is_strict = 0;
+    if (!has_arguments(count, 4) || !parse_flags(args + 1, &flags) || !add_flag(args[3], "is_strict", 1, &is_strict)) {
         return NULL;
     }
     PyObject *list = PySequence_List(args[0]); /* a new list, which no other thread can change */
@@ -80,152 +203,7 @@ PyObject *parse_many(PyObject *module, PyObject *const *args, Py_ssize_t count)
         return NULL;
     }
     column column;
-    bool holds = new_column(PyList_Size(list), &column) && parse_list(list, flags, &column);
+    bool holds = new_column(PyList_Size(list), &column) && parse_list(module, list, flags, is_strict, &column);
     Py_DECREF(list);
     return from_column(&column, holds);
-}
-
-/* Whether the buffer is an array of signed integers of 32 or 64 bits. */
-static bool is_offsets(const Py_buffer *offsets)
-{
-    const char *format = offsets->format ? offsets->format : "B";
-    format += strspn(format, "@=<") ? 1 : 0; /* native or little-endian, which is the same on x86-64 */
-    bool is_signed = format[0] && strchr("bhilqn", format[0]) && !format[1];
-    return offsets->ndim == 1 && is_signed && (offsets->itemsize == 4 || offsets->itemsize == 8);
-}
-
-/* Returns a copy of the offsets, in 64 bits, or NULL without memory. They may be at any address: an array that is read
- * from a file or a message often begins at an odd one. */
-static int64_t *copy_offsets(const Py_buffer *offsets)
-{
-    size_t count = (size_t)offsets->shape[0];
-    int64_t *copy = count > PY_SSIZE_T_MAX / sizeof *copy ? NULL : PyMem_Malloc(count * sizeof *copy);
-    if (copy && offsets->itemsize == sizeof *copy) {
-        memcpy(copy, offsets->buf, count * sizeof *copy);
-        return copy;
-    }
-    for (size_t i = 0; copy && i < count; i++) {
-        int32_t offset;
-        memcpy(&offset, (const char *)offsets->buf + i * sizeof offset, sizeof offset);
-        copy[i] = offset;
-    }
-    return copy;
-}
-
-/* Texts that are parsed while the GIL is released, when another thread may change the bytes of `data`. The library
- * requires that nobody does (it decodes what it has found to be UTF-8), so it is passed copies: the offsets are this
- * call's own, and the bytes are copied to `bytes` a piece at a time. What another thread writes in the meantime decides
- * at most which bytes are copied. */
-typedef struct texts {
-    const Py_buffer *data;
-    int64_t *offsets;
-    size_t count;
-    char *bytes;
-    size_t room; /* the length of `bytes` */
-} texts;
-
-enum { PIECE = 1024 }; /* the number of texts that are copied at a time */
-
-/* Beside the codes of the library: the bytes of a piece cannot be allocated. */
-enum { NO_MEMORY = BYTE_UNIT_INVALID_ARGUMENT + 1 };
-
-/* Copies the bytes of a piece. */
-static bool copy_bytes(texts *texts, size_t begin, size_t len)
-{
-    if (len > texts->room) {
-        free(texts->bytes);
-        texts->bytes = malloc(len);
-        texts->room = texts->bytes ? len : 0;
-    }
-    if (len && texts->bytes) {
-        memcpy(texts->bytes, (const char *)texts->data->buf + begin, len);
-    }
-    return !len || texts->bytes;
-}
-
-/* Parses the texts of a piece. The library checks the offsets inside, which are counted from the first. */
-static uint32_t parse_piece(texts *texts, size_t first, size_t count, uint32_t flags, byte_unit_number *sizes,
-                            uint8_t *codes)
-{
-    int64_t *offsets = texts->offsets + first;
-    int64_t begin = offsets[0], end = offsets[count];
-    if (begin < 0 || end < begin || end > texts->data->len) {
-        return BYTE_UNIT_INVALID_ARGUMENT;
-    }
-    size_t len = (size_t)(end - begin);
-    if (!copy_bytes(texts, (size_t)begin, len)) {
-        return NO_MEMORY;
-    }
-    for (size_t i = 0; i <= count; i++) { /* a difference that wraps is above `len`, too */
-        offsets[i] = (int64_t)((uint64_t)offsets[i] - (uint64_t)begin);
-    }
-    uint32_t code = byte_unit_parse_many(texts->bytes, len, offsets, count, flags, sizes + first, codes + first);
-    offsets[count] = end;
-    return code;
-}
-
-/* Parses all texts, a piece after the other: one piece without a text if there is none, for the check of its offset. */
-static uint32_t parse_pieces(texts *texts, uint32_t flags, byte_unit_number *sizes, uint8_t *codes)
-{
-    size_t first = 0;
-    uint32_t code;
-    do {
-        size_t left = texts->count - first, count = left < PIECE ? left : PIECE;
-        code = parse_piece(texts, first, count, flags, sizes, codes);
-        first += count;
-    } while (code == BYTE_UNIT_OK && first < texts->count);
-    free(texts->bytes);
-    return code;
-}
-
-/* Parses the texts between offsets. Returns the library's code, or NO_MEMORY. The GIL is released meanwhile. */
-static uint32_t parse_between(const Py_buffer *data, const Py_buffer *offsets, uint32_t flags, column *column)
-{
-    byte_unit_number *sizes = sizes_of(column);
-    uint8_t *codes = codes_of(column);
-    texts texts = {.data = data, .offsets = copy_offsets(offsets), .count = (size_t)offsets->shape[0] - 1};
-    uint32_t code = NO_MEMORY;
-    if (texts.offsets) {
-        Py_BEGIN_ALLOW_THREADS
-        code = parse_pieces(&texts, flags, sizes, codes);
-        Py_END_ALLOW_THREADS
-    }
-    PyMem_Free(texts.offsets);
-    return code;
-}
-
-/* Returns None if the offsets do not fit the data. */
-static PyObject *parse_views(const Py_buffer *data, const Py_buffer *offsets, uint32_t flags)
-{
-    if (!is_offsets(offsets)) {
-        PyErr_SetString(PyExc_TypeError, "offsets must be an array of signed integers of 32 or 64 bits");
-        return NULL;
-    }
-    column column;
-    Py_ssize_t entries = offsets->shape[0]; /* Arrow: an empty column may have no offset */
-    bool holds = new_column(entries ? entries - 1 : 0, &column);
-    uint32_t code = holds && entries ? parse_between(data, offsets, flags, &column) : BYTE_UNIT_OK;
-    if (code != BYTE_UNIT_OK) {
-        from_column(&column, false);
-        return code == NO_MEMORY ? PyErr_NoMemory() : Py_NewRef(Py_None);
-    }
-    return from_column(&column, holds);
-}
-
-PyObject *parse_buffers(PyObject *module, PyObject *const *args, Py_ssize_t count)
-{
-    (void)module;
-    uint32_t flags;
-    Py_buffer data, offsets;
-    if (!has_arguments(count, 4) || !parse_flags(args + 2, &flags) ||
-        PyObject_GetBuffer(args[0], &data, PyBUF_SIMPLE)) {
-        return NULL;
-    }
-    PyObject *result = NULL;
-    if (!PyObject_GetBuffer(args[1], &offsets, PyBUF_ND | PyBUF_FORMAT)) {
-        result = parse_views(&data, &offsets, flags);
-        PyBuffer_Release(&offsets);
-    }
-    PyBuffer_Release(&data);
-    return result;
 }

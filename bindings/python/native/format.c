@@ -18,61 +18,87 @@ static PyObject *long_text(byte_unit_number size, uint32_t flags, uint32_t unit,
     if (!out) {
         return PyErr_NoMemory();
     }
-    size_t written = write_text(size, flags, unit, spec, out, len);
-    PyObject *string = PyUnicode_DecodeUTF8(out, (Py_ssize_t)written, "strict");
+    PyObject *string = from_ascii(out, write_text(size, flags, unit, spec, out, len));
     PyMem_Free(out);
     return string;
 }
 
-static bool to_u8(PyObject *object, uint8_t *number)
+static PyObject *text_with(byte_unit_number size, uint32_t flags, uint32_t unit, byte_unit_spec spec)
 {
-    uint32_t wide;
-    if (!to_u32(object, &wide)) {
-        return false;
-    }
-    *number = (uint8_t)wide;
-    if (wide > UINT8_MAX) {
-        PyErr_SetString(PyExc_OverflowError, "the number does not fit 8 bits");
-    }
-    return wide <= UINT8_MAX;
-}
-
-/* Reads a spec: alternate, precision or None, width or None, sign, align. */
-static bool to_spec(PyObject *const *objects, byte_unit_spec *spec)
-{
-    *spec = (byte_unit_spec){0};
-    uint32_t alternate = 0;
-    if (!add_flag(objects[0], "alternate", 1, &alternate) || !to_u8(objects[3], &spec->sign) ||
-        !to_u8(objects[4], &spec->align)) {
-        return false;
-    }
-    spec->alternate = (uint8_t)alternate;
-    spec->has_precision = objects[1] != Py_None;
-    return (!spec->has_precision || to_u32(objects[1], &spec->precision)) &&
-           (objects[2] == Py_None || to_u32(objects[2], &spec->width));
-}
-
-/* text_of(size, bits, unit or NO_UNIT, alternate, precision, width, sign, align) */
-PyObject *text_of(PyObject *module, PyObject *const *args, Py_ssize_t count)
-{
-    (void)module;
-    byte_unit_number size;
-    uint32_t flags = 0, unit;
-    byte_unit_spec spec;
-    if (!has_arguments(count, 8) || !to_number(args[0], &size) || !add_flag(args[1], "bits", BYTE_UNIT_BITS, &flags) ||
-        !to_u32(args[2], &unit) || !to_spec(args + 3, &spec)) {
-        return NULL;
-    }
     char out[BYTE_UNIT_BUFFER_SIZE];
     size_t len = write_text(size, flags, unit, spec, out, sizeof out);
-    if (len > sizeof out) {
-        return long_text(size, flags, unit, spec, len);
+    return len > sizeof out ? long_text(size, flags, unit, spec, len) : from_ascii(out, len);
+}
+
+static const choices SIGNS = {
+    "sign", "None, 'plus', 'minus'", {{"plus", BYTE_UNIT_SIGN_PLUS}, {"minus", BYTE_UNIT_SIGN_MINUS}}};
+static const choices ALIGNS = {
+    "align", "None, 'left', 'center', 'right'",
+    {{"left", BYTE_UNIT_ALIGN_LEFT}, {"center", BYTE_UNIT_ALIGN_CENTER}, {"right", BYTE_UNIT_ALIGN_RIGHT}}};
+static const choices TYPES = {
+    "unit_type", "'binary', 'decimal', 'both'",
+    {{"binary", BYTE_UNIT_BINARY}, {"decimal", BYTE_UNIT_DECIMAL}, {"both", BYTE_UNIT_BOTH}}};
+
+static bool is_set(PyObject *object)
+{
+    return object && object != Py_None;
+}
+
+/* Reads the flag `bits`. */
+static bool kind_flag(PyObject *object, uint32_t *flags)
+{
+    *flags = BYTE_UNIT_BYTES;
+    return add_flag(object, "bits", BYTE_UNIT_BITS, flags);
+}
+
+/* Reads the options bits, precision, width, align, sign and alternate, if there are names of arguments. */
+static bool to_options(PyObject *module, PyObject *names, PyObject *const *options, uint32_t *flags,
+                       byte_unit_spec *spec)
+{
+    uint32_t alternate = options[5] ? 0 : 1;
+    *spec = (byte_unit_spec){.alternate = 1};
+    *flags = BYTE_UNIT_BYTES;
+    if (!names) {
+        return true;
     }
-    if (len == 0) {
-        PyErr_SetString(PyExc_ValueError, "the size, the unit or the format is out of range");
+    bool read = kind_flag(options[0], flags) && add_flag(options[5], "alternate", 1, &alternate) &&
+                (!is_set(options[1]) || to_digits(module, "precision", options[1], &spec->precision)) &&
+                (!is_set(options[2]) || to_digits(module, "width", options[2], &spec->width)) &&
+                (!is_set(options[3]) || to_choice(module, &ALIGNS, options[3], &spec->align)) &&
+                (!is_set(options[4]) || to_choice(module, &SIGNS, options[4], &spec->sign));
+    spec->has_precision = is_set(options[1]);
+    spec->alternate = (uint8_t)alternate;
+    return read;
+}
+
+PyObject *text_of(PyObject *module, PyObject *const *args, Py_ssize_t count, PyObject *names)
+{
+    static const signature SIGNATURE = {
+        "text", 1, 7, {"size", "bits", "precision", "width", "align", "sign", "alternate"}};
+    PyObject *given[7] = {NULL};
+    byte_unit_number size;
+    uint32_t flags;
+    byte_unit_spec spec;
+    if (!place(&SIGNATURE, args, count, names, given) || !to_size(module, given[0], &size) ||
+        !to_options(module, names, given + 1, &flags, &spec)) {
         return NULL;
     }
-    return PyUnicode_DecodeUTF8(out, (Py_ssize_t)len, "strict");
+    return text_with(size, flags, BYTE_UNIT_NO_UNIT, spec);
+}
+
+PyObject *adjusted_text(PyObject *module, PyObject *const *args, Py_ssize_t count, PyObject *names)
+{
+    static const signature SIGNATURE = {
+        "adjusted_text", 2, 8, {"size", "unit", "bits", "precision", "width", "align", "sign", "alternate"}};
+    PyObject *given[8] = {NULL};
+    byte_unit_number size;
+    uint32_t flags, unit;
+    byte_unit_spec spec;
+    if (!place(&SIGNATURE, args, count, names, given) || !to_size(module, given[0], &size) ||
+        !to_unit(module, given[1], &unit) || !to_options(module, names, given + 2, &flags, &spec)) {
+        return NULL;
+    }
+    return text_with(size, flags, unit, spec);
 }
 
 PyObject *unit_names(void)
@@ -81,7 +107,7 @@ PyObject *unit_names(void)
     char name[BYTE_UNIT_BUFFER_SIZE];
     size_t len;
     for (uint32_t unit = 0; list && (len = byte_unit_unit_name(unit, name, sizeof name)) != 0; unit++) {
-        PyObject *string = PyUnicode_DecodeUTF8(name, (Py_ssize_t)len, "strict");
+        PyObject *string = from_ascii(name, len);
         if (!string || PyList_Append(list, string)) {
             Py_CLEAR(list);
         }
@@ -92,73 +118,89 @@ PyObject *unit_names(void)
     return names;
 }
 
-/* Returns the code, or raises a ValueError if it is BYTE_UNIT_NO_UNIT. */
-static PyObject *from_unit_code(uint32_t unit)
+/* Returns the name of a unit. */
+static PyObject *from_unit_code(PyObject *module, uint32_t unit)
 {
-    if (unit == BYTE_UNIT_NO_UNIT) {
-        PyErr_SetString(PyExc_ValueError, "the size or the type of units is out of range");
+    return Py_XNewRef(PyTuple_GetItem(state_of(module)->units, (Py_ssize_t)unit));
+}
+
+/* Returns a number and the name of a unit as a tuple. Releases the number. */
+static PyObject *with_unit(PyObject *module, PyObject *number, uint32_t unit)
+{
+    PyObject *name = number ? from_unit_code(module, unit) : NULL;
+    PyObject *pair = name ? PyTuple_Pack(2, number, name) : NULL;
+    Py_XDECREF(number);
+    Py_XDECREF(name);
+    return pair;
+}
+
+PyObject *appropriate_unit(PyObject *module, PyObject *const *args, Py_ssize_t count, PyObject *names)
+{
+    static const signature SIGNATURE = {"appropriate_unit", 1, 3, {"size", "bits", "unit_type"}};
+    PyObject *given[3] = {NULL};
+    byte_unit_number size;
+    uint32_t flags;
+    uint8_t unit_type = BYTE_UNIT_BOTH;
+    if (!place(&SIGNATURE, args, count, names, given) || !to_size(module, given[0], &size) ||
+        !kind_flag(given[1], &flags) || (given[2] && !to_choice(module, &TYPES, given[2], &unit_type))) {
         return NULL;
     }
-    return PyLong_FromUnsignedLong(unit);
+    return from_unit_code(module, byte_unit_appropriate_unit(size, flags, unit_type));
 }
 
 /* Reads the size and the flags `bits` and `either_kind` of a choice of a unit. */
-static bool choice_arguments(PyObject *const *args, byte_unit_number *size, uint32_t *flags)
+static bool choice_arguments(PyObject *module, PyObject *const *given, byte_unit_number *size, uint32_t *flags)
 {
-    *flags = BYTE_UNIT_BYTES;
-    return to_number(args[0], size) && add_flag(args[1], "bits", BYTE_UNIT_BITS, flags) &&
-           add_flag(args[2], "either_kind", BYTE_UNIT_EITHER_KIND, flags);
+    return to_size(module, given[0], size) && kind_flag(given[1], flags) &&
+           add_flag(given[2], "either_kind", BYTE_UNIT_EITHER_KIND, flags);
 }
 
-/* appropriate_unit(size, bits, type) */
-PyObject *appropriate_unit(PyObject *module, PyObject *const *args, Py_ssize_t count)
+PyObject *exact_unit(PyObject *module, PyObject *const *args, Py_ssize_t count, PyObject *names)
 {
-    (void)module;
-    byte_unit_number size;
-    uint32_t flags = 0, unit_type;
-    if (!has_arguments(count, 3) || !to_number(args[0], &size) || !add_flag(args[1], "bits", BYTE_UNIT_BITS, &flags) ||
-        !to_u32(args[2], &unit_type)) {
-        return NULL;
-    }
-    return from_unit_code(byte_unit_appropriate_unit(size, flags, unit_type));
-}
-
-/* exact_unit(size, bits, either_kind): the count and the unit */
-PyObject *exact_unit(PyObject *module, PyObject *const *args, Py_ssize_t count)
-{
-    (void)module;
+    static const signature SIGNATURE = {"exact_unit", 1, 3, {"size", "bits", "either_kind"}};
+    PyObject *given[3] = {NULL};
     byte_unit_number size, number = {0, 0};
     uint32_t flags;
-    if (!has_arguments(count, 3) || !choice_arguments(args, &size, &flags)) {
+    if (!place(&SIGNATURE, args, count, names, given) || !choice_arguments(module, given, &size, &flags)) {
         return NULL;
     }
-    PyObject *unit = from_unit_code(byte_unit_exact_unit(size, flags, &number));
-    return unit ? Py_BuildValue("(NN)", from_number(number), unit) : NULL;
+    uint32_t unit = byte_unit_exact_unit(size, flags, &number);
+    return with_unit(module, from_number(number), unit);
 }
 
-/* recoverable_unit(size, bits, either_kind, precision): the whole part and the fraction of the count, and the unit */
-PyObject *recoverable_unit(PyObject *module, PyObject *const *args, Py_ssize_t count)
+PyObject *recoverable_unit(PyObject *module, PyObject *const *args, Py_ssize_t count, PyObject *names)
 {
-    (void)module;
+    static const signature SIGNATURE = {"recoverable_unit", 1, 4, {"size", "bits", "either_kind", "precision"}};
+    PyObject *given[4] = {NULL};
     byte_unit_number size;
     byte_unit_decimal number = {{0, 0}, {0, 0}};
-    uint32_t flags, precision;
-    if (!has_arguments(count, 4) || !choice_arguments(args, &size, &flags) || !to_u32(args[3], &precision)) {
+    uint32_t flags, precision = 3;
+    if (!place(&SIGNATURE, args, count, names, given) || !choice_arguments(module, given, &size, &flags) ||
+        (given[3] && !to_digits(module, "precision", given[3], &precision))) {
         return NULL;
     }
-    PyObject *unit = from_unit_code(byte_unit_recoverable_unit(size, flags, precision, &number));
-    return unit ? Py_BuildValue("(NN)", from_decimal(number), unit) : NULL;
+    uint32_t unit = byte_unit_recoverable_unit(size, flags, precision, &number);
+    return with_unit(module, from_decimal(module, number), unit);
 }
 
-/* from_unit(count, unit, bits): the size, or None if there is none */
-PyObject *from_unit(PyObject *module, PyObject *const *args, Py_ssize_t count)
+PyObject *from_unit(PyObject *module, PyObject *const *args, Py_ssize_t count, PyObject *names)
 {
-    (void)module;
+    static const signature SIGNATURE = {"from_unit", 2, 3, {"count", "unit", "bits"}};
+    PyObject *given[3] = {NULL};
     byte_unit_number number, size;
-    uint32_t flags = 0, unit;
-    if (!has_arguments(count, 3) || !to_number(args[0], &number) || !to_u32(args[1], &unit) ||
-        !add_flag(args[2], "bits", BYTE_UNIT_BITS, &flags)) {
+    uint32_t flags, unit;
+    if (!place(&SIGNATURE, args, count, names, given) || !to_count(module, given[0], &number) ||
+        !to_unit(module, given[1], &unit) || !kind_flag(given[2], &flags)) {
         return NULL;
     }
-    return byte_unit_from_unit(number, unit, flags, &size) ? from_number(size) : Py_NewRef(Py_None);
+    if (byte_unit_from_unit(number, unit, flags, &size)) {
+        return from_number(size);
+    }
+    PyObject *shown = from_number(number);
+    if (shown) {
+        PyErr_Format(state_of(module)->byte_unit_error, "%S %U must be less than 10**30 %s", shown, given[1],
+                     flags & BYTE_UNIT_BITS ? "bits" : "bytes");
+        Py_DECREF(shown);
+    }
+    return NULL;
 }

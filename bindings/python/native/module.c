@@ -1,21 +1,29 @@
-/* The module: its functions and constants. */
+/* The module: its functions, constants and state. */
 #include "native.h"
 
-#define METHOD(name) {#name, (PyCFunction)(void (*)(void))name, METH_FASTCALL, NULL}
+#include "docs.h"
+
+#define CALL(name, call, doc) {name, (PyCFunction)(void (*)(void))call, METH_FASTCALL | METH_KEYWORDS, doc}
+#define PRIVATE(name) {#name, (PyCFunction)(void (*)(void))name, METH_FASTCALL, NULL}
+
+/* The calls that the package exports. */
+static PyMethodDef CALLS[] = {
+    CALL("parse", parse, PARSE_DOC),
+    CALL("explain", explain, EXPLAIN_DOC),
+    CALL("parse_unit", parse_unit, PARSE_UNIT_DOC),
+    CALL("explain_unit", explain_unit, EXPLAIN_UNIT_DOC),
+    CALL("text", text_of, TEXT_DOC),
+    CALL("adjusted_text", adjusted_text, ADJUSTED_TEXT_DOC),
+    CALL("appropriate_unit", appropriate_unit, APPROPRIATE_UNIT_DOC),
+    CALL("exact_unit", exact_unit, EXACT_UNIT_DOC),
+    CALL("recoverable_unit", recoverable_unit, RECOVERABLE_UNIT_DOC),
+    CALL("from_unit", from_unit, FROM_UNIT_DOC),
+    {NULL, NULL, 0, NULL},
+};
 
 static PyMethodDef METHODS[] = {
-    METHOD(parse),
-    METHOD(parse_error),
-    METHOD(explain),
-    METHOD(explain_unit),
-    METHOD(parse_unit),
-    METHOD(parse_many),
-    METHOD(parse_buffers),
-    METHOD(text_of),
-    METHOD(appropriate_unit),
-    METHOD(exact_unit),
-    METHOD(recoverable_unit),
-    METHOD(from_unit),
+    PRIVATE(parse_many), PRIVATE(parse_buffers), PRIVATE(ints),  PRIVATE(part),    PRIVATE(sum),
+    PRIVATE(extremum),   PRIVATE(first_large),   PRIVATE(int64), PRIVATE(float64), PRIVATE(mask),
     {NULL, NULL, 0, NULL},
 };
 
@@ -27,32 +35,105 @@ static bool add(PyObject *module, const char *name, PyObject *object)
     return added;
 }
 
-static bool add_code(PyObject *module, const char *name, uint32_t code)
+/* Adds the calls as functions of the package, by whose name they are pickled. */
+static bool add_calls(PyObject *module)
 {
-    return add(module, name, PyLong_FromUnsignedLong(code));
+    PyObject *package = PyUnicode_InternFromString("byte_unit");
+    bool added = package;
+    for (PyMethodDef *method = CALLS; added && method->ml_name; method++) {
+        added = add(module, method->ml_name, PyCFunction_NewEx(method, module, package));
+    }
+    Py_XDECREF(package);
+    return added;
 }
 
-/* Adds the codes that Python's modules pass, under their names in byte_unit.h without the prefix. */
-static bool add_codes(PyObject *module)
+static PyObject *codes_by_name(PyObject *names)
 {
-#define CODE(name) add_code(module, #name, BYTE_UNIT_##name)
-    return CODE(NO_UNIT) && CODE(BINARY) && CODE(DECIMAL) && CODE(BOTH) && CODE(SIGN_UNSET) && CODE(SIGN_PLUS) &&
-           CODE(SIGN_MINUS) && CODE(ALIGN_UNSET) && CODE(ALIGN_LEFT) && CODE(ALIGN_CENTER) && CODE(ALIGN_RIGHT);
-#undef CODE
+    PyObject *codes = names ? PyDict_New() : NULL;
+    Py_ssize_t count = codes ? PyTuple_Size(names) : 0;
+    for (Py_ssize_t i = 0; codes && i < count; i++) {
+        PyObject *code = PyLong_FromSsize_t(i);
+        if (!code || PyDict_SetItem(codes, PyTuple_GetItem(names, i), code)) {
+            Py_CLEAR(codes);
+        }
+        Py_XDECREF(code);
+    }
+    return codes;
+}
+
+static bool name_fields(state *state)
+{
+    static const char *const NAMES[FIELDS] = {
+        "name", "character", "expected", "also_expect_no_character", "number", "text", "row"};
+    bool named = true;
+    for (int i = 0; named && i < FIELDS; i++) {
+        state->fields[i] = PyUnicode_InternFromString(NAMES[i]);
+        named = state->fields[i];
+    }
+    return named;
+}
+
+/* Fills the state, but for what is made at its first use. */
+static bool fill_state(state *state)
+{
+    PyObject *errors = PyImport_ImportModule("byte_unit._errors");
+    if (!errors) {
+        return false;
+    }
+    state->byte_unit_error = PyObject_GetAttrString(errors, "ByteUnitError");
+    state->size_error = PyObject_GetAttrString(errors, "SizeError");
+    Py_DECREF(errors);
+    state->codes = code_names();
+    state->units = unit_names();
+    state->unit_codes = codes_by_name(state->units);
+    return state->byte_unit_error && state->size_error && state->codes && state->unit_codes && name_fields(state);
 }
 
 static int fill(PyObject *module)
 {
     static const byte_unit_number LIMIT = BYTE_UNIT_SIZE_LIMIT_INIT;
+    state *state = state_of(module);
     if (byte_unit_version() != BYTE_UNIT_VERSION) {
         PyErr_Format(PyExc_ImportError, "byte_unit.h has version %s, libbyte_unit.a another: build the package again",
                      BYTE_UNIT_VERSION_STRING);
         return -1;
     }
-    bool filled = add(module, "VERSION", PyUnicode_FromString(BYTE_UNIT_VERSION_STRING)) &&
-                  add(module, "SIZE_LIMIT", from_number(LIMIT)) && add(module, "UNITS", unit_names()) &&
-                  add(module, "CODES", code_names()) && add_codes(module);
+    bool filled = fill_state(state) && add(module, "VERSION", PyUnicode_FromString(BYTE_UNIT_VERSION_STRING)) &&
+                  add(module, "SIZE_LIMIT", from_number(LIMIT)) && add(module, "UNITS", Py_NewRef(state->units)) &&
+                  add(module, "CODES", Py_NewRef(state->codes)) && add_calls(module);
     return filled ? 0 : -1;
+}
+
+/* The objects of the state: all of its members. */
+static PyObject **objects_of(PyObject *module, size_t *count)
+{
+    *count = sizeof(state) / sizeof(PyObject *);
+    return (PyObject **)(void *)state_of(module);
+}
+
+static int traverse(PyObject *module, visitproc visit, void *arg)
+{
+    size_t count;
+    PyObject **objects = objects_of(module, &count);
+    for (size_t i = 0; objects && i < count; i++) {
+        Py_VISIT(objects[i]);
+    }
+    return 0;
+}
+
+static int clear(PyObject *module)
+{
+    size_t count;
+    PyObject **objects = objects_of(module, &count);
+    for (size_t i = 0; objects && i < count; i++) {
+        Py_CLEAR(objects[i]);
+    }
+    return 0;
+}
+
+static void release(void *module)
+{
+    clear(module);
 }
 
 static PyModuleDef_Slot SLOTS[] = {{Py_mod_exec, (void *)fill}, {0, NULL}};
@@ -61,8 +142,12 @@ static struct PyModuleDef MODULE = {
     .m_base = PyModuleDef_HEAD_INIT,
     .m_name = "byte_unit._native",
     .m_doc = "The calls of byte_unit.h. Private: use the package byte_unit.",
+    .m_size = sizeof(state),
     .m_methods = METHODS,
     .m_slots = SLOTS,
+    .m_traverse = traverse,
+    .m_clear = clear,
+    .m_free = release,
 };
 
 PyMODINIT_FUNC PyInit__native(void);

@@ -1,7 +1,7 @@
 /* Parsing of one text. */
 #include "native.h"
 
-/* The names of the codes of parsing. */
+/* The names of the codes of texts. */
 static const char *const CODES[] = {
     [BYTE_UNIT_OK] = "ok",
     [BYTE_UNIT_NO_VALUE] = "no_value",
@@ -10,6 +10,7 @@ static const char *const CODES[] = {
     [BYTE_UNIT_EXCEEDED_BOUNDS] = "exceeded_bounds",
     [BYTE_UNIT_UNIT] = "unit",
     [BYTE_UNIT_NOT_UTF8] = "not_utf8",
+    [NULL_TEXT] = "null",
 };
 
 PyObject *code_names(void)
@@ -17,7 +18,7 @@ PyObject *code_names(void)
     const Py_ssize_t count = sizeof CODES / sizeof *CODES;
     PyObject *names = PyTuple_New(count);
     for (Py_ssize_t code = 0; names && code < count; code++) {
-        PyObject *name = PyUnicode_FromString(CODES[code]);
+        PyObject *name = PyUnicode_InternFromString(CODES[code]);
         if (!name || PyTuple_SetItem(names, code, name)) {
             Py_CLEAR(names);
         }
@@ -25,102 +26,90 @@ PyObject *code_names(void)
     return names;
 }
 
-/* Returns (code, character, expected, also_expect_no_character, number). A field that the code does not use is None. */
-static PyObject *from_error(uint32_t code, const byte_unit_error *error)
-{
-    bool in_unit = code == BYTE_UNIT_UNIT;
-    bool at_character = in_unit || code == BYTE_UNIT_NOT_NUMBER;
-    PyObject *character = at_character ? PyUnicode_FromFormat("%c", (int)error->character) : Py_NewRef(Py_None);
-    PyObject *number = code == BYTE_UNIT_EXCEEDED_BOUNDS ? from_decimal(error->number) : Py_NewRef(Py_None);
-    if (!character || !number) {
-        Py_XDECREF(character);
-        Py_XDECREF(number);
-        return NULL;
-    }
-    PyObject *also = in_unit && error->also_expect_no_character ? Py_True : Py_False;
-    return Py_BuildValue("(INsON)", code, character, in_unit ? error->expected : "", also, number);
-}
+#define PARAMETERS {"text", "bits", "ignore_case"}
 
-/* Reads the text and the flags of a call that parses. */
-static bool parse_arguments(PyObject *const *args, Py_ssize_t count, text *text, uint32_t *flags)
-{
-    return has_arguments(count, 3) && parse_flags(args + 1, flags) && borrow_text(args[0], text);
-}
-
-PyObject *parse(PyObject *module, PyObject *const *args, Py_ssize_t count)
-{
-    (void)module;
+/* The arguments of the calls of this file. */
+typedef struct given {
+    PyObject *object;
     text text;
     uint32_t flags;
-    if (!parse_arguments(args, count, &text, &flags)) {
-        return NULL;
+} given;
+
+/* Reads the arguments. The text has to be released if they are right. */
+static bool read_arguments(const signature *signature, PyObject *const *args, Py_ssize_t count, PyObject *names,
+                           given *given)
+{
+    PyObject *objects[3] = {NULL};
+    given->flags = BYTE_UNIT_BYTES;
+    if (!place(signature, args, count, names, objects) || (names && !parse_flags(objects + 1, &given->flags))) {
+        return false;
     }
+    given->object = objects[0];
+    return borrow_text(given->object, &given->text) ||
+           (!PyErr_Occurred() && wrong_type("text", "str or bytes", given->object));
+}
+
+/* Raises the SizeError of the text. Returns NULL. */
+static PyObject *reject_given(PyObject *module, const given *given, uint32_t code, const byte_unit_error *error,
+                              explainer *explain)
+{
+    const rejection rejection = {given->object, given->text, given->flags, code, error, -1};
+    return reject(module, &rejection, explain);
+}
+
+PyObject *parse(PyObject *module, PyObject *const *args, Py_ssize_t count, PyObject *names)
+{
+    static const signature SIGNATURE = {"parse", 1, 3, PARAMETERS};
+    given given;
     byte_unit_number size;
-    uint32_t code = byte_unit_parse(text.bytes, (size_t)text.len, flags, &size, NULL);
-    release_text(&text);
-    return code ? Py_NewRef(Py_None) : from_number(size);
-}
-
-PyObject *parse_error(PyObject *module, PyObject *const *args, Py_ssize_t count)
-{
-    (void)module;
-    text text;
-    uint32_t flags;
-    if (!parse_arguments(args, count, &text, &flags)) {
+    byte_unit_error error;
+    if (!read_arguments(&SIGNATURE, args, count, names, &given)) {
         return NULL;
     }
-    byte_unit_number size;
-    byte_unit_error error = {0};
-    uint32_t code = byte_unit_parse(text.bytes, (size_t)text.len, flags, &size, &error);
-    release_text(&text);
-    return from_error(code, &error);
+    uint32_t code = byte_unit_parse(given.text.bytes, (size_t)given.text.len, given.flags, &size, &error);
+    PyObject *result = code ? reject_given(module, &given, code, &error, byte_unit_explain) : from_number(size);
+    release_text(&given.text);
+    return result;
 }
 
-/* A call of the library that writes the message for a text. */
-typedef size_t explainer(const char *text, size_t len, uint32_t flags, char *out, size_t out_len);
-
-/* Returns the message that the call writes, or None if it writes none. */
-static PyObject *message_of(PyObject *const *args, Py_ssize_t count, explainer *write_message)
+PyObject *parse_unit(PyObject *module, PyObject *const *args, Py_ssize_t count, PyObject *names)
 {
-    text text;
-    uint32_t flags;
-    if (!parse_arguments(args, count, &text, &flags)) {
-        return NULL;
-    }
-    char out[BYTE_UNIT_BUFFER_SIZE];
-    size_t len = write_message(text.bytes, (size_t)text.len, flags, out, sizeof out);
-    release_text(&text);
-    if (len > sizeof out) {
-        PyErr_SetString(PyExc_SystemError, "a message is longer than BYTE_UNIT_BUFFER_SIZE");
-        return NULL;
-    }
-    return len ? PyUnicode_DecodeUTF8(out, (Py_ssize_t)len, "replace") : Py_NewRef(Py_None);
-}
-
-PyObject *explain(PyObject *module, PyObject *const *args, Py_ssize_t count)
-{
-    (void)module;
-    return message_of(args, count, byte_unit_explain);
-}
-
-PyObject *explain_unit(PyObject *module, PyObject *const *args, Py_ssize_t count)
-{
-    (void)module;
-    return message_of(args, count, byte_unit_explain_unit);
-}
-
-/* Returns the code of the unit, or what `from_error` returns. */
-PyObject *parse_unit(PyObject *module, PyObject *const *args, Py_ssize_t count)
-{
-    (void)module;
-    text text;
-    uint32_t flags;
-    if (!parse_arguments(args, count, &text, &flags)) {
-        return NULL;
-    }
+    static const signature SIGNATURE = {"parse_unit", 1, 3, PARAMETERS};
+    given given;
     uint32_t unit;
-    byte_unit_error error = {0};
-    uint32_t code = byte_unit_parse_unit(text.bytes, (size_t)text.len, flags, &unit, &error);
-    release_text(&text);
-    return code ? from_error(code, &error) : PyLong_FromUnsignedLong(unit);
+    byte_unit_error error;
+    if (!read_arguments(&SIGNATURE, args, count, names, &given)) {
+        return NULL;
+    }
+    uint32_t code = byte_unit_parse_unit(given.text.bytes, (size_t)given.text.len, given.flags, &unit, &error);
+    PyObject *result = code ? reject_given(module, &given, code, &error, byte_unit_explain_unit)
+                            : Py_XNewRef(PyTuple_GetItem(state_of(module)->units, (Py_ssize_t)unit));
+    release_text(&given.text);
+    return result;
+}
+
+static PyObject *explained(const signature *signature, PyObject *const *args, Py_ssize_t count,
+                           PyObject *names, explainer *explain)
+{
+    given given;
+    if (!read_arguments(signature, args, count, names, &given)) {
+        return NULL;
+    }
+    PyObject *message = message_of(&given.text, given.flags, explain);
+    release_text(&given.text);
+    return message;
+}
+
+PyObject *explain(PyObject *module, PyObject *const *args, Py_ssize_t count, PyObject *names)
+{
+    static const signature SIGNATURE = {"explain", 1, 3, PARAMETERS};
+    (void)module;
+    return explained(&SIGNATURE, args, count, names, byte_unit_explain);
+}
+
+PyObject *explain_unit(PyObject *module, PyObject *const *args, Py_ssize_t count, PyObject *names)
+{
+    static const signature SIGNATURE = {"explain_unit", 1, 3, PARAMETERS};
+    (void)module;
+    return explained(&SIGNATURE, args, count, names, byte_unit_explain_unit);
 }

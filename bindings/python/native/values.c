@@ -1,109 +1,5 @@
-/* Arguments and results. */
+/* Results: numbers, decimals and texts. */
 #include "native.h"
-
-bool wrong_type(const char *name, const char *expected, PyObject *object)
-{
-    PyObject *type = PyType_GetName(Py_TYPE(object));
-    if (type) {
-        PyErr_Format(PyExc_TypeError, "%s must be %s, not %U", name, expected, type);
-        Py_DECREF(type);
-    }
-    return false;
-}
-
-bool has_arguments(Py_ssize_t count, Py_ssize_t expected)
-{
-    if (count == expected) {
-        return true;
-    }
-    PyErr_Format(PyExc_TypeError, "expected %zd arguments, got %zd", expected, count);
-    return false;
-}
-
-bool add_flag(PyObject *object, const char *name, uint32_t flag, uint32_t *flags)
-{
-    if (object == Py_True) {
-        *flags |= flag;
-        return true;
-    }
-    return object == Py_False || wrong_type(name, "a bool", object);
-}
-
-bool parse_flags(PyObject *const *objects, uint32_t *flags)
-{
-    *flags = BYTE_UNIT_BYTES;
-    return add_flag(objects[0], "bits", BYTE_UNIT_BITS, flags) &&
-           add_flag(objects[1], "ignore_case", BYTE_UNIT_IGNORE_CASE, flags);
-}
-
-/* Encodes a string with lone surrogates, which UTF-8 has no bytes for, so that the library rejects them. */
-static bool encode_surrogates(PyObject *string, text *text)
-{
-    if (!PyErr_ExceptionMatches(PyExc_UnicodeEncodeError)) {
-        return false;
-    }
-    PyErr_Clear();
-    text->owner = PyUnicode_AsEncodedString(string, "utf-8", "surrogatepass");
-    return text->owner && !PyBytes_AsStringAndSize(text->owner, &text->bytes, &text->len);
-}
-
-bool borrow_text(PyObject *object, text *text)
-{
-    text->owner = NULL;
-    if (PyUnicode_Check(object)) {
-        text->bytes = (char *)PyUnicode_AsUTF8AndSize(object, &text->len);
-        return text->bytes || encode_surrogates(object, text);
-    }
-    if (PyBytes_Check(object)) {
-        return !PyBytes_AsStringAndSize(object, &text->bytes, &text->len);
-    }
-    return wrong_type("text", "str or bytes", object);
-}
-
-void release_text(text *text)
-{
-    Py_CLEAR(text->owner);
-}
-
-static bool to_u64(PyObject *object, uint64_t *number)
-{
-    *number = PyLong_AsUnsignedLongLong(object);
-    return *number != UINT64_MAX || !PyErr_Occurred();
-}
-
-bool to_u32(PyObject *object, uint32_t *number)
-{
-    uint64_t wide;
-    if (!to_u64(object, &wide)) {
-        return false;
-    }
-    *number = (uint32_t)wide;
-    if (wide > UINT32_MAX) {
-        PyErr_SetString(PyExc_OverflowError, "the number does not fit 32 bits");
-    }
-    return wide <= UINT32_MAX;
-}
-
-bool to_number(PyObject *object, byte_unit_number *number)
-{
-    number->high = 0;
-    if (to_u64(object, &number->low)) {
-        return true;
-    }
-    if (!PyErr_ExceptionMatches(PyExc_OverflowError)) {
-        return false;
-    }
-    PyErr_Clear();
-    PyObject *places = PyLong_FromLong(64);
-    PyObject *high = places ? PyNumber_Rshift(object, places) : NULL;
-    bool fits = high && to_u64(high, &number->high);
-    Py_XDECREF(places);
-    Py_XDECREF(high);
-    if (fits) {
-        number->low = PyLong_AsUnsignedLongLongMask(object);
-    }
-    return fits && !PyErr_Occurred();
-}
 
 PyObject *from_number(byte_unit_number number)
 {
@@ -114,20 +10,69 @@ PyObject *from_number(byte_unit_number number)
     PyObject *high = PyLong_FromUnsignedLongLong(number.high);
     PyObject *places = PyLong_FromLong(64);
     PyObject *shifted = high && places ? PyNumber_Lshift(high, places) : NULL;
-    PyObject *sum = shifted ? PyNumber_Or(shifted, low) : NULL;
+    PyObject *number_of_both = shifted ? PyNumber_Or(shifted, low) : NULL;
     Py_XDECREF(low);
     Py_XDECREF(high);
     Py_XDECREF(places);
     Py_XDECREF(shifted);
-    return sum;
+    return number_of_both;
 }
 
-PyObject *from_decimal(byte_unit_decimal decimal)
+PyObject *from_ascii(const char *text, size_t len)
 {
-    PyObject *whole = from_number(decimal.whole);
-    PyObject *fraction = whole ? from_number(decimal.fraction) : NULL;
-    PyObject *pair = fraction ? PyTuple_Pack(2, whole, fraction) : NULL;
-    Py_XDECREF(whole);
-    Py_XDECREF(fraction);
-    return pair;
+    return PyUnicode_DecodeASCII(text, (Py_ssize_t)len, "strict");
+}
+
+/* Writes the digits of a number below 2^112. Returns their number. */
+static int write_whole(u128 whole, char *out, size_t len)
+{
+    const u128 unit = 1000000000000000000;
+    if (whole < unit) {
+        return PyOS_snprintf(out, len, "%llu", (unsigned long long)whole);
+    }
+    return PyOS_snprintf(out, len, "%llu%018llu", (unsigned long long)(whole / unit),
+                         (unsigned long long)(whole % unit));
+}
+
+/* Writes a point and the digits of a fraction, which is scaled by 10^28, without zeros at the end. */
+static int write_fraction(u128 fraction, char *out, size_t len)
+{
+    const u128 unit = 100000000000000;
+    int written = PyOS_snprintf(out, len, ".%014llu%014llu", (unsigned long long)(fraction / unit),
+                                (unsigned long long)(fraction % unit));
+    while (out[written - 1] == '0') {
+        written--;
+    }
+    return written;
+}
+
+static u128 wide(byte_unit_number number)
+{
+    return (u128)number.high << 64 | number.low;
+}
+
+/* Returns decimal.Decimal, which is imported at its first use. */
+static PyObject *decimal_class(state *state)
+{
+    if (!state->decimal) {
+        PyObject *decimal = PyImport_ImportModule("decimal");
+        state->decimal = decimal ? PyObject_GetAttrString(decimal, "Decimal") : NULL;
+        Py_XDECREF(decimal);
+    }
+    return state->decimal;
+}
+
+PyObject *from_decimal(PyObject *module, byte_unit_decimal decimal)
+{
+    char digits[80];
+    PyObject *class = decimal_class(state_of(module));
+    int len = write_whole(wide(decimal.whole), digits, sizeof digits);
+    u128 fraction = wide(decimal.fraction);
+    if (fraction) {
+        len += write_fraction(fraction, digits + len, sizeof digits - (size_t)len);
+    }
+    PyObject *string = class ? from_ascii(digits, (size_t)len) : NULL;
+    PyObject *result = string ? PyObject_CallFunctionObjArgs(class, string, NULL) : NULL;
+    Py_XDECREF(string);
+    return result;
 }

@@ -1,6 +1,7 @@
 """Many texts in one call: lists, buffers, numpy and pandas."""
 
 import copy
+import faulthandler
 import importlib.util
 import mmap
 import pickle
@@ -55,8 +56,9 @@ class Lists(unittest.TestCase):
         for wrong in ("1 KB", b"1 KB", 3, None, bytearray(b"1"), object()):
             with self.subTest(wrong=wrong), self.assertRaises(TypeError):
                 byte_unit.parse_many(wrong)
-        for wrong in (None, 1, float("nan"), ["1"]):
-            with self.subTest(wrong=wrong), self.assertRaisesRegex(TypeError, r"texts\[1\] must be str or bytes"):
+        for wrong in (1, 1.5, float("inf"), ["1"], bytearray(b"1"), object()):
+            message = rf"texts\[1\] must be str, bytes or null, not {type(wrong).__name__}$"
+            with self.subTest(wrong=wrong), self.assertRaisesRegex(TypeError, message):
                 byte_unit.parse_many(["1", wrong])
 
     def test_an_error_of_the_iterable(self) -> None:
@@ -163,8 +165,15 @@ class Buffers(unittest.TestCase):
 class Changes(unittest.TestCase):
     """Another thread changes a buffer during the call."""
 
+    @classmethod
+    def setUpClass(cls) -> None:
+        faulthandler.enable()  # says where, if the interpreter ends
+
     def parse_while(self, change: "Callable[[], None]", data: object, offsets: object) -> "list[Column | None]":
         """Returns what the calls of two seconds return, while another thread changes something. `None` is an error."""
+        return self.call_while(change, lambda: byte_unit.parse_buffers(data, offsets))
+
+    def call_while(self, change: "Callable[[], None]", call: "Callable[[], Column]") -> "list[Column | None]":
         results: list[Column | None] = []
         end = time.monotonic() + 2
 
@@ -176,11 +185,47 @@ class Changes(unittest.TestCase):
         worker.start()
         while time.monotonic() < end:
             try:
-                results.append(byte_unit.parse_buffers(data, offsets))
+                results.append(call())
             except ByteUnitError:
                 results.append(None)
         worker.join(60)
         return results
+
+    def test_validity(self) -> None:
+        data, offsets = layout([b"1.5 KiB"] * 20_000, "q")
+        bits = bytearray(b"\xff" * 2500)
+
+        def change() -> None:
+            bits[:] = bytes(2500)
+            bits[:] = b"\xff" * 2500
+
+        for column in self.call_while(change, lambda: byte_unit.parse_buffers(data, offsets, validity=bits)):
+            self.assertTrue(column and set(column.codes) <= {0, 7} and not any(column.codes.strip(b"\0\7")))
+
+    def test_strict_data(self) -> None:
+        """The text of an error is that which was rejected, or what is there by then."""
+        data, offsets = layout([b"1.5 KiB"] * 5000, "q")
+        changing = bytearray(data)
+
+        def change() -> None:
+            changing[:] = b"\xf0.5 KiB" * 5000
+            changing[:] = data
+
+        seen = self.call_while(change, lambda: byte_unit.parse_buffers(changing, offsets, errors="raise"))
+        self.assertTrue(all(column is None or column.sum() == 5000 * 1536 for column in seen))
+
+    def test_lists(self) -> None:
+        """The texts are those of the list when the call began."""
+        texts: list[str | None] = ["1.5 KiB", None] * 40_000
+        changing, wanted = texts[:], byte_unit.parse_many(texts)
+
+        def change() -> None:
+            changing.clear()
+            changing.extend(texts)
+
+        seen = self.call_while(change, lambda: byte_unit.parse_many(changing))
+        self.assertTrue(all(column in (wanted, byte_unit.parse_many([])) for column in seen))
+        self.assertIn(wanted, seen)
 
     def test_offsets(self) -> None:
         for code, huge in (("q", 2**63 - 1), ("q", -(2**63)), ("i", 2**31 - 1)):
@@ -307,8 +352,7 @@ class Pandas(unittest.TestCase):
         sizes = pandas.Series(column.int64(), quota.index, "Int64").mask(codes != 0)
         self.assertEqual(sizes.sum(), 3048)
         self.assertEqual(sizes.isna().tolist(), [False, True, False])
-        with self.assertRaises(TypeError):
-            byte_unit.parse_many(pandas.Series(["1 KB", None]))
+        self.assertEqual(list(byte_unit.parse_many(pandas.Series(["1 KB", None])).codes), [0, 7])
 
 
 if __name__ == "__main__":

@@ -4,6 +4,8 @@ import concurrent.futures
 import copy
 import multiprocessing
 import pickle
+import resource
+import sys
 import unittest
 from decimal import Decimal
 
@@ -47,6 +49,44 @@ class Errors(unittest.TestCase):
     def test_subclass(self) -> None:
         error = copy.copy(Renamed("a message", "unit", "x"))
         self.assertEqual((type(error), error.character), (Renamed, "x"))
+
+
+    def test_text(self) -> None:
+        for text in [*TEXTS, b"1 x", "x" * 100_000]:
+            self.assertIs(caught(text).text, text)
+            self.assertIsNone(caught(text).row)
+        with self.assertRaises(SizeError) as unit:
+            byte_unit.parse_unit("Kx")
+        self.assertEqual((unit.exception.text, unit.exception.args[0]), ("Kx", str(unit.exception)))
+        plain = SizeError("a message", name="unit", expected="Bb")
+        self.assertEqual((plain.text, plain.row, plain.expected, plain.args[3]), (None, None, "Bb", "Bb"))
+
+    def test_fields_are_those_of_the_constructor(self) -> None:
+        for text in TEXTS:
+            error = caught(text)
+            made = SizeError(*error.args)
+            made.text, made.row = error.text, error.row
+            self.assertEqual((vars(made), made.args), (vars(error), error.args))
+
+    def test_a_million_errors(self) -> None:
+        """Memory and references stay as they are."""
+        texts = [*TEXTS[1:], "1 Kx" * 20]
+
+        def work(count: int) -> None:
+            for _ in range(count):
+                for text in texts:
+                    try:
+                        byte_unit.parse(text)
+                    except SizeError:
+                        pass
+
+        work(2000)
+        kept = [None, "unit", True, False, byte_unit.UNITS, byte_unit.ERROR_NAMES, SizeError, *texts]
+        before, references = resource.getrusage(resource.RUSAGE_SELF).ru_maxrss, [*map(sys.getrefcount, kept)]
+        work(150_000)
+        self.assertLess(resource.getrusage(resource.RUSAGE_SELF).ru_maxrss - before, 1024)  # KiB
+        for object_, count in zip(kept, references, strict=True):
+            self.assertLess(abs(sys.getrefcount(object_) - count), 50)
 
 
 class Renamed(SizeError):

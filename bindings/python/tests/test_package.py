@@ -4,25 +4,44 @@ import ast
 import doctest
 import importlib.metadata
 import importlib.resources
+import importlib.util
 import inspect
 import os
+import re
+import subprocess
 import sys
+import tempfile
 import threading
 import time
 import tracemalloc
 import unittest
 from array import array
+from typing import Any
 
 import byte_unit
-from byte_unit import _columns, _errors, _native, _texts, _units
+from byte_unit import _columns, _errors, _native
 
+CALLS = [name for name in byte_unit.__all__ if inspect.isbuiltin(getattr(byte_unit, name))]
+HAS_PANDAS = importlib.util.find_spec("pandas") is not None
+# Names of modules that only type checkers see, and a default of typing.Sequence that the stub of Python leaves out.
+ONLY_TYPES = [
+    r"byte_unit\._columns\.(Errors|Final|Iterable|Iterator|Literal|Overflow|SupportsIndex|TypeAlias|overload)",
+    r"byte_unit\._columns\.Sequence\.index",
+    r"byte_unit\._errors\.Decimal",
+]
+HAS_MYPY = importlib.util.find_spec("mypy") is not None
 README = os.path.join(os.path.dirname(os.path.abspath(__file__)), "../README.md")
 
 
 def load_tests(loader: unittest.TestLoader, tests: unittest.TestSuite, pattern: str | None) -> unittest.TestSuite:
     names = {name: getattr(byte_unit, name) for name in byte_unit.__all__}
-    for module in (byte_unit, _columns, _errors, _texts, _units):
+    for module in (byte_unit, _columns, _errors):
         tests.addTests(doctest.DocTestSuite(module, extraglobs=names))
+    for name in CALLS:
+        test = doctest.DocTestParser().get_doctest(getattr(byte_unit, name).__doc__, names, name, "docs.h", 0)
+        tests.addTest(doctest.DocTestCase(test))
+    if HAS_PANDAS:
+        tests.addTests(doctest.DocTestSuite(importlib.import_module("byte_unit.pandas")))
     tests.addTests(doctest.DocFileSuite(os.path.relpath(README, os.path.dirname(os.path.abspath(__file__)))))
     return tests
 
@@ -34,15 +53,17 @@ class Package(unittest.TestCase):
             value = getattr(byte_unit, name)
             if callable(value):
                 self.assertTrue(value.__doc__, name)
-        public = {name for name in vars(byte_unit) if not name.startswith("_")} - {"Final"}
+        public = {name for name in vars(byte_unit) if not name.startswith("_")} - {"pandas"}
         self.assertEqual(public, set(byte_unit.__all__) - {"__version__"})
+        self.assertEqual(len(CALLS), 10)
 
     def test_arguments(self) -> None:
         """Flags and options are keyword-only, and have one default each."""
-        defaults = {"bits": False, "ignore_case": False, "either_kind": False, "alternate": True, "unit_type": "both"}
+        defaults = {"bits": False, "ignore_case": False, "either_kind": False, "alternate": True, "unit_type": "both",
+                    "errors": "coerce", "validity_offset": 0}  # fmt: skip
         for name in byte_unit.__all__:
             value = getattr(byte_unit, name)
-            if not inspect.isfunction(value):
+            if not inspect.isroutine(value):
                 continue
             for argument in inspect.signature(value).parameters.values():
                 with self.subTest(name, argument=argument.name):
@@ -50,7 +71,7 @@ class Package(unittest.TestCase):
                     self.assertEqual(argument.kind is argument.KEYWORD_ONLY, is_option)
                     if is_option:
                         precision = 3 if (name, argument.name) == ("recoverable_unit", "precision") else None
-                        self.assertIs(argument.default, defaults.get(argument.name, precision))
+                        self.assertEqual(argument.default, defaults.get(argument.name, precision))
         for call in (byte_unit.parse, byte_unit.explain, byte_unit.parse_unit, byte_unit.explain_unit):
             with self.assertRaises(TypeError):
                 call("B", True)
@@ -70,39 +91,90 @@ class Package(unittest.TestCase):
                 names.add(node.target.id)
         self.assertEqual(names, {name for name in vars(_native) if not name.startswith("__")})
 
+    @unittest.skipUnless(HAS_MYPY, "mypy is not installed")
+    def test_stubs(self) -> None:
+        """All modules are as their types say, but for names that only type checkers see."""
+        with tempfile.TemporaryDirectory() as folder:
+            allowed = os.path.join(folder, "allowed")
+            with open(allowed, "w", encoding="utf-8") as file:
+                file.write("\n".join(ONLY_TYPES))
+            options = ["--concise", "--ignore-unused-allowlist", "--allowlist", allowed]
+            modules = ["byte_unit"] if HAS_PANDAS else ["byte_unit._columns", "byte_unit._errors", "byte_unit._native"]
+            words = [sys.executable, "-m", "mypy.stubtest", *options, *modules]
+            ran = subprocess.run(words, cwd=folder, text=True, stdout=subprocess.PIPE, check=False)
+        self.assertEqual((ran.returncode, ran.stdout), (0, ""))
+
+    def test_needs(self) -> None:
+        """The extension module needs nothing newer than the tag of its wheel says: glibc 2.17."""
+        name = _native.__file__
+        assert name
+        with open(name, "rb") as file:
+            found = {tuple(map(int, number.split(b"."))) for number in re.findall(rb"GLIBC_([0-9.]+)\0", file.read())}
+        self.assertTrue(found)
+        self.assertLessEqual(max(found), (2, 17))
+        self.assertTrue(name.endswith(".abi3.so"))
+
+    def test_metadata(self) -> None:
+        metadata = importlib.metadata.metadata("byte_unit")
+        self.assertEqual((metadata["Author"], metadata["License"]), ("Nedlufa maintainers", "MIT"))
+        self.assertIn("Original, https://github.com/magiclen/Byte-Unit", metadata.get_all("Project-URL"))
+        self.assertIn("parse_many", metadata.get_payload())
+
     def test_constants(self) -> None:
         self.assertEqual(byte_unit.SIZE_LIMIT, 10**30)
         self.assertEqual(byte_unit.UNITS[:6], ("b", "B", "Kb", "Kib", "KB", "KiB"))
         self.assertEqual(byte_unit.ERROR_NAMES[0], "ok")
 
 
-class Native(unittest.TestCase):
-    """The extension module alone rejects what the modules above it never pass."""
+class Arguments(unittest.TestCase):
+    """A call that is written in C has the errors of one that is written in Python."""
 
-    def test_arguments(self) -> None:
-        for call in ("parse", "parse_error", "explain", "parse_unit", "explain_unit", "parse_many", "parse_buffers",
-                     "text_of", "appropriate_unit", "exact_unit", "recoverable_unit", "from_unit"):
-            with self.assertRaises(TypeError):
+    def assert_message(self, wanted: str, call: Any, *arguments: object, **named: object) -> None:
+        with self.subTest(wanted), self.assertRaises(TypeError) as caught:
+            call(*arguments, **named)
+        self.assertEqual(str(caught.exception), wanted)
+
+    def test_places(self) -> None:
+        parse, adjusted = byte_unit.parse, byte_unit.adjusted_text
+        self.assertEqual(parse(text="1.5 KiB", ignore_case=True, bits=False), 1536)
+        self.assertEqual(adjusted(unit="KiB", precision=1, size=1536), "1.5 KiB")
+        self.assertEqual(adjusted(1536, unit="KiB"), "1.5 KiB")
+        self.assert_message("parse() missing 1 required positional argument: 'text'", parse)
+        self.assert_message("parse() missing 1 required positional argument: 'text'", parse, bits=True)
+        self.assert_message("parse() takes 1 positional argument but 2 were given", parse, "1", True)
+        self.assert_message("parse() got multiple values for argument 'text'", parse, "1", text="1")
+        for name in ("bit", "bitsy", "", "bits\0", "\ud800", "text "):
+            self.assert_message(f"parse() got an unexpected keyword argument '{name}'", parse, "1", **{name: True})
+        self.assert_message("adjusted_text() missing 1 required positional argument: 'unit'", adjusted, 1)
+        self.assert_message("adjusted_text() missing 1 required positional argument: 'size'", adjusted, unit="B")
+        both = "adjusted_text() missing 2 required positional arguments: 'size' and 'unit'"
+        self.assert_message(both, adjusted, precision=1)
+        self.assert_message("adjusted_text() takes 2 positional arguments but 3 were given", adjusted, 1, "B", 1)
+        for call in map(byte_unit.__dict__.get, CALLS):
+            for arguments in ((), (1, 2, 3, 4)):
+                with self.assertRaises(TypeError):
+                    call(*arguments)
+
+    def test_private_calls(self) -> None:
+        """The other functions reject what the modules above them never pass."""
+        names = "parse_many parse_buffers ints part sum extremum first_large int64 float64 mask"
+        for call in names.split():
+            with self.subTest(call), self.assertRaises(TypeError):
                 getattr(_native, call)()
-
-    def test_numbers(self) -> None:
-        plain = (False, _native.NO_UNIT, True, None, None, 0, 0)
-        for size in (-1, 2**128, 2**192, -(2**64)):
-            with self.assertRaises(OverflowError):
-                _native.text_of(size, *plain)
-        with self.assertRaises(ValueError):
-            _native.text_of(10**30, *plain)
-        for place, value, error in [(2, 38, ValueError), (2, 2**32, OverflowError), (4, 65536, ValueError),
-                                    (5, -1, OverflowError), (6, 3, ValueError), (6, 256, OverflowError),
-                                    (7, 4, ValueError), (7, None, TypeError)]:
-            given = [1, *plain]
-            given[place] = value
-            with self.subTest(place, value=value), self.assertRaises(error):
-                _native.text_of(*given)
-        with self.assertRaises(ValueError):
-            _native.appropriate_unit(1, False, 3)
-        with self.assertRaises(ValueError):
-            _native.exact_unit(10**30, False, False)
+        for call, more in [("ints", (0, 1)), ("part", (0, 1, 1)), ("sum", ()), ("extremum", (True,)),
+                           ("first_large", ()), ("int64", (True,)), ("float64", ()), ("mask", (True,))]:
+            for wrong in [(None, b""), (b"", None), (bytearray(16), b"1")]:
+                with self.subTest(call, wrong=wrong), self.assertRaises(TypeError):
+                    getattr(_native, call)(*wrong, *more)
+            for lengths in [(15, 1), (16, 2), (32, 1), (0, 1), (16, 0)]:
+                with self.subTest(call, lengths=lengths), self.assertRaises(ValueError):
+                    getattr(_native, call)(*map(bytes, lengths), *more)
+        for rows in [(0, 2), (2, 1), (2, 2), (-1, 1), (0, 2**64)]:
+            with self.subTest(rows), self.assertRaises((IndexError, OverflowError)):
+                _native.ints(bytes(16), bytes(1), *rows)
+        for part in [(0, 1, 2), (1, 1, 1), (1, -1, 1), (0, 2**62, 2), (1, -(2**63), 1), (2**64, 1, 0), (0, 2**63, 1)]:
+            with self.subTest(part), self.assertRaises((IndexError, OverflowError)):
+                _native.part(bytes(16), bytes(1), *part)
 
 
 class Threads(unittest.TestCase):
@@ -127,11 +199,20 @@ class Threads(unittest.TestCase):
             thread.join(60)
         self.assertEqual(seen, [True] * (8 * 21))
 
-
     def test_buffers_release_the_gil(self) -> None:
         """This thread goes on while another one parses a long text."""
         data = bytes(b"0") * 30_000_000
         worker = threading.Thread(target=byte_unit.parse_buffers, args=(data, array("q", [0, len(data)])))
+        turns = 0
+        worker.start()
+        while worker.is_alive():
+            turns += 1
+            time.sleep(0.001)
+        self.assertGreater(turns, 9)
+
+    def test_lists_release_the_gil(self) -> None:
+        texts = [b"0" * 30_000_000, b"1"] * 2
+        worker = threading.Thread(target=byte_unit.parse_many, args=(texts,))
         turns = 0
         worker.start()
         while worker.is_alive():

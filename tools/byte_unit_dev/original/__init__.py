@@ -57,44 +57,50 @@ def calls_of(words):
 
 
 class Library:
-    """The C library, through the extension module of the Python package, which is C: calls by their names in rules."""
+    """The C library, through the Python package, whose calls of one text are C: calls by their names in rules."""
 
     def __init__(self, folder, work):
         sys.path.insert(0, builds.python(folder, work)["PYTHONPATH"])
-        self.native = importlib.import_module("byte_unit._native")
+        self.package = importlib.import_module("byte_unit")
 
     def parsed(self, text, kind, ignore_case):
-        size = self.native.parse(text, kind == "bit", ignore_case)
-        return f"! {self.native.explain(text, kind == 'bit', ignore_case)}" if size is None else str(size)
+        try:
+            return str(self.package.parse(text, bits=kind == "bit", ignore_case=ignore_case))
+        except self.package.SizeError as error:
+            return f"! {error}"
 
     def parsed_unit(self, text, kind, ignore_case):
-        found, wrong = (function(text, kind == "bit", ignore_case)
-                        for function in (self.native.parse_unit, self.native.explain_unit))
-        return f"! {wrong}" if wrong else self.native.UNITS[found]
+        try:
+            return self.package.parse_unit(text, bits=kind == "bit", ignore_case=ignore_case)
+        except self.package.SizeError as error:
+            return f"! {error}"
 
     def in_unit(self, size, kind, either, precision):
+        flags = {"bits": kind == "bit", "either_kind": either}
         if precision is None:
-            count, unit = self.native.exact_unit(size, kind == "bit", either)
+            count, unit = self.package.exact_unit(size, **flags)
         else:
-            (count, fraction), unit = self.native.recoverable_unit(size, kind == "bit", either, precision)
-            count = rules.trimmed(f"{count}.{fraction:028}")
-        return f"{count} {self.native.UNITS[unit]}"
+            count, unit = self.package.recoverable_unit(size, precision=precision, **flags)
+        return f"{count} {unit}"
 
     def appropriate(self, size, kind, unit_type):
-        types = (self.native.BINARY, self.native.DECIMAL, self.native.BOTH)
-        return self.native.UNITS[self.native.appropriate_unit(size, kind == "bit", types[unit_type])]
+        types = ("binary", "decimal", "both")
+        return self.package.appropriate_unit(size, bits=kind == "bit", unit_type=types[unit_type])
 
     def formatted(self, size, kind, spec, unit=None):
-        unit = self.native.UNITS.index(unit) if unit else self.native.NO_UNIT
-        parts = (spec.alternate, spec.precision, spec.width or None, spec.sign, spec.align)
-        return self.native.text_of(size, kind == "bit", unit, *parts)
+        options = {"bits": kind == "bit", "alternate": bool(spec.alternate), "precision": spec.precision,
+                   "width": spec.width or None, "sign": (None, "plus", "minus")[spec.sign],
+                   "align": (None, "left", "center", "right")[spec.align]}  # fmt: skip
+        return self.package.adjusted_text(size, unit, **options) if unit else self.package.text(size, **options)
 
     def adjusted(self, size, kind, unit, spec):
         return self.formatted(size, kind, spec, unit)
 
     def of_unit(self, count, unit, kind):
-        size = self.native.from_unit(count, self.native.UNITS.index(unit), kind == "bit")
-        return "-" if size is None else str(size)
+        try:
+            return str(self.package.from_unit(count, unit, bits=kind == "bit"))
+        except self.package.ByteUnitError:
+            return "-"
 
 
 def by_program(program, lines):

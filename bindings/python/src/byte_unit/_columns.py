@@ -1,128 +1,314 @@
 """Parsing of many texts in one call."""
 
-from array import array
-from collections.abc import Iterable, Iterator
-from dataclasses import dataclass
-from typing import Final
+from _collections_abc import Sequence  # as collections.abc has it, whose import takes longer than all of this package
 
 from . import _native
-from ._errors import ByteUnitError
+from ._errors import ByteUnitError, SizeError
 
-#: The names of the codes in `Column.codes`, `ok` first. The others are the names of `SizeError`.
-ERROR_NAMES: Final[tuple[str, ...]] = _native.CODES
+TYPE_CHECKING = False
+if TYPE_CHECKING:
+    from collections.abc import Iterable, Iterator
+    from typing import Final, Literal, SupportsIndex, TypeAlias, overload
+
+    Errors: TypeAlias = Literal["coerce", "raise"]
+    Overflow: TypeAlias = Literal["raise", "null", "saturate"]
+
+#: The names of the codes in `Column.codes`: `ok`, the names of `SizeError`, and `null`.
+ERROR_NAMES: "Final[tuple[str, ...]]" = _native.CODES
+
+_NULL = ERROR_NAMES.index("null")
+_AT_A_TIME = 1024
 
 
-@dataclass(frozen=True, slots=True)
-class Column:
-    """The results of parsing many texts, in two buffers.
+def _check(name: str, value: object, names: tuple[str, ...]) -> None:
+    """Raises an error if an argument is not one of the names."""
+    if not isinstance(value, str):
+        raise TypeError(f"{name} must be str, not {type(value).__name__}")
+    if value not in names:
+        raise ByteUnitError(f"{name} must be one of {', '.join(map(repr, names))}, not {value!r}")
 
-    `codes` has a byte for each text: 0, or the index in `ERROR_NAMES` of its error. `sizes` has sixteen bytes for each
-    text, its size as a little-endian number, which is zero if it has an error.
 
-    >>> column = parse_many(["1 KB", "1 x", "999 RB"])
+def _view(data: bytes, code: str) -> memoryview:
+    """Returns a view of items of eight bytes."""
+    return memoryview(data or bytes(8)).cast("B").cast(code)[: len(data) // 8]
+
+
+class Column(Sequence["int | None"]):
+    """The sizes of many texts: a sequence of integers, with `None` for a text that is null or is not a size.
+
+    Two buffers have it. `codes` has a byte for each text: 0, or the index in `ERROR_NAMES` of why it has no size: an
+    empty text is `no_value`, a null one `null`. `sizes` has sixteen bytes for each text, its size as a little-endian
+    number, which is zero if it has none. A column cannot be changed.
+
+    >>> column = parse_many(["1 KB", "1 x", None, "999 RB"])
+    >>> column
+    <Column: 4 texts, 1 rejected, 1 null>
     >>> list(column.codes), [ERROR_NAMES[code] for code in column.codes]
-    ([0, 5, 0], ['ok', 'unit', 'ok'])
-    >>> column.ints()
-    [1000, None, 999000000000000000000000000000]
+    ([0, 5, 7, 0], ['ok', 'unit', 'null', 'ok'])
+    >>> column[0], column[1:3].ints(), list(column)
+    (1000, [None, None], [1000, None, None, 999000000000000000000000000000])
+    >>> column.sum(), column.min(), column.max()
+    (999000000000000000000000001000, 1000, 999000000000000000000000000000)
     """
 
-    sizes: bytes
-    codes: bytes
+    __slots__ = ("_codes", "_sizes")
+    __match_args__ = ("sizes", "codes")
 
-    def __post_init__(self) -> None:
+    def __init__(self, sizes: bytes, codes: bytes) -> None:
         """Raises `ByteUnitError` if the lengths of the buffers do not fit."""
-        if len(self.sizes) != 16 * len(self.codes):
+        if not (isinstance(sizes, bytes) and isinstance(codes, bytes)):
+            raise TypeError("sizes and codes must be bytes")
+        if len(sizes) != 16 * len(codes):
             raise ByteUnitError("sizes must have sixteen bytes for each byte of codes")
+        self._sizes = sizes
+        self._codes = codes
+
+    @property
+    def sizes(self) -> bytes:
+        """Sixteen bytes for each text: its size, or zero."""
+        return self._sizes
+
+    @property
+    def codes(self) -> bytes:
+        """A byte for each text: 0, or the index in `ERROR_NAMES` of why it has no size."""
+        return self._codes
 
     def __len__(self) -> int:
         """Returns the number of texts."""
-        return len(self.codes)
+        return len(self._codes)
 
-    def errors(self) -> Iterator[tuple[int, str]]:
-        """Returns an iterator over the index and the name of each error.
+    if TYPE_CHECKING:
 
-        >>> list(parse_many(["1 KB", "", "1 x"]).errors())
-        [(1, 'no_value'), (2, 'unit')]
+        @overload
+        def __getitem__(self, place: SupportsIndex) -> int | None: ...
+
+        @overload
+        def __getitem__(self, place: slice) -> "Column": ...
+
+    def __getitem__(self, place: "SupportsIndex | slice") -> "int | None | Column":
+        """Returns the size at a place, or `None` if it has none; of a slice, a column."""
+        rows = range(len(self._codes))[place]
+        if isinstance(rows, range):
+            start = rows.start if rows else 0  # -1, if an empty range begins before the first row
+            return Column(*_native.part(self._sizes, self._codes, start, rows.step, len(rows)))
+        return _native.ints(self._sizes, self._codes, rows, rows + 1)[0]
+
+    def __iter__(self) -> "Iterator[int | None]":
+        """Returns an iterator over the sizes, with `None` for a text without one."""
+        for start in range(0, len(self._codes), _AT_A_TIME):
+            stop = min(start + _AT_A_TIME, len(self._codes))
+            yield from _native.ints(self._sizes, self._codes, start, stop)
+
+    def __eq__(self, other: object) -> bool:
+        """Returns whether both have the same sizes and codes."""
+        if not isinstance(other, Column):
+            return NotImplemented
+        return self._codes == other._codes and self._sizes == other._sizes
+
+    def __hash__(self) -> int:
+        """Returns a hash of the buffers."""
+        return hash((self._sizes, self._codes))
+
+    def __reduce__(self) -> "tuple[type[Column], tuple[bytes, bytes]]":
+        """Returns what a copy is made of."""
+        return type(self), (self._sizes, self._codes)
+
+    def __repr__(self) -> str:
+        """Returns the number of texts, and of those without a size."""
+        nulls = self._codes.count(_NULL)
+        rejected = len(self._codes) - self._codes.count(0) - nulls
+        return f"<Column: {len(self._codes)} texts, {rejected} rejected, {nulls} null>"
+
+    if TYPE_CHECKING:
+
+        @overload
+        def errors(
+            self, texts: None = None, *, bits: bool = False, ignore_case: bool = False
+        ) -> Iterator[tuple[int, str]]: ...
+
+        @overload
+        def errors(
+            self, texts: Iterable[str | bytes | None], *, bits: bool = False, ignore_case: bool = False
+        ) -> Iterator[tuple[int, SizeError]]: ...
+
+    def errors(
+        self, texts: "Iterable[str | bytes | None] | None" = None, *, bits: bool = False, ignore_case: bool = False
+    ) -> "Iterator[tuple[int, str]] | Iterator[tuple[int, SizeError]]":
+        """Returns an iterator over the row of each text that is rejected, and the reason.
+
+        The reason is the name of the error. With the texts and the flags that were parsed, it is the `SizeError` that
+        `parse` raises: its `text` is the text, and its message says why it is rejected. A null is not rejected.
+
+        >>> texts = ["1 KB", "", None, "1 Kx"]
+        >>> list(parse_many(texts).errors())
+        [(1, 'no_value'), (3, 'unit')]
+        >>> for row, error in parse_many(texts).errors(texts):
+        ...     print(row, repr(error.text), error)
+        1 '' no value can be found
+        3 '1 Kx' the character 'x' is incorrect ('B' or 'b' or no character is expected)
         """
-        return ((place, ERROR_NAMES[code]) for place, code in enumerate(self.codes) if code)
+        if texts is None:
+            return ((row, ERROR_NAMES[code]) for row, code in enumerate(self._codes) if code not in (0, _NULL))
+        return self._size_errors(texts, bits, ignore_case)
 
-    def ints(self) -> list[int | None]:
-        """Returns the sizes as a list, with `None` for an error."""
-        if not self.codes:
-            return []
-        halves = memoryview(self.sizes).cast("Q")
-        sizes = halves[::2].tolist()
-        if self._exceeds_64_bits():
-            sizes = [high << 64 | low for low, high in zip(sizes, halves[1::2].tolist())]
-        if not self.codes.strip(b"\0"):
-            return list(sizes)
-        return [None if code else size for code, size in zip(self.codes, sizes)]
+    def _size_errors(
+        self, texts: "Iterable[str | bytes | None]", bits: bool, ignore_case: bool
+    ) -> "Iterator[tuple[int, SizeError]]":
+        for row, (text, code) in enumerate(zip(texts, self._codes, strict=True)):
+            if code not in (0, _NULL):
+                try:
+                    _native.parse(text, bits=bits, ignore_case=ignore_case)  # type: ignore[arg-type]
+                except SizeError as error:
+                    yield row, error
+                else:
+                    raise ByteUnitError(f"row {row}: {text!r} is a size, but it was parsed as one that is none")
 
-    def _exceeds_64_bits(self) -> bool:
-        return any(self.sizes[place::16].strip(b"\0") for place in range(8, 16))
+    def ints(self) -> "list[int | None]":
+        """Returns the sizes as a list, with `None` for a text without one."""
+        return _native.ints(self._sizes, self._codes, 0, len(self._codes))
 
-    def int64(self) -> memoryview:
-        """Returns a view of the sizes as signed integers of 64 bits, without copying: one in every sixteen bytes.
+    def sum(self) -> int:
+        """Returns the exact sum of the sizes. A text without a size counts as 0.
 
-        `numpy.asarray` takes the view without copying, too. An error is a zero: see `codes`.
+        >>> parse_many(["9 EB", "9 EB", None]).sum()
+        18000000000000000000
+        """
+        return _native.sum(self._sizes, self._codes)
 
-        Raises `ByteUnitError` if a size is 2^63 or more.
+    def min(self) -> "int | None":
+        """Returns the least size, or `None` if there is none."""
+        return _native.extremum(self._sizes, self._codes, False)
+
+    def max(self) -> "int | None":
+        """Returns the greatest size, or `None` if there is none."""
+        return _native.extremum(self._sizes, self._codes, True)
+
+    def int64(self, *, overflow: "Overflow" = "raise") -> memoryview:
+        """Returns the sizes as signed integers of 64 bits. A text without a size is a zero: see `mask`.
+
+        If a size is 2^63 or more, `overflow` decides: `"raise"` raises `ByteUnitError` and names the first such row,
+        `"null"` makes it a zero, and `"saturate"` makes it 2^63 - 1. Without such a size, this is a view without
+        copying, one in every sixteen bytes, which `numpy.asarray` takes without copying, too.
 
         >>> parse_many(["1 KB", "2 KB"]).int64().tolist()
         [1000, 2000]
+        >>> parse_many(["1 KB", "1 RB"]).int64(overflow="saturate").tolist()
+        [1000, 9223372036854775807]
+        >>> parse_many(["1 KB", "1 RB"]).int64()
+        Traceback (most recent call last):
+        byte_unit.ByteUnitError: row 1: the size 1000000000000000000000000000 is 2**63 or more
         """
-        if self._exceeds_64_bits() or not self.sizes[7::16].isascii():
-            raise ByteUnitError("a size is 2**63 or more")
-        return memoryview(self.sizes).cast("q")[::2] if self.sizes else memoryview(array("q"))
+        _check("overflow", overflow, ("raise", "null", "saturate"))
+        row = _native.first_large(self._sizes, self._codes)
+        if row == len(self._codes):
+            return _view(self._sizes, "q")[::2]
+        if overflow == "raise":
+            raise ByteUnitError(f"row {row}: the size {self[row]} is 2**63 or more")
+        return _view(_native.int64(self._sizes, self._codes, overflow == "saturate"), "q")
+
+    def uint128(self) -> tuple[memoryview, memoryview]:
+        """Returns views of the lower and the upper 64 bits of the sizes, without copying.
+
+        >>> low, high = parse_many(["1 KB", "18446744073709551617"]).uint128()
+        >>> low.tolist(), high.tolist()
+        ([1000, 1], [0, 1])
+        """
+        halves = _view(self._sizes, "Q")
+        return halves[::2], halves[1::2]
+
+    def float64(self) -> memoryview:
+        """Returns the sizes as floats of 64 bits. A text without a size is NaN.
+
+        A size up to 2^53 is exact. A larger one is rounded to the nearest float, of two to that with an even last bit.
+
+        >>> parse_many(["1 KB", "9007199254740993", None]).float64().tolist()
+        [1000.0, 9007199254740992.0, nan]
+        """
+        return _view(_native.float64(self._sizes, self._codes), "d")
+
+    def mask(self, *, hide_large: bool = False) -> memoryview:
+        """Returns whether each text has no size, in the form of a mask of numpy and pandas.
+
+        With `hide_large`, a size of 2^63 or more counts as none, as `int64(overflow="null")` has it.
+
+        >>> parse_many(["1 KB", "1 x", None, "1 RB"]).mask().tolist()
+        [False, True, True, False]
+        """
+        return memoryview(_native.mask(self._sizes, self._codes, hide_large)).cast("B").cast("?")
 
     def validity(self) -> bytes:
-        """Returns a bit for each text, 1 if it is a size, in Arrow's order: the least significant bit first.
+        """Returns a bit for each text, 1 if it has a size, in Arrow's order: the least significant bit first.
 
         >>> parse_many(["1", "x", "2"]).validity()
         b'\\x05'
         """
-        bits = self.codes.translate(b"1" + b"0" * 255)[::-1]
+        bits = self._codes.translate(b"1" + b"0" * 255)[::-1]
         return int(bits or b"0", 2).to_bytes((len(bits) + 7) // 8, "little")
 
 
-def parse_many(texts: Iterable[str | bytes], *, bits: bool = False, ignore_case: bool = False) -> Column:
-    """Parses each text of a list or another iterable, as `parse` does.
+def parse_many(
+    texts: "Iterable[str | bytes | None]", *, bits: bool = False, ignore_case: bool = False, errors: "Errors" = "coerce"
+) -> Column:
+    """Parses each text of a list or another iterable, such as an array of numpy or a series of pandas, as `parse` does.
 
-    A text that is not a size has its code in `Column.codes`, and raises nothing. Raises `TypeError` if one of `texts`
-    is not `str` or `bytes`. The GIL is held.
+    A null is null in the column: `None`, a float NaN, and `NA` and `NaT` of pandas. A text that is not a size has its
+    code in `Column.codes`, and raises nothing; with `errors="raise"` the first one raises `SizeError`, whose message
+    names the row, the text and the reason. Raises `TypeError` if one of `texts` is anything else.
 
-    >>> parse_many(["1.5 KiB", b"9 b"]).ints()
-    [1536, 2]
-    >>> parse_many([]).ints()
-    []
+    From some thousand texts on, the GIL is released while copies of the texts are parsed.
+
+    >>> parse_many(["1.5 KiB", None, b"9 b"]).ints()
+    [1536, None, 2]
+    >>> parse_many(["1.5 KiB", "1.5 Kx"], errors="raise")
+    Traceback (most recent call last):
+    byte_unit.SizeError: row 1: '1.5 Kx': the character 'x' is incorrect ('B' or 'b' or no character is expected)
     """
     if isinstance(texts, (str, bytes)):
         raise TypeError(f"texts must be an iterable of texts, not one {type(texts).__name__}")
-    return Column(*_native.parse_many(texts, bits, ignore_case))
+    _check("errors", errors, ("coerce", "raise"))
+    tolist = getattr(texts, "tolist", None)  # of an array: faster than to iterate over it
+    many = texts if tolist is None else tolist()
+    if isinstance(many, (str, bytes)):
+        raise TypeError("texts must be an iterable of texts, not an array without a dimension")
+    return Column(*_native.parse_many(many, bits, ignore_case, errors == "raise"))
 
 
-def parse_buffers(data: object, offsets: object, *, bits: bool = False, ignore_case: bool = False) -> Column:
+def parse_buffers(
+    data: object,
+    offsets: object,
+    *,
+    validity: object = None,
+    validity_offset: "SupportsIndex" = 0,
+    bits: bool = False,
+    ignore_case: bool = False,
+    errors: "Errors" = "coerce",
+) -> Column:
     """Parses texts in Arrow's layout: text `i` is `data[offsets[i]:offsets[i + 1]]`. No object is made of a text.
 
     `data` is an object with the buffer protocol (`bytes`, `memoryview`, an array of numpy, a buffer of Arrow),
     contiguous and in UTF-8. `offsets` is another, of signed integers of 32 or 64 bits at any address, one more than
     there are texts. If the elements of a buffer are bytes, as those of Arrow are, cast it:
-    `memoryview(buffer).cast("i")`, or `"q"`.
+    `memoryview(buffer).cast("i")`, or `"q"`. `validity`, if it is not `None`, is a third one, with a bit for each text
+    in Arrow's order, from bit `validity_offset` on: a text whose bit is 0 is null. `errors` is that of `parse_many`.
 
-    Raises `ByteUnitError` if an offset is negative, less than the one before it, or past the end of `data`, or if a
-    buffer is not contiguous. Raises `TypeError` if an argument is not a buffer, or `offsets` not of such integers.
+    Raises `ByteUnitError` if an offset is negative, less than the one before it, or past the end of `data`, if
+    `validity` has too few bits, or if a buffer is not contiguous. Raises `TypeError` if an argument is not a buffer, or
+    `offsets` not of such integers.
 
-    The GIL is released, so other threads run meanwhile. The offsets are copied before that, and the texts during it,
-    1,024 at a time. A change of `offsets` meanwhile has no effect; a change of `data` is seen or is not.
+    The GIL is released, so other threads run meanwhile. Offsets and validity are copied before that, and the texts
+    during it, 1,024 at a time. A change of the former has no effect; a change of `data` is seen or is not.
 
     >>> from array import array
     >>> parse_buffers(b"1 KB2 KiB", array("q", [0, 4, 9])).ints()
     [1000, 2048]
+    >>> parse_buffers(b"1 KB2 KiB", array("q", [0, 4, 9]), validity=b"\\2").ints()
+    [None, 2048]
     """
+    _check("errors", errors, ("coerce", "raise"))
     try:
-        found = _native.parse_buffers(data, offsets, bits, ignore_case)
+        found = _native.parse_buffers(data, offsets, validity, validity_offset, bits, ignore_case, errors == "raise")
+    except ByteUnitError:
+        raise
     except (BufferError, ValueError) as error:
-        raise ByteUnitError(f"data and offsets must be contiguous buffers: {error}") from None
-    if found is None:
-        raise ByteUnitError("offsets must not be negative, decrease, or pass the end of data")
+        raise ByteUnitError(f"data, offsets and validity must be contiguous buffers: {error}") from None
     return Column(*found)

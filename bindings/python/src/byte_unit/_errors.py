@@ -1,8 +1,8 @@
 """The exceptions."""
 
-from decimal import Decimal
-
-from . import _native
+TYPE_CHECKING = False
+if TYPE_CHECKING:
+    from decimal import Decimal
 
 
 class ByteUnitError(ValueError):
@@ -25,11 +25,11 @@ class SizeError(ByteUnitError):
     ...     parse("1 Kx")
     ... except SizeError as error:
     ...     print(error)
-    ...     print(error.name, error.character, error.expected, error.also_expect_no_character)
+    ...     print(error.text, error.name, error.character, error.expected, error.also_expect_no_character)
     the character 'x' is incorrect ('B' or 'b' or no character is expected)
-    unit x Bb True
+    1 Kx unit x Bb True
 
-    The names are those of the codes in byte_unit.h:
+    `text` is the text. The names are those of the codes in byte_unit.h:
 
     - `no_value`: the text is empty or has only white space.
     - `not_number`: a digit is expected in place of `character`, or after it if the text ends there.
@@ -39,19 +39,26 @@ class SizeError(ByteUnitError):
       the end of the text if `also_expect_no_character` is true.
     - `not_utf8`: the text has bytes that are not UTF-8, or a lone surrogate.
 
-    `character` and `number` are `None` if the name does not use them. An instance can be pickled and copied.
+    `character` and `number` are `None` if the name does not use them. `row` is the place of the text in a column, if
+    `parse_many` or `parse_buffers` raises the error; then the message has the row and the text too.
+
+    An instance can be pickled and copied.
     """
 
     __module__ = "byte_unit"
+
+    # The extension module sets all fields itself, without a call of `__init__`.
+    text: "str | bytes | None" = None
+    row: "int | None" = None
 
     def __init__(
         self,
         message: str,
         name: str,
-        character: str | None = None,
+        character: "str | None" = None,
         expected: str = "",
         also_expect_no_character: bool = False,
-        number: Decimal | None = None,
+        number: "Decimal | None" = None,
     ) -> None:
         """Creates the error. All arguments are in `args`, from which it is pickled and copied."""
         super().__init__(message, name, character, expected, also_expect_no_character, number)
@@ -64,17 +71,3 @@ class SizeError(ByteUnitError):
     def __str__(self) -> str:
         """Returns the message."""
         return str(self.args[0])
-
-
-def decimal_of(parts: tuple[int, int]) -> Decimal:
-    """Returns the decimal with a whole part and a fraction, which is scaled by 10^28."""
-    whole, fraction = parts
-    digits = f"{fraction:028}".rstrip("0")
-    return Decimal(f"{whole}.{digits}" if digits else whole)
-
-
-def error_of(fields: "_native._Error", message: str) -> SizeError:
-    """Returns the error with the fields that the extension module returned."""
-    code, character, expected, also_expect_no_character, number = fields
-    written = None if number is None else decimal_of(number)
-    return SizeError(message, _native.CODES[code], character, expected, also_expect_no_character, written)

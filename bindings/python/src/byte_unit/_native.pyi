@@ -1,48 +1,64 @@
 """The extension module, in bindings/python/native."""
 
-from typing import TypeAlias
+from decimal import Decimal
+from typing import Final, Literal, SupportsIndex, TypeAlias
 
-_Error: TypeAlias = tuple[int, str | None, str, bool, tuple[int, int] | None]
+_Sign: TypeAlias = Literal["plus", "minus"]
+_Align: TypeAlias = Literal["left", "center", "right"]
+_UnitType: TypeAlias = Literal["binary", "decimal", "both"]
 
-VERSION: str
-SIZE_LIMIT: int
-UNITS: tuple[str, ...]
-CODES: tuple[str, ...]
-NO_UNIT: int
-BINARY: int
-DECIMAL: int
-BOTH: int
-SIGN_UNSET: int
-SIGN_PLUS: int
-SIGN_MINUS: int
-ALIGN_UNSET: int
-ALIGN_LEFT: int
-ALIGN_CENTER: int
-ALIGN_RIGHT: int
+VERSION: Final[str]
+SIZE_LIMIT: Final[int]
+UNITS: Final[tuple[str, ...]]
+CODES: Final[tuple[str, ...]]
 
-def parse(text: str | bytes, bits: bool, ignore_case: bool, /) -> int | None: ...
-def parse_error(text: str | bytes, bits: bool, ignore_case: bool, /) -> _Error: ...
-def explain(text: str | bytes, bits: bool, ignore_case: bool, /) -> str | None: ...
-def explain_unit(text: str | bytes, bits: bool, ignore_case: bool, /) -> str | None: ...
-def parse_unit(text: str | bytes, bits: bool, ignore_case: bool, /) -> int | _Error: ...
-def parse_many(texts: object, bits: bool, ignore_case: bool, /) -> tuple[bytes, bytes]: ...
-def parse_buffers(
-    data: object, offsets: object, bits: bool, ignore_case: bool, /
-) -> tuple[bytes, bytes] | None: ...
-def text_of(
-    size: int,
-    bits: bool,
-    unit: int,
-    alternate: bool,
-    precision: int | None,
-    width: int | None,
-    sign: int,
-    align: int,
-    /,
+def parse(text: str | bytes, *, bits: bool = False, ignore_case: bool = False) -> int: ...
+def explain(text: str | bytes, *, bits: bool = False, ignore_case: bool = False) -> str | None: ...
+def parse_unit(text: str | bytes, *, bits: bool = False, ignore_case: bool = False) -> str: ...
+def explain_unit(text: str | bytes, *, bits: bool = False, ignore_case: bool = False) -> str | None: ...
+def text(
+    size: SupportsIndex,
+    *,
+    bits: bool = False,
+    precision: SupportsIndex | None = None,
+    width: SupportsIndex | None = None,
+    align: _Align | None = None,
+    sign: _Sign | None = None,
+    alternate: bool = True,
 ) -> str: ...
-def appropriate_unit(size: int, bits: bool, unit_type: int, /) -> int: ...
-def exact_unit(size: int, bits: bool, either_kind: bool, /) -> tuple[int, int]: ...
+def adjusted_text(
+    size: SupportsIndex,
+    unit: str,
+    *,
+    bits: bool = False,
+    precision: SupportsIndex | None = None,
+    width: SupportsIndex | None = None,
+    align: _Align | None = None,
+    sign: _Sign | None = None,
+    alternate: bool = True,
+) -> str: ...
+def appropriate_unit(size: SupportsIndex, *, bits: bool = False, unit_type: _UnitType = "both") -> str: ...
+def exact_unit(size: SupportsIndex, *, bits: bool = False, either_kind: bool = False) -> tuple[int, str]: ...
 def recoverable_unit(
-    size: int, bits: bool, either_kind: bool, precision: int, /
-) -> tuple[tuple[int, int], int]: ...
-def from_unit(count: int, unit: int, bits: bool, /) -> int | None: ...
+    size: SupportsIndex, *, bits: bool = False, either_kind: bool = False, precision: SupportsIndex = 3
+) -> tuple[Decimal, str]: ...
+def from_unit(count: SupportsIndex, unit: str, *, bits: bool = False) -> int: ...
+def parse_many(texts: object, bits: bool, ignore_case: bool, is_strict: bool, /) -> tuple[bytes, bytes]: ...
+def parse_buffers(
+    data: object,
+    offsets: object,
+    validity: object,
+    validity_offset: SupportsIndex,
+    bits: bool,
+    ignore_case: bool,
+    is_strict: bool,
+    /,
+) -> tuple[bytes, bytes]: ...
+def ints(sizes: bytes, codes: bytes, start: int, stop: int, /) -> list[int | None]: ...
+def part(sizes: bytes, codes: bytes, start: int, step: int, count: int, /) -> tuple[bytes, bytes]: ...
+def sum(sizes: bytes, codes: bytes, /) -> int: ...
+def extremum(sizes: bytes, codes: bytes, is_greatest: bool, /) -> int | None: ...
+def first_large(sizes: bytes, codes: bytes, /) -> int: ...
+def int64(sizes: bytes, codes: bytes, saturates: bool, /) -> bytes: ...
+def float64(sizes: bytes, codes: bytes, /) -> bytes: ...
+def mask(sizes: bytes, codes: bytes, hides_large: bool, /) -> bytes: ...

@@ -1,0 +1,145 @@
+/* Texts that are parsed, and the error of one that is rejected. */
+#include "native.h"
+
+#include <math.h>
+
+/* Encodes a string with lone surrogates, which UTF-8 has no bytes for, so that the library rejects them. */
+static bool encode_surrogates(PyObject *string, text *text)
+{
+    if (!PyErr_ExceptionMatches(PyExc_UnicodeEncodeError)) {
+        return false;
+    }
+    PyErr_Clear();
+    text->owner = PyUnicode_AsEncodedString(string, "utf-8", "surrogatepass");
+    return text->owner && !PyBytes_AsStringAndSize(text->owner, &text->bytes, &text->len);
+}
+
+bool borrow_text(PyObject *object, text *text)
+{
+    text->owner = NULL;
+    if (PyUnicode_Check(object)) {
+        text->bytes = (char *)PyUnicode_AsUTF8AndSize(object, &text->len);
+        return text->bytes || encode_surrogates(object, text);
+    }
+    return PyBytes_Check(object) && !PyBytes_AsStringAndSize(object, &text->bytes, &text->len);
+}
+
+void release_text(text *text)
+{
+    Py_CLEAR(text->owner);
+}
+
+/* Keeps NA and NaT of pandas, if pandas is imported. */
+static bool find_missing(state *state)
+{
+    static const char *const NAMES[] = {"NA", "NaT"};
+    PyObject *name = PyUnicode_FromString("pandas");
+    PyObject *pandas = name ? PyImport_GetModule(name) : NULL;
+    for (int i = 0; pandas && i < 2; i++) {
+        state->missing[i] = PyObject_GetAttrString(pandas, NAMES[i]);
+    }
+    Py_XDECREF(name);
+    Py_XDECREF(pandas);
+    PyErr_Clear();
+    return state->missing[0];
+}
+
+bool is_null(PyObject *module, PyObject *object)
+{
+    state *state = state_of(module);
+    if (object == Py_None || (PyFloat_Check(object) && isnan(PyFloat_AsDouble(object)))) {
+        return true;
+    }
+    return (state->missing[0] || find_missing(state)) && (object == state->missing[0] || object == state->missing[1]);
+}
+
+PyObject *message_of(const text *text, uint32_t flags, explainer *explain)
+{
+    char out[BYTE_UNIT_BUFFER_SIZE];
+    size_t len = explain(text->bytes, (size_t)text->len, flags, out, sizeof out);
+    if (len > sizeof out) {
+        PyErr_SetString(PyExc_SystemError, "a message is longer than BYTE_UNIT_BUFFER_SIZE");
+        return NULL;
+    }
+    return len ? PyUnicode_DecodeUTF8(out, (Py_ssize_t)len, "replace") : Py_NewRef(Py_None);
+}
+
+/* Returns a message that names the row and the text, of which it has the beginning. Releases that without both. */
+static PyObject *with_row(const rejection *rejection, PyObject *message)
+{
+    enum { MOST = 80 };
+    PyObject *begin = message ? PySequence_GetSlice(rejection->object, 0, MOST) : NULL;
+    const char *dots = begin && PySequence_Size(rejection->object) > MOST ? ".." : "";
+    PyObject *whole = begin ? PyUnicode_FromFormat("row %zd: %R%s: %U", rejection->row, begin, dots, message) : NULL;
+    Py_XDECREF(begin);
+    Py_XDECREF(message);
+    return whole;
+}
+
+/* Fills the values of the fields. One that the code does not use is None, an empty str or False. */
+static bool fill(PyObject *module, const rejection *rejection, PyObject **values)
+{
+    const byte_unit_error *error = rejection->error;
+    uint32_t code = rejection->code;
+    bool in_unit = code == BYTE_UNIT_UNIT, at_character = in_unit || code == BYTE_UNIT_NOT_NUMBER;
+    bool is_above = code == BYTE_UNIT_EXCEEDED_BOUNDS, has_row = rejection->row >= 0, filled = true;
+    values[NAME] = Py_XNewRef(PyTuple_GetItem(state_of(module)->codes, (Py_ssize_t)code));
+    values[CHARACTER] = at_character ? PyUnicode_FromOrdinal((int)error->character) : Py_NewRef(Py_None);
+    values[EXPECTED] = PyUnicode_FromString(in_unit ? error->expected : "");
+    values[ALSO_EXPECT_NO_CHARACTER] = PyBool_FromLong(in_unit && error->also_expect_no_character);
+    values[NUMBER] = is_above ? from_decimal(module, error->number) : Py_NewRef(Py_None);
+    values[TEXT] = Py_NewRef(rejection->object);
+    values[ROW] = has_row ? PyLong_FromSsize_t(rejection->row) : Py_NewRef(Py_None);
+    for (int i = 0; i < FIELDS; i++) {
+        filled = filled && values[i];
+    }
+    return filled;
+}
+
+/* Returns the fields as a dictionary. */
+static PyObject *fields_of(state *state, PyObject *const *values)
+{
+    PyObject *fields = PyDict_New();
+    for (int i = 0; fields && i < FIELDS; i++) {
+        if (PyDict_SetItem(fields, state->fields[i], values[i])) {
+            Py_CLEAR(fields);
+        }
+    }
+    return fields;
+}
+
+/* Returns a SizeError with the fields. Makes it as its class does, but without the call of `__init__`. */
+static PyObject *size_error(state *state, PyObject *message, PyObject *const *values)
+{
+    newfunc make = (newfunc)PyType_GetSlot((PyTypeObject *)PyExc_BaseException, Py_tp_new);
+    PyObject *args = PyTuple_Pack(6, message, values[NAME], values[CHARACTER], values[EXPECTED],
+                                  values[ALSO_EXPECT_NO_CHARACTER], values[NUMBER]);
+    PyObject *error = args ? make((PyTypeObject *)state->size_error, args, NULL) : NULL;
+    PyObject *fields = error ? fields_of(state, values) : NULL;
+    if (!fields || PyObject_GenericSetDict(error, fields, NULL)) {
+        Py_CLEAR(error);
+    }
+    Py_XDECREF(args);
+    Py_XDECREF(fields);
+    return error;
+}
+
+PyObject *reject(PyObject *module, const rejection *rejection, explainer *explain)
+{
+    state *state = state_of(module);
+    PyObject *values[FIELDS] = {NULL};
+    PyObject *message = message_of(&rejection->text, rejection->flags, explain);
+    if (rejection->row >= 0) {
+        message = with_row(rejection, message);
+    }
+    PyObject *error = message && fill(module, rejection, values) ? size_error(state, message, values) : NULL;
+    if (error) {
+        PyErr_SetObject(state->size_error, error);
+    }
+    Py_XDECREF(error);
+    Py_XDECREF(message);
+    for (int i = 0; i < FIELDS; i++) {
+        Py_XDECREF(values[i]);
+    }
+    return NULL;
+}

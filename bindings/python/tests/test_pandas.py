@@ -1,0 +1,114 @@
+"""Series of pandas, if it is installed: texts to sizes, and sizes to texts."""
+
+import importlib.util
+import subprocess
+import sys
+import unittest
+
+import byte_unit
+from byte_unit import ByteUnitError, SizeError
+
+HAS_PANDAS = importlib.util.find_spec("pandas") is not None
+HAS_PYARROW = importlib.util.find_spec("pyarrow") is not None
+DTYPES = ["object", "string", "category"] + ["string[pyarrow]"] * HAS_PYARROW
+if HAS_PANDAS:
+    import numpy
+    import pandas
+
+    from byte_unit.pandas import format_sizes, to_sizes
+
+
+class Imports(unittest.TestCase):
+    def test_the_package_imports_neither(self) -> None:
+        code = "import sys, byte_unit; print({'numpy', 'pandas', 'typing', 'dataclasses', 'decimal'} & {*sys.modules})"
+        words = [sys.executable, "-S", "-c", f"import sys; sys.path[:] = {sys.path!r}; {code}"]
+        self.assertEqual(subprocess.check_output(words, text=True), "set()\n")
+
+
+@unittest.skipUnless(HAS_PANDAS, "pandas is not installed")
+class ToSizes(unittest.TestCase):
+    def test_dtypes(self) -> None:
+        for dtype in DTYPES:
+            with self.subTest(dtype):
+                quota = pandas.Series(["1 KB", None, "1 x", "", "2 KiB"], list("abcde"), dtype, "quota")
+                sizes = to_sizes(quota)
+                self.assertEqual((str(sizes.dtype), sizes.name, list(sizes.index)), ("Int64", "quota", list("abcde")))
+                self.assertEqual(sizes.dropna().to_dict(), {"a": 1000, "e": 2048})
+                self.assertEqual(list(byte_unit.parse_many(quota).codes), [0, 7, 5, 1, 0])
+                sizes["b"] = 5  # neither numbers nor mask is a view
+                self.assertEqual(sizes.sum(), 3053)
+
+    def test_nulls(self) -> None:
+        texts = ["1", None, float("nan"), numpy.nan, pandas.NA, pandas.NaT, numpy.float64("nan")]
+        self.assertEqual(to_sizes(pandas.Series(texts, dtype=object)).isna().tolist(), [False] + [True] * 6)
+        self.assertEqual(list(byte_unit.parse_many(texts).codes), [0] + [7] * 6)
+        for empty in (pandas.Series([], dtype=object), pandas.Series([None], dtype=object)[:0]):
+            self.assertEqual((len(to_sizes(empty)), str(to_sizes(empty).dtype)), (0, "Int64"))
+        for wrong in ([1], [1.5], ["1", 2], [pandas.Timestamp(0)]):
+            with self.assertRaises(TypeError):
+                to_sizes(pandas.Series(wrong))
+
+    def test_errors(self) -> None:
+        quota = pandas.Series(["1", None, "1 x"], ["a", "b", "c"])
+        with self.assertRaisesRegex(SizeError, "^row 2: '1 x': the character 'x'") as caught:
+            to_sizes(quota, errors="raise")
+        self.assertEqual((caught.exception.row, caught.exception.text), (2, "1 x"))
+        self.assertEqual(to_sizes(quota[:2], errors="raise").tolist(), [1, pandas.NA])
+        reasons = list(byte_unit.parse_many(quota).errors(quota))
+        self.assertEqual([(row, error.text) for row, error in reasons], [(2, "1 x")])
+
+    def test_flags(self) -> None:
+        quota = pandas.Series(["9 b"])
+        self.assertEqual(to_sizes(quota, ignore_case=True).tolist(), [9])
+        self.assertEqual(to_sizes(quota, bits=True).tolist(), [9])
+
+    def test_large_sizes(self) -> None:
+        for size in (2**63 - 1, 2**63, 2**64, 10**30 - 1):
+            quota, large = pandas.Series(["1", None, str(size)]), size >= 2**63
+            with self.subTest(size):
+                null = to_sizes(quota, overflow="null").tolist()
+                self.assertEqual(null, [1, pandas.NA, pandas.NA if large else size])
+                self.assertEqual(to_sizes(quota, overflow="saturate").tolist(), [1, pandas.NA, min(size, 2**63 - 1)])
+                if large:
+                    with self.assertRaisesRegex(ByteUnitError, "^row 2: the size"):
+                        to_sizes(quota)
+        self.assertEqual(byte_unit.parse_many(pandas.Series(["1 EB"] * 20)).sum(), 20 * 10**18)
+
+
+@unittest.skipUnless(HAS_PANDAS, "pandas is not installed")
+class FormatSizes(unittest.TestCase):
+    def test_dtypes(self) -> None:
+        for dtype in ("Int64", "UInt64", "object"):
+            sizes = pandas.Series([1536, None, 0], list("abc"), dtype, "quota")
+            texts = format_sizes(sizes)
+            with self.subTest(dtype):
+                self.assertEqual((str(texts.dtype), texts.name, list(texts.index)), ("string", "quota", list("abc")))
+                self.assertEqual(texts.tolist(), ["1.5 KiB", pandas.NA, "0 B"])
+        self.assertEqual(format_sizes(pandas.Series([2**63 - 1])).tolist(), [byte_unit.text(2**63 - 1)])
+        self.assertEqual(format_sizes(pandas.Series([10**30 - 1, None], dtype=object))[0], byte_unit.text(10**30 - 1))
+        self.assertEqual(str(format_sizes(pandas.Series([], dtype="Int64")).dtype), "string")
+
+    def test_options(self) -> None:
+        sizes = pandas.Series([123456, 1536])
+        self.assertEqual(format_sizes(sizes, unit="KiB", precision=1).tolist(), ["120.6 KiB", "1.5 KiB"])
+        self.assertEqual(format_sizes(sizes, alternate=False, width=8, sign="plus").tolist(), [" +123456", "   +1536"])
+        self.assertEqual(format_sizes(sizes, bits=True, align="right", width=9)[1], "  1.5 Kib")
+        for wrong in ({"unit": "kib"}, {"precision": -1}, {"sign": "+"}):
+            with self.assertRaises(ByteUnitError):
+                format_sizes(sizes, **wrong)
+
+    def test_wrong_sizes(self) -> None:
+        for wrong in ([-1], [10**30]):
+            with self.assertRaises(ByteUnitError):
+                format_sizes(pandas.Series(wrong))
+        for other in ([1.5], ["1"]):
+            with self.assertRaises(TypeError):
+                format_sizes(pandas.Series(other))
+
+    def test_round_trip(self) -> None:
+        sizes = pandas.Series([0, 1, 1536, 10**18 + 1, None], dtype="Int64")
+        pandas.testing.assert_series_equal(to_sizes(format_sizes(sizes), errors="raise"), sizes)
+
+
+if __name__ == "__main__":
+    unittest.main()
