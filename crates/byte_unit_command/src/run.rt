@@ -34,7 +34,7 @@ pub(crate) const DIGITS: usize = 65600;
 
 /// Reads the whole input, and writes each record, with the chosen fields replaced.
 ///
-/// Messages about fields are written to `streams.errors`. After a failure of it, the run goes on without them.
+/// Messages about fields are written to `streams.errors`. Once a write to it has failed, the run goes on without them.
 ///
 /// On `Ok` the whole output has been written. Returns what was counted.
 ///
