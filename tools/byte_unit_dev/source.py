@@ -10,7 +10,7 @@ import os
 import re
 import textwrap
 
-from .common import Failure, path, read
+from .common import Failure, copy_to, path, read, write
 
 STRING = r'"(?:\\.|[^"\\])*"|\'(?:\\.[^\']*|[^\'\\])\''
 QUOTED = re.compile(rf"//[^\n]*|{STRING}", re.S)
@@ -52,6 +52,15 @@ def below(names):
         needed |= more
         more = {name for crate in more for name in crates()[crate] if name in crates()} - needed
     return [name for name in crates() if name in needed]
+
+
+def copy_crates(folder, names, more, without):
+    """Copies crates and those that they need, but for what has one of the names of `without`, and writes a crates.txt
+    with more crates."""
+    rows = {name: crates()[name] for name in below(names)}
+    copy_to(folder, *(f"crates/{name}" for name in rows), without=without)
+    lines = "".join(f"{name}: {' '.join(needed)}\n" for name, needed in {**rows, **more}.items())
+    write(os.path.join(folder, "crates.txt"), lines)
 
 
 def library():

@@ -11,8 +11,8 @@ import subprocess
 import tempfile
 from collections import namedtuple
 
-from ..common import call, copy_to, path, read, write
-from ..source import Source, below, crates, files, library
+from ..common import call, path, read, write
+from ..source import Source, below, copy_crates, crates, files, library
 from .text import blocks, line_at
 
 # The generated crate, and its module.
@@ -96,10 +96,9 @@ def module_of(examples):
 
 def set_up(top, examples):
     """Copies the crates that the examples need, and adds that of the tests. Returns where its lines come from."""
-    rows = {crate: crates()[crate] for crate in below([*library(), *(example.crate for example in examples)])}
-    copy_to(top, *(f"crates/{crate}" for crate in rows), without=["out", "must-fail", "mutants.edits"])
-    rows[EXAMPLES] = sorted({"anyhow", *rows, *(name for names in rows.values() for name in names)})
-    write(os.path.join(top, "crates.txt"), "".join(f"{crate}: {' '.join(names)}\n" for crate, names in rows.items()))
+    copied = below([*library(), *(example.crate for example in examples)])
+    used = sorted({"anyhow", *copied, *(name for crate in copied for name in crates()[crate])})
+    copy_crates(top, copied, {EXAMPLES: used}, ["out", "must-fail", "mutants.edits"])
     text, places = module_of(examples)
     source = os.path.join(top, "crates", EXAMPLES, "src")
     write(f"{source}/lib.rt", f"//! The examples.\n#![tactic(auto)]\n\n#[cfg(test)]\nmod {EXAMPLES};\n")
