@@ -2,17 +2,15 @@
 
 DIR has the sources of the crate: `src/lib.rs` and so on, or files whose names have `--` in place of `/` and end in
 `.txt`, as `src--lib.rs.txt`. They are built offline, over crates that `tools/dev setup --compared` installs. The crate,
-the C library (called by the Python package's C) or the Rust package, and an exact model take N random requests: texts
-and spellings of units to parse, sizes to format, numbers of units. Prints how many results each rule explains.
+the Rust package, which calls the C library, and an exact model take N random requests: texts and spellings of units to
+parse, sizes to format, numbers of units. Prints how many results each rule explains.
 
 The status is 1 if a result of the library is not that of the model, if no rule explains a difference, if one of 20,000
 results of the library with another digit is not found to be wrong, or if docs/DIFFERENCES.md lacks the words of a rule.
 """
 
-import importlib
 import random
 import re
-import sys
 import tempfile
 
 from .. import builds
@@ -26,7 +24,6 @@ PROGRAM, KINDS, CHANGED = "bindings/rust/checks/compare.rs", ("byte", "bit"), 20
 def arguments(parser):
     parser.add_argument("--count", type=int, default=300_000, metavar="N")
     parser.add_argument("--seed", type=int, default=1)
-    parser.add_argument("--package", action="store_true", help="take the Rust package in place of the C library")
     parser.add_argument("--library", metavar="LIBRARY", help="a folder that tools/make-libraries has filled")
     parser.add_argument("original", metavar="DIR")
 
@@ -54,47 +51,6 @@ def calls_of(words):
             yield "appropriate units", rules.appropriate, (size, kind, unit_type)
         yield "formatted sizes", rules.formatted, (size, kind, spec)
         yield "formatted adjusted sizes", rules.adjusted, (size, kind, unit, spec)
-
-
-class Library:
-    """The C library, through the extension module of the Python package, which is C: calls by their names in rules."""
-
-    def __init__(self, folder, work):
-        sys.path.insert(0, builds.python(folder, work)["PYTHONPATH"])
-        self.native = importlib.import_module("byte_unit._native")
-
-    def parsed(self, text, kind, ignore_case):
-        size = self.native.parse(text, kind == "bit", ignore_case)
-        return f"! {self.native.explain(text, kind == 'bit', ignore_case)}" if size is None else str(size)
-
-    def parsed_unit(self, text, kind, ignore_case):
-        found, wrong = (function(text, kind == "bit", ignore_case)
-                        for function in (self.native.parse_unit, self.native.explain_unit))
-        return f"! {wrong}" if wrong else self.native.UNITS[found]
-
-    def in_unit(self, size, kind, either, precision):
-        if precision is None:
-            count, unit = self.native.exact_unit(size, kind == "bit", either)
-        else:
-            (count, fraction), unit = self.native.recoverable_unit(size, kind == "bit", either, precision)
-            count = rules.trimmed(f"{count}.{fraction:028}")
-        return f"{count} {self.native.UNITS[unit]}"
-
-    def appropriate(self, size, kind, unit_type):
-        types = (self.native.BINARY, self.native.DECIMAL, self.native.BOTH)
-        return self.native.UNITS[self.native.appropriate_unit(size, kind == "bit", types[unit_type])]
-
-    def formatted(self, size, kind, spec, unit=None):
-        unit = self.native.UNITS.index(unit) if unit else self.native.NO_UNIT
-        parts = (spec.alternate, spec.precision, spec.width or None, spec.sign, spec.align)
-        return self.native.text_of(size, kind == "bit", unit, *parts)
-
-    def adjusted(self, size, kind, unit, spec):
-        return self.formatted(size, kind, spec, unit)
-
-    def of_unit(self, count, unit, kind):
-        size = self.native.from_unit(count, self.native.UNITS.index(unit), kind == "bit")
-        return "-" if size is None else str(size)
 
 
 def by_program(program, lines):
@@ -129,13 +85,8 @@ def run(given):
         original = builds.original(given.original, work)
         library = builds.library_of(given.library, work)
         lines = list(requests(random.Random(given.seed), given.count))
-        theirs = by_program(builds.program(PROGRAM, original), lines)
-        if given.package:
-            ours = by_program(builds.program(PROGRAM, builds.copied("rust", work), library), lines)
-        else:
-            calls = Library(library, work)
-            ours = [[getattr(calls, call.__name__)(*given) for _, call, given in calls_of(line.split())]
-                    for line in lines]
+        theirs, ours = (by_program(builds.program(PROGRAM, *crate), lines)
+                        for crate in ([original], [builds.copied("rust", work), library]))
     found, findings = compared(lines, theirs, ours, given.seed)
     print("What was compared | What differs | Results | An example: the call, the crate; the library\n---|---|---|---")
     for (what, rule), (count, example) in sorted(found.items(), key=str):
