@@ -312,6 +312,14 @@ def exports(crate, module="lib"):
     return found
 
 
+@functools.lru_cache(maxsize=None)
+def public_names(crate):
+    """Returns the public modules of a crate's root, and the names that it exports by `pub use`."""
+    text = source(f"crates/{crate}/src/lib.rt").plain
+    used = " ".join(re.findall(r"^pub use [\w:]+::(\{[^}]*\}|\w+);", text, re.M))
+    return set(re.findall(r"^pub mod (\w+);", text, re.M)), set(re.findall(r"\w+", used))
+
+
 def catalogue(crate):
     """Returns the mutants that the catalogue of a crate has, by title, in order."""
     name, found, title = f"crates/{crate}/mutants.edits", {}, None

@@ -12,7 +12,7 @@ import tempfile
 from collections import namedtuple
 
 from ..common import call, path, read, write
-from ..source import Source, below, copy_crates, crates, files, library
+from ..source import Source, below, copy_crates, crates, files, library, public_names
 from .text import blocks, line_at
 
 # The generated crate, and its module.
@@ -58,21 +58,14 @@ def without_comment(source):
             yield f"{source.name}:{line}: the public function {found[1]} has no doc comment"
 
 
-def exported(crate):
-    """Returns the names that the root of a crate of the library exports, its public modules among them."""
-    text = read(f"crates/{crate}/src/lib.rt")
-    lists = re.findall(r"^pub use [\w:]+::(\{[^}]*\}|\w+);", text, re.M) + re.findall(r"^pub mod (\w+);", text, re.M)
-    return {name for names in lists for name in re.findall(r"\w+", names)}
-
-
-def imports_of(example, names_of):
+def imports_of(example):
     """Returns a `use` line for each exported name in an example: of its own crate, or else of `byte_unit`."""
     code = re.sub(r'"(?:[^"\\]|\\.)*"', '""', re.sub(r"//.*", "", example.text))
     own = set(re.findall(r"\w+", "\n".join(re.findall(r"^use .*", example.text, re.M))))
     used = set(re.findall(r"(?<![\w:.])[A-Z]\w*|(?<![\w:.])[a-z]\w*(?=\(|::)", code)) - own
     made = []
     for crate in dict.fromkeys([example.crate, "byte_unit"]):
-        found = sorted(used & names_of.get(crate, set()))
+        found = sorted(used & set().union(*public_names(crate)))
         made += [f"    use {crate}::{name};" for name in found]
         used -= set(found)
     return made
@@ -81,11 +74,10 @@ def imports_of(example, names_of):
 def module_of(examples):
     """Returns the text of a module of tests, and the file and line that each of its lines comes from."""
     made, places = [], []
-    names_of = {crate: exported(crate) for crate in library()}
     for example in examples:
         lines = example.text.splitlines()
         head = ["", "#[test]", f"fn {example.test}(rt: HostRuntime) -> anyhow::Result<()> {{"]
-        head += imports_of(example, names_of)
+        head += imports_of(example)
         if re.search(r"\balloc\b", example.text):
             head.append("    let alloc = rt.alloc();")
         made += head + [f"    {line}".rstrip() for line in lines] + ["    Ok(())", "}"]
