@@ -11,7 +11,7 @@ import subprocess
 import tempfile
 from collections import namedtuple
 
-from ..common import call, path, read, write
+from ..common import call, write
 from ..source import Source, below, copy_crates, crates, files, library, public_names
 from .text import blocks, line_at
 
@@ -35,18 +35,12 @@ def examples_of(source):
             wrong.append(f"{where}: a block without a language")
         elif block.language == "text" and re.search("::|//", block.text):
             wrong.append(f"{where}: code in a block of text; make it ```rust with assertions")
-        elif block.language == "rust" and not is_library(crate):
-            wrong.append(f"{where}: an example of a crate that no crate can use; make it a test")
+        elif block.language == "rust" and not any(crate in used for used in crates().values()):
+            wrong.append(f"{where}: an example of a crate that no crate uses; make it a test")
         elif block.language == "rust":
             test = re.sub(r"\W", "_", f"{crate}_{file}_{block.line}").lower()
             found.append(Example(source.name, block.line, block.text, crate, test))
     return found, wrong
-
-
-def is_library(crate):
-    """Tells whether another crate can use this one."""
-    is_program = os.path.exists(path("crates", crate, "src/main.rt"))
-    return not is_program and not re.search(rf"^{crate} staticlib", read("crates.txt"), re.M)
 
 
 def without_comment(source):
