@@ -15,9 +15,10 @@ from .common import Failure, copy_to, path, read, write
 STRING = r'"(?:\\.|[^"\\])*"|\'(?:\\.[^\']*|[^\'\\])\''
 QUOTED = re.compile(rf"//[^\n]*|{STRING}", re.S)
 WORD = re.compile(r"[^\W\d][\w\-]*")
-# The first line of a definition, with its name. Its kind, such as `abbrev` or `record`, is before or after `pub`.
-DEFINITION = re.compile(r"^(?:[a-z]+ )?pub (?!mod |use )(?:[a-z]+ )?([^\s:(){}]+)", re.M)
-COMMENT = r"(?:^--(?: .*)?\n)*"
+COMMENT = r"((?:^--(?: .*)?\n)*)"
+# The comment of a definition and its first line, with its name. Its kind, such as `abbrev` or `record`, is before or
+# after `pub`.
+DEFINITION = re.compile(rf"{COMMENT}^(?:[a-z]+ )?pub (?!mod |use )(?:[a-z]+ )?([^\s:(){{}}]+)", re.M)
 # The crates of examples and tests.
 EXAMPLES = re.compile(r"example_\w+|byte_unit_uses|byte_unit_tests")
 # Parts of a file that are all its lines of a form.
@@ -195,11 +196,16 @@ def imports_of(text):
     return words
 
 
+def uncommented(text):
+    """Returns a comment of definitions in one line, without its marks."""
+    return " ".join(line.removeprefix("--").strip() for line in text.splitlines())
+
+
 class Definition:
     """A definition: its name, comment and text, the words that it uses, and what it makes (its constructors)."""
 
     def __init__(self, name, comment, text):
-        self.name, self.comment, self.text = name, comment, text
+        self.name, self.comment, self.text = name, uncommented(comment), text
         self.makes = set()
         if re.match(r"(?:pub )?data\b", text):
             self.makes = set(WORD.findall(" ".join(re.findall(r"^  ((?!--)[^:\n]*):", text, re.M)))) - {"pub"}
@@ -219,22 +225,11 @@ class Spec:
         self.name, self.text = name, read(name)
         self.crate = name.split("/")[1]
         self.module = name.split("/specs/")[1].removesuffix(".antt").replace("/", ".")
-        head = re.match(COMMENT, self.text, re.M)[0]
-        self.head = " ".join(line.removeprefix("--").strip() for line in head.splitlines())
-        self.imports = imports_of(self.text)
-        self.definitions = self.find(len(head))
-
-    def find(self, after_head):
-        """Returns the definitions in their order. One that opens the file has the head as its comment."""
-        found = [(match, re.search(rf"{COMMENT}\Z", self.text[:match.start()], re.M))
-                 for match in DEFINITION.finditer(self.text)]
-        ends = [comment.start() for _, comment in found[1:]] + [len(self.text)]
-        made = {}
-        for (match, comment), end in zip(found, ends):
-            lines = comment[0] if comment.start() >= after_head else self.text[:after_head]
-            said = " ".join(line.removeprefix("--").strip() for line in lines.splitlines())
-            made[match[1]] = Definition(match[1], said, self.text[match.start():end])
-        return made
+        self.head = uncommented(re.match(COMMENT, self.text, re.M)[0])
+        self.imports, found = imports_of(self.text), list(DEFINITION.finditer(self.text))
+        ends = [match.start() for match in found[1:]] + [len(self.text)]
+        self.definitions = {match[2]: Definition(match[2], match[1], self.text[match.end(1):end])
+                            for match, end in zip(found, ends)}
 
     def maker(self, word):
         """Returns the name of the definition that is or makes the word, or None."""
