@@ -202,13 +202,12 @@ def uncommented(text):
 
 
 class Definition:
-    """A definition: its name, comment and text, the words that it uses, and what it makes (its constructors)."""
+    """A definition: its name, comment and text, the words that it uses, and those for it and its constructors."""
 
     def __init__(self, name, comment, text):
         self.name, self.comment, self.text = name, uncommented(comment), text
-        self.makes = set()
-        if re.match(r"(?:pub )?data\b", text):
-            self.makes = set(WORD.findall(" ".join(re.findall(r"^  ((?!--)[^:\n]*):", text, re.M)))) - {"pub"}
+        made = re.findall(r"^  ((?!--)[^:\n]*):", text, re.M) if re.match(r"(?:pub )?data\b", text) else []
+        self.makes = {name, *WORD.findall(" ".join(made))} - {"pub"}
 
     def words(self, without=()):
         """Returns the words that it uses, but for those of the fields in `without`."""
@@ -219,7 +218,7 @@ class Definition:
 
 
 class Spec:
-    """A file of definitions. `head` is the comment that it begins with."""
+    """A file of definitions. `head` is the comment that it begins with, and `maker` has the definition of each word."""
 
     def __init__(self, name):
         self.name, self.text = name, read(name)
@@ -230,12 +229,7 @@ class Spec:
         ends = [match.start() for match in found[1:]] + [len(self.text)]
         self.definitions = {match[2]: Definition(match[2], match[1], self.text[match.end(1):end])
                             for match, end in zip(found, ends)}
-
-    def maker(self, word):
-        """Returns the name of the definition that is or makes the word, or None."""
-        if word in self.definitions:
-            return word
-        return next((name for name, found in self.definitions.items() if word in found.makes), None)
+        self.maker = {word: name for name, found in self.definitions.items() for word in found.makes}
 
 
 @functools.lru_cache(maxsize=None)
@@ -255,8 +249,8 @@ def specs(crate):
     found = {spec.module: spec for spec in map(Spec, files(f"crates/{crate}/specs", ".antt"))}
     library = found.pop("Lib", None)
     order = re.findall(r"^pub mod (\w+)", library.text, re.M) if library else []
-    places = {name: place for place, name in enumerate(order)}
-    return dict(sorted(found.items(), key=lambda item: (places.get(item[0], len(order)), item[0])))
+    last = sorted(found.keys() - {*order})
+    return {name: found[name] for name in [*order, *last] if name in found}
 
 
 def home_of_spec(crate, module):
@@ -272,12 +266,12 @@ def home_of_spec(crate, module):
 def resolved(words, imports, own=None):
     """Yields the definitions that words mean, as crate, module and name. `own` is the file in which they are used."""
     for word in words:
-        if own and own.maker(word):
-            yield own.crate, own.module, own.maker(word)
+        if own and word in own.maker:
+            yield own.crate, own.module, own.maker[word]
         elif word in imports:
             crate, module, name = imports[word]
             home = home_of_spec(crate, module) if crate in crates() else None
-            maker = home and specs(home[0])[home[1]].maker(name)
+            maker = home and specs(home[0])[home[1]].maker.get(name)
             if maker:
                 yield *home, maker
 
