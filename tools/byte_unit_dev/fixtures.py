@@ -1,5 +1,4 @@
-"""What tests share: options, fixtures of what is built once, comparisons with the exact model, runs of programs, and the
-way to report."""
+"""What tests share: options, fixtures of what is built once, comparisons with the model, runs of programs, reports."""
 
 import contextlib
 import functools

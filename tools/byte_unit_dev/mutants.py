@@ -57,8 +57,9 @@ def public_functions(crate):
             continue
         for match in FUNCTION.finditer(file.code):
             impls = IMPL.findall(file.text[:match.start()]) if match[0].startswith("    ") else []
-            exported = is_program or match[1] or modules_of_file[0] in modules or {match[2], *impls[-1:]}.intersection(names)
-            if exported and any(clause.startswith("ensures") for clause in file.function(match.start())[1]):
+            is_exported = match[1] or modules_of_file[0] in modules or {match[2], *impls[-1:]}.intersection(names)
+            clauses = file.function(match.start())[1] if is_program or is_exported else ()
+            if any(clause.startswith("ensures") for clause in clauses):
                 found.append((modules_of_file, match[2]))
     return found
 
