@@ -4,7 +4,7 @@ What is drawn shrinks: zeros make a call of few words on a short input.
 """
 
 import random
-from dataclasses import dataclass
+from collections import namedtuple
 
 from byte_unit_dev.model.exact import LETTERS, SIZE_LIMIT, Rejected, size_of
 from byte_unit_dev.model.lines import some_line
@@ -92,18 +92,9 @@ def some_limit(rng, texts):
             return text
 
 
-@dataclass
-class Drawn:
-    """How often an option is drawn, what draws its value, how its wrong values begin (the first is wrong alone), and
-    the option that it needs or that it cannot be with."""
-
-    percent: int
-    text: object = lambda rng, texts: ""
-    wrong: tuple = ()
-    needs: str = ""
-    without: str = ""
-
-
+# How often an option is drawn, what draws its value, how its wrong values begin (the first is wrong alone), and the
+# option that it needs or that it cannot be with.
+Drawn = namedtuple("Drawn", "percent text wrong needs without", defaults=[lambda rng, texts: "", (), "", ""])
 DRAWN = {
     "bits": Drawn(30),
     "ignore-case": Drawn(43, without="bits"),

@@ -9,7 +9,7 @@ import functools
 import getopt
 import re
 import unicodedata
-from dataclasses import dataclass
+from collections import namedtuple
 from types import SimpleNamespace
 
 from byte_unit_dev.model.exact import (BASE, FORM_PLACES, SIZE_LIMIT, UNITS, WHITE_SPACE, Rejected, best_unit, largest,
@@ -97,17 +97,9 @@ def ranges(text, options):
     return [(int(first or 1), int(last)) for first, last in pairs]
 
 
-@dataclass
-class Option:
-    """An option: its letter; its value in a call without it; what returns its value, of its text and the options in the
-    rows before; and its text if it has none, but for `None` the next word is its text."""
-
-    letter: str = ""
-    default: object = False
-    value: object = lambda text, options: True
-    alone: str | None = ""
-
-
+# An option: its letter; its value in a call without it; what returns its value, of its text and the options in the rows
+# before; and its text if it has none, but for `None` the next word is its text.
+Option = namedtuple("Option", "letter default value alone", defaults=["", False, lambda text, options: True, ""])
 OPTIONS = {
     "bits": Option(),
     "ignore-case": Option("i"),

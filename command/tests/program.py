@@ -1,6 +1,7 @@
 """A call of byte-unit and its result. The program gets its input as a file, or in pieces of which each is one read."""
 
 import os
+import reprlib
 import socket
 import subprocess
 from contextlib import suppress
@@ -9,13 +10,9 @@ from dataclasses import dataclass, fields
 # The program asks for this number of bytes in each read; of a longer packet the rest would be lost.
 CHUNK = 65536
 SECONDS = 600
-SHOWN = 300
-
-
-def shown(value):
-    """Returns the text of a value, without the rest of a long one."""
-    is_long = isinstance(value, (bytes, list)) and len(value) > SHOWN
-    return f"{value[:SHOWN]!r}.. ({len(value)})" if is_long else repr(value)
+# Shows values, but for the middle of long ones.
+SHORT = reprlib.Repr()
+SHORT.maxlist = SHORT.maxstring = SHORT.maxother = 300
 
 
 @dataclass(repr=False)
@@ -27,7 +24,7 @@ class Call:
     cuts: list | None = None
 
     def __repr__(self):
-        return f"Call({shown(self.words)}, {shown(self.data)}{f', cut at {shown(self.cuts)}' if self.cuts else ''})"
+        return f"Call({', '.join(map(SHORT.repr, (self.words, self.data, self.cuts)))})"
 
     def pieces(self):
         """Returns the parts of the input that the reads take."""
@@ -54,7 +51,7 @@ class Result:
                 at = len(os.path.commonprefix([got, right]))
                 name, got, right = f"{name} at byte {at}", got[max(0, at - 60) :], right[max(0, at - 60) :]
             if got != right:
-                yield f"{name}: {shown(got)}, not {shown(right)}"
+                yield f"{name}: {SHORT.repr(got)}, not {SHORT.repr(right)}"
 
 
 def memory(data=b""):

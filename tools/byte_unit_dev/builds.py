@@ -7,7 +7,7 @@ import shutil
 from pathlib import Path
 
 from .common import Failure, output, path, write
-from .needs import DEBIAN_PYTHON, DEBIAN_RUST, is_there
+from .needs import DEBIAN_RUST, is_there
 
 CRATES = ("rust_decimal", "utf8-width", "serde", "serde_json", "toml")
 NEEDS = ["cargo", *(f"{DEBIAN_RUST}/{name}-*" for name in CRATES)]
@@ -45,14 +45,6 @@ def library_of(given, work):
         os.mkdir(library)
         output(path("tools/make-libraries"), library)
     return library
-
-
-def python(library, work):
-    """Builds the Python package over the C library. Returns the environment in which Python finds it."""
-    env = environment(BYTE_UNIT_LIBRARY_DIR=library, PYTHONPATH=f"{work}/python")
-    words = ["setup.py", "-q", "build", "--build-base", f"{work}/build", "--build-lib", f"{work}/python"]
-    output(DEBIAN_PYTHON, *words, cwd=path("bindings/python"), env=env)
-    return env
 
 
 def original(given, work):

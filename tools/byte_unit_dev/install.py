@@ -30,11 +30,10 @@ import time
 from pathlib import Path
 
 from . import libraries
-from .common import Failure, has_program, path, read, reason
+from .common import Failure, path, read, reason
 from .libraries import ARCHIVE, EXTENSION, HEADER
 from .replace import missing_folders, remove, remove_folders, replace
 
-LIB = "lib"
 LIST = "share/byte_unit/installed"
 COMMAND = "byte-unit"
 
@@ -56,10 +55,8 @@ def run(given):
     root = Path(os.path.normpath(os.environ.get("DESTDIR", "") + prefix))
     if given.uninstall:
         uninstall(root)
-    elif given.source or has_program("rt"):
-        install(given, prefix, root)
     else:
-        raise Failure("needs the Rattle toolchain (rt): see README.md")
+        install(given, prefix, root)
 
 
 def install(given, prefix, root):
@@ -84,11 +81,11 @@ def install(given, prefix, root):
 
 
 def print_hints(prefix, files):
-    folder = shlex.quote(os.path.join(prefix, LIB))
+    folder = shlex.quote(os.path.join(prefix, "lib"))
     print(f"to compile: cc program.c $(PKG_CONFIG_PATH={folder}/pkgconfig pkg-config --cflags --libs byte_unit)")
-    if f"{LIB}/libbyte_unit.so" in files:
+    if "lib/libbyte_unit.so" in files:
         print(f"to run: `ldconfig` as root if the loader reads {folder}, else LD_LIBRARY_PATH={folder}")
-    if f"{LIB}/{EXTENSION}" in files:
+    if f"lib/{EXTENSION}" in files:
         print(f"in sqlite3: .load {folder}/sqlite3/byte_unit")
 
 
@@ -126,8 +123,8 @@ def calls_of(header):
 def files_of(folder, prefix, given):
     """Returns what to install: paths below PREFIX, each with its contents as bytes, or the path that it links to."""
     shared, soname, short = libraries.shared_names(folder)
-    built = {f"include/{HEADER}": HEADER, **{f"{LIB}/{name}": name for name in (ARCHIVE, shared)}}
-    built.update({} if given.without_sqlite else {f"{LIB}/{EXTENSION}": EXTENSION})
+    built = {f"include/{HEADER}": HEADER, **{f"lib/{name}": name for name in (ARCHIVE, shared)}}
+    built.update({} if given.without_sqlite else {f"lib/{EXTENSION}": EXTENSION})
     built.update({} if given.without_command else {f"bin/{COMMAND}": COMMAND})
     files = {place: (folder / name).read_bytes() for place, name in built.items() if (folder / name).exists()}
     others = {"share/byte_unit/LICENSE": "LICENSE", "share/man/man3/byte_unit.3": "bindings/c/byte_unit.3"}
@@ -136,10 +133,10 @@ def files_of(folder, prefix, given):
         others["share/bash-completion/completions/byte-unit"] = "command/byte-unit.bash"
     files.update({place: Path(path(name)).read_bytes() for place, name in others.items()})
     config = read("bindings/c/byte_unit.pc.in").replace("@PREFIX@", prefix)
-    files[f"{LIB}/pkgconfig/byte_unit.pc"] = config.replace("@VERSION@", shared.partition(".so.")[2]).encode()
+    files["lib/pkgconfig/byte_unit.pc"] = config.replace("@VERSION@", shared.partition(".so.")[2]).encode()
     files.update({f"share/man/man3/{call}.3": "byte_unit.3" for call in calls_of(read(folder / HEADER))})
-    if f"{LIB}/{shared}" in files:
-        files.update({f"{LIB}/{soname}": shared, f"{LIB}/{short}": soname})
+    if f"lib/{shared}" in files:
+        files.update({f"lib/{soname}": shared, f"lib/{short}": soname})
     return files
 
 

@@ -25,9 +25,9 @@ import re
 import tempfile
 import zlib
 
-from .common import copy_to, one_of, path, read, report, session, write
+from .common import copy_to, one_of, path, report, session, write
 from .render import bits
-from .source import EXAMPLES, catalogue, files, source
+from .source import EXAMPLES, catalogue, files, public_names, source
 
 # What the names of the mutants begin with that `put` copies.
 BY_TURN = "by-turn."
@@ -49,17 +49,17 @@ def titles_of(crate):
 def public_functions(crate):
     """Returns the modules of the file and the name of each public function with a contract."""
     found, top = [], f"crates/{crate}/src"
-    root = read(f"{top}/lib.rt") if os.path.exists(path(top, "lib.rt")) else None
-    modules = set(re.findall(r"^pub mod (\w+);", root or "", re.M))
-    names = set(re.findall(r"\w+", " ".join(re.findall(r"^pub use (.*?);", root or "", re.M | re.S))))
+    is_program = os.path.exists(path(top, "main.rt"))
+    modules, names = ((), ()) if is_program else public_names(crate)
     for file in map(source, files(top, ".rt")):
         modules_of_file = file.name.removeprefix(f"{top}/").removesuffix(".rt").split("/")
         if {"tests", "laws"} & set(modules_of_file) or file.text.startswith("// Rendered from "):
             continue
         for match in FUNCTION.finditer(file.code):
             impls = IMPL.findall(file.text[:match.start()]) if match[0].startswith("    ") else []
-            exported = root is None or match[1] or modules_of_file[0] in modules or {match[2], *impls[-1:]} & names
-            if exported and any(clause.startswith("ensures") for clause in file.function(match.start())[1]):
+            is_exported = match[1] or modules_of_file[0] in modules or {match[2], *impls[-1:]}.intersection(names)
+            clauses = file.function(match.start())[1] if is_program or is_exported else ()
+            if any(clause.startswith("ensures") for clause in clauses):
                 found.append((modules_of_file, match[2]))
     return found
 

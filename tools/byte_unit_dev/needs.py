@@ -13,14 +13,14 @@ import sys
 from .common import call
 
 DEBIAN_RUST = "/usr/share/cargo/registry"
-DEBIAN_PYTHON = "/usr/bin/python3"
+DEBIAN_PYTHON, PYTHON_H = "/usr/bin/python3", "/usr/include/python3.*/Python.h"
 # What tests need, and the package that has it. A need is a program; a file, if it begins with a slash; a C header; or a
 # module of Debian's Python.
 PACKAGES = {
     "cc": "gcc", "gcc": "gcc", "g++": "g++", "clang": "clang", "clang++": "clang", "ld.lld": "lld",
     "musl-gcc": "musl-tools", "nm": "binutils", "readelf": "binutils", "pkg-config": "pkg-config", "mandoc": "mandoc",
     "qemu-x86_64": "qemu-user", "sqlite3": "sqlite3", "sqlite3ext.h": "libsqlite3-dev", "mypy": "mypy",
-    "Python.h": "python3-dev", "import tomllib": "python3",
+    PYTHON_H: "python3-dev", "import tomllib": "python3",
     "import setuptools": "python3-setuptools", "import wheel": "python3-wheel",
     "import ensurepip": "python3-venv", "import pip": "python3-pip", "import pytest": "python3-pytest",
     "import hypothesis": "python3-hypothesis", "import numpy": "python3-numpy", "import pandas": "python3-pandas",
@@ -36,7 +36,7 @@ COMPARED = {
     "import humanfriendly": "python3-humanfriendly", "import humanize": "python3-humanize", "valgrind": "valgrind",
 }
 # The Python package needs CPython 3.11 or later, which has tomllib.
-PYTHON_PACKAGE = ["Python.h", "import tomllib", "import setuptools", "import wheel", "import ensurepip", "import pip",
+PYTHON_PACKAGE = [PYTHON_H, "import tomllib", "import setuptools", "import wheel", "import ensurepip", "import pip",
                   "gcc", "pkg-config"]  # fmt: skip
 
 
@@ -47,8 +47,6 @@ def is_there(need):
         return bool(glob.glob(need))
     if need.startswith("import "):
         return os.path.exists(DEBIAN_PYTHON) and call(DEBIAN_PYTHON, "-c", need).returncode == 0
-    if need == "Python.h":
-        return bool(glob.glob("/usr/include/python3.*/Python.h"))
     if need.endswith(".h"):
         compilers = filter(shutil.which, ("gcc", "clang"))
         return any(call(cc, "-E", "-", input=f"#include <{need}>\n").returncode == 0 for cc in compilers)

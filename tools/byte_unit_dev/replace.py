@@ -1,5 +1,6 @@
 """Replaces many files: all of them, or none if one cannot be written or a signal comes."""
 
+import contextlib
 import os
 import shutil
 import signal
@@ -25,10 +26,8 @@ def remove(files):
 def remove_folders(folders):
     """Removes the folders that are empty, the inner ones first."""
     for folder in sorted(folders, reverse=True):
-        try:
+        with contextlib.suppress(OSError):
             folder.rmdir()
-        except OSError:
-            pass
 
 
 def write(place, content, mode):

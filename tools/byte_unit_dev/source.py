@@ -10,14 +10,15 @@ import os
 import re
 import textwrap
 
-from .common import Failure, path, read
+from .common import Failure, copy_to, path, read, write
 
 STRING = r'"(?:\\.|[^"\\])*"|\'(?:\\.[^\']*|[^\'\\])\''
 QUOTED = re.compile(rf"//[^\n]*|{STRING}", re.S)
 WORD = re.compile(r"[^\W\d][\w\-]*")
-# The first line of a definition, with its name. Its kind, such as `abbrev` or `record`, is before or after `pub`.
-DEFINITION = re.compile(r"^(?:[a-z]+ )?pub (?!mod |use )(?:[a-z]+ )?([^\s:(){}]+)", re.M)
-COMMENT = r"(?:^--(?: .*)?\n)*"
+COMMENT = r"((?:^--(?: .*)?\n)*)"
+# The comment of a definition and its first line, with its name. Its kind, such as `abbrev` or `record`, is before or
+# after `pub`.
+DEFINITION = re.compile(rf"{COMMENT}^(?:[a-z]+ )?pub (?!mod |use )(?:[a-z]+ )?([^\s:(){{}}]+)", re.M)
 # The crates of examples and tests.
 EXAMPLES = re.compile(r"example_\w+|byte_unit_uses|byte_unit_tests")
 # Parts of a file that are all its lines of a form.
@@ -52,6 +53,15 @@ def below(names):
         needed |= more
         more = {name for crate in more for name in crates()[crate] if name in crates()} - needed
     return [name for name in crates() if name in needed]
+
+
+def copy_crates(folder, names, more, without):
+    """Copies crates and those that they need, but for what has one of the names of `without`, and writes a crates.txt
+    with more crates."""
+    rows = {name: crates()[name] for name in below(names)}
+    copy_to(folder, *(f"crates/{name}" for name in rows), without=without)
+    lines = "".join(f"{name}: {' '.join(needed)}\n" for name, needed in {**rows, **more}.items())
+    write(os.path.join(folder, "crates.txt"), lines)
 
 
 def library():
@@ -186,14 +196,18 @@ def imports_of(text):
     return words
 
 
+def uncommented(text):
+    """Returns a comment of definitions in one line, without its marks."""
+    return " ".join(line.removeprefix("--").strip() for line in text.splitlines())
+
+
 class Definition:
-    """A definition: its name, comment and text, the words that it uses, and what it makes (its constructors)."""
+    """A definition: its name, comment and text, the words that it uses, and those for it and its constructors."""
 
     def __init__(self, name, comment, text):
-        self.name, self.comment, self.text = name, comment, text
-        self.makes = set()
-        if re.match(r"(?:pub )?data\b", text):
-            self.makes = set(WORD.findall(" ".join(re.findall(r"^  ((?!--)[^:\n]*):", text, re.M)))) - {"pub"}
+        self.name, self.comment, self.text = name, uncommented(comment), text
+        made = re.findall(r"^  ((?!--)[^:\n]*):", text, re.M) if re.match(r"(?:pub )?data\b", text) else []
+        self.makes = {name, *WORD.findall(" ".join(made))} - {"pub"}
 
     def words(self, without=()):
         """Returns the words that it uses, but for those of the fields in `without`."""
@@ -204,34 +218,18 @@ class Definition:
 
 
 class Spec:
-    """A file of definitions. `head` is the comment that it begins with."""
+    """A file of definitions. `head` is the comment that it begins with, and `maker` has the definition of each word."""
 
     def __init__(self, name):
         self.name, self.text = name, read(name)
         self.crate = name.split("/")[1]
         self.module = name.split("/specs/")[1].removesuffix(".antt").replace("/", ".")
-        head = re.match(COMMENT, self.text, re.M)[0]
-        self.head = " ".join(line.removeprefix("--").strip() for line in head.splitlines())
-        self.imports = imports_of(self.text)
-        self.definitions = self.find(len(head))
-
-    def find(self, after_head):
-        """Returns the definitions in their order. One that opens the file has the head as its comment."""
-        found = [(match, re.search(rf"{COMMENT}\Z", self.text[:match.start()], re.M))
-                 for match in DEFINITION.finditer(self.text)]
-        ends = [comment.start() for _, comment in found[1:]] + [len(self.text)]
-        made = {}
-        for (match, comment), end in zip(found, ends):
-            lines = comment[0] if comment.start() >= after_head else self.text[:after_head]
-            said = " ".join(line.removeprefix("--").strip() for line in lines.splitlines())
-            made[match[1]] = Definition(match[1], said, self.text[match.start():end])
-        return made
-
-    def maker(self, word):
-        """Returns the name of the definition that is or makes the word, or None."""
-        if word in self.definitions:
-            return word
-        return next((name for name, found in self.definitions.items() if word in found.makes), None)
+        self.head = uncommented(re.match(COMMENT, self.text, re.M)[0])
+        self.imports, found = imports_of(self.text), list(DEFINITION.finditer(self.text))
+        ends = [match.start() for match in found[1:]] + [len(self.text)]
+        self.definitions = {match[2]: Definition(match[2], match[1], self.text[match.end(1):end])
+                            for match, end in zip(found, ends)}
+        self.maker = {word: name for name, found in self.definitions.items() for word in found.makes}
 
 
 @functools.lru_cache(maxsize=None)
@@ -251,8 +249,8 @@ def specs(crate):
     found = {spec.module: spec for spec in map(Spec, files(f"crates/{crate}/specs", ".antt"))}
     library = found.pop("Lib", None)
     order = re.findall(r"^pub mod (\w+)", library.text, re.M) if library else []
-    places = {name: place for place, name in enumerate(order)}
-    return dict(sorted(found.items(), key=lambda item: (places.get(item[0], len(order)), item[0])))
+    last = sorted(found.keys() - {*order})
+    return {name: found[name] for name in [*order, *last] if name in found}
 
 
 def home_of_spec(crate, module):
@@ -268,12 +266,12 @@ def home_of_spec(crate, module):
 def resolved(words, imports, own=None):
     """Yields the definitions that words mean, as crate, module and name. `own` is the file in which they are used."""
     for word in words:
-        if own and own.maker(word):
-            yield own.crate, own.module, own.maker(word)
+        if own and word in own.maker:
+            yield own.crate, own.module, own.maker[word]
         elif word in imports:
             crate, module, name = imports[word]
             home = home_of_spec(crate, module) if crate in crates() else None
-            maker = home and specs(home[0])[home[1]].maker(name)
+            maker = home and specs(home[0])[home[1]].maker.get(name)
             if maker:
                 yield *home, maker
 
@@ -301,6 +299,14 @@ def exports(crate, module="lib"):
                 raise file.wrong(use.start(), f"{len(homes)} files define {name}, not one")
             found[name] = homes[0]
     return found
+
+
+@functools.lru_cache(maxsize=None)
+def public_names(crate):
+    """Returns the public modules of a crate's root, and the names that it exports by `pub use`."""
+    text = source(f"crates/{crate}/src/lib.rt").plain
+    used = " ".join(re.findall(r"^pub use [\w:]+::(\{[^}]*\}|\w+);", text, re.M))
+    return set(re.findall(r"^pub mod (\w+);", text, re.M)), set(re.findall(r"\w+", used))
 
 
 def catalogue(crate):

@@ -119,8 +119,8 @@ def taken():
     """Returns the bytes of each file that is to be in the other repository, with the record of them."""
     files = {name: text for name, text in contents_of(HERE).items() if name.split("/")[2] in PARTS}
     files["crates/byte_unit/LICENSE"] = bytes_of(HERE / "LICENSE")
-    toolchain = first_line("rt", "version") or "unknown"
-    lines = [f"version: {version()}", f"commit: {commit()}", f"toolchain: {toolchain}"]
+    lines = [f"version: {(HERE / 'VERSION').read_text().strip()}", f"commit: {commit()}",
+             f"toolchain: {first_line('rt', 'version') or 'unknown'}"]
     lines += [f"{value}  {name}" for name, value in sorted(sums(files).items())]
     files[RECORD] = "".join(f"{line}\n" for line in lines).encode()
     return files
@@ -137,13 +137,6 @@ def first_line(*words):
     how = {"cwd": HERE, "env": own, "stdin": subprocess.DEVNULL, "stderr": subprocess.DEVNULL}
     ran = call(*words, **how) if has_program(words[0]) else None
     return ran.stdout.partition("\n")[0] if ran and ran.returncode == 0 else None
-
-
-def version():
-    """Returns the newest version of CHANGELOG.md, with `+unreleased` if changes that are not released come first."""
-    heads = re.findall(r"^## \[([^\]\n]+)\](.*)", bytes_of(HERE / "CHANGELOG.md").decode(), re.M)
-    named = [name for name, _ in heads if name != "Unreleased"] or ["unknown"]
-    return named[0] + "+unreleased" * ("unreleased" in "".join(heads[0] if heads else ()).lower())
 
 
 def commit():

@@ -13,6 +13,7 @@ import os
 import sys
 
 from .common import Failure, ROOT, call, has_program, path
+from .needs import DEBIAN_PYTHON
 
 PARTS = {
     "header": "bindings/c/test_header.py",
@@ -38,22 +39,6 @@ def arguments(parser):
     parser.set_defaults(reject=parser.error)
 
 
-def interpreter():
-    """Returns a Python that has pytest and hypothesis: Debian's packages are for Debian's Python."""
-    for name in (sys.executable, "/usr/bin/python3"):
-        if has_program(name) and call(name, "-c", "import pytest, hypothesis").returncode == 0:
-            return name
-    return None
-
-
-def without_pytest(parts):
-    """Skips the parts, if `tools/dev setup` could not install what is missing."""
-    missing = "no Python has pytest and hypothesis (Debian: python3-pytest, python3-hypothesis)"
-    if "BYTE_UNIT_SETUP" not in os.environ:
-        raise Failure(missing)
-    print(*(f"skipped: {part}: {missing}" for part in parts), f"0 passed, 0 failed, {len(parts)} skipped", sep="\n")
-
-
 def run(given):
     end = next((at for at, word in enumerate(given.parts) if word.startswith("-")), len(given.parts))
     parts, more = given.parts[:end], given.parts[end:]
@@ -61,9 +46,15 @@ def run(given):
     if wrong:
         given.reject(f"'{wrong[0]}' is no part; these are: {' '.join(PARTS)}")
     words = [f"--lines={given.lines}", f"--seed={given.seed}", *["--after-ci"] * given.after_ci, *more]
-    chosen = [path(PARTS[part]) for part in parts or PARTS]
     os.chdir(ROOT)
-    python = interpreter()
-    if not python:
-        return without_pytest(parts or PARTS)
-    return call(python, "-B", "-m", "pytest", *words, *chosen, stdout=None, stderr=None).returncode
+    for python in filter(has_program, (sys.executable, DEBIAN_PYTHON)):
+        if call(python, "-c", "import pytest, hypothesis").returncode == 0:
+            chosen = [path(PARTS[part]) for part in parts or PARTS]
+            return call(python, "-B", "-m", "pytest", *words, *chosen, stdout=None, stderr=None).returncode
+    # `tools/dev setup` could not install what is missing, or was not called.
+    missing = "no Python has pytest and hypothesis (Debian: python3-pytest, python3-hypothesis)"
+    if "BYTE_UNIT_SETUP" not in os.environ:
+        raise Failure(missing)
+    skipped = [f"skipped: {part}: {missing}" for part in parts or PARTS]
+    print(*skipped, f"0 passed, 0 failed, {len(skipped)} skipped", sep="\n")
+    return 0

@@ -39,7 +39,7 @@ def here(tmp_path):
     for crate in [*CRATES, "byte_unit_lines"]:
         names = ["src/lib.rt", "specs/in/Lib.antt", "proofs/Lib.antt", "must-fail/a.edit", "out/rlib/a"]
         write(here / "crates" / crate, {name: f"{name} of {crate}\n" for name in names})
-    write(here, {"LICENSE": "MIT\n", "CHANGELOG.md": "## [1.0.0] - 2000-01-01\n", f"{MATH}/src/empty.rt": ""})
+    write(here, {"LICENSE": "MIT\n", "VERSION": "1.0.0\n", f"{MATH}/src/empty.rt": ""})
     shutil.rmtree(here / "crates/byte_unit/proofs")
     return here
 
@@ -73,8 +73,7 @@ def run(here, *words, status=0):
 def change(here):
     """Makes the next version: edits files, adds one, removes all of a folder, and changes the line of a crate."""
     lines = (here / "crates.txt").read_text().replace("byte_unit_math:\n", "byte_unit_math: core\n", 1)
-    changelog = "## [Unreleased]\n\n## [2.0.0] - 2000-01-02\n"
-    write(here, {"crates.txt": lines, "CHANGELOG.md": changelog, f"{MATH}/specs/New.antt": "-- New.\n"})
+    write(here, {"crates.txt": lines, "VERSION": "2.0.0\n", f"{MATH}/specs/New.antt": "-- New.\n"})
     write(here, {f"crates/{crate}/src/lib.rt": "// The next version.\n" for crate in CRATES})
     shutil.rmtree(here / "crates/byte_unit/specs")
 
@@ -132,7 +131,7 @@ def test_update(here, copied):
     lines, kept = (copied / "crates.txt").read_text(), contents(copied, times=True)
     change(here)
     said = run(here, "--update", copied)
-    assert "updated from 1.0.0, commit unknown to 2.0.0+unreleased, commit unknown" in said
+    assert "updated from 1.0.0, commit unknown to 2.0.0, commit unknown" in said
     assert "crates.txt: `byte_unit_math:` is now `byte_unit_math: core`" in said
     assert (copied / "crates.txt").read_text() == lines.replace("byte_unit_math:\n", "byte_unit_math: core\n", 1)
     now, anew = contents(copied, times=True), here.with_name("anew")

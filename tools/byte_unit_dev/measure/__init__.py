@@ -5,13 +5,11 @@
   command   the same of byte-unit, beside numfmt
   calls     a call from C, Rust, Python and SQLite, beside the Rust crate, humanfriendly, humanize and numfmt
   literals  `rt check` of functions in a caller's crate, each with a literal
-  derive    `rt check` of example_limits, whose struct derives its traits, anew and after edits
-  tests     `rt check` of each crate, or each --crate, without its tests and with them
   gate      what .ci/run takes, or took if --log FILE has the output of `time .ci/run`
 
 Programs take turns on one processor; a figure is the minimum of the rounds. Inputs are made from the seed. The programs
-are in crates/NAME/out, where `rt run` builds them. The libraries below a crate that is checked are built first, which
-takes some 20 minutes if out/ has none. `tools/dev setup --compared` installs what is compared.
+are in crates/NAME/out, where `rt run` builds them. For `literals` the library is built first, which takes some 20
+minutes if out/ has none. `tools/dev setup --compared` installs what is compared.
 """
 
 import datetime
@@ -23,7 +21,7 @@ from ..render.pages import with_parts
 from . import calls, proofs, speed
 
 WHATS = {"program": speed.program, "command": speed.command, "calls": calls.calls, "literals": proofs.literals,
-         "derive": proofs.derive, "tests": proofs.tests, "gate": proofs.gate}
+         "gate": proofs.gate}
 PAGE, OF_PAGE = "docs/SPEED.md", ["program", "command", "calls"]
 
 
@@ -36,7 +34,6 @@ def arguments(parser):
     parser.add_argument("--before", metavar="PROGRAM", help="an earlier build of byte_unit_lines")
     parser.add_argument("--original", metavar="DIR", help="the sources of the Rust crate byte-unit 5.2.6")
     parser.add_argument("--library", metavar="DIR", help="a folder that tools/make-libraries has filled")
-    parser.add_argument("--crate", action="append", metavar="NAME", help="a crate whose tests are measured")
     parser.add_argument("--log", metavar="FILE")
 
 

@@ -35,7 +35,9 @@ def by_rust(crate, library):
 
 
 def by_python(library, work):
-    env = builds.python(library, work)
+    env = builds.environment(BYTE_UNIT_LIBRARY_DIR=library, PYTHONPATH=f"{work}/python")
+    words = ["setup.py", "-q", "build", "--build-base", f"{work}/build", "--build-lib", f"{work}/python"]
+    output(DEBIAN_PYTHON, *words, cwd=path("bindings/python"), env=env)
     return lambda: output(DEBIAN_PYTHON, path("bindings/python/checks/speed.py"), env=env)
 
 

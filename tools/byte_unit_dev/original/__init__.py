@@ -2,17 +2,15 @@
 
 DIR has the sources of the crate: `src/lib.rs` and so on, or files whose names have `--` in place of `/` and end in
 `.txt`, as `src--lib.rs.txt`. They are built offline, over crates that `tools/dev setup --compared` installs. The crate,
-the C library (called by the Python package's C) or the Rust package, and an exact model take N random requests: texts
-and spellings of units to parse, sizes to format, numbers of units. Prints how many results each rule explains.
+the Rust package, which calls the C library, and an exact model take N random requests: texts and spellings of units to
+parse, sizes to format, numbers of units. Prints how many results each rule explains.
 
 The status is 1 if a result of the library is not that of the model, if no rule explains a difference, if one of 20,000
 results of the library with another digit is not found to be wrong, or if docs/DIFFERENCES.md lacks the words of a rule.
 """
 
-import importlib
 import random
 import re
-import sys
 import tempfile
 
 from .. import builds
@@ -26,7 +24,6 @@ PROGRAM, KINDS, CHANGED = "bindings/rust/checks/compare.rs", ("byte", "bit"), 20
 def arguments(parser):
     parser.add_argument("--count", type=int, default=300_000, metavar="N")
     parser.add_argument("--seed", type=int, default=1)
-    parser.add_argument("--package", action="store_true", help="take the Rust package in place of the C library")
     parser.add_argument("--library", metavar="LIBRARY", help="a folder that tools/make-libraries has filled")
     parser.add_argument("original", metavar="DIR")
 
@@ -54,53 +51,6 @@ def calls_of(words):
             yield "appropriate units", rules.appropriate, (size, kind, unit_type)
         yield "formatted sizes", rules.formatted, (size, kind, spec)
         yield "formatted adjusted sizes", rules.adjusted, (size, kind, unit, spec)
-
-
-class Library:
-    """The C library, through the Python package, whose calls of one text are C: calls by their names in rules."""
-
-    def __init__(self, folder, work):
-        sys.path.insert(0, builds.python(folder, work)["PYTHONPATH"])
-        self.package = importlib.import_module("byte_unit")
-
-    def parsed(self, text, kind, ignore_case):
-        try:
-            return str(self.package.parse(text, bits=kind == "bit", ignore_case=ignore_case))
-        except self.package.SizeError as error:
-            return f"! {error}"
-
-    def parsed_unit(self, text, kind, ignore_case):
-        try:
-            return self.package.parse_unit(text, bits=kind == "bit", ignore_case=ignore_case)
-        except self.package.SizeError as error:
-            return f"! {error}"
-
-    def in_unit(self, size, kind, either, precision):
-        flags = {"bits": kind == "bit", "either_kind": either}
-        if precision is None:
-            count, unit = self.package.exact_unit(size, **flags)
-        else:
-            count, unit = self.package.recoverable_unit(size, precision=precision, **flags)
-        return f"{count} {unit}"
-
-    def appropriate(self, size, kind, unit_type):
-        types = ("binary", "decimal", "both")
-        return self.package.appropriate_unit(size, bits=kind == "bit", unit_type=types[unit_type])
-
-    def formatted(self, size, kind, spec, unit=None):
-        options = {"bits": kind == "bit", "alternate": bool(spec.alternate), "precision": spec.precision,
-                   "width": spec.width or None, "sign": (None, "plus", "minus")[spec.sign],
-                   "align": (None, "left", "center", "right")[spec.align]}  # fmt: skip
-        return self.package.adjusted_text(size, unit, **options) if unit else self.package.text(size, **options)
-
-    def adjusted(self, size, kind, unit, spec):
-        return self.formatted(size, kind, spec, unit)
-
-    def of_unit(self, count, unit, kind):
-        try:
-            return str(self.package.from_unit(count, unit, bits=kind == "bit"))
-        except self.package.ByteUnitError:
-            return "-"
 
 
 def by_program(program, lines):
@@ -135,13 +85,8 @@ def run(given):
         original = builds.original(given.original, work)
         library = builds.library_of(given.library, work)
         lines = list(requests(random.Random(given.seed), given.count))
-        theirs = by_program(builds.program(PROGRAM, original), lines)
-        if given.package:
-            ours = by_program(builds.program(PROGRAM, builds.copied("rust", work), library), lines)
-        else:
-            calls = Library(library, work)
-            ours = [[getattr(calls, call.__name__)(*given) for _, call, given in calls_of(line.split())]
-                    for line in lines]
+        theirs, ours = (by_program(builds.program(PROGRAM, *crate), lines)
+                        for crate in ([original], [builds.copied("rust", work), library]))
     found, findings = compared(lines, theirs, ours, given.seed)
     print("What was compared | What differs | Results | An example: the call, the crate; the library\n---|---|---|---")
     for (what, rule), (count, example) in sorted(found.items(), key=str):

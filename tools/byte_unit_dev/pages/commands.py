@@ -50,23 +50,15 @@ def kit(page):
     return [f"{README}:{line_at(page, named.start() if named else 0)}: rt version prints {output('rt', 'version')}"]
 
 
-def snapshot(folder):
-    return {os.path.join(at, name): os.stat(os.path.join(at, name)).st_mtime_ns
-            for at, _, names in os.walk(folder) for name in names}
-
-
 def first_program(take, program, start, printed, folder):
-    """Takes the library as the page says, twice, and runs the first program. Returns what is wrong."""
+    """Takes the library as the page says, and runs the first program. Returns what is wrong."""
     here, there, where = os.path.join(folder, "here"), os.path.join(folder, "sizes"), f"{README}:{take.line}"
     made = shell(take.text, here)
     if made.returncode:
         return [f"{where}: status {made.returncode}\n{made.stdout}{made.stderr}"]
-    before, wrong, taken = snapshot(there), [], re.search(r"^tools/.*\btake .*$", take.text, re.M)
-    if not taken or shell(taken[0], here).returncode != 1 or snapshot(there) != before:
-        wrong.append(f"{where}: the library is taken twice, or the second time changes something")
     with open(os.path.join(there, "crates/quota/src/main.rt"), "w", encoding="utf-8") as file:
         file.write(program.text)
-    wrong += differs(README, start, printed, there)
+    wrong = differs(README, start, printed, there)
     given = shell(start.text[start.text.index("printf"):start.text.index("|")], there).stdout
     for name, text in {"src/main.rt": program.text, "stdin": given, "stdout": printed.text}.items():
         if read(f"{EXAMPLE}/{name}") != text:
@@ -93,8 +85,7 @@ def readme():
         wrong.append(f"{README}:{gate.line}: a command that is not run here")
     with tempfile.TemporaryDirectory() as folder:
         # A copy of what the commands read, so that this repository is not changed.
-        copy_to(os.path.join(folder, "here"), "crates", "tools", "crates.txt", "LICENSE", "HANDLES", "CHANGELOG.md",
-                "VERSION")  # fmt: skip
+        copy_to(os.path.join(folder, "here"), "crates", "tools", "crates.txt", "LICENSE", "HANDLES", "VERSION")
         wrong += differs(README, program, printed, os.path.join(folder, "here"))
         wrong += first_program(take, first, start, first_printed, folder)
     if is_built(LINES_PROGRAM, README):

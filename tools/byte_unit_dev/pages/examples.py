@@ -11,8 +11,8 @@ import subprocess
 import tempfile
 from collections import namedtuple
 
-from ..common import call, copy_to, path, read, write
-from ..source import Source, below, crates, files, library
+from ..common import call, write
+from ..source import Source, below, copy_crates, crates, files, library, public_names
 from .text import blocks, line_at
 
 # The generated crate, and its module.
@@ -35,18 +35,12 @@ def examples_of(source):
             wrong.append(f"{where}: a block without a language")
         elif block.language == "text" and re.search("::|//", block.text):
             wrong.append(f"{where}: code in a block of text; make it ```rust with assertions")
-        elif block.language == "rust" and not is_library(crate):
-            wrong.append(f"{where}: an example of a crate that no crate can use; make it a test")
+        elif block.language == "rust" and not any(crate in used for used in crates().values()):
+            wrong.append(f"{where}: an example of a crate that no crate uses; make it a test")
         elif block.language == "rust":
             test = re.sub(r"\W", "_", f"{crate}_{file}_{block.line}").lower()
             found.append(Example(source.name, block.line, block.text, crate, test))
     return found, wrong
-
-
-def is_library(crate):
-    """Tells whether another crate can use this one."""
-    is_program = os.path.exists(path("crates", crate, "src/main.rt"))
-    return not is_program and not re.search(rf"^{crate} staticlib", read("crates.txt"), re.M)
 
 
 def without_comment(source):
@@ -58,21 +52,14 @@ def without_comment(source):
             yield f"{source.name}:{line}: the public function {found[1]} has no doc comment"
 
 
-def exported(crate):
-    """Returns the names that the root of a crate of the library exports, its public modules among them."""
-    text = read(f"crates/{crate}/src/lib.rt")
-    lists = re.findall(r"^pub use [\w:]+::(\{[^}]*\}|\w+);", text, re.M) + re.findall(r"^pub mod (\w+);", text, re.M)
-    return {name for names in lists for name in re.findall(r"\w+", names)}
-
-
-def imports_of(example, names_of):
+def imports_of(example):
     """Returns a `use` line for each exported name in an example: of its own crate, or else of `byte_unit`."""
     code = re.sub(r'"(?:[^"\\]|\\.)*"', '""', re.sub(r"//.*", "", example.text))
     own = set(re.findall(r"\w+", "\n".join(re.findall(r"^use .*", example.text, re.M))))
     used = set(re.findall(r"(?<![\w:.])[A-Z]\w*|(?<![\w:.])[a-z]\w*(?=\(|::)", code)) - own
     made = []
     for crate in dict.fromkeys([example.crate, "byte_unit"]):
-        found = sorted(used & names_of.get(crate, set()))
+        found = sorted(used & set().union(*public_names(crate)))
         made += [f"    use {crate}::{name};" for name in found]
         used -= set(found)
     return made
@@ -81,11 +68,10 @@ def imports_of(example, names_of):
 def module_of(examples):
     """Returns the text of a module of tests, and the file and line that each of its lines comes from."""
     made, places = [], []
-    names_of = {crate: exported(crate) for crate in library()}
     for example in examples:
         lines = example.text.splitlines()
         head = ["", "#[test]", f"fn {example.test}(rt: HostRuntime) -> anyhow::Result<()> {{"]
-        head += imports_of(example, names_of)
+        head += imports_of(example)
         if re.search(r"\balloc\b", example.text):
             head.append("    let alloc = rt.alloc();")
         made += head + [f"    {line}".rstrip() for line in lines] + ["    Ok(())", "}"]
@@ -96,10 +82,9 @@ def module_of(examples):
 
 def set_up(top, examples):
     """Copies the crates that the examples need, and adds that of the tests. Returns where its lines come from."""
-    rows = {crate: crates()[crate] for crate in below([*library(), *(example.crate for example in examples)])}
-    copy_to(top, *(f"crates/{crate}" for crate in rows), without=["out", "must-fail", "mutants.edits"])
-    rows[EXAMPLES] = sorted({"anyhow", *rows, *(name for names in rows.values() for name in names)})
-    write(os.path.join(top, "crates.txt"), "".join(f"{crate}: {' '.join(names)}\n" for crate, names in rows.items()))
+    copied = below([*library(), *(example.crate for example in examples)])
+    used = sorted({"anyhow", *copied, *(name for crate in copied for name in crates()[crate])})
+    copy_crates(top, copied, {EXAMPLES: used}, ["out", "must-fail", "mutants.edits"])
     text, places = module_of(examples)
     source = os.path.join(top, "crates", EXAMPLES, "src")
     write(f"{source}/lib.rt", f"//! The examples.\n#![tactic(auto)]\n\n#[cfg(test)]\nmod {EXAMPLES};\n")

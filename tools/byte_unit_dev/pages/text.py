@@ -58,13 +58,10 @@ def places():
 
 @functools.lru_cache(maxsize=None)
 def anchors(page):
-    """Returns the anchors of the headings, as GitHub makes them; that of a heading seen before has a number."""
-    made = set()
-    for title in re.findall(r"^#+ +(.*?) *#*$", without_blocks(pages().get(page, "")), re.M):
-        shown = re.sub(r"\[([^\]]*)\]\([^)]*\)", r"\1", title).lower()
-        plain = re.sub(r"[^\w\- ]", "", shown).replace(" ", "-")
-        made.add(next(name for name in [plain, *(f"{plain}-{n}" for n in range(1, 100))] if name not in made))
-    return made
+    """Returns the anchors of the headings, as GitHub makes them, but for those of headings seen before."""
+    titles = re.findall(r"^#+ +(.*?) *#*$", without_blocks(pages().get(page, "")), re.M)
+    shown = (re.sub(r"\[([^\]]*)\]\([^)]*\)", r"\1", title).lower() for title in titles)
+    return {re.sub(r"[^\w\- ]", "", title).replace(" ", "-") for title in shown}
 
 
 def wrong_links(page):

@@ -30,37 +30,28 @@ def arguments(parser):
     parser.add_argument("what", nargs="*", type=one_of(PARTS), metavar="WHAT")
 
 
-def difference(name, text):
-    """Returns the line number of the first difference of a file from its text, and the two lines; or None."""
-    found = read(name) if os.path.exists(path(name)) else "no such file" * bool(text)
-    lines = enumerate(zip_longest(text.split("\n"), found.split("\n"), fillvalue="the end"), 1)
-    return next(((number, *pair) for number, pair in lines if pair[0] != pair[1]), None)
-
-
-def put(name, text):
-    """Writes a file, or removes one that was rendered. Returns what is wrong then."""
-    if not text and "Rendered from" not in read(name).partition("\n")[0]:
-        return f"{name}:1: nothing renders this file, and its first line does not say that it is rendered"
-    print(f"{'rendered' if text else 'removed'} {name}")
-    return write(name, text) if text else os.remove(path(name))
-
-
 def wrong(part, check):
     """Renders a part, and yields what is wrong."""
     try:
         for name, text in PARTS[part]():
-            differs = difference(name, text)
-            if differs and check:
-                number, want, find = differs
+            found = read(name) if os.path.exists(path(name)) else "no such file" * bool(text)
+            lines = enumerate(zip_longest(text.split("\n"), found.split("\n"), fillvalue="the end"), 1)
+            if text == found:
+                continue
+            if check:
+                number, (want, find) = next(line for line in lines if line[1][0] != line[1][1])
                 why = "differs from what is rendered" if text else "is rendered from no file"
                 yield f"{name}:{number}: {why}; run tools/dev render {part}\n  rendered: {want}\n  found:    {find}"
-            elif differs:
-                yield put(name, text)
+            elif text or "Rendered from" in found.partition("\n")[0]:
+                print(f"{'rendered' if text else 'removed'} {name}")
+                write(name, text) if text else os.remove(path(name))
+            else:
+                yield f"{name}:1: nothing renders this file, and its first line does not say that it is rendered"
     except Failure as failure:
         yield str(failure)
 
 
 def run(given):
     parts = [part for part in PARTS if part in given.what or not given.what]
-    return report([line for part in parts for line in wrong(part, given.check) if line],
+    return report([line for part in parts for line in wrong(part, given.check)],
                   f"as rendered: {', '.join(parts)}")

@@ -118,18 +118,14 @@ def crate(name):
 def mutants():
     """Returns the mutants of byte_unit_bit by their titles: those of byte_unit_byte, of must-fail/ too, but for those
     that turn `ignore_case`."""
-    return mutants_in_bits({title: text for title, text in crate(SOURCE)[1].items()
-                            if title not in differences()["without"]})  # fmt: skip
-
-
-def mutants_in_bits(left):
-    """Returns the rendered mutants by their titles."""
     found = {}
-    for title, text in left.items():
+    for title, text in crate(SOURCE)[1].items():
         edited = re.match(r"file: (\S+)\n", text)
         if not edited:
             raise Failure(f"{SOURCE}: the first line of the mutant {title} names no file")
-        found[named(title)] = f"file: {named(edited[1])}\n" + in_bits(edited[1], text[edited.end():], is_whole=False)
+        if title not in differences()["without"]:
+            in_its_file = in_bits(edited[1], text[edited.end():], is_whole=False)
+            found[named(title)] = f"file: {named(edited[1])}\n{in_its_file}"
     return found
 
 

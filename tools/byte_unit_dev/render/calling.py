@@ -19,18 +19,14 @@ PROOFS = {"laws", "total", "matches_partial_cmp", "matches_eq", "coded", "invers
 
 
 class Entry:
-    """What a page says of an item: its first line, its clauses, and the file that it is from.
-
-    `hidden` are clauses of a type's private fields, which no caller sees."""
+    """What a page says of an item: its first line, its clauses, and the definitions that these cite in the file that it
+    is from, as crate, module and name; but for `hidden`, clauses of a type's private fields, which no caller sees."""
 
     def __init__(self, line, clauses, file, hidden=()):
-        self.line, self.clauses, self.file, self.hidden = line, list(clauses), file, list(hidden)
+        self.line, self.clauses = line, list(clauses)
         self.lines = (line, *("  " + clause for clause in self.clauses))
-
-    def definitions(self):
-        """Returns the definitions that the clauses cite, as crate, module and name."""
-        clauses = [clause for clause in self.clauses if clause not in self.hidden]
-        return set(resolved(WORD.findall(" ".join(clauses)), self.file.imports))
+        seen = " ".join(clause for clause in self.clauses if clause not in hidden)
+        self.cited = set(resolved(WORD.findall(seen), file.imports))
 
 
 def declaration(file, name):
@@ -104,7 +100,7 @@ def mirrored(types):
         other = [entry for entry in types[bit] if entry.lines not in same]
         missing = [lines[0] for lines in same if lines not in there]
         if len(missing) != len(other):
-            raise Failure(f"{types[bit][0].file.name}: {bit} lacks calls of {name}, or has more: {'; '.join(missing)}")
+            raise Failure(f"{FACADE}: {bit} lacks calls of {name}, or has more: {'; '.join(missing)}")
         said = f"{len(there) - len(other)} of {len(there)} entries are those of `{name}`, with `{of_bits}`, `Bit`, "
         said += f"`get_bit`, `allow_in_bytes` for `{of_bytes}`, `Byte`, `get_byte`, `allow_in_bits`"
         found[bit] = said + ("; these differ:" if other else "."), other
@@ -146,7 +142,7 @@ def contracts():
 
 
 def cited_by(entries):
-    return set().union(*(entry.definitions() for entry in entries))
+    return set().union(*(entry.cited for entry in entries))
 
 
 def words():

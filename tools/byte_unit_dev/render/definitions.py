@@ -57,11 +57,6 @@ def to_read():
     return "\n\n".join(parts)
 
 
-def of_laws():
-    _, reached, added = groups()
-    return bullets(spec for spec in files_of(library(), added) if not names_in(spec, reached))
-
-
 def private():
     """Returns a list of what is private: whole files, and definitions in files to read."""
     _, reached, added = groups()
@@ -117,9 +112,10 @@ def made():
     fields that follow from others (FOLLOWS); those, and definitions in files to read, that no public contract leads to;
     those of other crates but EXAMPLES. A definition leads to those that it uses. A file of the library that says it is
     private, although a public contract leads to it, is a failure."""
-    parts = {"To read": to_read, "Laws": of_laws, "Private": private, "Other crates": others}
-    yield PAGE, with_parts(PAGE, *(section(title, part()) for title, part in parts.items()))
     _, reached, added = groups()
+    of_laws = [spec for spec in files_of(library(), added) if not names_in(spec, reached)]
+    yield PAGE, with_parts(PAGE, section("To read", to_read()), section("Laws", bullets(of_laws)),
+                           section("Private", private()), section("Other crates", others()))
     wrong = [f"{spec.name}:1: says that it is private, but a public contract leads to it"
              for spec in files_of(library(), reached | added) if spec.head.startswith("Private:")]
     if wrong:

@@ -52,7 +52,6 @@ is_parsed None n result computed reads = absurd (let z : ⊥ = cc in z)
 -- What is found at the key of a size has the size, so it is there. It is parsed as the size, so without an error.
 module _ {key : List ℕ} {n : ℕ} (size : HasSize key n) (document : Data) (is_text : read_text DEFAULTS.now ≡ Some document)
     (found : Option (Bor Value)) (finds : option_map (λ v. view v.now) found ≡ get key document) where
-
   has_size : size_of (option_map (λ v. view v.now) found) ≡ Some (Ok n)
   has_size = ap size_of (finds ∙ ap (option_and_then (get key)) (sym is_text)) ∙ size.computed
 
@@ -61,10 +60,9 @@ module _ {key : List ℕ} {n : ℕ} (size : HasSize key n) (document : Data) (is
 
   module _ {value : Bor Value} (result : Result ℕ JsonSizeError) (is : found ≡ Some value)
       (reads : ReadsString size_errors (IsSizeReading Byte false) (as_str (view value.now)) result) where
-
     parsed : result ≡ Ok n
     parsed =
-      is_parsed (as_str (view value.now)) n result (ap (λ f. size_of (option_map (λ v. view v.now) f)) (sym is) ∙ has_size) reads
+        is_parsed (as_str (view value.now)) n result (ap (λ f. size_of (option_map (λ v. view v.now) f)) (sym is) ∙ has_size) reads
 
     is_ok : IsOk result
     is_ok = rw parsed refl

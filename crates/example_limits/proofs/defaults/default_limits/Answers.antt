@@ -71,22 +71,20 @@ is_parsed kind None n result computed reads = absurd (let z : ⊥ = cc in z)
 module _ {kind : Kind} {key : List ℕ} {n : ℕ} (size : HasSize kind key n)
     (entries : List Entry) (is_text : parse_document DEFAULTS.now ≡ Some (members_view entries)) (found : Option (Bor Value))
     (finds : option_map (λ x. x.now) found ≡ lookup (is_at (λ x. slice_cmp nat_cmp key (string_bytes x))) entries) where
-
   has_size : size_of kind (option_map (λ x. view x.now) found) ≡ Some (Ok n)
   has_size =
-    ap (size_of kind) (table_get found key entries finds ∙ ap (option_and_then (get_member key)) (sym is_text))
-    ∙ size.computed
+      ap (size_of kind) (table_get found key entries finds ∙ ap (option_and_then (get_member key)) (sym is_text))
+      ∙ size.computed
 
   is_found : IsSome found
   is_found = is_some kind found _ has_size
 
   module _ {value : Bor Value} (result : Result ℕ TomlSizeError) (is : found ≡ Some value)
       (reads : ReadsString size_errors (IsSizeReading kind false) (as_str (view value.now)) result) where
-
     parsed : result ≡ Ok n
     parsed =
-      is_parsed kind (as_str (view value.now)) n result
-      (ap (λ f. size_of kind (option_map (λ x. view x.now) f)) (sym is) ∙ has_size) reads
+        is_parsed kind (as_str (view value.now)) n result
+        (ap (λ f. size_of kind (option_map (λ x. view x.now) f)) (sym is) ∙ has_size) reads
 
     is_ok : IsOk result
     is_ok = rw parsed refl
