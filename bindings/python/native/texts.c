@@ -64,13 +64,13 @@ PyObject *message_of(const text *text, uint32_t flags, explainer *explain)
     return len ? PyUnicode_DecodeUTF8(out, (Py_ssize_t)len, "replace") : Py_NewRef(Py_None);
 }
 
-/* Returns a message that names the row and the text, of which it has the beginning. Releases that without both. */
+/* Returns a message that names the place and the text, of which it has the beginning. Releases that without both. */
 static PyObject *with_row(const rejection *rejection, PyObject *message)
 {
     enum { MOST = 80 };
     PyObject *begin = message ? PySequence_GetSlice(rejection->object, 0, MOST) : NULL;
     const char *dots = begin && PySequence_Size(rejection->object) > MOST ? ".." : "";
-    PyObject *whole = begin ? PyUnicode_FromFormat("row %zd: %R%s: %U", rejection->row, begin, dots, message) : NULL;
+    PyObject *whole = begin ? PyUnicode_FromFormat("texts[%zd]: %R%s: %U", rejection->row, begin, dots, message) : NULL;
     Py_XDECREF(begin);
     Py_XDECREF(message);
     return whole;

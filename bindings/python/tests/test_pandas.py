@@ -50,7 +50,7 @@ class ToSizes(unittest.TestCase):
 
     def test_errors(self) -> None:
         quota = pandas.Series(["1", None, "1 x"], ["a", "b", "c"])
-        with self.assertRaisesRegex(SizeError, "^row 2: '1 x': the character 'x'") as caught:
+        with self.assertRaisesRegex(SizeError, r"^texts\[2\]: '1 x': the character 'x'") as caught:
             to_sizes(quota, errors="raise")
         self.assertEqual((caught.exception.row, caught.exception.text), (2, "1 x"))
         self.assertEqual(to_sizes(quota[:2], errors="raise").tolist(), [1, pandas.NA])
@@ -70,7 +70,7 @@ class ToSizes(unittest.TestCase):
                 self.assertEqual(null, [1, pandas.NA, pandas.NA if large else size])
                 self.assertEqual(to_sizes(quota, overflow="saturate").tolist(), [1, pandas.NA, min(size, 2**63 - 1)])
                 if large:
-                    with self.assertRaisesRegex(ByteUnitError, "^row 2: the size"):
+                    with self.assertRaisesRegex(ByteUnitError, r"^column\[2\]: the size"):
                         to_sizes(quota)
         self.assertEqual(byte_unit.parse_many(pandas.Series(["1 EB"] * 20)).sum(), 20 * 10**18)
 

@@ -123,7 +123,7 @@ class Raised(unittest.TestCase):
             with self.subTest(wrong), self.assertRaises(SizeError) as single:
                 byte_unit.parse(wrong)
             shown = repr(wrong[:80]) + ".." * (len(wrong) > 80)
-            self.assertEqual(str(error), f"row {row}: {shown}: {single.exception}")
+            self.assertEqual(str(error), f"texts[{row}]: {shown}: {single.exception}")
             self.assertEqual((error.row, error.text, error.name), (row, wrong, single.exception.name))
             self.assertEqual(error.args[1:], single.exception.args[1:])
             self.assertEqual((single.exception.row, single.exception.text), (None, wrong))
@@ -136,7 +136,7 @@ class Raised(unittest.TestCase):
             data, offsets = b"##" + b"".join(many), array("q", accumulate(map(len, many), initial=2))
             error = self.caught(byte_unit.parse_buffers, data, offsets)
             self.assertEqual((error.row, error.text), (row, text))
-            self.assertTrue(str(error).startswith(f"row {row}: {text[:80]!r}"))
+            self.assertTrue(str(error).startswith(f"texts[{row}]: {text[:80]!r}"))
             bits = ((1 << len(many)) - 1 ^ 1 << row).to_bytes(400, "little")
             error = self.caught(byte_unit.parse_buffers, data, offsets, validity=bits)
             self.assertEqual((error.row, error.text), (len(many) - 1, "later"))
@@ -222,7 +222,7 @@ class Numbers(unittest.TestCase):
                 self.assertEqual(column.mask().tolist(), [False, True, False])
                 self.assertEqual(column.mask(hide_large=True).tolist(), [False, True, large])
                 if large:
-                    with self.assertRaisesRegex(ByteUnitError, rf"^row 2: the size {size} is 2\*\*63 or more$"):
+                    with self.assertRaisesRegex(ByteUnitError, rf"^column\[2\]: the size {size} is 2\*\*63 or more$"):
                         column.int64()
                 else:
                     self.assertEqual(column.int64().tolist(), [5, 0, size])

@@ -161,7 +161,7 @@ class Column(Sequence["int | None"]):
                 except SizeError as error:
                     yield row, error
                 else:
-                    raise ByteUnitError(f"row {row}: {text!r} is a size, but it was parsed as one that is none")
+                    raise ByteUnitError(f"texts[{row}]: {text!r} is a size, but it was parsed as one that is none")
 
     def ints(self) -> "list[int | None]":
         """Returns the sizes as a list, with `None` for a text without one."""
@@ -196,14 +196,14 @@ class Column(Sequence["int | None"]):
         [1000, 9223372036854775807]
         >>> parse_many(["1 KB", "1 RB"]).int64()
         Traceback (most recent call last):
-        byte_unit.ByteUnitError: row 1: the size 1000000000000000000000000000 is 2**63 or more
+        byte_unit.ByteUnitError: column[1]: the size 1000000000000000000000000000 is 2**63 or more
         """
         _check("overflow", overflow, ("raise", "null", "saturate"))
         row = _native.first_large(self._sizes, self._codes)
         if row == len(self._codes):
             return _view(self._sizes, "q")[::2]
         if overflow == "raise":
-            raise ByteUnitError(f"row {row}: the size {self[row]} is 2**63 or more")
+            raise ByteUnitError(f"column[{row}]: the size {self[row]} is 2**63 or more")
         return _view(_native.int64(self._sizes, self._codes, overflow == "saturate"), "q")
 
     def uint128(self) -> tuple[memoryview, memoryview]:
@@ -261,7 +261,7 @@ def parse_many(
     [1536, None, 2]
     >>> parse_many(["1.5 KiB", "1.5 Kx"], errors="raise")
     Traceback (most recent call last):
-    byte_unit.SizeError: row 1: '1.5 Kx': the character 'x' is incorrect ('B' or 'b' or no character is expected)
+    byte_unit.SizeError: texts[1]: '1.5 Kx': the character 'x' is incorrect ('B' or 'b' or no character is expected)
     """
     if isinstance(texts, (str, bytes)):
         raise TypeError(f"texts must be an iterable of texts, not one {type(texts).__name__}")
