@@ -43,7 +43,7 @@ def in_rust(text):
         return f"{found[1]}: &{found[2] or 'const '}{found[3]}, {length}: usize"
 
     text = re.sub(r"(\w+): &(mut )?\[(\w+)\]", parted, text.removeprefix('extern "C" '))
-    return re.sub(r"&(?=mut|const)", "*", text).replace("Parts", "Decimal")
+    return re.sub(r"&(?=mut|const)", "*", text).replace("DecimalParts", "Decimal")
 
 
 def in_c(name, kind):
@@ -70,7 +70,8 @@ def calls_in_c(declared):
 def structs(text):
     """Yields the structs for C in Rattle or in Rust: each name, and names and types of the fields."""
     for name, body in re.findall(r"#\[repr\(C\)\]\s*(?:#\[[^\]]*\]\s*)*pub struct (\w+) \{(.*?)\n\}", text, re.S):
-        yield name.replace("Parts", "Decimal"), re.findall(r"pub (\w+): ([^,\n]+),", body.replace("Parts", "Decimal"))
+        fields = re.findall(r"pub (\w+): ([^,\n]+),", body.replace("DecimalParts", "Decimal"))
+        yield name.replace("DecimalParts", "Decimal"), fields
 
 
 def constants():

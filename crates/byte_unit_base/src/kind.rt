@@ -26,7 +26,7 @@ impl Kind {
     pub fn bits(self) -> u128
         ensures bits { result ≡ bits_in self }
         ensures some { 1 ≤ result }
-        ensures few { result ≤ 8 }
+        ensures bound { result ≤ 8 }
     {
         match self {
             Kind::Byte => 8,

@@ -31,7 +31,7 @@ const SIZE_LIMIT: u128 = 1_000_000_000_000_000_000_000_000_000_000;
 /// ```
 pub fn bounded(size: u128) -> Option<u128>
     ensures size { SomeIff result (size < size_limit) size }
-    ensures small { IfSome result (λ n. n < size_limit) }
+    ensures bound { IfSome result (λ n. n < size_limit) }
 {
     (size < SIZE_LIMIT).then_some(size)
 }
@@ -58,7 +58,7 @@ fn ceil_to_kind(in_bits: u128, kind: Kind) -> u128
 /// ```
 pub fn with_unit(size: u128, unit: Unit, kind: Kind) -> Option<u128>
     ensures size { IsSizeOfUnit kind size unit result }
-    ensures small { IfSome result (λ n. n < size_limit) }
+    ensures bound { IfSome result (λ n. n < size_limit) }
 {
     let in_bits = size.checked_mul(unit.as_bits_u128())?;
     bounded(ceil_to_kind(in_bits, kind))
@@ -76,7 +76,7 @@ pub fn with_unit(size: u128, unit: Unit, kind: Kind) -> Option<u128>
 #[inline(always)]
 pub fn from_decimal(number: Decimal, unit: Unit, kind: Kind) -> Option<u128>
     ensures size { IsSizeOfDecimal kind number unit result }
-    ensures small { IfSome result (λ n. n < size_limit) }
+    ensures bound { IfSome result (λ n. n < size_limit) }
 {
     // One bit more than the greatest size. The product is rounded up twice, to bits and to the kind, which is the same
     // as once: ceil(ceil(x) / 8) = ceil(x / 8).
@@ -106,7 +106,7 @@ pub fn from_decimal(number: Decimal, unit: Unit, kind: Kind) -> Option<u128>
 #[inline(never)]
 pub fn parse(s: &str, ignore_case: bool, kind: Kind) -> Result<u128, ParseError>
     ensures reading { IsSizeReading kind ignore_case s.now result }
-    ensures small { IfOk result (λ n. n < size_limit) }
+    ensures bound { IfOk result (λ n. n < size_limit) }
 {
     let flags = flags_for(kind, ignore_case);
     match read_size(s, flags.ignore_case, flags.prefer_byte) {
@@ -128,7 +128,7 @@ pub fn parse(s: &str, ignore_case: bool, kind: Kind) -> Result<u128, ParseError>
 #[inline(always)]
 pub fn parse_bytes(bytes: &[u8], ignore_case: bool, kind: Kind) -> Option<Result<u128, ParseError>>
     ensures reading { IsBytesReading kind ignore_case bytes.now result }
-    ensures small { IfSome result (λ answer. IfOk answer (λ n. n < size_limit)) }
+    ensures bound { IfSome result (λ answer. IfOk answer (λ n. n < size_limit)) }
 {
     parse_line(bytes, bytes.len(), ignore_case, kind)
 }
@@ -157,7 +157,7 @@ pub fn parse_line(
 ) -> Option<Result<u128, ParseError>>
     requires { IsLine bytes.now len }
     ensures reading { IsBytesReading kind ignore_case (take len bytes.now) result }
-    ensures small { IfSome result (λ answer. IfOk answer (λ n. n < size_limit)) }
+    ensures bound { IfSome result (λ answer. IfOk answer (λ n. n < size_limit)) }
 {
     let line = &bytes[..len];
     match read_line(line, bytes, ignore_case, kind) {
@@ -256,7 +256,7 @@ fn parse_stopped(
 ) -> Option<Result<u128, ParseError>>
     requires { IsStopAt (flags_for kind ignore_case) bytes.now place reason }
     ensures reading { IsBytesReading kind ignore_case bytes.now result }
-    ensures small { IfSome result (λ answer. IfOk answer (λ n. n < size_limit)) }
+    ensures bound { IfSome result (λ answer. IfOk answer (λ n. n < size_limit)) }
 {
     match stopped_error(bytes, place, reason, ignore_case, kind) {
         Some(error) => Some(Err(error)),
@@ -275,7 +275,8 @@ fn stopped_error(
     kind: Kind,
 ) -> Option<ParseError>
     requires { IsStopAt (flags_for kind ignore_case) bytes.now place reason }
-    ensures { IfSome result (λ error. IsUtf8 bytes.now × IsSizeReading kind ignore_case bytes.now (Err error)) }
+    ensures { IfSome result
+        (λ error. IsUtf8 bytes.now × IsSizeReading kind ignore_case bytes.now (Err error)) }
 {
     let next = visible_next(bytes, place)?;
     let flags = flags_for(kind, ignore_case);
@@ -296,7 +297,7 @@ fn stopped_error(
 #[tactic(auto, using(crate::proofs::Computed::test_of_not_utf8))]
 pub fn parse_text(bytes: &[u8], ignore_case: bool, kind: Kind) -> Option<Result<u128, ParseError>>
     ensures reading { IsBytesReading kind ignore_case bytes.now result }
-    ensures small { IfSome result (λ answer. IfOk answer (λ n. n < size_limit)) }
+    ensures bound { IfSome result (λ answer. IfOk answer (λ n. n < size_limit)) }
 {
     let text = str::from_utf8(bytes).ok()?;
     Some(parse(text, ignore_case, kind))
@@ -317,8 +318,9 @@ pub fn parse_text(bytes: &[u8], ignore_case: bool, kind: Kind) -> Option<Result<
 #[inline(always)]
 pub fn size_of(found: (Decimal, Unit), kind: Kind) -> Result<u128, ParseError>
     ensures reading { (ignore_case : Bool) (bytes : List ℕ)
-        → IsNumberReading (flags_for kind ignore_case) bytes (Ok found) → IsSizeReading kind ignore_case bytes result }
-    ensures small { IfOk result (λ n. n < size_limit) }
+        → IsNumberReading (flags_for kind ignore_case) bytes (Ok found)
+        → IsSizeReading kind ignore_case bytes result }
+    ensures bound { IfOk result (λ n. n < size_limit) }
 {
     match from_decimal(found.0, found.1, kind) {
         Some(size) => Ok(size),

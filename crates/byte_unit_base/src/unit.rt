@@ -132,7 +132,7 @@ impl Unit {
     pub fn as_bits_u128(self) -> u128
         ensures bits { result ≡ bits (shape_of self) }
         ensures some { 1 ≤ result }
-        ensures small { result ≤ unit_limit }
+        ensures bound { result ≤ unit_limit }
     {
         UNIT_BITS[self as usize]
     }

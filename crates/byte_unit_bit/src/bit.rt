@@ -203,7 +203,7 @@ impl Bit {
     /// ```
     pub fn as_u128(self) -> u128
         ensures number { result ≡ self }
-        ensures small { result < size_limit }
+        ensures bound { result < size_limit }
     {
         self.size
     }

@@ -202,7 +202,7 @@ impl Byte {
     /// ```
     pub fn as_u128(self) -> u128
         ensures number { result ≡ self }
-        ensures small { result < size_limit }
+        ensures bound { result < size_limit }
     {
         self.size
     }

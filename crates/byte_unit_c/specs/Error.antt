@@ -3,7 +3,7 @@ use Rattle.std.specs.Prelude.{◌≡◌, ℕ, ◌-◌, Bool, false, List, [], �
 use Rattle.std.specs.Prelude.{if◌then◌else◌}
 use Rattle.byte_unit_base.specs.Fault.{Fault, bad_unit, not_number, no_value, too_long, exceeded}
 use Rattle.byte_unit_c.specs.declared.error.Error.{Error}
-use Rattle.byte_unit_c.specs.Values.{IsParts}
+use Rattle.byte_unit_c.specs.Values.{AreDecimalParts}
 
 -- the code if the string represents a size
 abbrev pub ok : ℕ
@@ -40,7 +40,7 @@ pub record HasFields (character : ℕ) (expected : List ℕ) (may_end : Bool) (n
   pub character_is : error.character ≡ character
   pub expected_is : error.expected ≡ expected_bytes expected
   pub may_end_is : error.also_expect_no_character ≡ (if may_end then 1 else 0)
-  pub number_is : IsParts error.number number
+  pub number_is : AreDecimalParts error.number number
 
 -- the fields of each error; a field that it does not use is zero
 abbrev pub IsErrorOf : Fault → Error → Type 0

@@ -2,24 +2,24 @@
 use Rattle.std.specs.Prelude.{ℕ, ◌==◌, Bool, true, false, if◌then◌else◌, [], ◌∷◌, Option, Some, None, slice_get}
 use Rattle.byte_unit_base.specs.declared.kind.Kind.{Kind}
 use Rattle.byte_unit_base.specs.declared.kind.Kind.TheVariants.{Byte as InBytes, Bit as InBits}
-use Rattle.byte_unit_c.specs.declared.flags.Reading.{Reading}
-use Rattle.byte_unit_c.specs.declared.flags.Choice.{Choice}
+use Rattle.byte_unit_c.specs.declared.flags.ParseFlags.{ParseFlags}
+use Rattle.byte_unit_c.specs.declared.flags.ChoiceFlags.{ChoiceFlags}
 
 -- the kind of sizes: bytes with no flag, bits with the flag 1; `None` with any other flag
 abbrev pub kind_at : ℕ → Option Kind
 kind_at flags = slice_get (InBytes ∷ InBits ∷ []) flags
 
 -- how a parsing call parses, by the flags 1 and 2; `None` with any other flag
-abbrev pub reading_at : ℕ → Option Reading
-reading_at flags =
+abbrev pub parse_flags_at : ℕ → Option ParseFlags
+parse_flags_at flags =
     slice_get
     (record { kind = InBytes; ignore_case = false } ∷ record { kind = InBits; ignore_case = false }
     ∷ record { kind = InBytes; ignore_case = true } ∷ record { kind = InBits; ignore_case = true } ∷ [])
     flags
 
 -- how a unit is chosen, by the flags 1 and 4; `None` with any other flag
-unfoldable pub choice_at : ℕ → Option Choice
-choice_at flags =
+unfoldable pub choice_flags_at : ℕ → Option ChoiceFlags
+choice_flags_at flags =
     if flags == 0 then Some (record { kind = InBytes; of_either = false })
     else if flags == 1 then Some (record { kind = InBits; of_either = false })
     else if flags == 4 then Some (record { kind = InBytes; of_either = true })

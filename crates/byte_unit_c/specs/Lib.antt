@@ -4,5 +4,5 @@ pub mod Values
 pub mod Codes
 pub mod Spec
 pub mod Error
-pub mod Reading
+pub mod Parse
 pub mod Many

@@ -9,7 +9,7 @@ use Rattle.byte_unit_c.specs.declared.offsets.Offsets.{Offsets}
 use Rattle.byte_unit_c.specs.declared.offsets.Offsets.TheVariants.{Long, Short}
 use Rattle.byte_unit_c.specs.declared.values.Number.{Number}
 use Rattle.byte_unit_c.specs.Values.{number_of}
-use Rattle.byte_unit_c.specs.Error.{ok, code_of, not_utf8}
+use Rattle.byte_unit_c.specs.Error.{ok, invalid_argument, code_of, not_utf8}
 
 -- the offsets, of 64 or of 32 bits
 abbrev pub offsets_of : Offsets → List ℤ
@@ -59,3 +59,7 @@ abbrev pub AreParsed : Kind → Bool → List ℕ → List ℤ → ℕ → List 
 AreParsed kind ignore_case bytes offsets n codes sizes =
     (i : ℕ) → i < n
     → IsParsed kind ignore_case (text_of bytes offsets i) (slice_index codes i) (slice_index_or sizes i zero_number)
+
+-- the call is rejected: an argument is invalid, and nothing is written
+abbrev pub IsRejectedCall : ℕ → List Number → List Number → List ℕ → List ℕ → Type 0
+IsRejectedCall code sizes sizes' codes codes' = (code ≡ invalid_argument) × (sizes' ≡ sizes) × (codes' ≡ codes)

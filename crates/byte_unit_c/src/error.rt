@@ -7,7 +7,7 @@ ghost use Rattle.byte_unit_base.specs.Fault.{bad_unit};
 ghost use Rattle.byte_unit_c.specs.declared.error.TheConstants.{EXPECTED_BYTES};
 ghost use Rattle.byte_unit_c.specs.Error.{code_of, expected_bytes, as_byte, IsErrorOf};
 
-use crate::values::Parts;
+use crate::values::DecimalParts;
 use byte_unit_base::{Expected, UnitParseError, ValueParseError};
 
 /// The details of a parse error. A field that the error's code does not use is zero.
@@ -21,7 +21,7 @@ pub struct Error {
     /// With `UNIT`: the characters that are expected in its place, in ASCII, followed by at least one zero byte.
     pub expected: [u8; 16],
     /// With `EXCEEDED_BOUNDS`: the number in the string, without its unit.
-    pub number: Parts,
+    pub number: DecimalParts,
 }
 
 /// Success: the string represents a size.
@@ -54,7 +54,7 @@ impl Error {
         character: 0,
         also_expect_no_character: 0,
         expected: [0; 16],
-        number: Parts::ZERO,
+        number: DecimalParts::ZERO,
     };
 
     /// Returns the code and the details of an error in the number.
@@ -66,7 +66,7 @@ impl Error {
             ValueParseError::ExceededBounds(number) => (
                 EXCEEDED_BOUNDS,
                 Error {
-                    number: Parts::new(number),
+                    number: DecimalParts::new(number),
                     ..Error::NONE
                 },
             ),
@@ -135,8 +135,9 @@ pub fn bytes_of(expected: Expected) -> [u8; 16]
 
 /// Returns the index of these characters in `EXPECTED_BYTES`.
 fn index_of(expected: Expected) -> usize
-    ensures within { result < 8 }
-    ensures bytes { slice_index_or EXPECTED_BYTES result [] ≡ expected_bytes (expected_codes expected) }
+    ensures bound { result < 8 }
+    ensures bytes { slice_index_or EXPECTED_BYTES result []
+        ≡ expected_bytes (expected_codes expected) }
 {
     match expected {
         Expected::Beginning => 0,

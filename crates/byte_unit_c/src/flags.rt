@@ -2,7 +2,7 @@
 //! that ignores case, and 4 for units of either kind.
 
 ghost use Rattle.std.specs.Prelude.{◌≡◌};
-ghost use Rattle.byte_unit_c.specs.Flags.{kind_at, reading_at, choice_at};
+ghost use Rattle.byte_unit_c.specs.Flags.{kind_at, parse_flags_at, choice_flags_at};
 
 use byte_unit_base::Kind;
 
@@ -19,39 +19,39 @@ const BITS_IGNORE_CASE: u32 = BITS | IGNORE_CASE;
 
 const BITS_EITHER_KIND: u32 = BITS | EITHER_KIND;
 
-/// What the flags of a parsing call say.
+/// The decoded flags of a parsing call.
 #[derive(Clone, Copy)]
-pub struct Reading {
+pub struct ParseFlags {
     /// The kind of sizes.
     pub kind: Kind,
     /// Whether the suffix `b` means bytes too.
     pub ignore_case: bool,
 }
 
-/// What the flags of a choice of a unit say.
+/// The decoded flags of a choice of a unit.
 #[derive(Clone, Copy)]
-pub struct Choice {
+pub struct ChoiceFlags {
     /// The kind of the size.
     pub kind: Kind,
     /// Whether the units of either kind are chosen from.
     pub of_either: bool,
 }
 
-impl Reading {
-    fn new(kind: Kind, ignore_case: bool) -> Reading
+impl ParseFlags {
+    fn new(kind: Kind, ignore_case: bool) -> ParseFlags
         ensures kind { result.kind ≡ kind }
         ensures ignore_case { result.ignore_case ≡ ignore_case }
     {
-        Reading { kind, ignore_case }
+        ParseFlags { kind, ignore_case }
     }
 }
 
-impl Choice {
-    fn new(kind: Kind, of_either: bool) -> Choice
+impl ChoiceFlags {
+    fn new(kind: Kind, of_either: bool) -> ChoiceFlags
         ensures kind { result.kind ≡ kind }
         ensures of_either { result.of_either ≡ of_either }
     {
-        Choice { kind, of_either }
+        ChoiceFlags { kind, of_either }
     }
 }
 
@@ -68,29 +68,29 @@ pub fn kind_at(flags: u32) -> Option<Kind>
 
 /// Returns how to parse, by a word with the flags `BITS` and `IGNORE_CASE`, one of them, or none. Returns `None` if the
 /// word has another flag.
-pub fn reading_at(flags: u32) -> Option<Reading>
-    ensures { result ≡ reading_at flags }
+pub fn parse_flags_at(flags: u32) -> Option<ParseFlags>
+    ensures { result ≡ parse_flags_at flags }
 {
     match flags {
-        0 => Some(Reading::new(Kind::Byte, false)),
-        BITS => Some(Reading::new(Kind::Bit, false)),
-        IGNORE_CASE => Some(Reading::new(Kind::Byte, true)),
-        BITS_IGNORE_CASE => Some(Reading::new(Kind::Bit, true)),
+        0 => Some(ParseFlags::new(Kind::Byte, false)),
+        BITS => Some(ParseFlags::new(Kind::Bit, false)),
+        IGNORE_CASE => Some(ParseFlags::new(Kind::Byte, true)),
+        BITS_IGNORE_CASE => Some(ParseFlags::new(Kind::Bit, true)),
         _ => None,
     }
 }
 
 /// Returns how to choose a unit, by a word with the flags `BITS` and `EITHER_KIND`, one of them, or none. Returns
 /// `None` if the word has another flag.
-#[tactic(auto, unfolding(crate::specs::Flags::choice_at))]
-pub fn choice_at(flags: u32) -> Option<Choice>
-    ensures { result ≡ choice_at flags }
+#[tactic(auto, unfolding(crate::specs::Flags::choice_flags_at))]
+pub fn choice_flags_at(flags: u32) -> Option<ChoiceFlags>
+    ensures { result ≡ choice_flags_at flags }
 {
     match flags {
-        0 => Some(Choice::new(Kind::Byte, false)),
-        BITS => Some(Choice::new(Kind::Bit, false)),
-        EITHER_KIND => Some(Choice::new(Kind::Byte, true)),
-        BITS_EITHER_KIND => Some(Choice::new(Kind::Bit, true)),
+        0 => Some(ChoiceFlags::new(Kind::Byte, false)),
+        BITS => Some(ChoiceFlags::new(Kind::Bit, false)),
+        EITHER_KIND => Some(ChoiceFlags::new(Kind::Byte, true)),
+        BITS_EITHER_KIND => Some(ChoiceFlags::new(Kind::Bit, true)),
         _ => None,
     }
 }

@@ -15,7 +15,7 @@ mod flags;
 mod many;
 mod message;
 mod offsets;
-mod reading;
+mod parse;
 mod spec;
 mod texts;
 mod units;

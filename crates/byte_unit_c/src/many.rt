@@ -2,12 +2,12 @@
 
 ghost use Rattle.std.specs.Prelude.{◌≡◌, ◌↔◌, IsTrue, length, IfSome, IfNone};
 ghost use Rattle.byte_unit_base.specs.Errors.{size_fault};
-ghost use Rattle.byte_unit_c.specs.Error.{ok, invalid_argument, code_of};
-ghost use Rattle.byte_unit_c.specs.Flags.{reading_at};
-ghost use Rattle.byte_unit_c.specs.Many.{offsets_of, IsLayout, IsParsed, AreParsed};
+ghost use Rattle.byte_unit_c.specs.Error.{ok, code_of};
+ghost use Rattle.byte_unit_c.specs.Flags.{parse_flags_at};
+ghost use Rattle.byte_unit_c.specs.Many.{offsets_of, IsLayout, IsParsed, AreParsed, IsRejectedCall};
 
 use crate::error::{Error, INVALID_ARGUMENT, NOT_UTF8, OK, UNIT};
-use crate::flags::{Reading, reading_at};
+use crate::flags::{ParseFlags, parse_flags_at};
 use crate::offsets::Offsets;
 use crate::values::Number;
 use byte_unit_base::{ParseError, size};
@@ -28,14 +28,16 @@ pub extern "C" fn byte_unit_parse_many_to(
     sizes: &mut [Number],
     codes: &mut [u8],
 ) -> u32
-    ensures parsed { IfSome (reading_at flags) (λ asked.
+    ensures parsed { IfSome (parse_flags_at flags) (λ asked.
         IsLayout (length «data».now) offsets.now (length sizes.old) (length codes.old)
         → (result ≡ ok)
-        × AreParsed asked.kind asked.ignore_case «data».now offsets.now (length codes.old) codes.new sizes.new) }
-    ensures unknown_flag { IfNone (reading_at flags)
-        ((result ≡ invalid_argument) × (sizes.new ≡ sizes.old) × (codes.new ≡ codes.old)) }
-    ensures no_layout { ¬ IsLayout (length «data».now) offsets.now (length sizes.old) (length codes.old)
-        → (result ≡ invalid_argument) × (sizes.new ≡ sizes.old) × (codes.new ≡ codes.old) }
+        × AreParsed asked.kind asked.ignore_case «data».now offsets.now
+        (length codes.old) codes.new sizes.new) }
+    ensures unknown_flag { IfNone (parse_flags_at flags)
+        (IsRejectedCall result sizes.old sizes.new codes.old codes.new) }
+    ensures no_layout { ¬ IsLayout (length «data».now) offsets.now (length sizes.old)
+        (length codes.old)
+        → IsRejectedCall result sizes.old sizes.new codes.old codes.new }
 {
     parse_many(data, Offsets::Long(offsets), flags, sizes, codes)
 }
@@ -49,14 +51,16 @@ pub extern "C" fn byte_unit_parse_many_32_to(
     sizes: &mut [Number],
     codes: &mut [u8],
 ) -> u32
-    ensures parsed { IfSome (reading_at flags) (λ asked.
+    ensures parsed { IfSome (parse_flags_at flags) (λ asked.
         IsLayout (length «data».now) offsets.now (length sizes.old) (length codes.old)
         → (result ≡ ok)
-        × AreParsed asked.kind asked.ignore_case «data».now offsets.now (length codes.old) codes.new sizes.new) }
-    ensures unknown_flag { IfNone (reading_at flags)
-        ((result ≡ invalid_argument) × (sizes.new ≡ sizes.old) × (codes.new ≡ codes.old)) }
-    ensures no_layout { ¬ IsLayout (length «data».now) offsets.now (length sizes.old) (length codes.old)
-        → (result ≡ invalid_argument) × (sizes.new ≡ sizes.old) × (codes.new ≡ codes.old) }
+        × AreParsed asked.kind asked.ignore_case «data».now offsets.now
+        (length codes.old) codes.new sizes.new) }
+    ensures unknown_flag { IfNone (parse_flags_at flags)
+        (IsRejectedCall result sizes.old sizes.new codes.old codes.new) }
+    ensures no_layout { ¬ IsLayout (length «data».now) offsets.now (length sizes.old)
+        (length codes.old)
+        → IsRejectedCall result sizes.old sizes.new codes.old codes.new }
 {
     parse_many(data, Offsets::Short(offsets), flags, sizes, codes)
 }
@@ -69,17 +73,20 @@ fn parse_many(
     sizes: &mut [Number],
     codes: &mut [u8],
 ) -> u32
-    ensures parsed { IfSome (reading_at flags) (λ asked.
-        IsLayout (length «data».now) (offsets_of offsets.entry) (length sizes.old) (length codes.old)
+    ensures parsed { IfSome (parse_flags_at flags) (λ asked.
+        IsLayout (length «data».now) (offsets_of offsets.entry) (length sizes.old)
+        (length codes.old)
         → (result ≡ ok)
-        × AreParsed asked.kind asked.ignore_case «data».now (offsets_of offsets.entry) (length codes.old) codes.new
+        × AreParsed asked.kind asked.ignore_case «data».now (offsets_of offsets.entry)
+        (length codes.old) codes.new
         sizes.new) }
-    ensures unknown_flag { IfNone (reading_at flags)
-        ((result ≡ invalid_argument) × (sizes.new ≡ sizes.old) × (codes.new ≡ codes.old)) }
-    ensures no_layout { ¬ IsLayout (length «data».now) (offsets_of offsets.entry) (length sizes.old) (length codes.old)
-        → (result ≡ invalid_argument) × (sizes.new ≡ sizes.old) × (codes.new ≡ codes.old) }
+    ensures unknown_flag { IfNone (parse_flags_at flags)
+        (IsRejectedCall result sizes.old sizes.new codes.old codes.new) }
+    ensures no_layout { ¬ IsLayout (length «data».now) (offsets_of offsets.entry) (length sizes.old)
+        (length codes.old)
+        → IsRejectedCall result sizes.old sizes.new codes.old codes.new }
 {
-    let Some(asked) = reading_at(flags) else {
+    let Some(asked) = parse_flags_at(flags) else {
         return INVALID_ARGUMENT;
     };
     if !is_layout(data, offsets, sizes.len(), codes.len()) {
@@ -91,7 +98,8 @@ fn parse_many(
 
 /// Whether the offsets ascend within the data, and there is a size and a code for each text.
 fn is_layout(data: &[u8], offsets: Offsets<'_>, sizes_len: usize, codes_len: usize) -> bool
-    ensures { IsTrue result ↔ IsLayout (length «data».now) (offsets_of offsets.entry) sizes_len codes_len }
+    ensures { IsTrue result
+        ↔ IsLayout (length «data».now) (offsets_of offsets.entry) sizes_len codes_len }
 {
     let texts = offsets.len().saturating_sub(1);
     sizes_len == texts && codes_len == texts && offsets.ascend_to(data.len())
@@ -103,12 +111,14 @@ fn is_layout(data: &[u8], offsets: Offsets<'_>, sizes_len: usize, codes_len: usi
 fn parse_each(
     data: &[u8],
     offsets: Offsets<'_>,
-    asked: Reading,
+    asked: ParseFlags,
     sizes: &mut [Number],
     codes: &mut [u8],
 )
-    requires { IsLayout (length «data».now) (offsets_of offsets) (length sizes.old) (length codes.old) }
-    ensures { AreParsed asked.kind asked.ignore_case «data».now (offsets_of offsets.entry) (length codes.old) codes.new
+    requires { IsLayout (length «data».now) (offsets_of offsets) (length sizes.old)
+        (length codes.old) }
+    ensures { AreParsed asked.kind asked.ignore_case «data».now (offsets_of offsets.entry)
+        (length codes.old) codes.new
         sizes.new }
 {
     for i in 0..codes.len() {
@@ -120,7 +130,7 @@ fn parse_each(
 
 /// Parses one text to its code and its size, which is 0 if there is none.
 #[inline(always)]
-fn parse_one(text: &[u8], asked: Reading) -> (u8, Number)
+fn parse_one(text: &[u8], asked: ParseFlags) -> (u8, Number)
     ensures { IsParsed asked.kind asked.ignore_case text.now result.0 result.1 }
 {
     match size::parse_bytes(text, asked.ignore_case, asked.kind) {

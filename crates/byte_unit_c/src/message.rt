@@ -8,7 +8,7 @@ ghost use Rattle.byte_unit_base.specs.Expected.{expected_codes, expects_end};
 ghost use Rattle.byte_unit_base.specs.FaultText.{parse_text, expected_text};
 ghost use Rattle.byte_unit_base.specs.declared.errors.ParseError.TheVariants.{Unit as UnitError};
 ghost use Rattle.byte_unit_format.specs.Written.{WritesForm};
-ghost use Rattle.byte_unit_c.specs.Reading.{IsErrorText};
+ghost use Rattle.byte_unit_c.specs.Parse.{IsErrorText};
 
 use crate::texts::write;
 use byte_unit_base::{Expected, ParseError, UnitParseError, ValueParseError};
@@ -43,7 +43,8 @@ pub fn write_unit_message(
     expected: Option<Expected>,
     out: &mut [u8],
 ) -> usize
-    requires { IfSome expected (λ expected. expected_codes expected ≡ unit.now.expected_characters.now) }
+    requires { IfSome expected
+        (λ expected. expected_codes expected ≡ unit.now.expected_characters.now) }
     ensures some { 0 < result }
     ensures text { WritesForm (IsErrorText (UnitError unit.now)) out.old out.new result }
     ensures bound { result ≤ 256 }
@@ -67,7 +68,8 @@ fn is_known(unit: &UnitParseError, expected: Expected) -> bool
 
 /// Writes `the text is not UTF-8` to the start of `out` if it fits, and returns its length.
 pub fn write_not_utf8(out: &mut [u8]) -> usize
-    ensures text { WritesForm (λ words. words ≡ codes "the text is not UTF-8") out.old out.new result }
+    ensures text { WritesForm
+        (λ words. words ≡ codes "the text is not UTF-8") out.old out.new result }
     ensures len { result ≡ 21 }
 {
     write(b"the text is not UTF-8", out)
@@ -91,7 +93,8 @@ fn is_plain(c: char) -> bool
 /// Returns the rest of the message of an error in the unit, after its character.
 fn rest_of_message(expected: Expected) -> &'static [u8]
     ensures text { Some result.now
-        ≡ Some (codes "' is incorrect") ++? expected_text (expected_codes expected) (expects_end expected) }
+        ≡ Some (codes "' is incorrect")
+        ++? expected_text (expected_codes expected) (expects_end expected) }
     ensures bound { length result.now ≤ 200 }
 {
     match expected {
@@ -114,7 +117,8 @@ const BEGINNING: &[u8] = b"the character '";
 /// Writes `BEGINNING`, a character of ASCII and the rest of a message to the start of `out` if they fit, and returns
 /// their length.
 fn write_quoted(character: u8, rest: &[u8], out: &mut [u8]) -> usize
-    ensures { WritesForm (λ form. form ≡ codes "the character '" ++ character ∷ rest.now) out.old out.new result }
+    ensures { WritesForm
+        (λ form. form ≡ codes "the character '" ++ character ∷ rest.now) out.old out.new result }
 {
     let len = BEGINNING.len() + 1 + rest.len();
     if len <= out.len() {

@@ -28,7 +28,8 @@ pub extern "C" fn byte_unit_text(size: Number, flags: u32, spec: Spec, out: &mut
     ensures text { number_of size < size_limit
         → IfSome (kind_at flags) (λ kind. IfSome (spec_at spec) (λ asked.
         WritesForm (IsText kind (number_of size) asked) out.old out.new result)) }
-    ensures rejected { (size_limit ≤ number_of size) ⊎ (kind_at flags ≡ None) ⊎ (spec_at spec ≡ None)
+    ensures rejected { (size_limit ≤ number_of size) ⊎ (kind_at flags ≡ None)
+        ⊎ (spec_at spec ≡ None)
         → (result ≡ 0) × (out.new ≡ out.old) }
     ensures bound { result < text_limit }
 {
@@ -53,11 +54,13 @@ pub extern "C" fn byte_unit_adjusted_text(
     out: &mut [u8],
 ) -> usize
     ensures text { number_of size < size_limit
-        → IfSome (kind_at flags) (λ kind. IfSome (unit_at unit) (λ of. IfSome (spec_at spec) (λ asked.
+        → IfSome (kind_at flags)
+        (λ kind. IfSome (unit_at unit) (λ of. IfSome (spec_at spec) (λ asked.
         WritesForm
         (IsAdjustedForm kind (number_of size) of asked)
         out.old out.new result))) }
-    ensures rejected { (size_limit ≤ number_of size) ⊎ (kind_at flags ≡ None) ⊎ (unit_at unit ≡ None)
+    ensures rejected { (size_limit ≤ number_of size) ⊎ (kind_at flags ≡ None)
+        ⊎ (unit_at unit ≡ None)
         ⊎ (spec_at spec ≡ None)
         → (result ≡ 0) × (out.new ≡ out.old) }
     ensures bound { result < text_limit }

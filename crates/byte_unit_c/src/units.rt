@@ -10,12 +10,12 @@ ghost use Rattle.byte_unit_base.specs.Choice.{IsRecoveredIn, IsAppropriateIn};
 ghost use Rattle.byte_unit_base.specs.LeastOfKind.{IsLeastOf};
 ghost use Rattle.byte_unit_base.specs.SizeOrNone.{IsSizeOrNone};
 ghost use Rattle.byte_unit_c.specs.Codes.{unit_at, types, CodesUnit};
-ghost use Rattle.byte_unit_c.specs.Flags.{kind_at, choice_at};
-ghost use Rattle.byte_unit_c.specs.Values.{number_of, IsParts};
+ghost use Rattle.byte_unit_c.specs.Flags.{kind_at, choice_flags_at};
+ghost use Rattle.byte_unit_c.specs.Values.{number_of, AreDecimalParts};
 
 use crate::codes::{code_of, type_at, unit_at};
-use crate::flags::{choice_at, kind_at};
-use crate::values::{Number, Parts};
+use crate::flags::{choice_flags_at, kind_at};
+use crate::values::{DecimalParts, Number};
 use byte_unit_base::{Kind, Unit, appropriate_unit, exact_unit, recoverable_unit, size};
 use byte_unit_math::Steps;
 
@@ -30,14 +30,14 @@ pub const NO_UNIT: u32 = u32::MAX;
 /// For example, 50,840,000 bytes gives 4, the code of `KB`, with the count 50,840.
 #[unsafe(no_mangle)]
 pub extern "C" fn byte_unit_exact_unit(size: Number, flags: u32, count: &mut Number) -> u32
-    ensures found { IfSome (choice_at flags) (λ asked. number_of size < size_limit → CodesUnit
+    ensures found { IfSome (choice_flags_at flags) (λ asked. number_of size < size_limit → CodesUnit
         (λ unit. IsRecoveredIn current asked.kind asked.of_either (number_of size) 0 unit
         × (number_of count.new * bits unit ≡ number_of size * bits_in asked.kind))
         result) }
-    ensures rejected { (size_limit ≤ number_of size) ⊎ (choice_at flags ≡ None)
+    ensures rejected { (size_limit ≤ number_of size) ⊎ (choice_flags_at flags ≡ None)
         → (result ≡ u32.MAX) × (count.new ≡ count.old) }
 {
-    match choice_at(flags) {
+    match choice_flags_at(flags) {
         Some(asked) => exact_unit_as(size, asked.kind, asked.of_either, count),
         None => NO_UNIT,
     }
@@ -73,17 +73,17 @@ pub extern "C" fn byte_unit_recoverable_unit(
     size: Number,
     flags: u32,
     precision: usize,
-    count: &mut Parts,
+    count: &mut DecimalParts,
 ) -> u32
-    ensures found { IfSome (choice_at flags) (λ asked. number_of size < size_limit → CodesUnit
+    ensures found { IfSome (choice_flags_at flags) (λ asked. number_of size < size_limit → CodesUnit
         (λ unit. IsRecoveredIn current asked.kind asked.of_either (number_of size) precision unit
-        × (number : ℕ) × IsParts count.new number
+        × (number : ℕ) × AreDecimalParts count.new number
         × (number * bits unit ≡ number_of size * bits_in asked.kind * scale))
         result) }
-    ensures rejected { (size_limit ≤ number_of size) ⊎ (choice_at flags ≡ None)
+    ensures rejected { (size_limit ≤ number_of size) ⊎ (choice_flags_at flags ≡ None)
         → (result ≡ u32.MAX) × (count.new ≡ count.old) }
 {
-    match choice_at(flags) {
+    match choice_flags_at(flags) {
         Some(asked) => recoverable_unit_as(size, asked.kind, asked.of_either, precision, count),
         None => NO_UNIT,
     }
@@ -95,11 +95,11 @@ fn recoverable_unit_as(
     kind: Kind,
     of_either: bool,
     precision: usize,
-    count: &mut Parts,
+    count: &mut DecimalParts,
 ) -> u32
     ensures found { number_of size < size_limit → CodesUnit
         (λ unit. IsRecoveredIn current kind of_either (number_of size) precision unit
-        × (number : ℕ) × IsParts count.new number
+        × (number : ℕ) × AreDecimalParts count.new number
         × (number * bits unit ≡ number_of size * bits_in kind * scale))
         result }
     ensures rejected { size_limit ≤ number_of size → (result ≡ u32.MAX) × (count.new ≡ count.old) }
@@ -108,7 +108,7 @@ fn recoverable_unit_as(
     match size::bounded(size.get()) {
         Some(size) => {
             let (number, unit) = recoverable_unit(size, kind, of_either, precision, steps);
-            *count = Parts::new(number);
+            *count = DecimalParts::new(number);
             code_of(unit)
         }
         None => NO_UNIT,
@@ -123,10 +123,12 @@ fn recoverable_unit_as(
 /// For example, 10,000 bytes with the unit type 2 gives 5, the code of `KiB`.
 #[unsafe(no_mangle)]
 pub extern "C" fn byte_unit_appropriate_unit(size: Number, flags: u32, unit_type: u32) -> u32
-    ensures found { IfSome (kind_at flags) (λ kind. IfSome (slice_get types unit_type) (λ asked. CodesUnit
+    ensures found { IfSome (kind_at flags)
+        (λ kind. IfSome (slice_get types unit_type) (λ asked. CodesUnit
         (IsAppropriateIn current kind asked (number_of size))
         result)) }
-    ensures rejected { (kind_at flags ≡ None) ⊎ (slice_get types unit_type ≡ None) → result ≡ u32.MAX }
+    ensures rejected { (kind_at flags ≡ None) ⊎ (slice_get types unit_type ≡ None)
+        → result ≡ u32.MAX }
 {
     match (kind_at(flags), type_at(unit_type)) {
         (Some(kind), Some(unit_type)) => code_of(appropriate_unit(size.get(), kind, unit_type)),

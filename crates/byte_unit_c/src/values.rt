@@ -1,7 +1,7 @@
 //! Numbers in the C API.
 
 ghost use Rattle.std.specs.Prelude.{◌≡◌};
-ghost use Rattle.byte_unit_c.specs.Values.{number_of, IsParts};
+ghost use Rattle.byte_unit_c.specs.Values.{number_of, AreDecimalParts};
 
 use byte_unit_math::Decimal;
 
@@ -40,22 +40,22 @@ impl Number {
 /// A decimal: the integer part, and the fractional part scaled by 10^28, which is below 10^28.
 #[repr(C)]
 #[derive(Clone, Copy)]
-pub struct Parts {
+pub struct DecimalParts {
     pub whole: Number,
     pub fraction: Number,
 }
 
-impl Parts {
-    pub const ZERO: Parts = Parts {
+impl DecimalParts {
+    pub const ZERO: DecimalParts = DecimalParts {
         whole: Number::ZERO,
         fraction: Number::ZERO,
     };
 
-    /// Creates `Parts` from a decimal.
-    pub fn new(decimal: Decimal) -> Parts
-        ensures { IsParts result decimal }
+    /// Creates `DecimalParts` from a decimal.
+    pub fn new(decimal: Decimal) -> DecimalParts
+        ensures { AreDecimalParts result decimal }
     {
-        Parts {
+        DecimalParts {
             whole: Number::new(decimal.whole()),
             fraction: Number::new(decimal.fraction()),
         }

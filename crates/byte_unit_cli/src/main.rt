@@ -3,16 +3,16 @@
 
 use byte_unit_command::arguments::command;
 use byte_unit_command::ending::{message, status};
+use byte_unit_command::error::RunError;
 use byte_unit_command::field_list::fields_of;
 use byte_unit_command::meaning::options_of;
 use byte_unit_command::operands::joined;
 use byte_unit_command::options::Options;
 use byte_unit_command::run::run;
-use byte_unit_command::stop::Stop;
 use byte_unit_command::streams::Streams;
 use byte_unit_command::values::values_of;
-use byte_unit_command::wrong::{Reason, Wrong, escaped_lines, with_marks};
-use byte_unit_stream::{Reading, Writing};
+use byte_unit_command::wrong::{ValueError, Wrong, escaped_lines, with_marks};
+use byte_unit_stream::{FusedReader, FusedWriter};
 use clap::ArgMatches;
 use clap::error::ErrorKind;
 use std::alloc::AllocError;
@@ -37,17 +37,17 @@ fn convert<R: Read + Drop>(
     input: R,
 ) -> u8 {
     let mut streams = Streams {
-        reader: Reading::new(input),
+        reader: FusedReader::new(input),
         word,
-        writer: Writing::new(io::writer(rt)),
-        errors: Writing::new(rt.stderr()),
+        writer: FusedWriter::new(io::writer(rt)),
+        errors: FusedWriter::new(rt.stderr()),
     };
     let ended = run(rt.alloc(), options, &mut streams);
     if streams.writer.closed() {
         return CLOSED;
     }
-    if let Err(stop) = ended {
-        if let Some(text) = message(stop) {
+    if let Err(error) = ended {
+        if let Some(text) = message(error) {
             // Ignored on failure: the exit status reports the ending too.
             let _ = eprintln!(rt; "byte-unit: {text}");
         }
@@ -182,7 +182,7 @@ fn answer(rt: &HostRuntime) -> io::Result<u8> {
         let wrong = Wrong {
             option: "--field",
             value,
-            reason: Reason::Fields,
+            reason: ValueError::Fields,
         };
         return Ok(report(rt, &wrong)?);
     };

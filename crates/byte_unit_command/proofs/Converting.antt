@@ -11,13 +11,13 @@ use Rattle.byte_unit_command.specs.Messages.{AreRecordMessages, AreMessages, IsM
 use Rattle.byte_unit_command.specs.Messages.{other as other_told, size as size_told}
 use Rattle.byte_unit_command.specs.Outcome.{Passes}
 use Rattle.byte_unit_command.specs.Output.{AreFields, IsRecord, AreRecords, HasRejectedField}
-use Rattle.byte_unit_command.specs.Progress.{AddsField, AddsFields, AddsRecords, Aborts, IsRejectedField, State}
-use Rattle.byte_unit_command.specs.Progress.{after, at_next, messages_of, tally_after, tally_with}
+use Rattle.byte_unit_command.specs.RunState.{AddsField, AddsFields, AddsRecords, Aborts, IsRejectedField, State}
+use Rattle.byte_unit_command.specs.RunState.{after, at_next, messages_of, tally_after, tally_with}
 use Rattle.byte_unit_command.specs.Shown.{IsShown}
 use Rattle.byte_unit_command.specs.Sums.{has_rejected, is_above, is_below, is_beyond}
 use Rattle.byte_unit_command.specs.declared.converter.Converter.{Converter}
-use Rattle.byte_unit_command.specs.declared.notice.Reason.{Reason}
-use Rattle.byte_unit_command.specs.declared.notice.Reason.TheVariants.{Above, Below}
+use Rattle.byte_unit_command.specs.declared.notice.FieldError.{FieldError}
+use Rattle.byte_unit_command.specs.declared.notice.FieldError.TheVariants.{Above, Below}
 use Rattle.byte_unit_command.specs.declared.options.Options.{Options}
 use Rattle.byte_unit_command.specs.declared.options.Invalid.TheVariants.{Abort}
 use Rattle.byte_unit_command.specs.declared.tally.Tally.{Tally}
@@ -37,7 +37,7 @@ pub AreLimitMessages-none : (options : Options) (word : List ℕ) (place number 
     → is_beyond options n ≡ false
     → AreLimitMessages options word place number field n []
 AreLimitMessages-none options word place number field n within =
-    let none : (told : Bool) (reason : Reason) → told ≡ false
+    let none : (told : Bool) (reason : FieldError) → told ≡ false
     → IsMessageIf told options word place number field reason [] =
     λ told reason is. subst (λ told. IsMessageIf told options word place number field reason []) (sym is) refl in (
       [],

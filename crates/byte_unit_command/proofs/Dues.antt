@@ -6,15 +6,15 @@ use Rattle.std.specs.declared.vec.Vec.{Vec}
 use Rattle.byte_unit_command.specs.Capacity.{SufficeFor, end_room}
 use Rattle.byte_unit_command.specs.Messages.{AreMessages}
 use Rattle.byte_unit_command.specs.Outcome.{IsWritten}
-use Rattle.byte_unit_command.specs.Progress.{RecordsHaveNoMessage, State, start_of}
+use Rattle.byte_unit_command.specs.RunState.{RecordsHaveNoMessage, State, start_of}
 use Rattle.byte_unit_stream.specs.Chunks.{ended_records, nonempty_record}
 use Rattle.byte_unit_stream.specs.Records.{finished_records, records_of}
 use Rattle.byte_unit_command.specs.Told.{AreRunMessages}
 use Rattle.byte_unit_command.specs.declared.options.Options.{Options}
-use Rattle.byte_unit_command.specs.declared.stop.Stop.TheVariants.{Memory}
+use Rattle.byte_unit_command.specs.declared.error.RunError.TheVariants.{Memory}
 use Rattle.byte_unit_stream.proofs.Longest.{IsWithin}
-use Rattle.byte_unit_stream.proofs.Parts.{ended_records-append, finished_records-ended_records}
-use Rattle.byte_unit_stream.proofs.Parts.{records_of-ended_records}
+use Rattle.byte_unit_stream.proofs.ChunkRecords.{ended_records-append, finished_records-ended_records}
+use Rattle.byte_unit_stream.proofs.ChunkRecords.{records_of-ended_records}
 use Rattle.byte_unit_stream.proofs.Prefixes.{IsPrefix-self}
 use Rattle.byte_unit_command.proofs.Rooms.{read_room-more, end_room-read}
 use Rattle.byte_unit_command.proofs.Runs.{IsServed, IsWritten-read, AreRunMessages-read, with_output}

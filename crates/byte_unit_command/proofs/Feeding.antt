@@ -3,14 +3,14 @@ use Rattle.std.proofs.Common.{◌≡◌, ℕ, ◌+◌, List, [], ◌∷◌, ◌+
 use Rattle.std.proofs.Common.{append-nil, ◌⊎◌, inl, inr, ◌==◌, true, length}
 use Rattle.std.specs.Prelude.{vec_capacity, vec_len}
 use Rattle.byte_unit_stream.specs.Chunks.{ended_records, begun_record, IsUnbroken}
-use Rattle.byte_unit_command.specs.Progress.{AddsRecords, Aborts, State, Stops, at_next}
+use Rattle.byte_unit_command.specs.RunState.{AddsRecords, Aborts, State, EndsEarly, at_next}
 use Rattle.byte_unit_command.specs.declared.options.Options.{Options}
 use Rattle.std.proofs.lemmas.Bool.{eqb-true}
 use Rattle.std.proofs.lemmas.List.{nil_from_length}
-use Rattle.byte_unit_command.specs.Progress.{RecordHasNoMessage, RecordsHaveNoMessage, state_of}
+use Rattle.byte_unit_command.specs.RunState.{RecordHasNoMessage, RecordsHaveNoMessage, state_of}
 use Rattle.byte_unit_command.specs.declared.buffers.Buffers.{Buffers}
-use Rattle.byte_unit_command.specs.declared.stop.Stop.{Stop}
-use Rattle.byte_unit_command.specs.declared.stop.Stop.TheVariants.{Memory, Rejected}
+use Rattle.byte_unit_command.specs.declared.error.RunError.{RunError}
+use Rattle.byte_unit_command.specs.declared.error.RunError.TheVariants.{Memory, Rejected}
 use Rattle.byte_unit_stream.proofs.Ends.{EndsAt, ended_records-EndsAt, begun_record-EndsAt}
 use Rattle.byte_unit_command.proofs.Converting.{AddsRecords-append, AddsRecords-none}
 use Rattle.byte_unit_command.proofs.Untold.{next-untold, record-untold}
@@ -113,19 +113,19 @@ pub begun_record-all : (options : Options) (start now : Feed) → IsFed options 
 begun_record-all options start now fed unbroken = sym (unbroken now.part).1 ∙ sym fed.begun
 
 -- out of memory, with nothing more appended
-pub Stops-memory : (options : Options) (start now : Feed) → IsFed options start now → (out messages : List ℕ)
+pub EndsEarly-memory : (options : Options) (start now : Feed) → IsFed options start now → (out messages : List ℕ)
     → now.state.out ≡ out
     → now.state.messages ≡ messages
-    → Stops options (ended_records options.record_end start.part start.rest) start.state Memory out messages
-Stops-memory options start now fed out messages same told =
+    → EndsEarly options (ended_records options.record_end start.part start.rest) start.state Memory out messages
+EndsEarly-memory options start now fed out messages same told =
     (fed.converted, now.state, (ended_records options.record_end now.part now.rest, fed.ended), fed.added, same, told)
 
 -- a rejected field in the next record
-pub Stops-rejected : (options : Options) (start now : Feed) (place : ℕ) (bytes : List ℕ) → IsFed options start now
+pub EndsEarly-rejected : (options : Options) (start now : Feed) (place : ℕ) (bytes : List ℕ) → IsFed options start now
     → IsNext options now place bytes → (out messages : List ℕ) → now.state.out ≡ out → now.state.header ≡ 0
     → Aborts options bytes (at_next now.state) messages
-    → Stops options (ended_records options.record_end start.part start.rest) start.state Rejected out messages
-Stops-rejected options start now place bytes fed next out messages same header aborts = (
+    → EndsEarly options (ended_records options.record_end start.part start.rest) start.state Rejected out messages
+EndsEarly-rejected options start now place bytes fed next out messages same header aborts = (
   fed.converted,
   ended_records options.record_end [] (drop (place + 1) now.rest),
   bytes,
@@ -138,21 +138,21 @@ Stops-rejected options start now place bytes fed next out messages same header a
 )
 
 -- a call that converts the next record stopped
-pub Stops-record : (options : Options) (start now : Feed) (place : ℕ) (bytes : List ℕ) → IsFed options start now
-    → IsNext options now place bytes → (out messages : List ℕ) → now.state.out ≡ out → (error : Stop)
+pub EndsEarly-record : (options : Options) (start now : Feed) (place : ℕ) (bytes : List ℕ) → IsFed options start now
+    → IsNext options now place bytes → (out messages : List ℕ) → now.state.out ≡ out → (error : RunError)
     → (error ≡ Memory) ⊎ (error ≡ Rejected) → (error ≡ Memory → messages ≡ now.state.messages)
     → (error ≡ Rejected → (now.state.header ≡ 0)
     × Aborts options bytes (at_next now.state) messages)
-    → Stops options (ended_records options.record_end start.part start.rest) start.state error out messages
-Stops-record options start now place bytes fed next out messages same error (inl memory) kept aborts =
-    subst (λ error. Stops options (ended_records options.record_end start.part start.rest) start.state error out
+    → EndsEarly options (ended_records options.record_end start.part start.rest) start.state error out messages
+EndsEarly-record options start now place bytes fed next out messages same error (inl memory) kept aborts =
+    subst (λ error. EndsEarly options (ended_records options.record_end start.part start.rest) start.state error out
     messages) (sym memory)
-    (Stops-memory options start now fed out messages same (sym (kept memory)))
-Stops-record options start now place bytes fed next out messages same error (inr rejected) kept aborts =
+    (EndsEarly-memory options start now fed out messages same (sym (kept memory)))
+EndsEarly-record options start now place bytes fed next out messages same error (inr rejected) kept aborts =
     let at = aborts rejected in
-    subst (λ error. Stops options (ended_records options.record_end start.part start.rest) start.state error out
+    subst (λ error. EndsEarly options (ended_records options.record_end start.part start.rest) start.state error out
     messages) (sym rejected)
-    (Stops-rejected options start now place bytes fed next out messages same at.0 at.1)
+    (EndsEarly-rejected options start now place bytes fed next out messages same at.0 at.1)
 
 -- a part whose length is tested to be 0 is empty
 pub empty_from_length : (part : List ℕ) (count : ℕ) → count ≡ length part → true ≡ (count == 0) → part ≡ []

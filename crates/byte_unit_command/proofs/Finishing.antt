@@ -5,12 +5,12 @@ use Rattle.std.proofs.Common.{refl, sym, subst, append-nil, inl, inr, MatchBool,
 use Rattle.std.specs.Prelude.{⊤, IsErrAnd}
 use Rattle.std.specs.Io.KnownBytes.{Appends}
 use Rattle.byte_unit_stream.specs.Prefix.{IsPrefix}
-use Rattle.byte_unit_command.specs.Progress.{Aborts, AddsRecords, State, IsTotalFor, IsTotalWritten, IsFinished}
-use Rattle.byte_unit_command.specs.Progress.{at_next, idle}
+use Rattle.byte_unit_command.specs.RunState.{Aborts, AddsRecords, State, IsTotalFor, IsTotalWritten, IsFinished}
+use Rattle.byte_unit_command.specs.RunState.{at_next, idle}
 use Rattle.byte_unit_stream.specs.Chunks.{nonempty_record}
 use Rattle.byte_unit_command.specs.declared.options.Options.{Options}
-use Rattle.byte_unit_command.specs.declared.stop.Stop.{Stop}
-use Rattle.byte_unit_command.specs.declared.stop.Stop.TheVariants.{Memory, Read, Write, Rejected, Total}
+use Rattle.byte_unit_command.specs.declared.error.RunError.{RunError}
+use Rattle.byte_unit_command.specs.declared.error.RunError.TheVariants.{Memory, Read, Write, Rejected, Total}
 use Rattle.byte_unit_command.specs.declared.tally.Tally.{Tally}
 
 memory_is_not_write : Memory ≢ Write
@@ -35,14 +35,14 @@ AddsRecords-idle options records before new none untold adds =
     subst (λ out. From out []) none (subst (From before.out) untold adds)
 
 -- the effect of a call that writes these bytes: it appends them, or it fails with `Write` and appends a prefix of them
-pub record IsWrittenBy (held holds : Option (List ℕ)) (bytes : List ℕ) (result : Result ⊤ Stop) : Type 0 where
+pub record IsWrittenBy (held holds : Option (List ℕ)) (bytes : List ℕ) (result : Result ⊤ RunError) : Type 0 where
   pub whole : OnOk result (Appends held holds bytes)
   pub part : OnErr result ((written : List ℕ) × Appends held holds written × IsPrefix written bytes)
   pub error : IfErr result (λ error. error ≡ Write)
 
 module _ (options : Options) (total : ℕ) (before : List ℕ) where
   -- out of memory, nothing was written
-  pub IsTotalWritten-memory : (result : Result ⊤ Stop) → IsErrAnd result (λ error. error ≡ Memory)
+  pub IsTotalWritten-memory : (result : Result ⊤ RunError) → IsErrAnd result (λ error. error ≡ Memory)
       → IsTotalWritten options total before result []
   IsTotalWritten-memory (Ok _) is = absurd is
   IsTotalWritten-memory (Err error) is = subst (λ error. IsTotalWritten options total before (Err error) []) (sym is)
@@ -51,7 +51,7 @@ module _ (options : Options) (total : ℕ) (before : List ℕ) where
   -- a call that writes the line of the total too
   pub IsTotalWritten-line : {held holds : Option (List ℕ)} (line bytes : List ℕ) → IsTotalFor options total line
       → bytes ≡ before ++ line
-      → (result : Result ⊤ Stop) → IsWrittenBy held holds bytes result
+      → (result : Result ⊤ RunError) → IsWrittenBy held holds bytes result
       → (written : List ℕ) × Appends held holds written × IsTotalWritten options total before result written
   IsTotalWritten-line line bytes is_for are (Ok _) by = (bytes, by.whole, (line, is_for, are))
   IsTotalWritten-line line bytes is_for are (Err Write) by =
@@ -71,7 +71,7 @@ module _ (options : Options) (part : List ℕ) (old new : State)
       let For : Type 0 = IsTotalFor options new.tally.total line in
       (new, line, adds, refl, subst (λ total. MatchBool total For (line ≡ [])) (sym asked) is_for, is, refl)
 
-  pub IsFinished-total_error : options.total ≡ true → (error : Stop) (written : List ℕ)
+  pub IsFinished-total_error : options.total ≡ true → (error : RunError) (written : List ℕ)
       → IsTotalWritten options new.tally.total new.out (Err error) written
       → IsFinished options part old (Err error) written new.messages
   IsFinished-total_error asked Memory written at = (at, inr (new, adds, refl))
@@ -102,7 +102,7 @@ module _ (options : Options) (part : List ℕ) (old new : State)
         refl,
       )
 
-  pub IsFinished-plain_error : (error : Stop) (written : List ℕ) → error ≡ Write → IsPrefix written new.out
+  pub IsFinished-plain_error : (error : RunError) (written : List ℕ) → error ≡ Write → IsPrefix written new.out
       → IsFinished options part old (Err error) written new.messages
   IsFinished-plain_error error written is begins =
       let whole : IsPrefix written (new.out ++ []) = subst (IsPrefix written) (sym (append-nil new.out)) begins in
@@ -110,20 +110,21 @@ module _ (options : Options) (part : List ℕ) (old new : State)
       (new, [], adds, inl refl, whole, refl)
 
 -- the last record was not converted
-pub IsFinished-stopped : (options : Options) (part : List ℕ) (old : State) (messages : List ℕ) (error : Stop)
+pub IsFinished-early : (options : Options) (part : List ℕ) (old : State) (messages : List ℕ) (error : RunError)
     → (error ≡ Memory) ⊎ (error ≡ Rejected) → (error ≡ Memory → messages ≡ [])
     → (error ≡ Rejected → (old.header ≡ 0) × Aborts options part (at_next old) messages
     × (nonempty_record part ≡ part ∷ [])) → IsFinished options part old (Err error) [] messages
-IsFinished-stopped options part old messages error (inl memory) kept aborts =
+IsFinished-early options part old messages error (inl memory) kept aborts =
     subst (λ error. IsFinished options part old (Err error) [] messages) (sym memory) (refl, inl (kept memory))
-IsFinished-stopped options part old messages error (inr rejected) kept aborts =
+IsFinished-early options part old messages error (inr rejected) kept aborts =
     let at = aborts rejected in
     subst (λ error. IsFinished options part old (Err error) [] messages) (sym rejected) (refl, at.0, at.1, at.2)
 
 -- what is right for an error is right for the result with it
 pub IsFinished-error : (options : Options) (part : List ℕ) (old : State) (written messages : List ℕ)
-    (result : Result Tally Stop)
-    (error : Stop) → IsErrAnd result (λ other. other ≡ error) → IsFinished options part old (Err error) written messages
+    (result : Result Tally RunError)
+    (error : RunError) → IsErrAnd result (λ other. other ≡ error)
+    → IsFinished options part old (Err error) written messages
     → IsFinished options part old result written messages
 IsFinished-error options part old written messages (Ok _) error is at = absurd is
 IsFinished-error options part old written messages (Err _) error is at =

@@ -6,7 +6,7 @@ use Rattle.std.proofs.lemmas.List.Splits.{slice_split_at}
 use Rattle.std.specs.List.{All}
 use Rattle.byte_unit_command.specs.Operands.{HasOperands}
 use Rattle.byte_unit_stream.specs.Records.{parts, but_empty_last}
-use Rattle.byte_unit_stream.proofs.Parts.{parts_IsSplit, IsSplit}
+use Rattle.byte_unit_stream.proofs.ChunkRecords.{parts_IsSplit, IsSplit}
 
 -- the texts, each with a zero byte after it
 abbrev pub joined : List (List ℕ) → List ℕ

@@ -7,7 +7,7 @@ use Rattle.std.specs.declared.vec.Vec.{Vec}
 use Rattle.byte_unit_command.specs.Capacity.{text_room, fields_max, fields_room, record_room, end_room}
 use Rattle.byte_unit_command.specs.Capacity.{read_fields_max, read_room, SufficeFor}
 use Rattle.byte_unit_command.specs.Messages.{AreMessagesOfFields}
-use Rattle.byte_unit_command.specs.Progress.{State}
+use Rattle.byte_unit_command.specs.RunState.{State}
 use Rattle.byte_unit_stream.specs.Records.{parts}
 use Rattle.byte_unit_command.specs.declared.options.Options.{Options}
 

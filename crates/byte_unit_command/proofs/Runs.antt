@@ -7,18 +7,18 @@ use Rattle.byte_unit_command.specs.Messages.{AreMessages, AreMessagesToRejected,
 use Rattle.byte_unit_command.specs.Outcome.{AreConverted, IsOutput, IsBegun, IsBegunOutput}
 use Rattle.byte_unit_stream.specs.Prefix.{IsPrefix}
 use Rattle.byte_unit_command.specs.Outcome.{IsTooLarge, IsWritten}
-use Rattle.byte_unit_command.specs.Progress.{AddsRecords, State, IsAnswered}
+use Rattle.byte_unit_command.specs.RunState.{AddsRecords, State, IsAnswered}
 use Rattle.byte_unit_stream.specs.Chunks.{ended_records, begun_record, nonempty_record}
-use Rattle.byte_unit_command.specs.Progress.{IsFinished, idle, no_tally, start_of}
+use Rattle.byte_unit_command.specs.RunState.{IsFinished, idle, no_tally, start_of}
 use Rattle.byte_unit_stream.specs.Records.{finished_records, records_of}
 use Rattle.byte_unit_command.specs.Told.{AreFirstMessages, AreRunMessages}
 use Rattle.byte_unit_command.specs.declared.options.Options.{Options}
-use Rattle.byte_unit_command.specs.declared.stop.Stop.{Stop}
-use Rattle.byte_unit_command.specs.declared.stop.Stop.TheVariants.{Memory, Read, Write, Rejected, Total}
+use Rattle.byte_unit_command.specs.declared.error.RunError.{RunError}
+use Rattle.byte_unit_command.specs.declared.error.RunError.TheVariants.{Memory, Read, Write, Rejected, Total}
 use Rattle.byte_unit_command.specs.declared.tally.Tally.{Tally}
 use Rattle.byte_unit_command.proofs.Converting.{AddsRecords-append, AddsRecords-after, AddsRecords-none, behind}
-use Rattle.byte_unit_stream.proofs.Parts.{ended_records-append, begun_record-append, finished_records-ended_records}
-use Rattle.byte_unit_stream.proofs.Parts.{records_of-ended_records}
+use Rattle.byte_unit_stream.proofs.ChunkRecords.{ended_records-append, begun_record-append}
+use Rattle.byte_unit_stream.proofs.ChunkRecords.{finished_records-ended_records, records_of-ended_records}
 use Rattle.byte_unit_stream.proofs.Prefixes.{IsPrefix-after, IsPrefix-self}
 use Rattle.byte_unit_command.proofs.Starts.{converted-from_start, messages-from_start, tally-from_start}
 use Rattle.byte_unit_command.proofs.Starts.{large-from_start}
@@ -123,7 +123,7 @@ module _ (options : Options) (word read written messages part : List ℕ) (state
         ≡ finished_records options.record_end (read ++ piece)
     finished-piece = sym (finished_records-ended_records options.record_end (read ++ piece))
 
-    pub IsWritten-piece : (complete : Type 0) (error : Stop)
+    pub IsWritten-piece : (complete : Type 0) (error : RunError)
         → IsAnswered options (ended_records options.record_end part piece) (idle state) next (Err error) more
         more_messages
         → IsWritten options (finished_records options.record_end (read ++ piece))
@@ -190,7 +190,7 @@ module _ (options : Options) (word read written messages part : List ℕ) (state
             messages-from_start options word front (behind written messages new) whole,
           )
 
-      pub AreRunMessages-piece : (error : Stop)
+      pub AreRunMessages-piece : (error : RunError)
           → IsAnswered options (ended_records options.record_end part piece) (idle state) next (Err error) more
           more_messages
           → AreRunMessages options word (finished_records options.record_end (read ++ piece))
@@ -251,7 +251,7 @@ module _ (options : Options) (word read written messages part : List ℕ) (state
         ∙ sym (records_of-ended_records options.record_end read)
 
     module _ (complete : Type 0) (at_end : complete) where
-      pub IsWritten-finished : (result : Result Tally Stop)
+      pub IsWritten-finished : (result : Result Tally RunError)
           → IsFinished options part (idle state) result more more_messages
           → IsWritten options (finished_records options.record_end read) (records_of options.record_end read) complete
           result
@@ -370,7 +370,7 @@ module _ (options : Options) (word read written messages part : List ℕ) (state
           → AreFirstMessages options word (records_of options.record_end read) (messages ++ more_messages)
       first-all told = (records_of options.record_end read, IsPrefix-self (records_of options.record_end read), told)
 
-      pub AreRunMessages-finished : (result : Result Tally Stop)
+      pub AreRunMessages-finished : (result : Result Tally RunError)
           → IsFinished options part (idle state) result more more_messages
           → AreRunMessages options word (finished_records options.record_end read)
           (records_of options.record_end read) complete result
@@ -413,7 +413,7 @@ module _ (options : Options) (word read written messages part : List ℕ) (state
 -- the messages of an error are those of a result that is this error
 pub AreRunMessages-error : (options : Options) (word : List ℕ) (finished records : List (List ℕ)) (complete : Type 0)
     (messages : List ℕ)
-    (result : Result Tally Stop) (error : Stop) → IsErrAnd result (λ other. other ≡ error)
+    (result : Result Tally RunError) (error : RunError) → IsErrAnd result (λ other. other ≡ error)
     → AreRunMessages options word finished records complete (Err error) messages
     → AreRunMessages options word finished records complete result messages
 AreRunMessages-error options word finished records complete messages (Ok _) error is at = absurd is
@@ -422,7 +422,7 @@ AreRunMessages-error options word finished records complete messages (Err _) err
 
 -- what is written at an error is written for a result that is this error
 pub IsWritten-error : (options : Options) (finished records : List (List ℕ)) (complete : Type 0) (written : List ℕ)
-    (result : Result Tally Stop) (error : Stop) → IsErrAnd result (λ other. other ≡ error)
+    (result : Result Tally RunError) (error : RunError) → IsErrAnd result (λ other. other ≡ error)
     → IsWritten options finished records complete (Err error) written
     → IsWritten options finished records complete result written
 IsWritten-error options finished records complete written (Ok _) error is at = absurd is

@@ -4,7 +4,7 @@ use Rattle.std.specs.Io.KnownBytes.{Appends, Consumes}
 use Rattle.std.proofs.KnownBytes.{Appends-trans, Consumes-trans}
 use Rattle.byte_unit_command.specs.Told.{IsTold}
 use Rattle.byte_unit_command.specs.declared.options.Options.{Options}
-use Rattle.byte_unit_command.specs.Progress.{State}
+use Rattle.byte_unit_command.specs.RunState.{State}
 use Rattle.byte_unit_command.proofs.Runs.{IsServed}
 
 -- the invariant of the loop: the same for what was consumed from a reader and appended to a writer, and what was told;

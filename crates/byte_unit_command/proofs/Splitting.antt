@@ -11,14 +11,14 @@ use Rattle.byte_unit_command.specs.Messages.{AreFieldMessages, AreMessagesOfFiel
 use Rattle.byte_unit_command.specs.Messages.{other as other_told}
 use Rattle.byte_unit_command.specs.Outcome.{Passes}
 use Rattle.byte_unit_command.specs.Output.{AreFields, HasRejectedField}
-use Rattle.byte_unit_command.specs.Progress.{AddsField, AddsFields, Aborts, IsRejectedField, FieldHasNoMessage, State}
-use Rattle.byte_unit_command.specs.Progress.{after}
+use Rattle.byte_unit_command.specs.RunState.{AddsField, AddsFields, Aborts, IsRejectedField, FieldHasNoMessage, State}
+use Rattle.byte_unit_command.specs.RunState.{after}
 use Rattle.byte_unit_stream.specs.Chunks.{IsUnbroken}
 use Rattle.byte_unit_stream.specs.Records.{parts}
 use Rattle.byte_unit_command.specs.Sums.{has_rejected}
 use Rattle.byte_unit_command.specs.declared.options.Options.{Options}
 use Rattle.byte_unit_command.specs.declared.options.Invalid.TheVariants.{Abort}
-use Rattle.byte_unit_stream.proofs.Parts.{parts_IsSplit, IsSplit}
+use Rattle.byte_unit_stream.proofs.ChunkRecords.{parts_IsSplit, IsSplit}
 use Rattle.byte_unit_stream.proofs.Ends.{EndsAt, parts-IsUnbroken, parts-EndsAt}
 use Rattle.byte_unit_command.proofs.Converting.{after-more, after-then}
 use Rattle.byte_unit_command.proofs.Tallies.{Passes-append}

@@ -5,7 +5,7 @@ use Rattle.byte_unit.specs.Bounds.{size_limit}
 use Rattle.byte_unit_command.specs.Messages.{AreMessages}
 use Rattle.byte_unit_command.specs.Outcome.{AreConverted, IsTotalLine}
 use Rattle.byte_unit_command.specs.Output.{AreRecords}
-use Rattle.byte_unit_command.specs.Progress.{AddsRecords, State, IsTotalFor, start_of}
+use Rattle.byte_unit_command.specs.RunState.{AddsRecords, State, IsTotalFor, start_of}
 use Rattle.byte_unit_command.specs.Shown.{IsShown}
 use Rattle.byte_unit_command.specs.Sums.{sum_of, tally_of}
 use Rattle.byte_unit_command.specs.declared.options.Options.{Options}

@@ -1,7 +1,7 @@
 -- Lemmas: what is told, one list of messages after the other.
 use Rattle.std.proofs.Common.{◌≡◌, ℕ, Bool, true, false, List, [], ◌++◌, refl, sym, ap, subst, ◌∙◌, append-nil}
 use Rattle.byte_unit_stream.specs.Prefix.{IsPrefix}
-use Rattle.byte_unit_command.specs.Progress.{Tells}
+use Rattle.byte_unit_command.specs.RunState.{Tells}
 use Rattle.byte_unit_command.specs.Told.{IsTold}
 use Rattle.byte_unit_stream.proofs.Prefixes.{IsPrefix-longer, IsPrefix-after}
 

@@ -8,10 +8,10 @@ use Rattle.byte_unit_command.specs.Messages.{AreFieldMessages, AreLimitMessages,
 use Rattle.byte_unit_command.specs.Messages.{AreRecordMessages, AreMessages}
 use Rattle.byte_unit_command.specs.Messages.{IsMessage, IsMessageIf, other, size, rejected, ignored}
 use Rattle.byte_unit_command.specs.Messages.{last_place, next_place, tells_rejected}
-use Rattle.byte_unit_command.specs.Progress.{AddsRecords, RecordsHaveNoMessage, State}
+use Rattle.byte_unit_command.specs.RunState.{AddsRecords, RecordsHaveNoMessage, State}
 use Rattle.byte_unit_command.specs.Sums.{is_above, is_below, is_beyond}
-use Rattle.byte_unit_command.specs.declared.notice.Reason.{Reason}
-use Rattle.byte_unit_command.specs.declared.notice.Reason.TheVariants.{Above, Below}
+use Rattle.byte_unit_command.specs.declared.notice.FieldError.{FieldError}
+use Rattle.byte_unit_command.specs.declared.notice.FieldError.TheVariants.{Above, Below}
 use Rattle.byte_unit_command.specs.declared.options.Options.{Options}
 
 -- two lists without an element
@@ -28,10 +28,10 @@ no_size_is_rejected law options field n is (inr rejects) =
 
 module _ (options : Options) (word : List ℕ) (place number : ℕ) (field : List ℕ) where
   -- a message is not empty
-  IsMessage-some : (reason : Reason) → IsMessage options word place number field reason [] → ⊥
+  IsMessage-some : (reason : FieldError) → IsMessage options word place number field reason [] → ⊥
   IsMessage-some reason (words, are, is) = cc
 
-  IsMessageIf-none : (told : Bool) (reason : Reason) (text : List ℕ) → text ≡ []
+  IsMessageIf-none : (told : Bool) (reason : FieldError) (text : List ℕ) → text ≡ []
       → IsMessageIf told options word place number field reason text → told ≡ false
   IsMessageIf-none true reason text none is =
       absurd (IsMessage-some reason (subst (IsMessage options word place number field reason) none is))

@@ -11,7 +11,7 @@ use Rattle.byte_unit_command.specs.declared.options.Form.{Form}
 use Rattle.byte_unit_command.specs.declared.options.Invalid.{Invalid}
 use Rattle.byte_unit_command.specs.declared.options.Options.{Options}
 use Rattle.byte_unit_command.specs.declared.values.Values.{Values}
-use Rattle.byte_unit_command.specs.declared.wrong.Reason.{Reason}
+use Rattle.byte_unit_command.specs.declared.wrong.ValueError.{ValueError}
 use Rattle.byte_unit_command.specs.declared.wrong.Wrong.{Wrong}
 
 -- the kind of the sizes: bits with `--bits`, and bytes without it
@@ -37,7 +37,7 @@ pub record AreOptions (values : Values) (ranges : List FieldRange) (options : Op
   pub min : IsLimit (kind_of values.bits) values.ignore_case (text_of values.min) options.min
 
 -- the option with this name has this value, which is wrong
-abbrev pub IsWrongOf : List ℕ → Option (Bor (List ℕ)) → (List ℕ → Reason → Type 0) → Wrong → Type 0
+abbrev pub IsWrongOf : List ℕ → Option (Bor (List ℕ)) → (List ℕ → ValueError → Type 0) → Wrong → Type 0
 IsWrongOf name value IsWrongValue wrong =
     (wrong.option.now ≡ name) × (text_of value ≡ Some wrong.value.now) × IsWrongValue wrong.value.now wrong.reason
 

@@ -5,7 +5,7 @@ pub mod Laws
 pub mod Messages
 pub mod Outcome
 pub mod Output
-pub mod Progress
+pub mod RunState
 pub mod Shown
 pub mod Sums
 pub mod Positive

@@ -19,9 +19,9 @@ use Rattle.byte_unit_command.specs.declared.options.Form.{Form}
 use Rattle.byte_unit_command.specs.declared.options.Form.TheVariants.{Exact, Plain, InUnit, Largest}
 use Rattle.byte_unit_command.specs.declared.options.Invalid.{Invalid}
 use Rattle.byte_unit_command.specs.declared.options.Invalid.TheVariants.{Abort, Fail, Warn, Ignore}
-use Rattle.byte_unit_command.specs.declared.wrong.Reason.{Reason}
-use Rattle.byte_unit_command.specs.declared.wrong.Reason.TheVariants.{Unit as UnitFault, Blank, Delimiter}
-use Rattle.byte_unit_command.specs.declared.wrong.Reason.TheVariants.{Padding, Mode, Size}
+use Rattle.byte_unit_command.specs.declared.wrong.ValueError.{ValueError}
+use Rattle.byte_unit_command.specs.declared.wrong.ValueError.TheVariants.{Unit as UnitFault, Blank, Delimiter}
+use Rattle.byte_unit_command.specs.declared.wrong.ValueError.TheVariants.{Padding, Mode, Size}
 
 -- the text is the word for this form
 abbrev pub IsFormWord : List ℕ → Form → Type 0
@@ -44,13 +44,13 @@ IsForm kind ignore_case (Some text) form =
     IsFormWord text form ⊎ (unit : UnitName) × IsUnitName kind ignore_case text unit × (form ≡ InUnit unit)
 
 -- the text spells no unit: it is white space, or has this error
-abbrev pub IsNoUnitName : Kind → Bool → List ℕ → Reason → Type 0
+abbrev pub IsNoUnitName : Kind → Bool → List ℕ → ValueError → Type 0
 IsNoUnitName kind ignore_case text Blank = trim text ≡ []
 IsNoUnitName kind ignore_case text (UnitFault error) =
     (trim text ≢ []) × IsUnitFault current (flags_for kind ignore_case) (trim_of text) (unit_fault error)
 IsNoUnitName kind ignore_case text _ = ⊥
 
-abbrev pub IsNoForm : Kind → Bool → List ℕ → Reason → Type 0
+abbrev pub IsNoForm : Kind → Bool → List ℕ → ValueError → Type 0
 IsNoForm kind ignore_case text reason =
     ((form : Form) → ¬ IsFormWord text form) × IsNoUnitName kind ignore_case text reason
 
@@ -60,7 +60,7 @@ IsDelimiter None delimiter = delimiter ≡ None
 IsDelimiter (Some text) delimiter =
     ((byte : ℕ) × (text ≡ byte ∷ []) × (delimiter ≡ Some byte)) ⊎ (text ≡ 92 ∷ 116 ∷ []) × (delimiter ≡ Some 9)
 
-abbrev pub IsNoDelimiter : List ℕ → Reason → Type 0
+abbrev pub IsNoDelimiter : List ℕ → ValueError → Type 0
 IsNoDelimiter text reason = ((delimiter : Option ℕ) → ¬ IsDelimiter (Some text) delimiter) × (reason ≡ Delimiter)
 
 -- the text is a number from 1 to 65535
@@ -74,7 +74,7 @@ IsPadding (Some text) width align_left =
     IsWidth text width × (align_left ≡ false)
     ⊎ (digits : List ℕ) × (text ≡ 45 ∷ digits) × IsWidth digits width × (align_left ≡ true)
 
-abbrev pub IsNoPadding : List ℕ → Reason → Type 0
+abbrev pub IsNoPadding : List ℕ → ValueError → Type 0
 IsNoPadding text reason =
     ((width : ℕ) (align_left : Bool) → ¬ IsPadding (Some text) width align_left) × (reason ≡ Padding)
 
@@ -87,7 +87,7 @@ IsMode (Some text) invalid =
     ⊎ ((text ≡ codes "warn") × (invalid ≡ Warn)
     ⊎ (text ≡ codes "ignore") × (invalid ≡ Ignore)))
 
-abbrev pub IsNoMode : List ℕ → Reason → Type 0
+abbrev pub IsNoMode : List ℕ → ValueError → Type 0
 IsNoMode text reason = ((invalid : Invalid) → ¬ IsMode (Some text) invalid) × (reason ≡ Mode)
 
 -- `--max` and `--min`: a size, as in an input
@@ -96,7 +96,7 @@ IsLimit kind ignore_case None limit = limit ≡ None
 IsLimit kind ignore_case (Some text) limit =
     (size : ℕ) × IsAccepted kind (ignores_case kind ignore_case) text size × (limit ≡ Some size)
 
-abbrev pub IsNoLimit : Kind → Bool → List ℕ → Reason → Type 0
+abbrev pub IsNoLimit : Kind → Bool → List ℕ → ValueError → Type 0
 IsNoLimit kind ignore_case text (Size error) =
     IsRejected kind (ignores_case kind ignore_case) text (size_fault error)
 IsNoLimit kind ignore_case text _ = ⊥

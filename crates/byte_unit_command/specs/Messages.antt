@@ -13,8 +13,8 @@ use Rattle.byte_unit.specs.FaultText.{parse_text}
 use Rattle.byte_unit_command.specs.Field.{IsSize, IsNoSize, ignores_case}
 use Rattle.byte_unit_command.specs.Fields.{IsChosen, fields_of}
 use Rattle.byte_unit_command.specs.Sums.{is_above, is_below}
-use Rattle.byte_unit_command.specs.declared.notice.Reason.{Reason}
-use Rattle.byte_unit_command.specs.declared.notice.Reason.TheVariants.{NotUtf8, Rejected, Above, Below}
+use Rattle.byte_unit_command.specs.declared.notice.FieldError.{FieldError}
+use Rattle.byte_unit_command.specs.declared.notice.FieldError.TheVariants.{NotUtf8, Rejected, Above, Below}
 use Rattle.byte_unit_command.specs.declared.options.Invalid.{Invalid}
 use Rattle.byte_unit_command.specs.declared.options.Invalid.TheVariants.{Abort, Fail, Warn, Ignore}
 use Rattle.byte_unit_command.specs.declared.options.Options.{Options}
@@ -62,7 +62,7 @@ quote field =
 
 -- the words for a reason. Those for a rejected field are the message of the error that the library has for it; where
 -- the library's contract says nothing of its message, since it quotes a character that is not ASCII, nothing is said
-abbrev pub AreWords : Reason → List ℕ → Type 0
+abbrev pub AreWords : FieldError → List ℕ → Type 0
 AreWords NotUtf8 words = words ≡ codes "not UTF-8"
 AreWords (Rejected error) words = IfSome (parse_text error) (λ text. words ≡ text)
 AreWords Above words = words ≡ codes "above the maximum"
@@ -82,13 +82,13 @@ abbrev pub place_text : Options → List ℕ → ℕ → ℕ → List ℕ
 place_text options word place number = record_text word place ++ field_text options.delimiter number
 
 -- a message about the field with this number, in the record at this place, which is called by this word
-abbrev pub IsMessage : Options → List ℕ → ℕ → ℕ → List ℕ → Reason → List ℕ → Type 0
+abbrev pub IsMessage : Options → List ℕ → ℕ → ℕ → List ℕ → FieldError → List ℕ → Type 0
 IsMessage options word place number field reason text =
     (words : List ℕ) × AreWords reason words
     × (text ≡ place_text options word place number ++ quote field ++ codes ": " ++ words ++ 10 ∷ [])
 
 -- such a message if it is told, and else nothing
-abbrev pub IsMessageIf : Bool → Options → List ℕ → ℕ → ℕ → List ℕ → Reason → List ℕ → Type 0
+abbrev pub IsMessageIf : Bool → Options → List ℕ → ℕ → ℕ → List ℕ → FieldError → List ℕ → Type 0
 IsMessageIf told options word place number field reason text =
     MatchBool told (IsMessage options word place number field reason text) (text ≡ [])
 
@@ -99,11 +99,11 @@ AreLimitMessages options word place number field size text =
     × IsMessageIf (is_below options.min size) options word place number field Below below × (text ≡ above ++ below)
 
 -- this is the reason why the field is not a size
-abbrev pub IsReason : Options → List ℕ → Reason → Type 0
-IsReason options field NotUtf8 = ¬ IsUtf8 field
-IsReason options field (Rejected error) =
+abbrev pub IsFieldError : Options → List ℕ → FieldError → Type 0
+IsFieldError options field NotUtf8 = ¬ IsUtf8 field
+IsFieldError options field (Rejected error) =
     IsUtf8 field × IsRejected options.kind (ignores_case options.kind options.ignore_case) field (size_fault error)
-IsReason options field _ = ⊥
+IsFieldError options field _ = ⊥
 
 -- whether rejected fields are told
 abbrev pub tells_rejected : Invalid → Bool
@@ -120,7 +120,8 @@ pub data AreFieldMessages (options : Options) (word : List ℕ) (place number : 
   size : (n : ℕ) → IsChosen options.fields.now number → IsSize options field n → is_rejected ≡ false
       → AreLimitMessages options word place number field n text
       → AreFieldMessages options word place number field is_rejected text
-  rejected : (reason : Reason) → IsChosen options.fields.now number → IsReason options field reason → is_rejected ≡ true
+  rejected : (reason : FieldError) → IsChosen options.fields.now number → IsFieldError options field reason
+      → is_rejected ≡ true
       → tells_rejected options.invalid ≡ true → IsMessage options word place number field reason text
       → AreFieldMessages options word place number field is_rejected text
   ignored : IsChosen options.fields.now number → IsNoSize options field → is_rejected ≡ true

@@ -9,8 +9,8 @@ use Rattle.byte_unit_command.specs.Shown.{IsShown}
 use Rattle.byte_unit_command.specs.Sums.{sum_of, has_rejected, tally_of}
 use Rattle.byte_unit_command.specs.declared.options.Options.{Options}
 use Rattle.byte_unit_command.specs.declared.options.Invalid.TheVariants.{Abort}
-use Rattle.byte_unit_command.specs.declared.stop.Stop.{Stop}
-use Rattle.byte_unit_command.specs.declared.stop.Stop.TheVariants.{Memory, Read, Write, Rejected, Total}
+use Rattle.byte_unit_command.specs.declared.error.RunError.{RunError}
+use Rattle.byte_unit_command.specs.declared.error.RunError.TheVariants.{Memory, Read, Write, Rejected, Total}
 use Rattle.byte_unit_command.specs.declared.tally.Tally.{Tally}
 use Rattle.byte_unit_stream.specs.Prefix.{IsPrefix}
 
@@ -87,7 +87,7 @@ pub record IsTooLarge (options : Options) (records : List (List ℕ)) (written :
 -- output if a write failed; the texts of the records before the first one with a rejected field; or those of all
 -- records, if their total is too large. `finished` are the records that were read with their end bytes, `records` also
 -- the last one without. That one is a record, and there is a total, only if `complete`: the input was read to its end
-abbrev pub IsWritten : Options → List (List ℕ) → List (List ℕ) → Type 0 → Result Tally Stop → List ℕ → Type 0
+abbrev pub IsWritten : Options → List (List ℕ) → List (List ℕ) → Type 0 → Result Tally RunError → List ℕ → Type 0
 IsWritten options finished records complete (Ok tally) written =
     complete × (found : List Found) × IsOutput options records written found × (tally ≡ tally_of options found)
 IsWritten options finished records complete (Err Read) written =

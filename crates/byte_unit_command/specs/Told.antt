@@ -4,8 +4,8 @@ use Rattle.byte_unit_command.specs.Fields.{fields_of}
 use Rattle.byte_unit_command.specs.Messages.{AreMessages, AreMessagesToRejected, next_place, last_place}
 use Rattle.byte_unit_stream.specs.Prefix.{IsPrefix}
 use Rattle.byte_unit_command.specs.declared.options.Options.{Options}
-use Rattle.byte_unit_command.specs.declared.stop.Stop.{Stop}
-use Rattle.byte_unit_command.specs.declared.stop.Stop.TheVariants.{Read, Rejected, Total}
+use Rattle.byte_unit_command.specs.declared.error.RunError.{RunError}
+use Rattle.byte_unit_command.specs.declared.error.RunError.TheVariants.{Read, Rejected, Total}
 use Rattle.byte_unit_command.specs.declared.tally.Tally.{Tally}
 
 -- the messages about the first of these records, for some number of them
@@ -31,7 +31,7 @@ pub record AreAbortMessages (options : Options) (word : List ℕ) (records : Lis
 -- about some first ones if a write failed or it was out of memory; and those up to the first rejected field in the mode
 -- `abort`. `finished`, `records` and `complete` are those of `IsWritten`
 abbrev pub AreRunMessages :
-    Options → List ℕ → List (List ℕ) → List (List ℕ) → Type 0 → Result Tally Stop → List ℕ → Type 0
+    Options → List ℕ → List (List ℕ) → List (List ℕ) → Type 0 → Result Tally RunError → List ℕ → Type 0
 AreRunMessages options word finished records complete (Ok _) messages =
     complete × AreMessages options word 0 options.header records messages
 AreRunMessages options word finished records complete (Err Total) messages =

@@ -2,14 +2,14 @@
 use Rattle.std.specs.Prelude.{◌≡◌, ℕ, List, ◌++◌, IfSome, codes}
 use Rattle.byte_unit.specs.FaultText.{parse_text, unit_text}
 use Rattle.byte_unit_command.specs.Messages.{quote}
-use Rattle.byte_unit_command.specs.declared.wrong.Reason.{Reason}
-use Rattle.byte_unit_command.specs.declared.wrong.Reason.TheVariants.{Unit as UnitFault, Blank, Delimiter, Fields}
-use Rattle.byte_unit_command.specs.declared.wrong.Reason.TheVariants.{Padding, Mode, Size}
+use Rattle.byte_unit_command.specs.declared.wrong.ValueError.{ValueError}
+use Rattle.byte_unit_command.specs.declared.wrong.ValueError.TheVariants.{Unit as UnitFault, Blank, Delimiter, Fields}
+use Rattle.byte_unit_command.specs.declared.wrong.ValueError.TheVariants.{Padding, Mode, Size}
 use Rattle.byte_unit_command.specs.declared.wrong.Wrong.{Wrong}
 
 -- the words for a reason. An error of the library has its message; where the library's contract says nothing of that,
 -- since it quotes a character that is not ASCII, nothing is said
-abbrev pub AreReasonWords : Reason → List ℕ → Type 0
+abbrev pub AreReasonWords : ValueError → List ℕ → Type 0
 AreReasonWords (UnitFault error) words =
     IfSome (unit_text error) (λ text. words ≡ codes "not a form or a unit: " ++ text)
 AreReasonWords Blank words = words ≡ codes "not a form or a unit"

@@ -6,18 +6,18 @@ ghost use Rattle.byte_unit.specs.Forms.{text_limit};
 ghost use Rattle.byte_unit_command.specs.Capacity.{field_room, fields_room, record_room};
 ghost use Rattle.byte_unit_command.specs.Field.{IsSize, IsNoSize};
 ghost use Rattle.byte_unit_command.specs.Fields.{IsChosen};
-ghost use Rattle.byte_unit_command.specs.Progress.{AddsField, AddsFields, AddsRecords};
-ghost use Rattle.byte_unit_command.specs.Progress.{Aborts, IsRejectedField};
-ghost use Rattle.byte_unit_command.specs.Progress.{FieldHasNoMessage, FieldsHaveNoMessage, RecordHasNoMessage};
-ghost use Rattle.byte_unit_command.specs.Progress.{at_next, messages_of, no_tally, state_of, tally_with};
+ghost use Rattle.byte_unit_command.specs.RunState.{AddsField, AddsFields, AddsRecords};
+ghost use Rattle.byte_unit_command.specs.RunState.{Aborts, IsRejectedField};
+ghost use Rattle.byte_unit_command.specs.RunState.{FieldHasNoMessage, FieldsHaveNoMessage, RecordHasNoMessage};
+ghost use Rattle.byte_unit_command.specs.RunState.{at_next, messages_of, no_tally, state_of, tally_with};
 ghost use Rattle.byte_unit_stream.specs.Prefix.{IsPrefix};
 
+use crate::error::RunError;
 use crate::field::{is_chosen, is_past};
 use crate::notice::{Notices, add_limit_notice, add_reject_notice};
 use crate::options::{Invalid, Options};
 use crate::place::Place;
 use crate::size::accepted;
-use crate::stop::Stop;
 use crate::tally::Tally;
 use crate::text::add_size;
 use byte_unit::laws::texts_are_accepted_or_refused;
@@ -79,16 +79,18 @@ impl<A: Allocator> Converter<A> {
         options: &Options,
         bytes: &[u8],
         digits: &mut [u8],
-    ) -> Result<(), Stop>
+    ) -> Result<(), RunError>
         requires { text_limit ≤ length digits.old }
         ensures ok { OnOk result
             (AddsRecords options.now (bytes.now ∷ []) (state_of self.old) (state_of self.new)) }
         ensures err { OnErr result (self.new.waiting.items ≡ self.old.waiting.items) }
-        ensures memory { IsErrOf result Stop.Memory
+        ensures memory { IsErrOf result RunError.Memory
             → messages_of self.new.notices ≡ messages_of self.old.notices }
-        ensures rejected { IsErrOf result Stop.Rejected → (self.old.progress.header ≡ 0)
-            × Aborts options.now bytes.now (at_next (state_of self.old)) (messages_of self.new.notices) }
-        ensures stop { IfErr result (λ stop. (stop ≡ Stop.Memory) ⊎ (stop ≡ Stop.Rejected)) }
+        ensures rejected { IsErrOf result RunError.Rejected → (self.old.progress.header ≡ 0)
+            × Aborts options.now bytes.now (at_next (state_of self.old))
+            (messages_of self.new.notices) }
+        ensures error { IfErr result
+            (λ error. (error ≡ RunError.Memory) ⊎ (error ≡ RunError.Rejected)) }
         ensures succeeds { vec_len self.old.waiting + record_room options.now (length bytes.now)
             ≤ vec_capacity self.old.waiting
             → RecordHasNoMessage options.now bytes.now (state_of self.old) → IsOk result }
@@ -100,10 +102,10 @@ impl<A: Allocator> Converter<A> {
         let messages = self.notices.len();
         match self.append_record(options, bytes, digits) {
             Ok(()) => Ok(()),
-            Err(stop) => {
+            Err(error) => {
                 self.waiting.truncate(len);
-                self.notices.undo(messages, stop);
-                Err(stop)
+                self.notices.undo(messages, error);
+                Err(error)
             }
         }
     }
@@ -115,15 +117,18 @@ impl<A: Allocator> Converter<A> {
         options: &Options,
         bytes: &[u8],
         digits: &mut [u8],
-    ) -> Result<(), Stop>
+    ) -> Result<(), RunError>
         requires { text_limit ≤ length digits.old }
         ensures ok { OnOk result
             (AddsRecords options.now (bytes.now ∷ []) (state_of self.old) (state_of self.new)) }
         ensures kept { IsPrefix self.old.waiting.items self.new.waiting.items }
-        ensures kept_messages { IsPrefix (messages_of self.old.notices) (messages_of self.new.notices) }
-        ensures rejected { IsErrOf result Stop.Rejected → (self.old.progress.header ≡ 0)
-            × Aborts options.now bytes.now (at_next (state_of self.old)) (messages_of self.new.notices) }
-        ensures stop { IfErr result (λ stop. (stop ≡ Stop.Memory) ⊎ (stop ≡ Stop.Rejected)) }
+        ensures kept_messages { IsPrefix (messages_of self.old.notices)
+            (messages_of self.new.notices) }
+        ensures rejected { IsErrOf result RunError.Rejected → (self.old.progress.header ≡ 0)
+            × Aborts options.now bytes.now (at_next (state_of self.old))
+            (messages_of self.new.notices) }
+        ensures error { IfErr result
+            (λ error. (error ≡ RunError.Memory) ⊎ (error ≡ RunError.Rejected)) }
         ensures succeeds { vec_len self.old.waiting + record_room options.now (length bytes.now)
             ≤ vec_capacity self.old.waiting
             → RecordHasNoMessage options.now bytes.now (state_of self.old) → IsOk result }
@@ -151,15 +156,22 @@ impl<A: Allocator> Converter<A> {
     /// - `Rejected` if a field is not a size, in the mode `abort`.
     /// - `Memory` if allocation fails.
     #[inline(always)]
-    fn add_fields(&mut self, options: &Options, bytes: &[u8], digits: &mut [u8]) -> Result<(), Stop>
+    fn add_fields(
+        &mut self,
+        options: &Options,
+        bytes: &[u8],
+        digits: &mut [u8],
+    ) -> Result<(), RunError>
         requires { text_limit ≤ length digits.old }
         ensures ok { OnOk result
             (AddsFields options.now bytes.now (state_of self.old) (state_of self.new)) }
         ensures kept { IsPrefix self.old.waiting.items self.new.waiting.items }
-        ensures kept_messages { IsPrefix (messages_of self.old.notices) (messages_of self.new.notices) }
-        ensures rejected { IsErrOf result Stop.Rejected
+        ensures kept_messages { IsPrefix (messages_of self.old.notices)
+            (messages_of self.new.notices) }
+        ensures rejected { IsErrOf result RunError.Rejected
             → Aborts options.now bytes.now (state_of self.old) (messages_of self.new.notices) }
-        ensures stop { IfErr result (λ stop. (stop ≡ Stop.Memory) ⊎ (stop ≡ Stop.Rejected)) }
+        ensures error { IfErr result
+            (λ error. (error ≡ RunError.Memory) ⊎ (error ≡ RunError.Rejected)) }
         ensures succeeds { vec_len self.old.waiting + fields_room options.now (length bytes.now)
             ≤ vec_capacity self.old.waiting
             → FieldsHaveNoMessage options.now bytes.now (state_of self.old) → IsOk result }
@@ -180,16 +192,18 @@ impl<A: Allocator> Converter<A> {
         delimiter: u8,
         bytes: &[u8],
         digits: &mut [u8],
-    ) -> Result<(), Stop>
+    ) -> Result<(), RunError>
         requires delimiter { options.now.delimiter ≡ Some delimiter }
         requires capacity { text_limit ≤ length digits.old }
         ensures ok { OnOk result
             (AddsFields options.now bytes.now (state_of self.old) (state_of self.new)) }
         ensures kept { IsPrefix self.old.waiting.items self.new.waiting.items }
-        ensures kept_messages { IsPrefix (messages_of self.old.notices) (messages_of self.new.notices) }
-        ensures rejected { IsErrOf result Stop.Rejected
+        ensures kept_messages { IsPrefix (messages_of self.old.notices)
+            (messages_of self.new.notices) }
+        ensures rejected { IsErrOf result RunError.Rejected
             → Aborts options.now bytes.now (state_of self.old) (messages_of self.new.notices) }
-        ensures stop { IfErr result (λ stop. (stop ≡ Stop.Memory) ⊎ (stop ≡ Stop.Rejected)) }
+        ensures error { IfErr result
+            (λ error. (error ≡ RunError.Memory) ⊎ (error ≡ RunError.Rejected)) }
         ensures succeeds { vec_len self.old.waiting + fields_room options.now (length bytes.now)
             ≤ vec_capacity self.old.waiting
             → FieldsHaveNoMessage options.now bytes.now (state_of self.old) → IsOk result }
@@ -229,15 +243,17 @@ impl<A: Allocator> Converter<A> {
         number: u64,
         field: &[u8],
         digits: &mut [u8],
-    ) -> Result<(), Stop>
+    ) -> Result<(), RunError>
         requires { text_limit ≤ length digits.old }
         ensures ok { OnOk result
             (AddsField options.now number field.now (state_of self.old) (state_of self.new)) }
         ensures kept { IsPrefix self.old.waiting.items self.new.waiting.items }
-        ensures kept_messages { IsPrefix (messages_of self.old.notices) (messages_of self.new.notices) }
-        ensures rejected { IsErrOf result Stop.Rejected → IsRejectedField
+        ensures kept_messages { IsPrefix (messages_of self.old.notices)
+            (messages_of self.new.notices) }
+        ensures rejected { IsErrOf result RunError.Rejected → IsRejectedField
             options.now number field.now (state_of self.old) (messages_of self.new.notices) }
-        ensures stop { IfErr result (λ stop. (stop ≡ Stop.Memory) ⊎ (stop ≡ Stop.Rejected)) }
+        ensures error { IfErr result
+            (λ error. (error ≡ RunError.Memory) ⊎ (error ≡ RunError.Rejected)) }
         ensures succeeds { vec_len self.old.waiting + field_room options.now (length field.now)
             ≤ vec_capacity self.old.waiting
             → FieldHasNoMessage options.now number field.now (state_of self.old) → IsOk result }
@@ -267,15 +283,16 @@ impl<A: Allocator> Converter<A> {
         field: &[u8],
         size: u128,
         digits: &mut [u8],
-    ) -> Result<(), Stop>
+    ) -> Result<(), RunError>
         requires capacity { text_limit ≤ length digits.old }
         requires chosen { IsChosen options.now.fields.now number }
         requires size { IsSize options.now field.now size }
         ensures ok { OnOk result
             (AddsField options.now number field.now (state_of self.old) (state_of self.new)) }
         ensures kept { IsPrefix self.old.waiting.items self.new.waiting.items }
-        ensures kept_messages { IsPrefix (messages_of self.old.notices) (messages_of self.new.notices) }
-        ensures stop { IfErr result (λ stop. stop ≡ Stop.Memory) }
+        ensures kept_messages { IsPrefix (messages_of self.old.notices)
+            (messages_of self.new.notices) }
+        ensures error { IfErr result (λ error. error ≡ RunError.Memory) }
         ensures succeeds { vec_len self.old.waiting + field_room options.now (length field.now)
             ≤ vec_capacity self.old.waiting
             → FieldHasNoMessage options.now number field.now (state_of self.old) → IsOk result }
@@ -298,16 +315,18 @@ impl<A: Allocator> Converter<A> {
     /// Preconditions (proved at every call): the field with this number is chosen, and it is not a size.
     #[cold]
     #[inline(never)]
-    fn add_rejected(&mut self, options: &Options, number: u64, field: &[u8]) -> Result<(), Stop>
+    fn add_rejected(&mut self, options: &Options, number: u64, field: &[u8]) -> Result<(), RunError>
         requires chosen { IsChosen options.now.fields.now number }
         requires none { IsNoSize options.now field.now }
         ensures ok { OnOk result
             (AddsField options.now number field.now (state_of self.old) (state_of self.new)) }
         ensures kept { IsPrefix self.old.waiting.items self.new.waiting.items }
-        ensures kept_messages { IsPrefix (messages_of self.old.notices) (messages_of self.new.notices) }
-        ensures rejected { IsErrOf result Stop.Rejected → IsRejectedField
+        ensures kept_messages { IsPrefix (messages_of self.old.notices)
+            (messages_of self.new.notices) }
+        ensures rejected { IsErrOf result RunError.Rejected → IsRejectedField
             options.now number field.now (state_of self.old) (messages_of self.new.notices) }
-        ensures stop { IfErr result (λ stop. (stop ≡ Stop.Memory) ⊎ (stop ≡ Stop.Rejected)) }
+        ensures error { IfErr result
+            (λ error. (error ≡ RunError.Memory) ⊎ (error ≡ RunError.Rejected)) }
         ensures succeeds { vec_len self.old.waiting + field_room options.now (length field.now)
             ≤ vec_capacity self.old.waiting
             → FieldHasNoMessage options.now number field.now (state_of self.old) → IsOk result }
@@ -334,20 +353,21 @@ fn copy_rejected<A: Allocator>(
     field: &[u8],
     tally: &mut Tally,
     text: &mut Vec<u8, A>,
-) -> Result<(), Stop>
+) -> Result<(), RunError>
     ensures mode { OnOk result (¬ (options.now.invalid ≡ Invalid.Abort)) }
     ensures text { OnOk result (text.new.items ≡ text.old.items ++ field.now) }
     ensures kept { IsPrefix text.old.items text.new.items }
     ensures tally { OnOk result (tally.new ≡ tally_with options.now tally.old None) }
-    ensures rejected { IsErrOf result Stop.Rejected → options.now.invalid ≡ Invalid.Abort }
-    ensures stop { IfErr result (λ stop. (stop ≡ Stop.Memory) ⊎ (stop ≡ Stop.Rejected)) }
+    ensures rejected { IsErrOf result RunError.Rejected → options.now.invalid ≡ Invalid.Abort }
+    ensures error { IfErr result
+        (λ error. (error ≡ RunError.Memory) ⊎ (error ≡ RunError.Rejected)) }
     ensures succeeds { vec_len text.old + length field.now ≤ vec_capacity text.old
         → ¬ (options.now.invalid ≡ Invalid.Abort) → IsOk result }
     ensures len { vec_len text.new ≤ vec_len text.old + length field.now }
     ensures capacity { vec_capacity text.old ≤ vec_capacity text.new }
 {
     if options.invalid == Invalid::Abort {
-        return Err(Stop::Rejected);
+        return Err(RunError::Rejected);
     }
     tally.reject(options);
     text.extend_from_slice(field)?;

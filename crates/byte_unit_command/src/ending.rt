@@ -3,13 +3,13 @@
 ghost use Rattle.std.specs.Prelude.{◌≡◌, option_map};
 ghost use Rattle.byte_unit_command.specs.Ending.{status_of, message_of};
 
+use crate::error::RunError;
 use crate::options::Invalid;
-use crate::stop::Stop;
 use crate::tally::Tally;
 
 /// Returns the exit status of a run: 1 if a read or a write failed or it was out of memory, 2 for a rejected field in
 /// the modes `abort` and `fail` and for a total that is too large, 3 for a size beyond a limit, and else 0.
-pub fn status(invalid: Invalid, ended: Result<Tally, Stop>) -> u8
+pub fn status(invalid: Invalid, ended: Result<Tally, RunError>) -> u8
     ensures { result ≡ status_of invalid ended }
 {
     match ended {
@@ -22,22 +22,22 @@ pub fn status(invalid: Invalid, ended: Result<Tally, Stop>) -> u8
                 0
             }
         }
-        Err(stop) => match stop {
-            Stop::Rejected | Stop::Total => 2,
-            Stop::Memory | Stop::Read | Stop::Write => 1,
+        Err(error) => match error {
+            RunError::Rejected | RunError::Total => 2,
+            RunError::Memory | RunError::Read | RunError::Write => 1,
         },
     }
 }
 
 /// Returns the message of a run that ended early, or `None` if the messages about fields have said why.
-pub fn message(stop: Stop) -> Option<&'static str>
-    ensures { option_map (λ text. text.now) result ≡ message_of stop }
+pub fn message(error: RunError) -> Option<&'static str>
+    ensures { option_map (λ text. text.now) result ≡ message_of error }
 {
-    match stop {
-        Stop::Memory => Some("out of memory"),
-        Stop::Read => Some("read failed"),
-        Stop::Write => Some("write failed"),
-        Stop::Rejected => None,
-        Stop::Total => Some("the total is 10^30 or more"),
+    match error {
+        RunError::Memory => Some("out of memory"),
+        RunError::Read => Some("read failed"),
+        RunError::Write => Some("write failed"),
+        RunError::Rejected => None,
+        RunError::Total => Some("the total is 10^30 or more"),
     }
 }

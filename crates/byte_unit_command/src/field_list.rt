@@ -34,7 +34,8 @@ pub fn fields_of(alloc: Global, list: Option<&str>) -> Result<Option<Vec<FieldRa
 ///
 /// Returns `AllocError` if allocation fails.
 fn ranges_of(alloc: Global, list: &str) -> Result<Option<Vec<FieldRange>>, AllocError>
-    ensures { IfOk result (λ found. IsListReading list.now (option_map (λ fields. fields.items) found)) }
+    ensures { IfOk result
+        (λ found. IsListReading list.now (option_map (λ fields. fields.items) found)) }
 {
     let mut fields = Vec::new(alloc);
     for item in list.split(',') {
@@ -48,7 +49,8 @@ fn ranges_of(alloc: Global, list: &str) -> Result<Option<Vec<FieldRange>>, Alloc
 
 /// Returns the range that one item of a list is, or `None` if it is none.
 fn range_of(item: &str) -> Option<FieldRange>
-    ensures { MatchOption result ((range : FieldRange) → ¬ IsRange item.now range) (IsRange item.now) }
+    ensures { MatchOption result ((range : FieldRange) → ¬ IsRange item.now range)
+        (IsRange item.now) }
 {
     match item.split_once('-') {
         Some((before, after)) => {

@@ -4,19 +4,19 @@ ghost use Rattle.std.specs.Prelude.{◌≡◌, ◌+◌, ◌≤◌, ◌⊎◌, �
 ghost use Rattle.std.specs.Prelude.{OnOk, OnErr, IfErr, IsOk, IsErrOf, IsTrue, vec_len, vec_capacity};
 ghost use Rattle.byte_unit.specs.Forms.{text_limit};
 ghost use Rattle.byte_unit_command.specs.Capacity.{end_room, record_room, text_room};
-ghost use Rattle.byte_unit_command.specs.Progress.{AddsRecords, Aborts, IsFinished, IsTotalWritten, Tells};
-ghost use Rattle.byte_unit_command.specs.Progress.{RecordsHaveNoMessage};
-ghost use Rattle.byte_unit_command.specs.Progress.{at_next, idle, messages_of, state_of};
+ghost use Rattle.byte_unit_command.specs.RunState.{AddsRecords, Aborts, IsFinished, IsTotalWritten, Tells};
+ghost use Rattle.byte_unit_command.specs.RunState.{RecordsHaveNoMessage};
+ghost use Rattle.byte_unit_command.specs.RunState.{at_next, idle, messages_of, state_of};
 ghost use Rattle.byte_unit_stream.specs.Prefix.{IsPrefix};
 ghost use Rattle.byte_unit_stream.specs.Chunks.{nonempty_record};
 ghost use Rattle.byte_unit_stream.specs.Streams.{HasWritten, writing_failed};
 
 use crate::converter::Converter;
+use crate::error::RunError;
 use crate::options::Options;
-use crate::stop::Stop;
 use crate::tally::{TOTAL_LIMIT, Tally};
 use crate::text::add_size;
-use byte_unit_stream::{Writing, write_whole};
+use byte_unit_stream::{FusedWriter, write_whole};
 use std::alloc::Allocator;
 use std::io::Write;
 
@@ -37,9 +37,9 @@ impl<A: Allocator> Converter<A> {
         options: &Options,
         part: &[u8],
         digits: &mut [u8],
-        writer: &mut Writing<W>,
-        errors: &mut Writing<E>,
-    ) -> Result<Tally, Stop>
+        writer: &mut FusedWriter<W>,
+        errors: &mut FusedWriter<E>,
+    ) -> Result<Tally, RunError>
         requires empty { self.old.waiting.items ≡ [] }
         requires untold { messages_of self.old.notices ≡ [] }
         requires capacity { text_limit ≤ length digits.old }
@@ -48,11 +48,11 @@ impl<A: Allocator> Converter<A> {
             × HasWritten E.contents errors.old errors.new told
             × Tells (writing_failed errors.old) (writing_failed errors.new) messages told
             × IsFinished options.now part.now (idle (state_of self.old)) result written messages }
-        ensures failed { IsErrOf result Stop.Write → IsTrue (writing_failed writer.new) }
+        ensures failed { IsErrOf result RunError.Write → IsTrue (writing_failed writer.new) }
         ensures memory { vec_len self.old.waiting + end_room options.now (length part.now)
             ≤ vec_capacity self.old.waiting
             → RecordsHaveNoMessage options.now (nonempty_record part.now) (state_of self.old)
-            → ¬ IsErrOf result Stop.Memory }
+            → ¬ IsErrOf result RunError.Memory }
     {
         let added = self.add_last(options, part, digits);
         self.notices.tell(errors);
@@ -62,7 +62,7 @@ impl<A: Allocator> Converter<A> {
         if options.total {
             write_with_total(options, tally.total, digits, waiting, writer)?;
         } else {
-            write_whole(writer, waiting, Stop::Write)?;
+            write_whole(writer, waiting, RunError::Write)?;
         }
         Ok(tally)
     }
@@ -75,16 +75,23 @@ impl<A: Allocator> Converter<A> {
     ///
     /// - `Memory` if allocation fails.
     /// - `Rejected` if a field is rejected in the mode `abort`.
-    fn add_last(&mut self, options: &Options, part: &[u8], digits: &mut [u8]) -> Result<(), Stop>
+    fn add_last(
+        &mut self,
+        options: &Options,
+        part: &[u8],
+        digits: &mut [u8],
+    ) -> Result<(), RunError>
         requires { text_limit ≤ length digits.old }
         ensures ok { OnOk result (AddsRecords options.now (nonempty_record part.now)
             (state_of self.old) (state_of self.new)) }
-        ensures memory { IsErrOf result Stop.Memory
+        ensures memory { IsErrOf result RunError.Memory
             → messages_of self.new.notices ≡ messages_of self.old.notices }
-        ensures rejected { IsErrOf result Stop.Rejected → (self.old.progress.header ≡ 0)
-            × Aborts options.now part.now (at_next (state_of self.old)) (messages_of self.new.notices)
+        ensures rejected { IsErrOf result RunError.Rejected → (self.old.progress.header ≡ 0)
+            × Aborts options.now part.now (at_next (state_of self.old))
+            (messages_of self.new.notices)
             × (nonempty_record part.now ≡ part.now ∷ []) }
-        ensures stop { IfErr result (λ stop. (stop ≡ Stop.Memory) ⊎ (stop ≡ Stop.Rejected)) }
+        ensures error { IfErr result
+            (λ error. (error ≡ RunError.Memory) ⊎ (error ≡ RunError.Rejected)) }
         ensures succeeds { vec_len self.old.waiting + record_room options.now (length part.now)
             ≤ vec_capacity self.old.waiting
             → RecordsHaveNoMessage options.now (nonempty_record part.now) (state_of self.old)
@@ -114,21 +121,21 @@ fn write_with_total<A: Allocator, W: Write>(
     total: u128,
     digits: &mut [u8],
     waiting: &mut Vec<u8, A>,
-    writer: &mut Writing<W>,
-) -> Result<(), Stop>
+    writer: &mut FusedWriter<W>,
+) -> Result<(), RunError>
     requires { text_limit ≤ length digits.old }
     ensures written { (written : List ℕ)
         × HasWritten W.contents writer.old writer.new written
         × IsTotalWritten options.now total waiting.old.items result written }
-    ensures failed { IsErrOf result Stop.Write → IsTrue (writing_failed writer.new) }
+    ensures failed { IsErrOf result RunError.Write → IsTrue (writing_failed writer.new) }
     ensures memory { vec_len waiting.old + text_room options.now + 1 ≤ vec_capacity waiting.old
-        → ¬ IsErrOf result Stop.Memory }
+        → ¬ IsErrOf result RunError.Memory }
 {
     if total >= TOTAL_LIMIT {
-        write_whole(writer, waiting, Stop::Write)?;
-        return Err(Stop::Total);
+        write_whole(writer, waiting, RunError::Write)?;
+        return Err(RunError::Total);
     }
     add_size(options, total, digits, waiting)?;
     waiting.extend_from_slice(&[options.output_end])?;
-    write_whole(writer, waiting, Stop::Write)
+    write_whole(writer, waiting, RunError::Write)
 }

@@ -13,7 +13,7 @@ ghost use Rattle.byte_unit_command.specs.Values.{text_of};
 use crate::options::{FieldRange, Form, Invalid, Kind, Options, Unit, UnitType};
 use crate::positive::positive_of;
 use crate::values::Values;
-use crate::wrong::{Reason, Wrong};
+use crate::wrong::{ValueError, Wrong};
 use byte_unit::{Bit, Byte, ParseError};
 
 /// Returns the options of a call. `fields` are those that `field_list::fields_of` returned.
@@ -94,11 +94,12 @@ fn form_of(value: Option<&str>, kind: Kind, ignore_case: bool) -> Result<Form, W
 
 /// Returns the unit that a value spells. White space alone, which the library parses as the unit without a prefix, is
 /// not a unit here.
-fn unit_of(value: &str, kind: Kind, ignore_case: bool) -> Result<Unit, Reason>
-    ensures { MatchResult result (IsUnitName kind ignore_case value.now) (IsNoUnitName kind ignore_case value.now) }
+fn unit_of(value: &str, kind: Kind, ignore_case: bool) -> Result<Unit, ValueError>
+    ensures { MatchResult result (IsUnitName kind ignore_case value.now)
+        (IsNoUnitName kind ignore_case value.now) }
 {
     if value.trim().is_empty() {
-        return Err(Reason::Blank);
+        return Err(ValueError::Blank);
     }
     let unit = match kind {
         Kind::Byte => Unit::parse_str(value, ignore_case, true),
@@ -106,7 +107,7 @@ fn unit_of(value: &str, kind: Kind, ignore_case: bool) -> Result<Unit, Reason>
     };
     match unit {
         Ok(unit) => Ok(unit),
-        Err(error) => Err(Reason::Unit(error)),
+        Err(error) => Err(ValueError::Unit(error)),
     }
 }
 
@@ -128,7 +129,7 @@ fn delimiter_of(value: Option<&str>) -> Result<Option<u8>, Wrong<'_>>
         _ => Err(Wrong {
             option: "--delimiter",
             value,
-            reason: Reason::Delimiter,
+            reason: ValueError::Delimiter,
         }),
     }
 }
@@ -150,7 +151,7 @@ fn padding_of(value: Option<&str>) -> Result<(u16, bool), Wrong<'_>>
         None => Err(Wrong {
             option: "--padding",
             value,
-            reason: Reason::Padding,
+            reason: ValueError::Padding,
         }),
     }
 }
@@ -195,7 +196,7 @@ fn invalid_of(value: Option<&str>) -> Result<Invalid, Wrong<'_>>
         _ => Err(Wrong {
             option: "--invalid",
             value,
-            reason: Reason::Mode,
+            reason: ValueError::Mode,
         }),
     }
 }
@@ -212,7 +213,8 @@ fn limit_of<'a>(
     ignore_case: bool,
 ) -> Result<Option<u128>, Wrong<'a>>
     ensures ok { IfOk result (IsLimit kind ignore_case (text_of value.entry)) }
-    ensures err { IfErr result (IsWrongOf option.entry.now value.entry (IsNoLimit kind ignore_case)) }
+    ensures err { IfErr result
+        (IsWrongOf option.entry.now value.entry (IsNoLimit kind ignore_case)) }
 {
     let Some(value) = value else {
         return Ok(None);
@@ -222,7 +224,7 @@ fn limit_of<'a>(
         Err(error) => Err(Wrong {
             option,
             value,
-            reason: Reason::Size(error),
+            reason: ValueError::Size(error),
         }),
     }
 }

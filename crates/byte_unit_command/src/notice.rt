@@ -6,21 +6,21 @@ ghost use Rattle.std.specs.String.{string_bytes};
 ghost use Rattle.byte_unit_command.specs.Field.{IsNoSize};
 ghost use Rattle.byte_unit_command.specs.Fields.{IsChosen};
 ghost use Rattle.byte_unit_command.specs.Messages.{AreFieldMessages, AreLimitMessages, AreWords};
-ghost use Rattle.byte_unit_command.specs.Messages.{IsMessage, IsMessageIf, IsReason};
+ghost use Rattle.byte_unit_command.specs.Messages.{IsMessage, IsMessageIf, IsFieldError};
 ghost use Rattle.byte_unit_command.specs.Messages.{place_text, tells_rejected as has_rejected_told};
-ghost use Rattle.byte_unit_command.specs.Progress.{messages_of, Tells};
+ghost use Rattle.byte_unit_command.specs.RunState.{messages_of, Tells};
 ghost use Rattle.byte_unit_stream.specs.Prefix.{IsPrefix};
 ghost use Rattle.byte_unit_stream.specs.Streams.{HasWritten, writing_failed};
 
+use crate::error::RunError;
 use crate::options::{Invalid, Options};
 use crate::place::Place;
 use crate::quote::add_quoted;
 use crate::size::parse;
-use crate::stop::Stop;
 use crate::tally::{is_above, is_below};
 use byte_unit::ParseError;
 use byte_unit::laws::texts_are_accepted_or_refused;
-use byte_unit_stream::{Writing, write_whole};
+use byte_unit_stream::{FusedWriter, write_whole};
 use std::alloc::{AllocError, Allocator};
 use std::fmt::Write as WriteText;
 use std::io::Write;
@@ -58,25 +58,27 @@ impl<A: Allocator> Notices<A> {
     }
 
     /// Forgets all messages but those in the first `len` bytes, if a call has stopped since it was out of memory.
-    pub(crate) fn undo(&mut self, len: usize, stop: Stop)
-        ensures memory { stop ≡ Stop.Memory → messages_of self.new ≡ take len (messages_of self.old) }
-        ensures other { ¬ (stop ≡ Stop.Memory) → messages_of self.new ≡ messages_of self.old }
+    pub(crate) fn undo(&mut self, len: usize, error: RunError)
+        ensures memory { error ≡ RunError.Memory
+            → messages_of self.new ≡ take len (messages_of self.old) }
+        ensures other { ¬ (error ≡ RunError.Memory) → messages_of self.new ≡ messages_of self.old }
     {
-        match stop {
-            Stop::Memory => self.messages.truncate(len),
-            Stop::Read | Stop::Write | Stop::Rejected | Stop::Total => (),
+        match error {
+            RunError::Memory => self.messages.truncate(len),
+            RunError::Read | RunError::Write | RunError::Rejected | RunError::Total => (),
         }
     }
 
     /// Writes the messages to `errors`, unless a write to it has failed before, and forgets them. `errors` records a
     /// failure.
-    pub(crate) fn tell<E: Write>(&mut self, errors: &mut Writing<E>)
+    pub(crate) fn tell<E: Write>(&mut self, errors: &mut FusedWriter<E>)
         ensures told { (told : List ℕ) × HasWritten E.contents errors.old errors.new told
-            × Tells (writing_failed errors.old) (writing_failed errors.new) (messages_of self.old) told }
+            × Tells (writing_failed errors.old) (writing_failed errors.new)
+            (messages_of self.old) told }
         ensures none { messages_of self.new ≡ [] }
     {
         if !errors.failed() {
-            let _ = write_whole(errors, &self.messages, Stop::Write);
+            let _ = write_whole(errors, &self.messages, RunError::Write);
         }
         self.messages.clear();
     }
@@ -84,7 +86,7 @@ impl<A: Allocator> Notices<A> {
 
 /// Why a field is named in a message.
 #[derive(Debug, Drop)]
-enum Reason {
+enum FieldError {
     /// It is not UTF-8.
     NotUtf8,
     /// It is rejected by the parser.
@@ -114,7 +116,8 @@ pub(crate) fn add_reject_notice<A: Allocator>(
     requires chosen { IsChosen options.now.fields.now number }
     requires none { IsNoSize options.now field.now }
     ensures ok { OnOk result ((text : List ℕ)
-        × AreFieldMessages options.now place.now.word.now place.now.number number field.now true text
+        × AreFieldMessages options.now place.now.word.now place.now.number
+        number field.now true text
         × (messages_of notices.new ≡ messages_of notices.old ++ text)) }
     ensures kept { IsPrefix (messages_of notices.old) (messages_of notices.new) }
     ensures untold { has_rejected_told options.now.invalid ≡ false → IsOk result }
@@ -140,16 +143,16 @@ fn tells_rejected(invalid: Invalid) -> bool
 /// Returns the reason why a field is not a size.
 ///
 /// Precondition (proved at every call): the field is not a size.
-fn reason_of(options: &Options, field: &[u8]) -> Reason
+fn reason_of(options: &Options, field: &[u8]) -> FieldError
     requires { IsNoSize options.now field.now }
-    ensures { IsReason options.now field.now result }
+    ensures { IsFieldError options.now field.now result }
 {
     // For the proof: no text is both accepted and rejected.
     texts_are_accepted_or_refused();
     match parse(options, field) {
-        Some(Err(error)) => Reason::Rejected(error),
-        Some(Ok(_)) => Reason::NotUtf8,
-        None => Reason::NotUtf8,
+        Some(Err(error)) => FieldError::Rejected(error),
+        Some(Ok(_)) => FieldError::NotUtf8,
+        None => FieldError::NotUtf8,
     }
 }
 
@@ -169,7 +172,8 @@ pub(crate) fn add_limit_notice<A: Allocator>(
     notices: &mut Notices<A>,
 ) -> Result<(), AllocError>
     ensures ok { OnOk result ((text : List ℕ)
-        × AreLimitMessages options.now place.now.word.now place.now.number number field.now size text
+        × AreLimitMessages options.now place.now.word.now place.now.number
+        number field.now size text
         × (messages_of notices.new ≡ messages_of notices.old ++ text)) }
     ensures kept { IsPrefix (messages_of notices.old) (messages_of notices.new) }
 {
@@ -178,8 +182,8 @@ pub(crate) fn add_limit_notice<A: Allocator>(
         number,
         bytes: field,
     };
-    add_message_if(above, options, place, &field, &Reason::Above, notices)?;
-    add_message_if(below, options, place, &field, &Reason::Below, notices)
+    add_message_if(above, options, place, &field, &FieldError::Above, notices)?;
+    add_message_if(below, options, place, &field, &FieldError::Below, notices)
 }
 
 /// A field that a message is about.
@@ -201,11 +205,12 @@ fn add_message_if<A: Allocator>(
     options: &Options,
     place: &Place,
     field: &Field,
-    reason: &Reason,
+    reason: &FieldError,
     notices: &mut Notices<A>,
 ) -> Result<(), AllocError>
     ensures ok { OnOk result ((text : List ℕ)
-        × IsMessageIf told options.now place.now.word.now place.now.number field.now.number field.now.bytes.now
+        × IsMessageIf told options.now place.now.word.now place.now.number
+        field.now.number field.now.bytes.now
         reason.now text × (messages_of notices.new ≡ messages_of notices.old ++ text)) }
     ensures kept { IsPrefix (messages_of notices.old) (messages_of notices.new) }
 {
@@ -226,7 +231,7 @@ fn add_message<A: Allocator>(
     place: &Place,
     number: u64,
     field: &[u8],
-    reason: &Reason,
+    reason: &FieldError,
     notices: &mut Notices<A>,
 ) -> Result<(), AllocError>
     ensures ok { OnOk result ((text : List ℕ)
@@ -272,7 +277,7 @@ fn add_place<A: Allocator>(
 ///
 /// Returns `AllocError` if allocation fails.
 fn add_words<A: Allocator>(
-    reason: &Reason,
+    reason: &FieldError,
     words: &mut String<A>,
     line: &mut String<A>,
 ) -> Result<(), AllocError>
@@ -280,14 +285,14 @@ fn add_words<A: Allocator>(
         × (string_bytes line.new ≡ string_bytes line.old ++ text)) }
 {
     match reason {
-        Reason::NotUtf8 => line.push_str("not UTF-8"),
-        Reason::Rejected(error) => {
+        FieldError::NotUtf8 => line.push_str("not UTF-8"),
+        FieldError::Rejected(error) => {
             // Not to `line`: of a character that is not ASCII, no contract says how it is quoted.
             words.clear();
             write!(words, "{error}")?;
             line.push_str(words.as_str())
         }
-        Reason::Above => line.push_str("above the maximum"),
-        Reason::Below => line.push_str("below the minimum"),
+        FieldError::Above => line.push_str("above the maximum"),
+        FieldError::Below => line.push_str("below the minimum"),
     }
 }

@@ -11,7 +11,8 @@ use std::alloc::{AllocError, Global};
 ///
 /// Returns `AllocError` if allocation fails.
 pub fn joined(alloc: Global, operands: &[&str]) -> Result<Vec<u8>, AllocError>
-    ensures { IfOk result (λ input. HasOperands (map (λ operand. operand.now) operands.now) input.items) }
+    ensures { IfOk result
+        (λ input. HasOperands (map (λ operand. operand.now) operands.now) input.items) }
 {
     let mut input = Vec::new(alloc);
     for operand in operands {

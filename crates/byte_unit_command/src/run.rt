@@ -7,8 +7,8 @@ ghost use Rattle.std.specs.Prelude.{IsTrue, IsOk, IsErrOf, IfErr, OnOk, OnErr, I
 ghost use Rattle.byte_unit.specs.Forms.{text_limit};
 ghost use Rattle.byte_unit_command.specs.Capacity.{AreEmpty, HaveCapacity, SufficeFor};
 ghost use Rattle.byte_unit_command.specs.Outcome.{IsWritten};
-ghost use Rattle.byte_unit_command.specs.Progress.{AddsRecords, IsAnswered, RecordsHaveNoMessage, Stops, Tells};
-ghost use Rattle.byte_unit_command.specs.Progress.{idle, messages_of, state_of};
+ghost use Rattle.byte_unit_command.specs.RunState.{AddsRecords, IsAnswered, RecordsHaveNoMessage, EndsEarly, Tells};
+ghost use Rattle.byte_unit_command.specs.RunState.{idle, messages_of, state_of};
 ghost use Rattle.byte_unit_command.specs.Told.{AreRunMessages, IsMessageDue, IsTold};
 ghost use Rattle.byte_unit_stream.specs.Chunks.{ended_records, begun_record};
 ghost use Rattle.byte_unit_stream.specs.Prefix.{IsPrefix};
@@ -18,11 +18,11 @@ ghost use Rattle.byte_unit_stream.specs.Streams.{HasWritten, writing_failed};
 
 use crate::buffers::Buffers;
 use crate::converter::Progress;
+use crate::error::RunError;
 use crate::options::Options;
-use crate::stop::Stop;
 use crate::streams::Streams;
 use crate::tally::Tally;
-use byte_unit_stream::{Writing, end_of, write_whole};
+use byte_unit_stream::{FusedWriter, end_of, write_whole};
 use std::alloc::{AllocError, Allocator, Global};
 use std::io::{Read, Write};
 
@@ -49,20 +49,25 @@ pub fn run<R: Read, W: Write, E: Write>(
     alloc: Global,
     options: &Options,
     streams: &mut Streams<R, W, E>,
-) -> Result<Tally, Stop>
+) -> Result<Tally, RunError>
     ensures run { (read written : List ℕ)
         × HasRead R.remaining streams.old.reader streams.new.reader read
         × HasWritten W.contents streams.old.writer streams.new.writer written
         × IsWritten options.now (finished_records options.now.record_end read)
-        (records_of options.now.record_end read) (HasReadAll R.remaining streams.new.reader) result written }
+        (records_of options.now.record_end read)
+        (HasReadAll R.remaining streams.new.reader) result written }
     ensures told { (read messages told : List ℕ)
         × HasRead R.remaining streams.old.reader streams.new.reader read
         × HasWritten E.contents streams.old.errors streams.new.errors told
         × IsTold (writing_failed streams.new.errors) messages told
-        × AreRunMessages options.now streams.old.word.now (finished_records options.now.record_end read)
-        (records_of options.now.record_end read) (HasReadAll R.remaining streams.new.reader) result messages }
-    ensures read_failed { IsErrOf result Stop.Read → IsTrue (reading_failed streams.new.reader) }
-    ensures write_failed { IsErrOf result Stop.Write → IsTrue (writing_failed streams.new.writer) }
+        × AreRunMessages options.now streams.old.word.now
+        (finished_records options.now.record_end read)
+        (records_of options.now.record_end read)
+        (HasReadAll R.remaining streams.new.reader) result messages }
+    ensures read_failed { IsErrOf result RunError.Read
+        → IsTrue (reading_failed streams.new.reader) }
+    ensures write_failed { IsErrOf result RunError.Write
+        → IsTrue (writing_failed streams.new.writer) }
 {
     let mut buffer = [0u8; CHUNK];
     let mut digits = [0u8; DIGITS];
@@ -80,22 +85,27 @@ pub fn run_in<A: Allocator, R: Read, W: Write, E: Write>(
     buffer: &mut [u8],
     digits: &mut [u8],
     streams: &mut Streams<R, W, E>,
-) -> Result<Tally, Stop>
+) -> Result<Tally, RunError>
     requires some { 0 < length buffer.old }
     requires capacity { text_limit ≤ length digits.old }
     ensures run { (read written : List ℕ)
         × HasRead R.remaining streams.old.reader streams.new.reader read
         × HasWritten W.contents streams.old.writer streams.new.writer written
         × IsWritten options.now (finished_records options.now.record_end read)
-        (records_of options.now.record_end read) (HasReadAll R.remaining streams.new.reader) result written }
+        (records_of options.now.record_end read)
+        (HasReadAll R.remaining streams.new.reader) result written }
     ensures told { (read messages told : List ℕ)
         × HasRead R.remaining streams.old.reader streams.new.reader read
         × HasWritten E.contents streams.old.errors streams.new.errors told
         × IsTold (writing_failed streams.new.errors) messages told
-        × AreRunMessages options.now streams.old.word.now (finished_records options.now.record_end read)
-        (records_of options.now.record_end read) (HasReadAll R.remaining streams.new.reader) result messages }
-    ensures read_failed { IsErrOf result Stop.Read → IsTrue (reading_failed streams.new.reader) }
-    ensures write_failed { IsErrOf result Stop.Write → IsTrue (writing_failed streams.new.writer) }
+        × AreRunMessages options.now streams.old.word.now
+        (finished_records options.now.record_end read)
+        (records_of options.now.record_end read)
+        (HasReadAll R.remaining streams.new.reader) result messages }
+    ensures read_failed { IsErrOf result RunError.Read
+        → IsTrue (reading_failed streams.new.reader) }
+    ensures write_failed { IsErrOf result RunError.Write
+        → IsTrue (writing_failed streams.new.writer) }
 {
     let mut buffers = Buffers::new(alloc);
     run_with_buffers(&mut buffers, options, usize::MAX, buffer, digits, streams)
@@ -122,32 +132,36 @@ pub fn run_with_capacity<A: Allocator, R: Read, W: Write, E: Write>(
     buffer: &mut [u8],
     digits: &mut [u8],
     streams: &mut Streams<R, W, E>,
-) -> Result<Result<Tally, Stop>, AllocError>
+) -> Result<Result<Tally, RunError>, AllocError>
     requires some { 0 < length buffer.old }
     requires capacity { text_limit ≤ length digits.old }
     ensures run { IfOk result (λ ended. (read written : List ℕ)
         × HasRead R.remaining streams.old.reader streams.new.reader read
         × HasWritten W.contents streams.old.writer streams.new.writer written
         × IsWritten options.now (finished_records options.now.record_end read)
-        (records_of options.now.record_end read) (HasReadAll R.remaining streams.new.reader) ended written) }
+        (records_of options.now.record_end read)
+        (HasReadAll R.remaining streams.new.reader) ended written) }
     ensures told { IfOk result (λ ended. (read messages told : List ℕ)
         × HasRead R.remaining streams.old.reader streams.new.reader read
         × HasWritten E.contents streams.old.errors streams.new.errors told
         × IsTold (writing_failed streams.new.errors) messages told
-        × AreRunMessages options.now streams.old.word.now (finished_records options.now.record_end read)
-        (records_of options.now.record_end read) (HasReadAll R.remaining streams.new.reader) ended messages) }
-    ensures memory { IfOk result (λ ended. IsErrOf ended Stop.Memory → (read : List ℕ)
+        × AreRunMessages options.now streams.old.word.now
+        (finished_records options.now.record_end read)
+        (records_of options.now.record_end read)
+        (HasReadAll R.remaining streams.new.reader) ended messages) }
+    ensures memory { IfOk result (λ ended. IsErrOf ended RunError.Memory → (read : List ℕ)
         × HasRead R.remaining streams.old.reader streams.new.reader read
         × ((longest < longest_record options.now.record_end read)
-        ⊎ IsMessageDue options.now streams.old.word.now (finished_records options.now.record_end read)
+        ⊎ IsMessageDue options.now streams.old.word.now
+        (finished_records options.now.record_end read)
         (records_of options.now.record_end read) (HasReadAll R.remaining streams.new.reader))) }
     ensures bound { IfOk result (λ ended. OnOk ended ((read : List ℕ)
         × HasRead R.remaining streams.old.reader streams.new.reader read
         × (longest_record options.now.record_end read < longest + length buffer.old))) }
     ensures read_failed { IfOk result
-        (λ ended. IsErrOf ended Stop.Read → IsTrue (reading_failed streams.new.reader)) }
+        (λ ended. IsErrOf ended RunError.Read → IsTrue (reading_failed streams.new.reader)) }
     ensures write_failed { IfOk result
-        (λ ended. IsErrOf ended Stop.Write → IsTrue (writing_failed streams.new.writer)) }
+        (λ ended. IsErrOf ended RunError.Write → IsTrue (writing_failed streams.new.writer)) }
     ensures unstarted { OnErr result (streams.new ≡ streams.old) }
 {
     let mut buffers = Buffers::with_capacity(alloc, options, longest, buffer.len())?;
@@ -171,7 +185,7 @@ pub fn run_with_buffers<A: Allocator, R: Read, W: Write, E: Write>(
     buffer: &mut [u8],
     digits: &mut [u8],
     streams: &mut Streams<R, W, E>,
-) -> Result<Tally, Stop>
+) -> Result<Tally, RunError>
     requires empty { AreEmpty buffers.old }
     requires some { 0 < length buffer.old }
     requires capacity { text_limit ≤ length digits.old }
@@ -179,29 +193,35 @@ pub fn run_with_buffers<A: Allocator, R: Read, W: Write, E: Write>(
         × HasRead R.remaining streams.old.reader streams.new.reader read
         × HasWritten W.contents streams.old.writer streams.new.writer written
         × IsWritten options.now (finished_records options.now.record_end read)
-        (records_of options.now.record_end read) (HasReadAll R.remaining streams.new.reader) result written }
+        (records_of options.now.record_end read)
+        (HasReadAll R.remaining streams.new.reader) result written }
     ensures told { (read messages told : List ℕ)
         × HasRead R.remaining streams.old.reader streams.new.reader read
         × HasWritten E.contents streams.old.errors streams.new.errors told
         × IsTold (writing_failed streams.new.errors) messages told
-        × AreRunMessages options.now streams.old.word.now (finished_records options.now.record_end read)
-        (records_of options.now.record_end read) (HasReadAll R.remaining streams.new.reader) result messages }
+        × AreRunMessages options.now streams.old.word.now
+        (finished_records options.now.record_end read)
+        (records_of options.now.record_end read)
+        (HasReadAll R.remaining streams.new.reader) result messages }
     ensures memory { HaveCapacity options.now longest (length buffer.old) buffers.old
-        → IsErrOf result Stop.Memory → (read : List ℕ)
+        → IsErrOf result RunError.Memory → (read : List ℕ)
         × HasRead R.remaining streams.old.reader streams.new.reader read
         × ((longest < longest_record options.now.record_end read)
-        ⊎ IsMessageDue options.now streams.old.word.now (finished_records options.now.record_end read)
+        ⊎ IsMessageDue options.now streams.old.word.now
+        (finished_records options.now.record_end read)
         (records_of options.now.record_end read) (HasReadAll R.remaining streams.new.reader)) }
     ensures bound { OnOk result ((read : List ℕ)
         × HasRead R.remaining streams.old.reader streams.new.reader read
         × (longest_record options.now.record_end read < longest + length buffer.old)) }
-    ensures read_failed { IsErrOf result Stop.Read → IsTrue (reading_failed streams.new.reader) }
-    ensures write_failed { IsErrOf result Stop.Write → IsTrue (writing_failed streams.new.writer) }
+    ensures read_failed { IsErrOf result RunError.Read
+        → IsTrue (reading_failed streams.new.reader) }
+    ensures write_failed { IsErrOf result RunError.Write
+        → IsTrue (writing_failed streams.new.writer) }
 {
     buffers.converter.progress = Progress::new(options, streams.word);
     'reads: loop {
         match streams.reader.read(buffer) {
-            None => return Err(Stop::Read),
+            None => return Err(RunError::Read),
             Some(0) => break 'reads,
             Some(n) => {
                 buffers.answer_piece(
@@ -214,7 +234,7 @@ pub fn run_with_buffers<A: Allocator, R: Read, W: Write, E: Write>(
             }
         }
         if buffers.part.len() > longest {
-            return Err(Stop::Memory);
+            return Err(RunError::Memory);
         }
     }
     buffers.converter.finish(
@@ -244,9 +264,9 @@ impl<A: Allocator> Buffers<A> {
         options: &Options,
         bytes: &[u8],
         digits: &mut [u8],
-        writer: &mut Writing<W>,
-        errors: &mut Writing<E>,
-    ) -> Result<(), Stop>
+        writer: &mut FusedWriter<W>,
+        errors: &mut FusedWriter<E>,
+    ) -> Result<(), RunError>
         requires empty { self.old.converter.waiting.items ≡ [] }
         requires untold { messages_of self.old.converter.notices ≡ [] }
         requires capacity { text_limit ≤ length digits.old }
@@ -254,25 +274,30 @@ impl<A: Allocator> Buffers<A> {
             × HasWritten W.contents writer.old writer.new written
             × HasWritten E.contents errors.old errors.new told
             × Tells (writing_failed errors.old) (writing_failed errors.new) messages told
-            × IsAnswered options.now (ended_records options.now.record_end self.old.part.items bytes.now)
-            (idle (state_of self.old.converter)) (state_of self.new.converter) result written messages }
+            × IsAnswered options.now
+            (ended_records options.now.record_end self.old.part.items bytes.now)
+            (idle (state_of self.old.converter))
+            (state_of self.new.converter) result written messages }
         ensures part { OnOk result
-            (self.new.part.items ≡ begun_record options.now.record_end self.old.part.items bytes.now) }
+            (self.new.part.items
+            ≡ begun_record options.now.record_end self.old.part.items bytes.now) }
         ensures waiting { OnOk result (self.new.converter.waiting.items ≡ []) }
         ensures notices { OnOk result (messages_of self.new.converter.notices ≡ []) }
-        ensures failed { IsErrOf result Stop.Write → IsTrue (writing_failed writer.new) }
-        ensures no_total { ¬ (result ≡ Err Stop.Total) }
-        ensures no_read { ¬ (result ≡ Err Stop.Read) }
-        ensures memory { SufficeFor options.now (vec_len self.old.part) (length bytes.now) self.old.part
+        ensures failed { IsErrOf result RunError.Write → IsTrue (writing_failed writer.new) }
+        ensures no_total { ¬ (result ≡ Err RunError.Total) }
+        ensures no_read { ¬ (result ≡ Err RunError.Read) }
+        ensures memory { SufficeFor options.now (vec_len self.old.part)
+            (length bytes.now) self.old.part
             self.old.converter.waiting → RecordsHaveNoMessage options.now
             (ended_records options.now.record_end self.old.part.items bytes.now)
-            (state_of self.old.converter) → ¬ IsErrOf result Stop.Memory }
+            (state_of self.old.converter) → ¬ IsErrOf result RunError.Memory }
         ensures part_capacity { vec_capacity self.old.part ≤ vec_capacity self.new.part }
-        ensures waiting_capacity { vec_capacity self.old.converter.waiting ≤ vec_capacity self.new.converter.waiting }
+        ensures waiting_capacity { vec_capacity self.old.converter.waiting
+            ≤ vec_capacity self.new.converter.waiting }
     {
         let fed = self.feed(options, bytes, digits);
         // Even if the call stopped, the records before are written.
-        write_whole(writer, &self.converter.waiting, Stop::Write)?;
+        write_whole(writer, &self.converter.waiting, RunError::Write)?;
         self.converter.waiting.clear();
         self.converter.notices.tell(errors);
         fed
@@ -288,23 +313,27 @@ impl<A: Allocator> Buffers<A> {
     ///
     /// - `Memory` if allocation fails. The texts of some first records have been appended.
     /// - `Rejected` if a field is rejected in the mode `abort`. Those of the records before have been appended.
-    fn feed(&mut self, options: &Options, bytes: &[u8], digits: &mut [u8]) -> Result<(), Stop>
+    fn feed(&mut self, options: &Options, bytes: &[u8], digits: &mut [u8]) -> Result<(), RunError>
         requires { text_limit ≤ length digits.old }
         ensures ok { OnOk result
-            (AddsRecords options.now (ended_records options.now.record_end self.old.part.items bytes.now)
+            (AddsRecords options.now
+            (ended_records options.now.record_end self.old.part.items bytes.now)
             (state_of self.old.converter) (state_of self.new.converter)) }
         ensures part { OnOk result
-            (self.new.part.items ≡ begun_record options.now.record_end self.old.part.items bytes.now) }
-        ensures stop { IfErr result (λ stop. Stops options.now
+            (self.new.part.items
+            ≡ begun_record options.now.record_end self.old.part.items bytes.now) }
+        ensures error { IfErr result (λ error. EndsEarly options.now
             (ended_records options.now.record_end self.old.part.items bytes.now)
-            (state_of self.old.converter) stop self.new.converter.waiting.items
+            (state_of self.old.converter) error self.new.converter.waiting.items
             (messages_of self.new.converter.notices)) }
-        ensures succeeds { SufficeFor options.now (vec_len self.old.part) (length bytes.now) self.old.part
+        ensures succeeds { SufficeFor options.now (vec_len self.old.part)
+            (length bytes.now) self.old.part
             self.old.converter.waiting → RecordsHaveNoMessage options.now
             (ended_records options.now.record_end self.old.part.items bytes.now)
             (state_of self.old.converter) → IsOk result }
         ensures part_capacity { vec_capacity self.old.part ≤ vec_capacity self.new.part }
-        ensures waiting_capacity { vec_capacity self.old.converter.waiting ≤ vec_capacity self.new.converter.waiting }
+        ensures waiting_capacity { vec_capacity self.old.converter.waiting
+            ≤ vec_capacity self.new.converter.waiting }
     {
         let mut rest = bytes;
         while let Some(n) = end_of(rest, options.record_end) {

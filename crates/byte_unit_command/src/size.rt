@@ -61,7 +61,7 @@ pub(crate) fn write_size(options: &Options, size: u128, out: &mut [u8]) -> usize
     ensures written { WritesForm
         (IsFormText options.now.kind options.now.form options.now.precision size)
         out.old out.new result }
-    ensures small { result < text_limit }
+    ensures bound { result < text_limit }
     ensures narrow { result ≤ form_max options.now.form options.now.precision }
 {
     match options.kind {
@@ -74,7 +74,7 @@ pub(crate) fn write_size(options: &Options, size: u128, out: &mut [u8]) -> usize
 fn write_byte(options: &Options, size: Byte, out: &mut [u8]) -> usize
     ensures written { WritesForm (IsFormText InBytes options.now.form options.now.precision size)
         out.old out.new result }
-    ensures small { result < text_limit }
+    ensures bound { result < text_limit }
     ensures narrow { result ≤ form_max options.now.form options.now.precision }
 {
     let precision = options.precision;
@@ -102,7 +102,7 @@ fn write_byte(options: &Options, size: Byte, out: &mut [u8]) -> usize
 fn write_bit(options: &Options, size: Bit, out: &mut [u8]) -> usize
     ensures written { WritesForm (IsFormText InBits options.now.form options.now.precision size)
         out.old out.new result }
-    ensures small { result < text_limit }
+    ensures bound { result < text_limit }
     ensures narrow { result ≤ form_max options.now.form options.now.precision }
 {
     let precision = options.precision;

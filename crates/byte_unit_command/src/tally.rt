@@ -1,7 +1,7 @@
 //! What a run counts.
 
 ghost use Rattle.std.specs.Prelude.{◌≡◌};
-ghost use Rattle.byte_unit_command.specs.Progress.{tally_with, no_tally};
+ghost use Rattle.byte_unit_command.specs.RunState.{tally_with, no_tally};
 ghost use Rattle.byte_unit_command.specs.Sums.{is_beyond as has_beyond, is_above as has_above, is_below as has_below};
 
 use crate::options::Options;

@@ -33,7 +33,8 @@ pub(crate) fn add_size<A: Allocator>(
     ensures ok { OnOk result ((shown : List ℕ) × IsShown options.now size shown
         × (text.new.items ≡ text.old.items ++ shown)) }
     ensures kept { IsPrefix text.old.items text.new.items }
-    ensures succeeds { vec_len text.old + text_room options.now ≤ vec_capacity text.old → IsOk result }
+    ensures succeeds { vec_len text.old + text_room options.now ≤ vec_capacity text.old
+        → IsOk result }
     ensures len { vec_len text.new ≤ vec_len text.old + text_room options.now }
     ensures capacity { vec_capacity text.old ≤ vec_capacity text.new }
 {
@@ -87,7 +88,8 @@ fn add_padded<A: Allocator>(
     ensures ok { OnOk result
         (text.new.items ≡ text.old.items ++ padded width align_left bytes.now) }
     ensures kept { IsPrefix text.old.items text.new.items }
-    ensures succeeds { vec_len text.old + max width (length bytes.now) ≤ vec_capacity text.old → IsOk result }
+    ensures succeeds { vec_len text.old + max width (length bytes.now) ≤ vec_capacity text.old
+        → IsOk result }
     ensures len { vec_len text.new ≤ vec_len text.old + max width (length bytes.now) }
     ensures capacity { vec_capacity text.old ≤ vec_capacity text.new }
 {

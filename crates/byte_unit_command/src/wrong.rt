@@ -17,12 +17,12 @@ pub struct Wrong<'a> {
     /// Its value.
     pub value: &'a str,
     /// The reason.
-    pub reason: Reason,
+    pub reason: ValueError,
 }
 
 /// Why the value of an option is wrong.
 #[derive(Debug, Drop)]
-pub enum Reason {
+pub enum ValueError {
     /// It is neither a form nor a unit; this is the error of the unit.
     Unit(UnitParseError),
     /// It is neither a form nor a unit, but white space or nothing.
@@ -66,23 +66,23 @@ impl<'a> Wrong<'a> {
 /// # Errors
 ///
 /// Returns `AllocError` if allocation fails.
-fn add_reason(alloc: Global, reason: &Reason, message: &mut String) -> Result<(), AllocError>
+fn add_reason(alloc: Global, reason: &ValueError, message: &mut String) -> Result<(), AllocError>
     ensures { OnOk result ((words : List ℕ) × AreReasonWords reason.now words
         × (string_bytes message.new ≡ string_bytes message.old ++ words)) }
 {
     // Not to `message`: of a character that is not ASCII, no contract says how it is quoted.
     let mut words = String::new(alloc);
     match reason {
-        Reason::Unit(error) => {
+        ValueError::Unit(error) => {
             message.push_str("not a form or a unit: ")?;
             write!(words, "{error}")?;
         }
-        Reason::Blank => words.push_str("not a form or a unit")?,
-        Reason::Delimiter => words.push_str("not one character of one byte")?,
-        Reason::Fields => words.push_str("not a list of fields")?,
-        Reason::Padding => words.push_str("not a number from 1 to 65535, or its negative")?,
-        Reason::Mode => words.push_str("not abort, fail, warn or ignore")?,
-        Reason::Size(error) => write!(words, "{error}")?,
+        ValueError::Blank => words.push_str("not a form or a unit")?,
+        ValueError::Delimiter => words.push_str("not one character of one byte")?,
+        ValueError::Fields => words.push_str("not a list of fields")?,
+        ValueError::Padding => words.push_str("not a number from 1 to 65535, or its negative")?,
+        ValueError::Mode => words.push_str("not abort, fail, warn or ignore")?,
+        ValueError::Size(error) => write!(words, "{error}")?,
     }
     message.push_str(words.as_str())
 }

@@ -8,6 +8,6 @@ pub mod ShortExpansions
 pub mod Widths
 pub mod NarrowTexts
 pub mod FewPlaces
-pub mod Suffix
+pub mod UnitFraction
 pub mod WithDigits
 pub mod LaterVersion

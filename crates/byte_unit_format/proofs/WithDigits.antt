@@ -18,7 +18,7 @@ use Rattle.byte_unit_math.specs.Bounds.{size_limit}
 use Rattle.byte_unit_math.specs.Digits.{trim_zeros}
 use Rattle.byte_unit_math.specs.Numeral.{fraction_text, padded_digits}
 use Rattle.byte_unit_math.proofs.Digits.{mod_next_power, one_le_pow10}
-use Rattle.byte_unit_format.specs.Suffix.{thousandths_text}
+use Rattle.byte_unit_format.specs.UnitFraction.{thousandths_text}
 use Rattle.byte_unit_format.proofs.NarrowTexts.{decimal_length}
 
 -- The first digits of a number, without the last k.

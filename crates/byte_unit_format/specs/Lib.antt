@@ -4,11 +4,11 @@ pub mod Forms
 pub mod NamedSpecs
 pub mod Adjusted
 pub mod AdjustedString
-pub mod Shown
+pub mod FixedDecimal
 pub mod Room
 pub mod Written
 pub mod TextParts
-pub mod Suffix
+pub mod UnitFraction
 pub mod FewPlaces
 pub mod WithDigits
 pub mod FormLaws

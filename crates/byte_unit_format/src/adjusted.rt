@@ -12,7 +12,7 @@ ghost use Rattle.byte_unit_base.specs.Units.{shape_of};
 ghost use Rattle.byte_unit_base.specs.Kinds.{bits_in};
 ghost use Rattle.byte_unit_base.specs.Version.{unit_name};
 ghost use Rattle.byte_unit_format.specs.Layout.{layout};
-ghost use Rattle.byte_unit_format.specs.Shown.{shown_text, FitsShown};
+ghost use Rattle.byte_unit_format.specs.FixedDecimal.{fixed_decimal_text, FitsFixedDecimal};
 ghost use Rattle.byte_unit_format.specs.TextParts.{IsReady, parts_text};
 ghost use Rattle.byte_unit_format.specs.Room.{AppendsForm};
 ghost use Rattle.byte_unit_format.specs.Written.{WritesForm};
@@ -37,26 +37,27 @@ const FEW_PLACES: u32 = 7;
 
 /// A number, and how many digits after the point are shown.
 #[derive(Clone, Copy)]
-enum Shown {
+enum FixedDecimal {
     /// The number times 10^places, which is a whole number.
     Scaled(u128, u32),
     /// A decimal, cut off or padded with zeros.
     Expanded(Expansion, u32),
 }
 
-impl Shown {
+impl FixedDecimal {
     /// Returns the parts of the number with its unit.
     #[inline(always)]
     fn parts<'a>(&'a self, unit: Unit, spec: FormatSpec) -> TextParts<'a>
-        requires { FitsShown self.now }
-        ensures text { parts_text result ≡ layout (shown_text self.now) (unit_name unit) spec }
+        requires { FitsFixedDecimal self.now }
+        ensures text { parts_text result
+            ≡ layout (fixed_decimal_text self.now) (unit_name unit) spec }
         ensures len { result.len ≡ length (parts_text result) }
-        ensures small { result.len < text_limit }
+        ensures bound { result.len < text_limit }
         ensures ready { IsReady result }
     {
         match self {
-            Shown::Scaled(number, places) => scaled_parts(*number, *places, unit, spec),
-            Shown::Expanded(e, places) => {
+            FixedDecimal::Scaled(number, places) => scaled_parts(*number, *places, unit, spec),
+            FixedDecimal::Expanded(e, places) => {
                 layout_parts(e.whole(), Fraction::First(e, *places), unit, spec)
             }
         }
@@ -76,10 +77,10 @@ pub fn adjusted_len(size: u128, kind: Kind, unit: Unit, spec: FormatSpec) -> usi
     requires { size < size_limit }
     ensures exact { (form : List ℕ) → IsAdjustedForm kind size unit spec form
         → result ≡ length form }
-    ensures small { result < text_limit }
+    ensures bound { result < text_limit }
 {
-    let shown = rounded_in_unit(size, kind, unit, spec);
-    shown.parts(unit, spec).len
+    let number = rounded_in_unit(size, kind, unit, spec);
+    number.parts(unit, spec).len
 }
 
 /// Appends a size formatted in a unit.
@@ -111,8 +112,8 @@ pub fn append_adjusted<A: Allocator>(
     requires { size < size_limit }
     ensures { AppendsForm (IsAdjustedForm kind size unit spec) text.old text.new result }
 {
-    let shown = rounded_in_unit(size, kind, unit, spec);
-    shown.parts(unit, spec).append(text)
+    let number = rounded_in_unit(size, kind, unit, spec);
+    number.parts(unit, spec).append(text)
 }
 
 /// Writes what `append_adjusted` appends to the beginning of `out`, and returns its length. Writes nothing if it does
@@ -130,7 +131,7 @@ pub fn append_adjusted<A: Allocator>(
 pub fn write_adjusted(size: u128, kind: Kind, unit: Unit, spec: FormatSpec, out: &mut [u8]) -> usize
     requires { size < size_limit }
     ensures written { WritesForm (IsAdjustedForm kind size unit spec) out.old out.new result }
-    ensures small { result < text_limit }
+    ensures bound { result < text_limit }
 {
     match few_places(unit, spec) {
         Some(places) => {
@@ -170,10 +171,10 @@ pub fn display_adjusted<W: fmt::Write>(
 fn write_shown(size: u128, kind: Kind, unit: Unit, spec: FormatSpec, out: &mut [u8]) -> usize
     requires { size < size_limit }
     ensures written { WritesForm (IsAdjustedForm kind size unit spec) out.old out.new result }
-    ensures small { result < text_limit }
+    ensures bound { result < text_limit }
 {
-    let shown = rounded_in_unit(size, kind, unit, spec);
-    shown.parts(unit, spec).write(out)
+    let number = rounded_in_unit(size, kind, unit, spec);
+    number.parts(unit, spec).write(out)
 }
 
 /// Returns the number of digits after the point if the spec asks for exactly that number, and it is at most
@@ -189,12 +190,12 @@ fn few_places(unit: Unit, spec: FormatSpec) -> Option<u32>
 }
 
 /// Returns the size in the unit, rounded as the spec says.
-fn rounded_in_unit(size: u128, kind: Kind, unit: Unit, spec: FormatSpec) -> Shown
+fn rounded_in_unit(size: u128, kind: Kind, unit: Unit, spec: FormatSpec) -> FixedDecimal
     requires { size < size_limit }
     ensures number { let unit = shape_of unit in
         IsNumeralBy (rule_of spec.precision spec.alternate unit) (size * bits_in kind)
-        (bits unit) (shown_text result) }
-    ensures fits { FitsShown result }
+        (bits unit) (fixed_decimal_text result) }
+    ensures bound { FitsFixedDecimal result }
 {
     match spec.precision {
         None => all_places(number_in_unit(size, kind, unit)),
@@ -213,18 +214,18 @@ fn rounded_in_unit(size: u128, kind: Kind, unit: Unit, spec: FormatSpec) -> Show
 }
 
 /// Returns the size in the unit, rounded to exactly `places` digits after the point.
-fn rounded_to(size: u128, kind: Kind, unit: Unit, places: u32) -> Shown
+fn rounded_to(size: u128, kind: Kind, unit: Unit, places: u32) -> FixedDecimal
     requires size { size < size_limit }
     requires places { places ≤ u16.MAX }
     ensures number { let unit = shape_of unit in
-        IsRoundNumeral (size * bits_in kind) (bits unit) places (shown_text result) }
-    ensures fits { FitsShown result }
+        IsRoundNumeral (size * bits_in kind) (bits unit) places (fixed_decimal_text result) }
+    ensures bound { FitsFixedDecimal result }
 {
     if places > FEW_PLACES {
         let exact = number_in_unit(size, kind, unit);
-        return Shown::Expanded(exact.rounded(places, Ties::Even), places);
+        return FixedDecimal::Expanded(exact.rounded(places, Ties::Even), places);
     }
-    Shown::Scaled(rounded_to_few(size, kind, unit, places), places)
+    FixedDecimal::Scaled(rounded_to_few(size, kind, unit, places), places)
 }
 
 /// Returns the size in the unit times 10^places, rounded to a whole number, ties to even.
@@ -247,7 +248,7 @@ fn scaled_parts<'a>(number: u128, places: u32, unit: Unit, spec: FormatSpec) -> 
     requires { places ≤ places_of_decimal }
     ensures text { parts_text result ≡ layout (numeral number places) (unit_name unit) spec }
     ensures len { result.len ≡ length (parts_text result) }
-    ensures small { result.len < text_limit }
+    ensures bound { result.len < text_limit }
     ensures ready { IsReady result }
 {
     let (whole, digits) = div_rem(number, power_of_ten(places));
@@ -256,12 +257,12 @@ fn scaled_parts<'a>(number: u128, places: u32, unit: Unit, spec: FormatSpec) -> 
 
 /// Shows all digits of a decimal.
 #[tactic(auto, using(crate::proofs::WrittenForms::all_places))]
-fn all_places(decimal: Expansion) -> Shown
-    ensures text { shown_text result ≡ text_of decimal }
-    ensures fits { FitsShown result }
+fn all_places(decimal: Expansion) -> FixedDecimal
+    ensures text { fixed_decimal_text result ≡ text_of decimal }
+    ensures bound { FitsFixedDecimal result }
 {
     let places = decimal.places();
-    Shown::Expanded(decimal, places)
+    FixedDecimal::Expanded(decimal, places)
 }
 
 /// Returns the size in the unit, exactly: with at most 93 digits after the point.

@@ -9,12 +9,12 @@ ghost use Rattle.byte_unit_base.specs.Version.{current, unit_name_in};
 ghost use Rattle.byte_unit_format.specs.Forms.{IsSizeForm, narrow_text};
 ghost use Rattle.byte_unit_format.specs.NamedSpecs.{alternate_spec};
 ghost use Rattle.byte_unit_format.specs.Room.{AppendsForm};
-ghost use Rattle.byte_unit_format.specs.Suffix.{HasPrefix, suffix_text, thousandths_text};
+ghost use Rattle.byte_unit_format.specs.UnitFraction.{HasPrefix, unit_fraction_text, thousandths_text};
 ghost use Rattle.byte_unit_format.specs.Written.{WritesForm};
 
 use crate::capacity::append_ascii;
 use crate::put::put;
-use crate::thousandths::{Suffix, split};
+use crate::thousandths::{UnitFraction, split};
 use byte_unit_base::{Kind, prefix_letter};
 use byte_unit_math::{decimal_len, put_u128};
 use std::alloc::{AllocError, Allocator};
@@ -41,7 +41,7 @@ pub(crate) fn append_alternate<A: Allocator>(
 pub(crate) fn write_alternate(size: u128, kind: Kind, out: &mut [u8]) -> usize
     requires { size < size_limit }
     ensures written { WritesForm (IsSizeForm kind size alternate_spec) out.old out.new result }
-    ensures narrow { result ≤ narrow_text }
+    ensures bound { result ≤ narrow_text }
 {
     if out.len() < NARROW_TEXT {
         return write_if_fits(size, kind, out);
@@ -59,7 +59,7 @@ pub(crate) fn write_alternate(size: u128, kind: Kind, out: &mut [u8]) -> usize
 fn write_if_fits(size: u128, kind: Kind, out: &mut [u8]) -> usize
     requires { size < size_limit }
     ensures written { WritesForm (IsSizeForm kind size alternate_spec) out.old out.new result }
-    ensures narrow { result ≤ narrow_text }
+    ensures bound { result ≤ narrow_text }
 {
     let mut bytes = [0; NARROW_TEXT];
     let len = put_form(size, kind, &mut bytes);
@@ -75,7 +75,7 @@ fn put_form_wide(size: u128, kind: Kind, out: &mut [u8]) -> usize
     requires small { size < size_limit }
     requires room { narrow_text ≤ length out.old }
     ensures written { WritesForm (IsSizeForm kind size alternate_spec) out.old out.new result }
-    ensures narrow { result ≤ narrow_text }
+    ensures bound { result ≤ narrow_text }
 {
     put_form(size, kind, out)
 }
@@ -86,26 +86,27 @@ fn put_form(size: u128, kind: Kind, out: &mut [u8]) -> usize
     requires small { size < size_limit }
     requires room { narrow_text ≤ length out.old }
     ensures written { WritesForm (IsSizeForm kind size alternate_spec) out.old out.new result }
-    ensures narrow { result ≤ narrow_text }
+    ensures bound { result ≤ narrow_text }
     ensures ascii { IsAscii (take result out.new) }
 {
-    let (whole, suffix) = split(size, 3);
-    put_split(whole, suffix, kind, out)
+    let (whole, fraction) = split(size, 3);
+    put_split(whole, fraction, kind, out)
 }
 
 /// Writes a whole part and what follows it to the beginning of `out`, and returns their length.
 #[inline(always)]
 #[tactic(auto, using(crate::proofs::NarrowTexts::whole_length, std::proofs::lemmas::Grind::common_steps))]
-pub(crate) fn put_split(whole: u128, suffix: Suffix, kind: Kind, out: &mut [u8]) -> usize
+pub(crate) fn put_split(whole: u128, fraction: UnitFraction, kind: Kind, out: &mut [u8]) -> usize
     requires small { whole < 10 ^ 27 }
-    requires prefix { HasPrefix suffix }
+    requires prefix { HasPrefix fraction }
     requires room { narrow_text ≤ length out.old }
-    ensures ends { result ≡ length (decimal whole ++ suffix_text kind suffix) }
-    ensures bytes { out.new ≡ (decimal whole ++ suffix_text kind suffix) ++ drop result out.old }
-    ensures narrow { result ≤ narrow_text }
+    ensures ends { result ≡ length (decimal whole ++ unit_fraction_text kind fraction) }
+    ensures bytes { out.new
+        ≡ (decimal whole ++ unit_fraction_text kind fraction) ++ drop result out.old }
+    ensures bound { result ≤ narrow_text }
 {
     let point = decimal_len(whole);
-    let end = put_suffix(suffix, kind, out, point);
+    let end = put_unit_fraction(fraction, kind, out, point);
     put_u128(whole, out, point);
     end
 }
@@ -113,27 +114,27 @@ pub(crate) fn put_split(whole: u128, suffix: Suffix, kind: Kind, out: &mut [u8])
 /// Writes what follows the whole part from the index `point`, and returns the index after it. The digits after the
 /// point are written as four bytes; the space and the unit then overwrite what is too much of these.
 #[inline(always)]
-fn put_suffix(suffix: Suffix, kind: Kind, out: &mut [u8], point: usize) -> usize
-    requires prefix { HasPrefix suffix }
+fn put_unit_fraction(fraction: UnitFraction, kind: Kind, out: &mut [u8], point: usize) -> usize
+    requires prefix { HasPrefix fraction }
     requires room { point + 8 ≤ length out.old }
-    ensures ends { result ≡ point + length (suffix_text kind suffix) }
-    ensures bytes { drop point out.new ≡ suffix_text kind suffix ++ drop result out.old }
-    ensures narrow { result ≤ point + 8 }
+    ensures ends { result ≡ point + length (unit_fraction_text kind fraction) }
+    ensures bytes { drop point out.new ≡ unit_fraction_text kind fraction ++ drop result out.old }
+    ensures bound { result ≤ point + 8 }
 {
     let own = own_letter(kind);
-    match suffix {
-        Suffix::Own => {
+    match fraction {
+        UnitFraction::Own => {
             put(&[b' ', own], out, point + 2);
             point + 2
         }
-        Suffix::Eighths(eighths, power) => {
+        UnitFraction::Eighths(eighths, power) => {
             let (digits, len) = digits_of_eighths(eighths);
             put(&digits, out, point + 4);
             let end = point + len + 4;
             put(&[b' ', prefix_letter(power), b'i', own], out, end);
             end
         }
-        Suffix::Thousandths(thousandths, power) => {
+        UnitFraction::Thousandths(thousandths, power) => {
             let (digits, len) = digits_of_thousandths(thousandths);
             if len > 0 {
                 put(&digits, out, point + 4);
@@ -161,7 +162,7 @@ pub(crate) fn own_letter(kind: Kind) -> u8
 fn digits_of_eighths(eighths: u64) -> ([u8; 4], usize)
     requires { eighths < 8 }
     ensures four { length result.0 ≡ 4 }
-    ensures few { result.1 ≤ 4 }
+    ensures bound { result.1 ≤ 4 }
     ensures text { take result.1 result.0 ≡ thousandths_text (125 * eighths) }
 {
     match eighths {
@@ -181,7 +182,7 @@ fn digits_of_eighths(eighths: u64) -> ([u8; 4], usize)
 fn digits_of_thousandths(thousandths: u64) -> ([u8; 4], usize)
     requires { thousandths < 1000 }
     ensures four { length result.0 ≡ 4 }
-    ensures few { result.1 ≤ 4 }
+    ensures bound { result.1 ≤ 4 }
     ensures text { take result.1 result.0 ≡ thousandths_text thousandths }
 {
     let tenths = (thousandths / 100) as u8;

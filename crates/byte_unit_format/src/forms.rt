@@ -26,7 +26,7 @@ const DEFAULT_PRECISION: usize = 3;
 pub fn text_len(size: u128, kind: Kind, spec: FormatSpec) -> usize
     requires { size < size_limit }
     ensures exact { (form : List ℕ) → IsText kind size spec form → result ≡ length form }
-    ensures small { result < text_limit }
+    ensures bound { result < text_limit }
     ensures narrow { spec.width ≡ None → result ≤ narrow_text }
 {
     write_text(size, kind, spec, &mut [])
@@ -80,7 +80,7 @@ pub fn append_text<A: Allocator>(
 pub fn write_text(size: u128, kind: Kind, spec: FormatSpec, out: &mut [u8]) -> usize
     requires { size < size_limit }
     ensures written { WritesForm (IsText kind size spec) out.old out.new result }
-    ensures small { result < text_limit }
+    ensures bound { result < text_limit }
     ensures narrow { spec.width ≡ None → result ≤ narrow_text }
 {
     if spec == FormatSpec::ALTERNATE {
@@ -95,7 +95,7 @@ fn text_parts(size: u128, kind: Kind, spec: FormatSpec) -> TextParts<'static>
     requires { size < size_limit }
     ensures text { IsText kind size spec (parts_text result) }
     ensures len { result.len ≡ length (parts_text result) }
-    ensures small { result.len < text_limit }
+    ensures bound { result.len < text_limit }
     ensures ready { IsReady result }
 {
     if !spec.alternate {

@@ -19,7 +19,7 @@ use std::alloc::{AllocError, Allocator};
 pub fn layout_len(e: &Expansion, places: u32, unit: Unit, spec: FormatSpec) -> usize
     ensures exact { result ≡ length (layout_of e.now places unit spec) }
     // The integer part, the point and the unit with its spaces take at most 44 columns.
-    ensures small { result ≤ max u16.MAX (places + 44) }
+    ensures bound { result ≤ max u16.MAX (places + 44) }
 {
     layout_parts(e.whole(), Fraction::First(e, places), unit, spec).len
 }
@@ -66,7 +66,7 @@ pub fn write_layout(
 ) -> usize
     ensures written { let text = layout_of e.now places unit spec in
         WritesForm (λ form. form ≡ text) out.old out.new result }
-    ensures small { result ≤ max u16.MAX (places + 44) }
+    ensures bound { result ≤ max u16.MAX (places + 44) }
 {
     layout_parts(e.whole(), Fraction::First(e, places), unit, spec).write(out)
 }
@@ -84,7 +84,7 @@ pub(crate) fn layout_parts<'a>(
     ensures text { let number = decimal whole ++ fraction_of fraction.entry in
         parts_text result ≡ layout number (unit_name unit) spec }
     ensures len { result.len ≡ length (parts_text result) }
-    ensures small { result.len ≤ max u16.MAX (places_in fraction.entry + 44) }
+    ensures bound { result.len ≤ max u16.MAX (places_in fraction.entry + 44) }
     ensures ready { IsReady result }
 {
     let number = decimal_len(whole) + fraction.len();

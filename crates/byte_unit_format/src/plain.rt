@@ -14,7 +14,7 @@ use std::alloc::{AllocError, Allocator};
 /// Returns the length in bytes of a number's digits with their sign, padded to the width. Does not allocate.
 pub fn plain_len(size: u128, spec: FormatSpec) -> usize
     ensures exact { result ≡ length (plain size spec) }
-    ensures small { result ≤ u16.MAX }
+    ensures bound { result ≤ u16.MAX }
 {
     plain_parts(size, spec).len
 }
@@ -48,7 +48,7 @@ pub fn append_plain<A: Allocator>(
 #[tactic(auto, using(crate::proofs::TextParts::writes_form))]
 pub fn write_plain(size: u128, spec: FormatSpec, out: &mut [u8]) -> usize
     ensures written { WritesForm (λ form. form ≡ plain size spec) out.old out.new result }
-    ensures small { result ≤ u16.MAX }
+    ensures bound { result ≤ u16.MAX }
 {
     plain_parts(size, spec).write(out)
 }
@@ -58,7 +58,7 @@ pub fn write_plain(size: u128, spec: FormatSpec, out: &mut [u8]) -> usize
 pub(crate) fn plain_parts(size: u128, spec: FormatSpec) -> TextParts<'static>
     ensures text { parts_text result ≡ plain size spec }
     ensures len { result.len ≡ length (plain size spec) }
-    ensures small { result.len ≤ u16.MAX }
+    ensures bound { result.len ≤ u16.MAX }
     ensures ready { IsReady result }
 {
     let sign = match spec.sign {
@@ -87,7 +87,7 @@ pub(crate) fn plain_parts(size: u128, spec: FormatSpec) -> TextParts<'static>
 #[inline(always)]
 pub(crate) fn padding(columns: usize, width: Option<u16>) -> usize
     ensures exact { result ≡ padding_for width columns }
-    ensures small { result + columns ≤ max u16.MAX columns }
+    ensures bound { result + columns ≤ max u16.MAX columns }
 {
     match width {
         None => 0,

@@ -9,7 +9,7 @@ ghost use Rattle.byte_unit_base.specs.Shape.{bits, shape};
 ghost use Rattle.byte_unit_base.specs.Units.{shape_of};
 ghost use Rattle.byte_unit_base.specs.Version.{current};
 ghost use Rattle.byte_unit_format.specs.FewPlaces.{IsGreatest};
-ghost use Rattle.byte_unit_format.specs.Suffix.{HasPrefix, IsSplit};
+ghost use Rattle.byte_unit_format.specs.UnitFraction.{HasPrefix, IsSplit};
 
 use byte_unit_base::{Kind, Unit, recoverable_unit, unit_with_prefix};
 use byte_unit_math::{Decimal, Steps, div_rem_thousand, power_of_ten};
@@ -19,7 +19,7 @@ const FEW_PLACES: usize = 3;
 
 /// What follows the whole part of a size in a unit: the digits after the point, and the unit.
 #[derive(Clone, Copy)]
-pub(crate) enum Suffix {
+pub(crate) enum UnitFraction {
     /// No digits, and the kind's own unit.
     Own,
     /// Eighths of a unit with a binary prefix, and the position of the prefix, from 1.
@@ -38,14 +38,14 @@ pub(crate) fn unit_within(size: u128, kind: Kind, places: usize) -> (Decimal, Un
     if places > FEW_PLACES {
         return recoverable_unit(size, kind, false, places, &mut Steps::new());
     }
-    let (whole, suffix) = split(size, places as u32);
-    match suffix {
-        Suffix::Own => (Decimal::from_digits(whole, 0, 0), kind.unit()),
-        Suffix::Eighths(eighths, power) => (
+    let (whole, fraction) = split(size, places as u32);
+    match fraction {
+        UnitFraction::Own => (Decimal::from_digits(whole, 0, 0), kind.unit()),
+        UnitFraction::Eighths(eighths, power) => (
             Decimal::from_digits(whole, u128::from(125 * eighths), 3),
             unit_with_prefix(power, true, kind),
         ),
-        Suffix::Thousandths(thousandths, power) => (
+        UnitFraction::Thousandths(thousandths, power) => (
             Decimal::from_digits(whole, u128::from(thousandths), 3),
             unit_with_prefix(power, false, kind),
         ),
@@ -55,7 +55,7 @@ pub(crate) fn unit_within(size: u128, kind: Kind, places: usize) -> (Decimal, Un
 /// Splits a size in the largest unit of its kind, not above it, in which it is exact within `places` decimal places, at
 /// most three, into its whole part and what follows. If there is no such unit, the whole part is the size.
 #[inline(always)]
-pub(crate) fn split(size: u128, places: u32) -> (u128, Suffix)
+pub(crate) fn split(size: u128, places: u32) -> (u128, UnitFraction)
     requires small { size < size_limit }
     requires places { places ≤ 3 }
     ensures split { (kind : OfKind) → IsSplit kind size places result.0 result.1 }
@@ -64,23 +64,23 @@ pub(crate) fn split(size: u128, places: u32) -> (u128, Suffix)
     ensures prefix { HasPrefix result.1 }
 {
     if size < 1000 {
-        return (size, Suffix::Own);
+        return (size, UnitFraction::Own);
     }
     let (whole, thousandths, power) = in_thousands(size, places);
     let binary = binary_power(size, places);
     // A binary prefix is larger than the decimal one of its position, and smaller than the next decimal one.
     if binary < power {
-        (whole, Suffix::Thousandths(thousandths, power))
+        (whole, UnitFraction::Thousandths(thousandths, power))
     } else if binary > 0 {
         in_eighths(size, binary)
     } else {
-        (size, Suffix::Own)
+        (size, UnitFraction::Own)
     }
 }
 
 /// Splits a size that is a number of eighths of the unit with a binary prefix.
 #[inline(always)]
-pub(crate) fn in_eighths(size: u128, power: u32) -> (u128, Suffix)
+pub(crate) fn in_eighths(size: u128, power: u32) -> (u128, UnitFraction)
     requires small { size < size_limit }
     requires some { 1 ≤ power }
     requires few { power ≤ 9 }
@@ -92,7 +92,10 @@ pub(crate) fn in_eighths(size: u128, power: u32) -> (u128, Suffix)
     ensures prefix { HasPrefix result.1 }
 {
     let eighths = size >> (10 * power - 3);
-    (eighths / 8, Suffix::Eighths((eighths % 8) as u64, power))
+    (
+        eighths / 8,
+        UnitFraction::Eighths((eighths % 8) as u64, power),
+    )
 }
 
 /// Returns the size in the largest decimal prefix, not above it, in which it is exact within `places` decimal places:
@@ -103,7 +106,7 @@ fn in_thousands(size: u128, places: u32) -> (u128, u64, u32)
     requires large { 1000 ≤ size }
     requires small { size < size_limit }
     requires places { places ≤ 3 }
-    ensures few { result.2 ≤ 9 }
+    ensures bound { result.2 ≤ 9 }
     ensures greatest { IsGreatest places 10 3 size result.2 }
     ensures value { (result.0 * 1000 + result.1) * 10 ^ (3 * result.2) ≡ size * 1000 }
     ensures thousandths { result.1 < 1000 }
@@ -123,7 +126,7 @@ fn in_three_places(size: u128) -> (u128, u64, u32)
     requires large { 1000 ≤ size }
     requires small { size < size_limit }
     ensures some { 1 ≤ result.2 }
-    ensures few { result.2 ≤ 9 }
+    ensures bound { result.2 ≤ 9 }
     ensures greatest { IsGreatest 3 10 3 size result.2 }
     ensures value { (result.0 * 1000 + result.1) * 10 ^ (3 * result.2) ≡ size * 1000 }
     ensures thousandths { result.1 < 1000 }
@@ -148,7 +151,7 @@ pub(crate) fn binary_power(size: u128, places: u32) -> u32
     requires some { 1 ≤ size }
     requires small { size < size_limit }
     requires places { places ≤ 3 }
-    ensures few { result ≤ 9 }
+    ensures bound { result ≤ 9 }
     ensures greatest { IsGreatest places 2 10 size result }
     ensures eighths { size % 2 ^ (10 * result - 3) ≡ 0 }
 {

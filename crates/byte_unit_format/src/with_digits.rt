@@ -13,7 +13,7 @@ ghost use Rattle.byte_unit_format.specs.WithDigits.{IsTextWithDigits, cut_digits
 
 use crate::alternate::{own_letter, put_split};
 use crate::put::put;
-use crate::thousandths::{Suffix, binary_power, in_eighths};
+use crate::thousandths::{UnitFraction, binary_power, in_eighths};
 use byte_unit_base::{Kind, prefix_letter};
 use byte_unit_math::{PADDED_DIGITS, put_padded_digits};
 use std::simd::prelude::*;
@@ -35,7 +35,7 @@ pub fn write_with_digits(size: u128, kind: Kind, between: [u8; 3], out: &mut [u8
     requires small { size < size_limit }
     requires room { with_digits_text ≤ length out.old }
     ensures text { IsTextWithDigits kind size between (take result out.new) }
-    ensures narrow { result ≤ with_digits_text }
+    ensures bound { result ≤ with_digits_text }
 {
     // The cast tells the compiler that it can divide in 64 bits.
     if size < 1 << 64 {
@@ -51,7 +51,7 @@ fn put_with_digits_wide(size: u128, kind: Kind, between: [u8; 3], out: &mut [u8]
     requires small { size < size_limit }
     requires room { with_digits_text ≤ length out.old }
     ensures text { IsTextWithDigits kind size between (take result out.new) }
-    ensures narrow { result ≤ with_digits_text }
+    ensures bound { result ≤ with_digits_text }
 {
     put_with_digits(size, kind, between, out)
 }
@@ -62,7 +62,7 @@ fn put_with_digits(size: u128, kind: Kind, between: [u8; 3], out: &mut [u8]) -> 
     requires small { size < size_limit }
     requires room { with_digits_text ≤ length out.old }
     ensures text { IsTextWithDigits kind size between (take result out.new) }
-    ensures narrow { result ≤ with_digits_text }
+    ensures bound { result ≤ with_digits_text }
 {
     let mut digits = [b'0'; PADDED_DIGITS];
     let len = put_padded_digits(size, &mut digits);
@@ -87,12 +87,12 @@ fn put_form_of(
     requires len { len ≡ length (decimal size) }
     requires room { narrow_text ≤ length out.old }
     ensures form { IsSizeForm kind size alternate_spec (take result out.new) }
-    ensures narrow { result ≤ narrow_text }
+    ensures bound { result ≤ narrow_text }
 {
     // The position of the largest decimal prefix that is not above the size.
     let most = ((len - 1) / 3) as u32;
     if most == 0 {
-        return put_split(size, Suffix::Own, kind, out);
+        return put_split(size, UnitFraction::Own, kind, out);
     }
     let binary = binary_power(size, 3);
     if binary < most {
@@ -103,14 +103,14 @@ fn put_form_of(
             return put_decimal(digits, len - 3 * power as usize, used, power, kind, out);
         }
     }
-    let (whole, suffix) = in_eighths(size, binary);
-    put_split(whole, suffix, kind, out)
+    let (whole, fraction) = in_eighths(size, binary);
+    put_split(whole, fraction, kind, out)
 }
 
 /// Returns the number of bytes up to the last that is not the digit 0.
 #[inline(always)]
 fn significant(digits: &[u8; PADDED_DIGITS]) -> usize
-    ensures within { result ≤ PADDED_DIGITS }
+    ensures bound { result ≤ PADDED_DIGITS }
     ensures zeros { (i : ℕ) → result ≤ i → i < PADDED_DIGITS → slice_index digits.now i ≡ 48 }
     ensures last { (i : ℕ) → i + 1 ≡ result → slice_index digits.now i ≢ 48 }
 {
@@ -137,8 +137,9 @@ fn put_decimal(
     requires used { used ≤ cut + 3 }
     requires room { narrow_text ≤ length out.old }
     ensures text { take result out.new ≡ take cut digits.now
-        ++ (cut_digits cut used digits.now ++ 32 ∷ unit_name_in current (shape power false (counts_bits kind))) }
-    ensures narrow { result ≤ narrow_text }
+        ++ (cut_digits cut used digits.now
+        ++ 32 ∷ unit_name_in current (shape power false (counts_bits kind))) }
+    ensures bound { result ≤ narrow_text }
 {
     put(digits, out, PADDED_DIGITS);
     let end = if used > cut {

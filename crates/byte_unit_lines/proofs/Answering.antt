@@ -3,7 +3,7 @@ use Rattle.std.proofs.Common.{ℕ, Err, List, [], ◌∷◌, ◌++◌, refl, sym
 use Rattle.byte_unit_lines.specs.Answer.{Kind, IsAnswer}
 use Rattle.byte_unit_lines.specs.Report.{AreAnswers}
 use Rattle.byte_unit_lines.specs.Outcome.{AnswerFirst}
-use Rattle.byte_unit_lines.specs.Progress.{IsAnswered}
+use Rattle.byte_unit_lines.specs.Answered.{IsAnswered}
 use Rattle.byte_unit_lines.specs.declared.run.RunError.{RunError}
 use Rattle.byte_unit_lines.specs.declared.run.RunError.TheVariants.{Memory, Read, Write}
 use Rattle.byte_unit_stream.proofs.Prefixes.{IsPrefix-after}

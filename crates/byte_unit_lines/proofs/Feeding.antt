@@ -6,7 +6,7 @@ use Rattle.std.specs.Prelude.{vec_capacity}
 use Rattle.std.specs.declared.vec.Vec.{Vec}
 use Rattle.byte_unit_lines.specs.Answer.{Kind, IsAnswer}
 use Rattle.byte_unit_lines.specs.Capacity.{answer_max}
-use Rattle.byte_unit_lines.specs.Progress.{AddsAnswer, AddsAnswers}
+use Rattle.byte_unit_lines.specs.Answered.{AddsAnswer, AddsAnswers}
 use Rattle.byte_unit_lines.proofs.Answering.{AreAnswers-append, AreAnswers-single}
 use Rattle.byte_unit_lines.specs.Lines.{line_end}
 use Rattle.byte_unit_stream.specs.Chunks.{ended_records, begun_record}

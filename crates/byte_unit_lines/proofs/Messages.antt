@@ -10,7 +10,7 @@ use Rattle.byte_unit.specs.Accepted.{IsAccepted, IsRejected}
 use Rattle.byte_unit.specs.Fault.{Fault}
 use Rattle.byte_unit_format.specs.WithDigits.{IsTextWithDigits}
 use Rattle.byte_unit_lines.specs.Answer.{Kind, IsAnswer, words_of, not_text, size, rejected}
-use Rattle.byte_unit_lines.specs.Progress.{AddsAnswer}
+use Rattle.byte_unit_lines.specs.Answered.{AddsAnswer}
 
 -- a call that appends an answer if it succeeds has appended it on `Ok`
 pub AddsAnswer-if_ok : {E : Type 0} (kind : Kind) (line : List ℕ) (result : Result ⊤ E) (old added new : List ℕ) → IsAnswer kind line added

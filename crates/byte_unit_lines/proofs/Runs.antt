@@ -9,7 +9,7 @@ use Rattle.byte_unit_lines.specs.Laws.{EachLineHasAnAnswer}
 use Rattle.byte_unit_lines.specs.Lines.{finished_lines, lines_of}
 use Rattle.byte_unit_lines.specs.Report.{AreAnswers, IsReport}
 use Rattle.byte_unit_lines.specs.Outcome.{AnswerFirst, IsWritten}
-use Rattle.byte_unit_lines.specs.Progress.{BeginFirst, IsAnswered}
+use Rattle.byte_unit_lines.specs.Answered.{BeginFirst, IsAnswered}
 use Rattle.byte_unit_lines.specs.declared.run.RunError.{RunError}
 use Rattle.byte_unit_lines.specs.declared.run.RunError.TheVariants.{Memory, Read, Write}
 use Rattle.byte_unit_lines.proofs.Answering.{AreAnswers-append, AreAnswers-single, lines_have_answers}
@@ -17,8 +17,9 @@ use Rattle.byte_unit_lines.proofs.Answering.{IsAnswered-append}
 use Rattle.byte_unit_lines.specs.Lines.{line_end}
 use Rattle.byte_unit_stream.specs.Chunks.{ended_records, begun_record, nonempty_record}
 use Rattle.byte_unit_stream.proofs.Bytes.{IsWrittenBy}
-use Rattle.byte_unit_stream.proofs.Parts.{ended_records-append, begun_record-append, finished_records-ended_records, records_of-ended_records}
-use Rattle.byte_unit_stream.proofs.Parts.{nonempty_record-nonempty}
+use Rattle.byte_unit_stream.proofs.ChunkRecords.{ended_records-append, begun_record-append}
+use Rattle.byte_unit_stream.proofs.ChunkRecords.{finished_records-ended_records, records_of-ended_records}
+use Rattle.byte_unit_stream.proofs.ChunkRecords.{nonempty_record-nonempty}
 use Rattle.byte_unit_stream.proofs.Prefixes.{IsPrefix-after, IsPrefix-longer}
 
 -- the bytes that were read and written so far, and the unfinished line

@@ -6,5 +6,5 @@ pub mod FaultWords
 pub mod Laws
 pub mod Lines
 pub mod Outcome
-pub mod Progress
+pub mod Answered
 pub mod Report

@@ -10,7 +10,7 @@ ghost use Rattle.byte_unit_stream.specs.Streams.{HasWritten, writing_failed};
 use crate::arguments::{Kind, kind_of};
 use crate::run::{RunError, run};
 use crate::words::fault_words;
-use byte_unit_stream::{Reading, Writing};
+use byte_unit_stream::{FusedReader, FusedWriter};
 use std::alloc::Global;
 use std::io::{Read, Write};
 
@@ -53,8 +53,8 @@ impl Ending {
 pub fn serve<R: Read, W: Write>(
     alloc: Global,
     words: &[String],
-    reader: &mut Reading<R>,
-    writer: &mut Writing<W>,
+    reader: &mut FusedReader<R>,
+    writer: &mut FusedWriter<W>,
 ) -> Ending
     ensures run { (kind : Kind) → AskFor (map string_bytes words.now) kind → (read written : List ℕ)
         × HasRead R.remaining reader.old reader.new read

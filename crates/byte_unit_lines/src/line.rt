@@ -7,7 +7,7 @@ ghost use Rattle.byte_unit.specs.declared.Kind.TheVariants.{Byte as InBytes, Bit
 ghost use Rattle.byte_unit_lines.specs.Answer.{words_of};
 ghost use Rattle.byte_unit_lines.specs.Capacity.{answer_max};
 ghost use Rattle.byte_unit_lines.specs.Lines.{line_end};
-ghost use Rattle.byte_unit_lines.specs.Progress.{AddsAnswer};
+ghost use Rattle.byte_unit_lines.specs.Answered.{AddsAnswer};
 
 use crate::arguments::Kind;
 use byte_unit::{Bit, Byte, ParseError, ValueParseError};

@@ -10,7 +10,7 @@ mod run;
 mod tests;
 mod words;
 
-use byte_unit_stream::{Reading, Writing};
+use byte_unit_stream::{FusedReader, FusedWriter};
 use ending::{Ending, serve};
 use run::RunError;
 use std::process::ExitCode;
@@ -34,8 +34,8 @@ fn words_after_name(rt: &HostRuntime) -> io::Result<Vec<String>> {
 fn answer(rt: &HostRuntime) -> Ending {
     match words_after_name(rt) {
         Ok(words) => {
-            let mut reader = Reading::new(rt.reader());
-            let mut writer = Writing::new(io::writer(rt));
+            let mut reader = FusedReader::new(rt.reader());
+            let mut writer = FusedWriter::new(io::writer(rt));
             serve(rt.alloc(), &words, &mut reader, &mut writer)
         }
         Err(error) if error.kind() == io::ErrorKind::OutOfMemory => {

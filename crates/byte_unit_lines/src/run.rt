@@ -9,7 +9,7 @@ ghost use Rattle.std.specs.Prelude.{vec_len, vec_capacity};
 ghost use Rattle.byte_unit_lines.specs.Capacity.{HaveCapacity};
 ghost use Rattle.byte_unit_lines.specs.Lines.{line_end, longest_line};
 ghost use Rattle.byte_unit_lines.specs.Outcome.{IsWritten};
-ghost use Rattle.byte_unit_lines.specs.Progress.{AddsAnswers, AddsFirst, IsAnswered};
+ghost use Rattle.byte_unit_lines.specs.Answered.{AddsAnswers, AddsFirst, IsAnswered};
 ghost use Rattle.byte_unit_stream.specs.Chunks.{ended_records, begun_record};
 ghost use Rattle.byte_unit_stream.specs.Streams.{HasRead, HasReadAll, reading_failed};
 ghost use Rattle.byte_unit_stream.specs.Streams.{HasWritten, writing_failed};
@@ -17,7 +17,7 @@ ghost use Rattle.byte_unit_stream.specs.Streams.{HasWritten, writing_failed};
 use crate::arguments::Kind;
 use crate::laws::each_line_has_an_answer;
 use crate::line::{ANSWER_MAX, add_answer};
-use byte_unit_stream::{Reading, Writing, end_of, write_whole};
+use byte_unit_stream::{FusedReader, FusedWriter, end_of, write_whole};
 use std::alloc::{AllocError, Allocator, Global};
 use std::io::{Read, Write};
 
@@ -59,8 +59,8 @@ impl From<AllocError> for RunError {
 /// - `Write` if a write fails. A prefix of the report on what was read has been written.
 pub fn run<R: Read, W: Write>(
     alloc: Global,
-    reader: &mut Reading<R>,
-    writer: &mut Writing<W>,
+    reader: &mut FusedReader<R>,
+    writer: &mut FusedWriter<W>,
     kind: Kind,
 ) -> Result<(), RunError>
     ensures run { (read written : List ℕ)
@@ -83,8 +83,8 @@ pub fn run<R: Read, W: Write>(
 pub fn run_in<A: Allocator, R: Read, W: Write>(
     alloc: &A,
     buffer: &mut [u8],
-    reader: &mut Reading<R>,
-    writer: &mut Writing<W>,
+    reader: &mut FusedReader<R>,
+    writer: &mut FusedWriter<W>,
     kind: Kind,
 ) -> Result<(), RunError>
     requires { 0 < length buffer.old }
@@ -129,8 +129,8 @@ pub fn run_with_capacity<A: Allocator, R: Read, W: Write>(
     alloc: &A,
     longest: usize,
     buffer: &mut [u8],
-    reader: &mut Reading<R>,
-    writer: &mut Writing<W>,
+    reader: &mut FusedReader<R>,
+    writer: &mut FusedWriter<W>,
     kind: Kind,
 ) -> Result<Result<(), RunError>, AllocError>
     requires { 0 < length buffer.old }
@@ -183,8 +183,8 @@ pub fn run_with_buffers<A: Allocator, R: Read, W: Write>(
     waiting: &mut Vec<u8, A>,
     longest: usize,
     buffer: &mut [u8],
-    reader: &mut Reading<R>,
-    writer: &mut Writing<W>,
+    reader: &mut FusedReader<R>,
+    writer: &mut FusedWriter<W>,
     kind: Kind,
 ) -> Result<(), RunError>
     requires buffer { 0 < length buffer.old }
@@ -238,7 +238,7 @@ fn answer_piece<A: Allocator, W: Write>(
     bytes: &[u8],
     kind: Kind,
     waiting: &mut Vec<u8, A>,
-    writer: &mut Writing<W>,
+    writer: &mut FusedWriter<W>,
 ) -> Result<(), RunError>
     requires { waiting.old.items ≡ [] }
     ensures written { (written : List ℕ)
@@ -276,7 +276,8 @@ fn feed<A: Allocator>(
     ensures ok { OnOk result (AddsAnswers kind (ended_records line_end line.old.items bytes.now)
         waiting.old.items waiting.new.items) }
     ensures line { OnOk result (line.new.items ≡ begun_record line_end line.old.items bytes.now) }
-    ensures succeeds { HaveCapacity (vec_len line.old) (length bytes.now) line.old waiting.old → IsOk result }
+    ensures succeeds { HaveCapacity (vec_len line.old) (length bytes.now) line.old waiting.old
+        → IsOk result }
     ensures line_capacity { vec_capacity line.old ≤ vec_capacity line.new }
     ensures waiting_capacity { vec_capacity waiting.old ≤ vec_capacity waiting.new }
 {

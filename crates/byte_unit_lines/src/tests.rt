@@ -5,7 +5,7 @@ ghost use Rattle.byte_unit_lines.specs.Report.{IsReport};
 
 use crate::arguments::{Kind, kind_of};
 use crate::run::{RunError, run};
-use byte_unit_stream::{Reading, Writing};
+use byte_unit_stream::{FusedReader, FusedWriter};
 use std::alloc::Global;
 use std::fmt::Debug;
 use std::process::Abort;
@@ -39,8 +39,8 @@ fn assert_is<S: PartialEq + Debug + Drop>(rt: &impl Abort, found: S, wanted: S, 
 fn report_of(alloc: Global, input: &[u8], kind: Kind) -> Result<Vec<u8>, RunError>
     ensures { IfOk result (λ output. IsReport kind input.now output.items) }
 {
-    let mut reader = Reading::new(input);
-    let mut writer = Writing::new(Vec::new(alloc));
+    let mut reader = FusedReader::new(input);
+    let mut writer = FusedWriter::new(Vec::new(alloc));
     match run(alloc, &mut reader, &mut writer, kind) {
         Ok(()) => Ok(writer.into_inner()),
         Err(error) => Err(error),

@@ -15,7 +15,7 @@ use Rattle.byte_unit_math.specs.Nearest.{IsNearest}
 use Rattle.byte_unit_math.specs.declared.expansion.Ties.{Ties}
 use Rattle.byte_unit_math.specs.declared.expansion.Ties.TheVariants.{Even, Up}
 use Rattle.byte_unit_math.specs.declared.expansion.Expansion.TheInside.{Inside}
-use Rattle.byte_unit_math.specs.Stored.{expansion_view, IsStored}
+use Rattle.byte_unit_math.specs.ExpansionFields.{expansion_view, IsNormalizedExpansion}
 use Rattle.byte_unit_math.proofs.Digits.{one_le_pow10, value_append, value_more, value_cons, value_below_power}
 use Rattle.byte_unit_math.proofs.Digits.{value_append_zeros}
 use Rattle.std.specs.Bool.{MatchBool}
@@ -40,7 +40,7 @@ cut_split e p h =
     (omega (arith, ap (λ n. n * 10 ^ p) value, ap (λ n. value_of_digits (take p ds) * n) power))
 
 -- A decimal has at most 93 digits after the point, each below ten, and the last is not zero.
-pub record IsShown (e : Finite) : Type 0 where
+pub record IsTrimmed (e : Finite) : Type 0 where
   pub few : length e.digits ≤ expansion_places
   pub small : All (λ d. d < 10) e.digits
   pub last : 0 < length e.digits → 0 < get_or e.digits (length e.digits - 1) 0
@@ -54,7 +54,7 @@ abbrev NextIsNearest : Finite → ℕ → Ties → Type 0
 NextIsNearest e p ties = IsNearest (ulps_of e) (10 ^ length e.digits) p ties (ulps_of (cut_after p e) + 1)
 
 -- The digits that are cut off, compared with one half.
-module _ (e : Finite) (p : ℕ) (h : IsShown e) (l : p < length e.digits) where
+module _ (e : Finite) (p : ℕ) (h : IsTrimmed e) (l : p < length e.digits) where
   -- The digits that are cut off, as a number.
   abbrev cut_value : ℕ
   cut_value = value_of_digits (drop p e.digits)
@@ -141,7 +141,7 @@ odd_by_last_digit e p some h =
 
 -- Rounded to as many digits after the point as it has, or to more, a decimal is unchanged.
 pub rounded_to_itself :
-    (e : Finite) (p : ℕ) (ties : Ties) → IsShown e → length e.digits ≤ p
+    (e : Finite) (p : ℕ) (ties : Ties) → IsTrimmed e → length e.digits ≤ p
     → (q : ℕ) × IsNearest (ulps_of e) (10 ^ length e.digits) p ties q × IsExpansion q (10 ^ p) e
 rounded_to_itself e p ties h few =
     let len = length e.digits in
@@ -160,15 +160,17 @@ pub is_odd_by_digit : (d t : ℕ) → t % 2 ≡ d % 2 → MatchBool (nat_eq (d %
 is_odd_by_digit d t same = grind (arith, nat_tests)
 
 -- The decimal of fields that satisfy their invariant has at most 93 digits, and the last is not zero.
-pub IsShown-view : (i : Inside) (e : Finite) → IsStored i → expansion_view i ≡ e → IsShown e
-IsShown-view i e h v = grind (arith, All-take, get_or-take, length-take-le)
+pub IsTrimmed-view : (i : Inside) (e : Finite) → IsNormalizedExpansion i → expansion_view i ≡ e → IsTrimmed e
+IsTrimmed-view i e h v = grind (arith, All-take, get_or-take, length-take-le)
 
 -- The decimal of the fields has as many digits after the point as its field `places`.
-pub length_of_view : (i : Inside) (e : Finite) → IsStored i → expansion_view i ≡ e → length e.digits ≡ i.places
+pub length_of_view : (i : Inside) (e : Finite) → IsNormalizedExpansion i → expansion_view i ≡ e
+    → length e.digits ≡ i.places
 length_of_view i e h v = grind (arith, length-take-le)
 
 -- What decides whether a decimal is rounded up.
-pub ruleset rounding = (nearest_by_digit, nearest_after_five, tie_goes_up, tie_goes_even, IsShown-view, length_of_view)
+pub ruleset rounding =
+    (nearest_by_digit, nearest_after_five, tie_goes_up, tie_goes_even, IsTrimmed-view, length_of_view)
 
 -- The first p digits of `e` are its first `kept` digits and then only `digit`; the last of those kept is another digit.
 pub record EndsInRunOf (e : Finite) (p kept digit : ℕ) : Type 0 where

@@ -8,7 +8,7 @@ use Rattle.byte_unit_math.proofs.Expanding.{IsLeastPlaces-last_digit, fraction_b
 use Rattle.byte_unit_math.proofs.Scales.{pow10_split, pow10_times_rest, power_of_sum}
 use Rattle.std.proofs.Math.Nat.{pow-succ'}
 use Rattle.std.proofs.lemmas.Bool.Decides.{nat_tests}
-use Rattle.byte_unit_math.specs.StoredDecimal.{decimal_value, trim_digits, trim_fraction, IsNormalized}
+use Rattle.byte_unit_math.specs.DecimalFields.{decimal_value, trim_digits, trim_fraction, IsNormalized}
 use Rattle.byte_unit_math.specs.declared.decimal.Decimal.TheInside.{Inside}
 
 -- A fraction scaled by 10^28 is `digits` in `places` digits after the point, followed by zeros.

@@ -13,5 +13,5 @@ pub mod Powers
 pub mod Factored
 pub mod NumberLaws
 pub mod CountLaws
-pub mod StoredDecimal
-pub mod Stored
+pub mod DecimalFields
+pub mod ExpansionFields

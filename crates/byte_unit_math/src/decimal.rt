@@ -37,7 +37,7 @@ pub struct Decimal {
 impl Model for Decimal {
     ghost use Rattle.std.specs.Prelude.{ℕ};
     ghost use Rattle.std.specs.Coded.{coded_ℕ};
-    ghost use Rattle.byte_unit_math.specs.StoredDecimal.{decimal_value, IsNormalized, decimal_fields};
+    ghost use Rattle.byte_unit_math.specs.DecimalFields.{decimal_value, IsNormalized, decimal_fields};
 
     ghost Value = { ℕ };
 

@@ -60,7 +60,7 @@ impl DecimalDigits {
     pub fn of(n: u128) -> DecimalDigits
         ensures digits { result ≡ decimal n }
         ensures ascii { IsAscii result }
-        ensures few { length result ≤ NUMBER_DIGITS }
+        ensures bound { length result ≤ NUMBER_DIGITS }
     {
         let mut bytes = [b'0'; BUFFER_LEN];
         let start = put_u128(n, &mut bytes, BUFFER_LEN);
@@ -132,7 +132,7 @@ pub fn fmt_u128<W: fmt::Write>(n: u128, f: &mut fmt::Formatter<W>) -> fmt::Resul
 #[tactic(auto, using(crate::proofs::WrittenDigits::lengths_by_bits))]
 pub fn decimal_len(n: u128) -> usize
     ensures exact { result ≡ length (decimal n) }
-    ensures few { result ≤ NUMBER_DIGITS }
+    ensures bound { result ≤ NUMBER_DIGITS }
 {
     if n < 10 {
         return 1;
@@ -154,7 +154,7 @@ pub fn decimal_len(n: u128) -> usize
 fn decimal_len_u64(n: u64) -> usize
     requires { 10 ≤ n }
     ensures exact { result ≡ length (decimal n) }
-    ensures few { result ≤ NUMBER_DIGITS }
+    ensures bound { result ≤ NUMBER_DIGITS }
 {
     let few = (u64::BITS - n.leading_zeros()) * 1_233 / 4_096;
     if n < power_of_ten(few) as u64 {

@@ -141,7 +141,7 @@ pub(crate) fn div_rem_digit(dividend: u128, divisor: u128) -> (u128, u128)
 fn subtract_multiple(dividend: u128, times: u128, divisor: u128) -> (u128, u128)
     requires once { dividend < 2 * (times * divisor) }
     requires small { times * divisor < 2 ^ 128 }
-    ensures few { result.0 ≤ times }
+    ensures bound { result.0 ≤ times }
     ensures parts { result.0 * divisor + result.1 ≡ dividend }
     ensures below { result.1 < times * divisor }
 {
@@ -171,7 +171,7 @@ fn div_rem_digit_u64(dividend: u64, divisor: u64) -> (u64, u64)
 fn subtract_multiple_u64(dividend: u64, times: u64, divisor: u64) -> (u64, u64)
     requires once { dividend < 2 * (times * divisor) }
     requires small { times * divisor < 2 ^ 64 }
-    ensures few { result.0 ≤ times }
+    ensures bound { result.0 ≤ times }
     ensures parts { result.0 * divisor + result.1 ≡ dividend }
     ensures below { result.1 < times * divisor }
 {

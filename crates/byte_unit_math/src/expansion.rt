@@ -40,7 +40,7 @@ pub struct Expansion {
 
 impl Model for Expansion {
     ghost use Rattle.byte_unit_math.specs.Finite.{Finite, finite_code};
-    ghost use Rattle.byte_unit_math.specs.Stored.{expansion_view, IsStored, expansion_fields};
+    ghost use Rattle.byte_unit_math.specs.ExpansionFields.{expansion_view, IsNormalizedExpansion, expansion_fields};
     ghost use Rattle.std.specs.Prelude.{◌≤◌};
     ghost use Rattle.std.proofs.Common.{length-take-le, take-append-drop, sym, refl, subst};
 
@@ -50,7 +50,7 @@ impl Model for Expansion {
 
     ghost view = { expansion_view };
 
-    ghost invariant = { IsStored };
+    ghost invariant = { IsNormalizedExpansion };
 
     ghost inverse = { expansion_fields };
 
@@ -114,7 +114,7 @@ impl Expansion {
     /// ```
     pub fn places(&self) -> u32
         ensures exact { result ≡ length self.now.digits }
-        ensures few { result ≤ expansion_places }
+        ensures bound { result ≤ expansion_places }
     {
         self.places
     }
@@ -131,7 +131,7 @@ impl Expansion {
     pub fn digit(&self, i: u32) -> u8
         requires { 1 ≤ i }
         ensures exact { result ≡ slice_index self.now.digits (i - 1) }
-        ensures small { result < 10 }
+        ensures bound { result < 10 }
     {
         if i <= self.places {
             self.digits[i as usize - 1]
@@ -204,7 +204,7 @@ impl Expansion {
     /// Returns the length of the first `places` digits without those at their end that equal `last`.
     fn trim_end_len(&self, places: u32, last: u8) -> u32
         requires { places ≤ length self.now.digits }
-        ensures few { result ≤ places }
+        ensures bound { result ≤ places }
         ensures same { take places self.now.digits
             ≡ take result self.now.digits ++ replicate (places - result) last }
         ensures stops { 0 < result → slice_index self.now.digits (result - 1) ≢ last }
@@ -223,7 +223,7 @@ impl Expansion {
         ensures size { length result ≡ expansion_places }
         ensures front { take places result ≡ take places self.now.digits }
         ensures rest { drop places result ≡ replicate (expansion_places - places) 0 }
-        ensures small { All (λ d. d < 10) result }
+        ensures bound { All (λ d. d < 10) result }
     {
         let count = self.places();
         prove!(places <= count);

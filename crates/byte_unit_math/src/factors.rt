@@ -34,7 +34,7 @@ pub fn two_five(size: u128, steps: &mut Steps) -> (u32, u32)
     requires small { size < size_limit }
     ensures powers { IsTwoFive size result.0 result.1 }
     ensures steps { steps.new ≡ saturating_add steps.old (result.0 + result.1 + 2) }
-    ensures few { result.0 + result.1 + 2 ≤ 101 }
+    ensures bound { result.0 + result.1 + 2 ≤ 101 }
 {
     let Factors {
         left: _,
@@ -60,7 +60,7 @@ pub fn factors_of(size: u128, steps: &mut Steps) -> Factors
     ensures product { product_of result ≡ size }
     ensures powers { IsTwoFive size result.twos result.fives }
     ensures steps { steps.new ≡ saturating_add steps.old (result.twos + result.fives + 2) }
-    ensures few { result.twos + result.fives + 2 ≤ 101 }
+    ensures bound { result.twos + result.fives + 2 ≤ 101 }
 {
     let twos = size.trailing_zeros();
     let mut left = size >> twos;

@@ -35,7 +35,7 @@ pub fn put_padded_digits(n: u128, digits: &mut [u8; PADDED_DIGITS]) -> usize
     requires { n < 10 ^ 30 }
     ensures digits { digits.new ≡ padded_digits n }
     ensures len { result ≡ length (decimal n) }
-    ensures few { result ≤ 30 }
+    ensures bound { result ≤ 30 }
 {
     // Four digits are faster one after another.
     if n < 10_000 {
@@ -56,9 +56,10 @@ pub fn put_padded_digits(n: u128, digits: &mut [u8; PADDED_DIGITS]) -> usize
 #[tactic(auto, using(crate::proofs::WrittenDigits::lengths_by_16))]
 fn digits_with_zeros(n: u128) -> ([u8; 48], usize)
     requires { n < 10 ^ 30 }
-    ensures digits { drop (result.1 - length (decimal n)) result.0 ≡ decimal n ++ replicate (48 - result.1) 48 }
+    ensures digits { drop (result.1 - length (decimal n)) result.0
+        ≡ decimal n ++ replicate (48 - result.1) 48 }
     ensures within { length (decimal n) ≤ result.1 }
-    ensures few { result.1 ≤ length (decimal n) + 16 }
+    ensures bound { result.1 ≤ length (decimal n) + 16 }
 {
     let mut digits = [b'0'; 48];
     if n < u128::from(TEN_POW_16) {

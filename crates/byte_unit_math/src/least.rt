@@ -40,7 +40,7 @@ pub fn least_size(d: Decimal, unit_size: u128, limit: u128) -> Option<u128>
     requires small_unit { unit_size ≤ unit_limit }
     requires small_limit { limit ≤ bits_limit }
     ensures least { IfSome result (IsLeastSize d unit_size) }
-    ensures below { IfSome result (λ n. n < limit) }
+    ensures bound { IfSome result (λ n. n < limit) }
     // No size below the limit is at least the product.
     ensures none { IfNone result ((n : ℕ) → IsLeastSize d unit_size n → limit ≤ n) }
 {
@@ -80,7 +80,7 @@ pub fn least_size_counted(
     requires small_unit { unit_size ≤ unit_limit }
     requires small_limit { limit ≤ bits_limit }
     ensures least { IfSome result (IsLeastSize d unit_size) }
-    ensures below { IfSome result (λ n. n < limit) }
+    ensures bound { IfSome result (λ n. n < limit) }
     ensures none { IfNone result ((n : ℕ) → IsLeastSize d unit_size n → limit ≤ n) }
     ensures steps { steps.new ≡ saturating_add steps.old 4 }
 {

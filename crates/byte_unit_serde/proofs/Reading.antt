@@ -4,7 +4,7 @@ use Rattle.serde.specs.Event.{Event, seq_begins}
 use Rattle.serde.specs.Steps.{Gives, Stays}
 use Rattle.serde.specs.declared.deserializer.Deserializer.{Deserializer}
 use Rattle.byte_unit_serde.specs.Outcomes.{Returns, IsListError}
-use Rattle.byte_unit_serde.specs.Stored.{ReadsEach, ReadsString}
+use Rattle.byte_unit_serde.specs.Serialized.{ReadsEach, ReadsString}
 
 -- One more string is read after the others.
 pub reads_each_snoc : {A F E M : Type 0} (Means : List ℕ → A → Type 0) (gives : F → List ℕ → Event → F → Type 0)

@@ -1,4 +1,4 @@
 pub mod Messages
 pub mod Outcomes
-pub mod Stored
+pub mod Serialized
 pub mod TomlErrors

@@ -13,7 +13,7 @@ use Rattle.byte_unit.specs.NamedSpecs.{alternate_spec}
 use Rattle.byte_unit.specs.declared.Kind.{Kind}
 use Rattle.byte_unit.specs.declared.Unit.{Unit as UnitName}
 use Rattle.byte_unit_serde.specs.Messages.{message_of}
-use Rattle.byte_unit_serde.specs.Stored.{ReadsString, ReadsEach}
+use Rattle.byte_unit_serde.specs.Serialized.{ReadsString, ReadsEach}
 
 -- A relation of what is read or written before a call, of what the call returns, and of what is read or written after
 -- it.

@@ -6,7 +6,7 @@ ghost use Rattle.serde.specs.Event.{WritesSeq};
 ghost use Rattle.byte_unit.specs.Accepted.{IsAccepted};
 ghost use Rattle.byte_unit.specs.declared.Kind.TheVariants.{Bit as InBits};
 ghost use Rattle.byte_unit_serde.specs.Outcomes.{IsListError, ReadingSize, WritingList, WritingSize};
-ghost use Rattle.byte_unit_serde.specs.Stored.{ReadsSeq, WritesSize};
+ghost use Rattle.byte_unit_serde.specs.Serialized.{ReadsSeq, WritesSize};
 
 use crate::{Sink, Source, bit};
 use byte_unit::Bit;
@@ -43,8 +43,8 @@ pub fn deserialize<'de, F: Source>(
     ensures list { IfOk result (λ sizes.
         ReadsSeq (IsAccepted InBits false) F.gives F.stays from.old from.new sizes.items) }
     ensures error { let Reading = ReadingSize InBits F.string_returns F.rejects in IfErr result
-        (IsListError (IsAccepted InBits false) F.gives F.stays F.begin_returns F.next_returns Reading
-        F.refuses from.old from.new) }
+        (IsListError (IsAccepted InBits false) F.gives F.stays F.begin_returns
+        F.next_returns Reading F.refuses from.old from.new) }
 {
     F::begin_list(from)?;
     let mut items = Vec::new(alloc);

@@ -4,7 +4,7 @@ ghost use Rattle.std.specs.Prelude.{false, IfOk, OnOk};
 ghost use Rattle.byte_unit.specs.Accepted.{IsAccepted};
 ghost use Rattle.byte_unit.specs.declared.Kind.TheVariants.{Byte as InBytes};
 ghost use Rattle.byte_unit_serde.specs.Outcomes.{ReadingSize, WritingSize};
-ghost use Rattle.byte_unit_serde.specs.Stored.{ReadsString, WritesSize};
+ghost use Rattle.byte_unit_serde.specs.Serialized.{ReadsString, WritesSize};
 
 use crate::messages::size_message;
 use crate::{Sink, Source};

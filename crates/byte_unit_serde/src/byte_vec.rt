@@ -5,7 +5,7 @@ ghost use Rattle.serde.specs.Event.{WritesSeq};
 ghost use Rattle.byte_unit.specs.Accepted.{IsAccepted};
 ghost use Rattle.byte_unit.specs.declared.Kind.TheVariants.{Byte as InBytes};
 ghost use Rattle.byte_unit_serde.specs.Outcomes.{IsListError, ReadingSize, WritingList, WritingSize};
-ghost use Rattle.byte_unit_serde.specs.Stored.{ReadsSeq, WritesSize};
+ghost use Rattle.byte_unit_serde.specs.Serialized.{ReadsSeq, WritesSize};
 
 use crate::{Sink, Source, byte};
 use byte_unit::Byte;
@@ -42,8 +42,8 @@ pub fn deserialize<'de, F: Source>(
     ensures list { IfOk result (λ sizes.
         ReadsSeq (IsAccepted InBytes false) F.gives F.stays from.old from.new sizes.items) }
     ensures error { let Reading = ReadingSize InBytes F.string_returns F.rejects in IfErr result
-        (IsListError (IsAccepted InBytes false) F.gives F.stays F.begin_returns F.next_returns Reading
-        F.refuses from.old from.new) }
+        (IsListError (IsAccepted InBytes false) F.gives F.stays F.begin_returns
+        F.next_returns Reading F.refuses from.old from.new) }
 {
     F::begin_list(from)?;
     let mut items = Vec::new(alloc);

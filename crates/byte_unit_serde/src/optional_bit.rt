@@ -6,7 +6,7 @@ ghost use Rattle.serde.specs.Event.{WritesOption};
 ghost use Rattle.byte_unit.specs.Accepted.{IsAccepted};
 ghost use Rattle.byte_unit.specs.declared.Kind.TheVariants.{Bit as InBits};
 ghost use Rattle.byte_unit_serde.specs.Outcomes.{ReadingOption, ReadingSize, WritingOption, WritingSize};
-ghost use Rattle.byte_unit_serde.specs.Stored.{ReadsOption, WritesSize};
+ghost use Rattle.byte_unit_serde.specs.Serialized.{ReadsOption, WritesSize};
 
 use crate::{Sink, Source, bit};
 use byte_unit::Bit;

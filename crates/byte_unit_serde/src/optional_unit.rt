@@ -4,7 +4,7 @@ ghost use Rattle.std.specs.Prelude.{IfOk, OnOk};
 ghost use Rattle.serde.specs.Event.{WritesOption};
 ghost use Rattle.byte_unit.specs.Version.{unit_name};
 ghost use Rattle.byte_unit_serde.specs.Outcomes.{ReadingOption, ReadingUnit, WritingOption};
-ghost use Rattle.byte_unit_serde.specs.Stored.{ReadsOption, SpellsUnit, WritesUnit};
+ghost use Rattle.byte_unit_serde.specs.Serialized.{ReadsOption, SpellsUnit, WritesUnit};
 
 use crate::{Sink, Source, unit};
 use byte_unit::Unit;

@@ -29,7 +29,8 @@ pub trait Sink: Serializer {
 
     /// Writes nothing, as for `None`.
     fn write_none(&mut self) -> Result<(), Self::Error>
-        ensures written { OnOk result (Logs (Self.written self.old) (Self.written self.new) nothing) }
+        ensures written { OnOk result
+            (Logs (Self.written self.old) (Self.written self.new) nothing) }
         ensures returned { none_returns self.old result self.new };
 
     /// Writes the beginning of a sequence of this many items.
@@ -40,7 +41,8 @@ pub trait Sink: Serializer {
 
     /// Writes the end of a sequence.
     fn end_list(&mut self) -> Result<(), Self::Error>
-        ensures written { OnOk result (Logs (Self.written self.old) (Self.written self.new) seq_ends) }
+        ensures written { OnOk result
+            (Logs (Self.written self.old) (Self.written self.new) seq_ends) }
         ensures returned { end_returns self.old result self.new };
 }
 

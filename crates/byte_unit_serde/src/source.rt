@@ -37,7 +37,8 @@ pub trait Source: Format {
     ) -> Result<String, Self::Error>
         ensures given { IfOk result
             (λ string. Gives Self.gives from.old (text (string_bytes string)) from.new) }
-        ensures returned { string_returns from.old (result_map_both string_bytes (λ error. error) result)
+        ensures returned { string_returns from.old
+            (result_map_both string_bytes (λ error. error) result)
             from.new };
 
     /// Reads nothing if it comes next, and returns whether it did.

@@ -3,7 +3,7 @@
 ghost use Rattle.std.specs.Prelude.{false, IfOk};
 ghost use Rattle.byte_unit.specs.Accepted.{IsAccepted};
 ghost use Rattle.byte_unit.specs.declared.Kind.TheVariants.{Bit as InBits, Byte as InBytes};
-ghost use Rattle.byte_unit_serde.specs.Stored.{ReadsString, SpellsUnit};
+ghost use Rattle.byte_unit_serde.specs.Serialized.{ReadsString, SpellsUnit};
 
 use crate::{bit, byte, unit};
 use byte_unit::{Bit, Byte, Unit};
@@ -28,7 +28,7 @@ pub struct Stored<T>(pub T);
 
 impl Described for Stored<Byte> {
     ghost use Rattle.byte_unit.specs.declared.Kind.TheVariants.{Byte as InBytes};
-    ghost use Rattle.byte_unit_serde.specs.Stored.{WritesSize};
+    ghost use Rattle.byte_unit_serde.specs.Serialized.{WritesSize};
 
     ghost writes = { λ stored. WritesSize InBytes stored.0 };
 }
@@ -65,7 +65,7 @@ impl<'de> Deserialize<'de> for Stored<Byte> {
 
 impl Described for Stored<Bit> {
     ghost use Rattle.byte_unit.specs.declared.Kind.TheVariants.{Bit as InBits};
-    ghost use Rattle.byte_unit_serde.specs.Stored.{WritesSize};
+    ghost use Rattle.byte_unit_serde.specs.Serialized.{WritesSize};
 
     ghost writes = { λ stored. WritesSize InBits stored.0 };
 }
@@ -101,7 +101,7 @@ impl<'de> Deserialize<'de> for Stored<Bit> {
 }
 
 impl Described for Stored<Unit> {
-    ghost use Rattle.byte_unit_serde.specs.Stored.{WritesUnit};
+    ghost use Rattle.byte_unit_serde.specs.Serialized.{WritesUnit};
 
     ghost writes = { λ stored. WritesUnit stored.0 };
 }

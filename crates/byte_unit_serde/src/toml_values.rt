@@ -99,7 +99,8 @@ pub fn byte_from_toml(value: &Value) -> Result<Byte, TomlSizeError>
 /// assert_eq!(rt; bit_from_toml(&table["rate"])?, Bit::from_u64(8_000_000));
 /// ```
 pub fn bit_from_toml(value: &Value) -> Result<Bit, TomlSizeError>
-    ensures { ReadsString size_errors (IsSizeReading InBits false) (as_str (view value.now)) result }
+    ensures { ReadsString size_errors (IsSizeReading InBits false)
+        (as_str (view value.now)) result }
 {
     let text = value.as_str().ok_or(TomlSizeError::NotString)?;
     text.parse::<Bit>().map_err(TomlSizeError::Parse)

@@ -3,7 +3,7 @@
 ghost use Rattle.std.specs.Prelude.{IfOk, OnOk};
 ghost use Rattle.byte_unit.specs.Version.{unit_name};
 ghost use Rattle.byte_unit_serde.specs.Outcomes.{ReadingUnit};
-ghost use Rattle.byte_unit_serde.specs.Stored.{ReadsString, SpellsUnit, WritesUnit};
+ghost use Rattle.byte_unit_serde.specs.Serialized.{ReadsString, SpellsUnit, WritesUnit};
 
 use crate::messages::BAD_UNIT;
 use crate::{Sink, Source};

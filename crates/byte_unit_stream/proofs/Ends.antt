@@ -5,9 +5,9 @@ use Rattle.std.proofs.Common.{arith, false, eqb, sym, ap, subst, ◌∙◌, appe
 use Rattle.std.proofs.lemmas.List.{take_more}
 use Rattle.byte_unit_stream.specs.Chunks.{ended_records, begun_record, IsUnbroken}
 use Rattle.byte_unit_stream.specs.Records.{parts}
-use Rattle.byte_unit_stream.proofs.Parts.{ended_records-take-end_byte, begun_record-take-end_byte}
-use Rattle.byte_unit_stream.proofs.Parts.{ended_records-take-other_byte, begun_record-take-other_byte, ended_records-take-drop}
-use Rattle.byte_unit_stream.proofs.Parts.{begun_record-take-drop, parts-ended_records}
+use Rattle.byte_unit_stream.proofs.ChunkRecords.{ended_records-take-end_byte, begun_record-take-end_byte}
+use Rattle.byte_unit_stream.proofs.ChunkRecords.{ended_records-take-other_byte, begun_record-take-other_byte}
+use Rattle.byte_unit_stream.proofs.ChunkRecords.{ended_records-take-drop, begun_record-take-drop, parts-ended_records}
 
 -- if no record ends before a place, and the byte there is no end byte, no record ends before the next place
 pub IsUnbroken-other_byte : (end : ℕ) (bytes : List ℕ) (place : ℕ) → place < length bytes → IsUnbroken end (take place bytes)

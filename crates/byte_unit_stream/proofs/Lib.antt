@@ -1,5 +1,5 @@
 pub mod Bytes
 pub mod Ends
 pub mod Longest
-pub mod Parts
+pub mod ChunkRecords
 pub mod Prefixes

@@ -5,7 +5,7 @@ use Rattle.std.specs.Prelude.{vec_capacity}
 use Rattle.std.specs.declared.vec.Vec.{Vec}
 use Rattle.byte_unit_stream.specs.Records.{longest_of, longest_record}
 use Rattle.byte_unit_stream.specs.Chunks.{ended_records, begun_record, nonempty_record}
-use Rattle.byte_unit_stream.proofs.Parts.{ended_records-append, records_of-ended_records}
+use Rattle.byte_unit_stream.proofs.ChunkRecords.{ended_records-append, records_of-ended_records}
 
 -- the longest of two lists is the longer of the longest of each
 longest_of-append : (front back : List (List ℕ)) → longest_of (front ++ back) ≡ max (longest_of front) (longest_of back)

@@ -2,12 +2,12 @@
 #![tactic(auto)]
 
 pub mod paced;
-mod reading;
+mod reader;
 mod search;
 #[cfg(test)]
 mod tests;
-mod writing;
+mod writer;
 
-pub use reading::Reading;
+pub use reader::FusedReader;
 pub use search::end_of;
-pub use writing::{Writing, write_whole};
+pub use writer::{FusedWriter, write_whole};

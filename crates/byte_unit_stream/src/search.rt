@@ -20,7 +20,7 @@ pub fn end_of(bytes: &[u8], end: u8) -> Option<usize>
     ensures some { IfSome result (λ n. (n < length bytes.now)
         × (slice_index bytes.now n ≡ end) × IsUnbroken end (take n bytes.now)) }
     ensures none { IfNone result (IsUnbroken end bytes.now) }
-    ensures small { IfSome result (λ n. n + 1 < 2 ^ 64) }
+    ensures bound { IfSome result (λ n. n + 1 < 2 ^ 64) }
 {
     let mut i = 0;
     // Where a part ends cannot be predicted: a mask finds it with one branch per 16 bytes, not one per byte.

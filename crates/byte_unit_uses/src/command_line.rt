@@ -21,7 +21,8 @@ use std::alloc::Global;
 /// Returns the parse error if the value represents no size.
 pub fn size_option(matches: &ArgMatches<'_>) -> Result<Option<Byte>, ParseError>
     ensures absent { one_text (found_of matches.now) (codes "max-size") ≡ None → result ≡ Ok None }
-    ensures complete { (value : List ℕ) (size : ℕ) → one_text (found_of matches.now) (codes "max-size") ≡ Some value
+    ensures complete { (value : List ℕ) (size : ℕ)
+        → one_text (found_of matches.now) (codes "max-size") ≡ Some value
         → IsAccepted InBytes false value size → result ≡ Ok (Some size) }
     ensures sound { IfOk result (IsOption (one_text (found_of matches.now) (codes "max-size"))) }
     ensures reason { IfErr result (λ error. (value : List ℕ)

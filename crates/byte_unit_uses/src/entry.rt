@@ -37,7 +37,8 @@ impl<'a> Entry<'a> {
     pub fn read(name: &'a str, text: &str) -> Result<Entry<'a>, ParseError>
         ensures name { IfOk result (λ entry. entry.name.now ≡ name.now) }
         ensures size { IfOk result (λ entry. IsAccepted InBytes false text.now entry.size) }
-        ensures reason { IfErr result (λ error. IsRejected InBytes false text.now (size_fault error)) }
+        ensures reason { IfErr result
+            (λ error. IsRejected InBytes false text.now (size_fault error)) }
     {
         let size = text.parse()?;
         Ok(Entry { name, size })

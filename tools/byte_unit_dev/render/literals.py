@@ -20,7 +20,7 @@ ESCAPES = {"n": "\n", "t": "\t", "r": "\r", "0": "\0"}
 FLAGS = {"Left": "<", "Center": "^", "Right": ">", "Unset": "", "Plus": "+", "Minus": "-"}
 
 
-class Shown(str):
+class Verbatim(str):
     """What a row has as it is, such as a format string of the Rust crate: `{:>+#10.2}`."""
 
 
@@ -40,7 +40,7 @@ def spec(alternate, sign, precision, width, align):
     """Returns the format string of the arguments of `spec!`."""
     flags = "".join(FLAGS[flag.last] for flag in (*align.arguments, sign)) + "#" * alternate
     flags += "".join(map(str, width.arguments)) + "".join(f".{places}" for places in precision.arguments)
-    return Shown("{:%s}" % flags if flags else "{}")
+    return Verbatim("{:%s}" % flags if flags else "{}")
 
 
 def places(alternate):
@@ -48,7 +48,7 @@ def places(alternate):
 
 
 KNOWN = {"u128::MAX": 2**128 - 1, "u64::MAX": 2**64 - 1, "true": True, "false": False, "TEN": list("BKMGTPEZYR"),
-         "FormatSpec::PLAIN": Shown("{}"), "FormatSpec::ALTERNATE": Shown("{:#}"),
+         "FormatSpec::PLAIN": Verbatim("{}"), "FormatSpec::ALTERNATE": Verbatim("{:#}"),
          "spec!": spec, "places!": places(False), "precise!": places(True), "rows!": lambda *rows: list(rows)}
 
 

@@ -4,7 +4,7 @@ import re
 import string
 
 from ..common import Failure, read
-from .literals import Name, Shown, arrays, constant
+from .literals import Name, Verbatim, arrays, constant
 from .pages import with_parts
 
 FILE, TABLES = "vectors/byte-unit.txt", "vectors/tables.txt"
@@ -24,7 +24,7 @@ def quoted(text):
 
 def decimal(whole, fraction):
     """Returns a number, whose fraction is scaled by 10^28, as decimal digits."""
-    return Shown(f"{whole}.{fraction:028}".rstrip("0").rstrip("."))
+    return Verbatim(f"{whole}.{fraction:028}".rstrip("0").rstrip("."))
 
 
 def scaled(mantissa, scale):
@@ -42,7 +42,7 @@ def shown(value):
         return UNITS.get(value, "none" if value == "None" else value.last)
     if isinstance(value, tuple):
         return decimal(*value) if isinstance(value[1], int) else " ".join(map(shown, value))
-    return quoted(value) if isinstance(value, str) and not isinstance(value, Shown) else str(value)
+    return quoted(value) if isinstance(value, str) and not isinstance(value, Verbatim) else str(value)
 
 
 class Form(string.Formatter):

@@ -151,7 +151,7 @@ fn leading_digits(line: &[u8], bytes: &[u8], from: usize) -> (usize, u64)
     requires line { IsLineOf line.now bytes.now }
     requires from { from ≤ length line.now }
     ensures end { result.0 ≡ from + digits_len (drop from line.now) }
-    ensures within { result.0 ≤ length line.now }
+    ensures bound { result.0 ≤ length line.now }
     ensures value { result.1 ≡ digits_value 10 (slice_range line.now from result.0) % 2 ^ 64 }
 {
     let mut start = from;
@@ -171,7 +171,7 @@ fn leading_digits(line: &[u8], bytes: &[u8], from: usize) -> (usize, u64)
 /// Returns how many of eight bytes are digits, from the first on, and the number that they write.
 #[inline(always)]
 fn up_to_eight(word: u64) -> (usize, u64)
-    ensures few { result.0 ≤ 8 }
+    ensures bound { result.0 ≤ 8 }
     ensures read { (bytes : List ℕ) → IsEightBytes bytes → word ≡ number_l 256 bytes
         → (result.0 ≡ digits_len bytes) × (result.1 ≡ digits_value 10 (take result.0 bytes)) }
 {
@@ -196,7 +196,8 @@ fn up_to_eight(word: u64) -> (usize, u64)
 #[inline(always)]
 #[tactic(auto, using(core::proofs::dec2flt::Eight::eight_is))]
 fn value_of_eight(digits: u64) -> u64
-    ensures { (ds : List ℕ) → IsEightDigits ds → digits ≡ number_l 256 ds → result ≡ number_from_digits 10 ds }
+    ensures { (ds : List ℕ) → IsEightDigits ds → digits ≡ number_l 256 ds
+        → result ≡ number_from_digits 10 ds }
 {
     let pairs = digits.wrapping_mul(10).wrapping_add(digits >> 8);
     let odd = (pairs & PAIR_OF_FOUR_BYTES).wrapping_mul(100 + (1_000_000 << 32));

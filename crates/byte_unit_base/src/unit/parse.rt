@@ -117,7 +117,7 @@ fn letter_power(letter: u8) -> usize
 /// Returns how many of eight bytes are the letters of `bits` in either case, from the first on.
 #[inline(always)]
 fn suffix_len(word: u64) -> usize
-    ensures few { result ≤ 4 }
+    ensures bound { result ≤ 4 }
     ensures letters { result ≡ bits_len (digits_l 256 8 word) }
 {
     // A letter with this bit is in lower case, and no byte with it is 0.

@@ -108,7 +108,8 @@ impl UnitStop {
     /// if case counts, and else the letter of the preferred kind.
     #[inline(always)]
     fn expected(self, flags: Flags) -> Expected
-        ensures { (c : ℕ) → expected_codes result ≡ named_in (fault_at current flags (stop_parser_state self) c) }
+        ensures { (c : ℕ) → expected_codes result
+            ≡ named_in (fault_at current flags (stop_parser_state self) c) }
     {
         match self.word {
             Word::Empty if !self.has_prefix => Expected::Beginning,
@@ -148,7 +149,8 @@ impl Expected {
     /// ```
     pub fn of(characters: &[char]) -> Option<Expected>
         ensures some { IfSome result (λ expected. expected_codes expected ≡ characters.now) }
-        ensures none { IfNone result ((expected : Expected) → ¬ (expected_codes expected ≡ characters.now)) }
+        ensures none { IfNone result
+            ((expected : Expected) → ¬ (expected_codes expected ≡ characters.now)) }
     {
         for expected in Expected::ALL {
             if expected.characters() == characters {

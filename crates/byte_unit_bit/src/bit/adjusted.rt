@@ -99,7 +99,7 @@ impl AdjustedBit {
     pub fn text_len(self, spec: FormatSpec) -> usize
         ensures exact { (form : List ℕ) → IsAdjustedForm InBits self.size self.unit spec form
             → result ≡ length form }
-        ensures small { result < text_limit }
+        ensures bound { result < text_limit }
     {
         byte_unit_format::adjusted_len(self.size.as_u128(), Kind::Bit, self.unit, spec)
     }
@@ -154,7 +154,7 @@ impl AdjustedBit {
     pub fn write_text(self, spec: FormatSpec, out: &mut [u8]) -> usize
         ensures written { let IsForm = IsAdjustedForm InBits self.size self.unit spec in
             WritesForm IsForm out.old out.new result }
-        ensures small { result < text_limit }
+        ensures bound { result < text_limit }
     {
         byte_unit_format::write_adjusted(self.size.as_u128(), Kind::Bit, self.unit, spec, out)
     }

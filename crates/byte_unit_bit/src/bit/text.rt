@@ -25,7 +25,7 @@ impl Bit {
     /// ```
     pub fn text_len(self, spec: FormatSpec) -> usize
         ensures exact { (form : List ℕ) → IsText InBits self spec form → result ≡ length form }
-        ensures small { result < text_limit }
+        ensures bound { result < text_limit }
         ensures narrow { spec.width ≡ None → result ≤ narrow_text }
     {
         byte_unit_format::text_len(self.size, Kind::Bit, spec)
@@ -81,7 +81,7 @@ impl Bit {
     #[inline(always)]
     pub fn write_text(self, spec: FormatSpec, out: &mut [u8]) -> usize
         ensures written { WritesForm (IsText InBits self spec) out.old out.new result }
-        ensures small { result < text_limit }
+        ensures bound { result < text_limit }
         ensures narrow { spec.width ≡ None → result ≤ narrow_text }
     {
         byte_unit_format::write_text(self.size, Kind::Bit, spec, out)

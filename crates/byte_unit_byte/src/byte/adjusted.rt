@@ -98,7 +98,7 @@ impl AdjustedByte {
     pub fn text_len(self, spec: FormatSpec) -> usize
         ensures exact { (form : List ℕ) → IsAdjustedForm InBytes self.size self.unit spec form
             → result ≡ length form }
-        ensures small { result < text_limit }
+        ensures bound { result < text_limit }
     {
         byte_unit_format::adjusted_len(self.size.as_u128(), Kind::Byte, self.unit, spec)
     }
@@ -153,7 +153,7 @@ impl AdjustedByte {
     pub fn write_text(self, spec: FormatSpec, out: &mut [u8]) -> usize
         ensures written { let IsForm = IsAdjustedForm InBytes self.size self.unit spec in
             WritesForm IsForm out.old out.new result }
-        ensures small { result < text_limit }
+        ensures bound { result < text_limit }
     {
         byte_unit_format::write_adjusted(self.size.as_u128(), Kind::Byte, self.unit, spec, out)
     }

@@ -24,7 +24,7 @@ impl Byte {
     /// ```
     pub fn text_len(self, spec: FormatSpec) -> usize
         ensures exact { (form : List ℕ) → IsText InBytes self spec form → result ≡ length form }
-        ensures small { result < text_limit }
+        ensures bound { result < text_limit }
         ensures narrow { spec.width ≡ None → result ≤ narrow_text }
     {
         byte_unit_format::text_len(self.size, Kind::Byte, spec)
@@ -80,7 +80,7 @@ impl Byte {
     #[inline(always)]
     pub fn write_text(self, spec: FormatSpec, out: &mut [u8]) -> usize
         ensures written { WritesForm (IsText InBytes self spec) out.old out.new result }
-        ensures small { result < text_limit }
+        ensures bound { result < text_limit }
         ensures narrow { spec.width ≡ None → result ≤ narrow_text }
     {
         byte_unit_format::write_text(self.size, Kind::Byte, spec, out)

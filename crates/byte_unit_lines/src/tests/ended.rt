@@ -19,8 +19,8 @@ impl<'a> Ended<'a> {
     /// Creates the result of a run over these streams.
     pub fn new(
         end: Result<(), RunError>,
-        reader: Reading<MemoryReader<'a>>,
-        writer: Writing<MemoryWriter>,
+        reader: FusedReader<MemoryReader<'a>>,
+        writer: FusedWriter<MemoryWriter>,
     ) -> Ended<'a> {
         Ended {
             result: end,
@@ -74,7 +74,7 @@ pub fn streams(
     input: &[u8],
     reads: Pace,
     writes: Pace,
-) -> (Reading<MemoryReader<'_>>, Writing<MemoryWriter>) {
+) -> (FusedReader<MemoryReader<'_>>, FusedWriter<MemoryWriter>) {
     let reader = MemoryReader {
         rest: input,
         pace: reads,
@@ -83,7 +83,7 @@ pub fn streams(
         taken: Vec::new(alloc),
         pace: writes,
     };
-    (Reading::new(reader), Writing::new(writer))
+    (FusedReader::new(reader), FusedWriter::new(writer))
 }
 
 /// Runs with this allocator, and with reads of at most the length of `buffer`. The output is allocated by `alloc`.

@@ -1,7 +1,7 @@
 //! Tests of adjusted sizes: formatting by each spec, and their accessors.
 use super::asserting::assert_is;
 use super::shown::{
-    Shown, assert_displays, assert_row, assert_texts_in, bits_in, bytes_in, great_size_in,
+    AnySize, assert_displays, assert_row, assert_texts_in, bits_in, bytes_in, great_size_in,
     number_of,
 };
 use byte_unit::{Align, Bit, Byte, FormatSpec, Kind, Sign, Unit, UnitType};
@@ -138,10 +138,10 @@ fn texts_in_given_units(rt: HostRuntime) {
 }
 
 /// Returns a size in its appropriate unit.
-fn size_by(kind: Kind, size: u64, unit_type: UnitType) -> Shown {
+fn size_by(kind: Kind, size: u64, unit_type: UnitType) -> AnySize {
     match kind {
-        Kind::Byte => Shown::AdjustedByte(Byte::from_u64(size).get_appropriate_unit(unit_type)),
-        Kind::Bit => Shown::AdjustedBit(Bit::from_u64(size).get_appropriate_unit(unit_type)),
+        Kind::Byte => AnySize::AdjustedByte(Byte::from_u64(size).get_appropriate_unit(unit_type)),
+        Kind::Bit => AnySize::AdjustedBit(Bit::from_u64(size).get_appropriate_unit(unit_type)),
     }
 }
 
@@ -190,16 +190,16 @@ fn texts_in_appropriate_units(rt: HostRuntime) {
 }
 
 /// Returns the unit and the value of an adjusted size.
-fn unit_and_value(shown: &Shown) -> Option<(Unit, (u128, u128))> {
+fn unit_and_value(shown: &AnySize) -> Option<(Unit, (u128, u128))> {
     match shown {
-        Shown::AdjustedByte(size) => Some((size.get_unit(), size.get_value())),
-        Shown::AdjustedBit(size) => Some((size.get_unit(), size.get_value())),
-        Shown::Byte(_) | Shown::Bit(_) => None,
+        AnySize::AdjustedByte(size) => Some((size.get_unit(), size.get_value())),
+        AnySize::AdjustedBit(size) => Some((size.get_unit(), size.get_value())),
+        AnySize::Byte(_) | AnySize::Bit(_) => None,
     }
 }
 
 /// Asserts the unit of each adjusted size.
-fn assert_units(rt: &impl Abort, rows: &[(Shown, Unit)]) {
+fn assert_units(rt: &impl Abort, rows: &[(AnySize, Unit)]) {
     for (shown, unit) in rows {
         let found = unit_and_value(shown).map(|pair| pair.0);
         assert_is(rt, found, Some(*unit));
@@ -207,7 +207,7 @@ fn assert_units(rt: &impl Abort, rows: &[(Shown, Unit)]) {
 }
 
 /// Returns sizes in a given unit, in their appropriate unit and converted by `into`, each with its unit.
-fn sizes_and_units() -> [(Shown, Unit); 11] {
+fn sizes_and_units() -> [(AnySize, Unit); 11] {
     let (small, great) = (Byte::from_u64(1024), Byte::from_u64(10_000));
     [
         (bytes_in(1_555_000, Unit::MB), Unit::MB),
@@ -218,10 +218,10 @@ fn sizes_and_units() -> [(Shown, Unit); 11] {
         (size_by(Kind::Bit, 1_555_000, UnitType::Binary), Unit::Mibit),
         (size_by(Kind::Bit, 1_555_000, UnitType::Decimal), Unit::Mbit),
         (size_by(Kind::Bit, 7, UnitType::Both), Unit::Bit),
-        (Shown::AdjustedByte(small.into()), Unit::KiB),
-        (Shown::AdjustedByte(great.into()), Unit::KiB),
+        (AnySize::AdjustedByte(small.into()), Unit::KiB),
+        (AnySize::AdjustedByte(great.into()), Unit::KiB),
         (
-            Shown::AdjustedBit(Bit::from_u64(10_000).into()),
+            AnySize::AdjustedBit(Bit::from_u64(10_000).into()),
             Unit::Kibit,
         ),
     ]
@@ -250,7 +250,7 @@ fn assert_values(rt: &impl Abort, kind: Kind, rows: &[(u64, Unit, (u128, u128))]
 }
 
 /// Returns adjusted sizes, each with its `Display` text.
-fn adjusted_sizes() -> [(Shown, &'static str); 5] {
+fn adjusted_sizes() -> [(AnySize, &'static str); 5] {
     [
         (bytes_in(1536, Unit::KiB), "1.5 KiB"),
         (bits_in(13, Unit::B), "1.625 B"),

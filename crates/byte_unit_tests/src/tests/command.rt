@@ -1,11 +1,11 @@
 //! Runs of the command `byte-unit` with input and output in memory.
+use byte_unit_command::error::RunError;
 use byte_unit_command::options::{FieldRange, Form, Invalid, Kind, Options};
 use byte_unit_command::run::run;
-use byte_unit_command::stop::Stop;
 use byte_unit_command::streams::Streams;
 use byte_unit_command::tally::Tally;
 use byte_unit_stream::paced::{MemoryReader, MemoryWriter, Pace};
-use byte_unit_stream::{Reading, Writing};
+use byte_unit_stream::{FusedReader, FusedWriter};
 use std::alloc::AllocError;
 use std::process::Abort;
 
@@ -38,7 +38,7 @@ pub const PLAIN: Options<'static> = Options {
 const LONGEST: usize = 256;
 
 /// What a run returns, the lines that it writes, and its messages.
-type Ended<'a> = (Result<Tally, Stop>, &'a [u8], &'a [u8]);
+type Ended<'a> = (Result<Tally, RunError>, &'a [u8], &'a [u8]);
 
 /// Asserts what a run over an input in memory does, with reads and writes at these paces. The name and the number tell
 /// which of a table's rows it is.
@@ -52,16 +52,16 @@ pub fn assert_run(
 ) {
     let alloc = rt.alloc();
     let mut streams = Streams {
-        reader: Reading::new(MemoryReader {
+        reader: FusedReader::new(MemoryReader {
             rest: input,
             pace: reads,
         }),
         word: "line",
-        writer: Writing::new(MemoryWriter {
+        writer: FusedWriter::new(MemoryWriter {
             taken: Vec::with_capacity(alloc, LONGEST).expect(rt, "memory"),
             pace: writes,
         }),
-        errors: Writing::new(Vec::with_capacity(alloc, LONGEST).expect(rt, "memory")),
+        errors: FusedWriter::new(Vec::with_capacity(alloc, LONGEST).expect(rt, "memory")),
     };
     let result = run(alloc, options, &mut streams);
     allocated(result).expect(rt, "memory");
@@ -77,9 +77,9 @@ pub fn assert_run(
 }
 
 /// Returns an error if the run ended because an allocation failed.
-fn allocated(end: Result<Tally, Stop>) -> Result<(), AllocError> {
+fn allocated(end: Result<Tally, RunError>) -> Result<(), AllocError> {
     match end {
-        Err(Stop::Memory) => Err(AllocError),
+        Err(RunError::Memory) => Err(AllocError),
         Ok(_) | Err(_) => Ok(()),
     }
 }

@@ -1,14 +1,14 @@
 //! Tests of calls of the command `byte-unit`: what the words of a command line ask for, and what is wrong with them.
 use super::command::assert_run;
 use byte_unit_command::arguments::command;
+use byte_unit_command::error::RunError;
 use byte_unit_command::field_list::fields_of;
 use byte_unit_command::meaning::options_of;
 use byte_unit_command::operands::joined;
 use byte_unit_command::options::Options;
-use byte_unit_command::stop::Stop;
 use byte_unit_command::tally::Tally;
 use byte_unit_command::values::values_of;
-use byte_unit_command::wrong::{Reason, Wrong};
+use byte_unit_command::wrong::{ValueError, Wrong};
 use byte_unit_stream::paced::AT_ONCE;
 use clap::ArgMatches;
 use std::process::Abort;
@@ -29,7 +29,7 @@ macro_rules! beyond {
 type Row = (
     &'static [&'static str],
     &'static [u8],
-    Result<Tally, Stop>,
+    Result<Tally, RunError>,
     &'static [u8],
     &'static [u8],
 );
@@ -52,7 +52,7 @@ const ROWS: &[Row] = &rows! {
     (&["", "1536", "2 KB"], b"", sum!(3536), b"1.5 KiB\n2 KB\n", b""),
     (&["", "-z", "1536", "2 KB"], b"", sum!(3536), b"1.5 KiB\x002 KB\x00", b""),
     (&["", "--header", "4096K"], b"", sum!(4_096_000), b"4.096 MB\n", b""),
-    (&["", "1KB\n2KB"], b"", Err(Stop::Rejected), b"",
+    (&["", "1KB\n2KB"], b"", Err(RunError::Rejected), b"",
         b"byte-unit: line 1: '1KB\\u{a}2KB': the character '\\n' is incorrect ('i' or no character is expected)\n"),
     (&["", "--invalid=warn", "1\n2", "x", ""], b"", Ok(Tally { total: 0, beyond: false, rejected: true }),
         b"1\n2\nx\n\n", b"byte-unit: line 1: '1\\u{a}2': the character '\\n' is incorrect \
@@ -194,7 +194,7 @@ fn wrong_lists_of_fields(rt: HostRuntime) {
         let wrong = Wrong {
             option: "--field",
             value: list,
-            reason: Reason::Fields,
+            reason: ValueError::Fields,
         };
         let message = wrong.message(rt.alloc()).expect(&rt, "memory");
         let wanted = format!(in rt.alloc(); "--field: '{list}': not a list of fields").expect(

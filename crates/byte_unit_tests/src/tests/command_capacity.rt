@@ -5,13 +5,13 @@ use super::command_large::repeated;
 use bumpalo::Bump;
 use byte_unit::Unit;
 use byte_unit_command::buffers::Buffers;
+use byte_unit_command::error::RunError;
 use byte_unit_command::options::{FieldRange, Form, Invalid, Options};
 use byte_unit_command::run::{run_with_buffers, run_with_capacity};
-use byte_unit_command::stop::Stop;
 use byte_unit_command::streams::Streams;
 use byte_unit_command::tally::Tally;
 use byte_unit_stream::paced::{AT_ONCE, MemoryReader, MemoryWriter};
-use byte_unit_stream::{Reading, Writing};
+use byte_unit_stream::{FusedReader, FusedWriter};
 use std::process::Abort;
 
 /// The length of a buffer that has capacity for the text of any size.
@@ -64,7 +64,7 @@ fn expect(
     options: &Options,
     (longest, step): (usize, usize),
     input: &[u8],
-    wanted: Result<Tally, Stop>,
+    wanted: Result<Tally, RunError>,
     output: &[u8],
 ) {
     let alloc = rt.alloc();
@@ -74,16 +74,16 @@ fn expect(
     let _rest = filled(rt, &arena, 0);
     let mut buffer = b" ".repeat(alloc, step.max(1)).expect(rt, "memory");
     let mut streams = Streams {
-        reader: Reading::new(MemoryReader {
+        reader: FusedReader::new(MemoryReader {
             rest: input,
             pace: AT_ONCE,
         }),
         word: "line",
-        writer: Writing::new(MemoryWriter {
+        writer: FusedWriter::new(MemoryWriter {
             taken: Vec::new(alloc),
             pace: AT_ONCE,
         }),
-        errors: Writing::new(Vec::new(alloc)),
+        errors: FusedWriter::new(Vec::new(alloc)),
     };
     let result = run_with_buffers(
         &mut buffers,
@@ -113,7 +113,7 @@ type Row = (
     Options<'static>,
     (usize, usize),
     &'static [u8],
-    Result<Tally, Stop>,
+    Result<Tally, RunError>,
     &'static [u8],
 );
 
@@ -122,14 +122,14 @@ const MIXED: &[u8] = b"1000,x,2KB,,\n1KiB\nabc,5\n0,1B,y,\xff,";
 
 const CONVERTED: &[u8] = b"1 KB,x,2 KB,,\n1 KiB\nabc,5 B\n0 B,1 B,y,\xff,\n4.03 KB\n";
 
-const COUNTED: Result<Tally, Stop> = Ok(Tally {
+const COUNTED: Result<Tally, RunError> = Ok(Tally {
     total: 4030,
     beyond: false,
     rejected: true,
 });
 
 /// What is counted of 1 KB and a rejected field.
-const ONE_REJECTED: Result<Tally, Stop> = Ok(Tally {
+const ONE_REJECTED: Result<Tally, RunError> = Ok(Tally {
     total: 1000,
     beyond: false,
     rejected: true,
@@ -140,16 +140,22 @@ const LIMITS: &[Row] = &[
     (PLAIN, (0, 1), b"", sum!(0), b""),
     // With no capacity for a record, each must end in the read that it begins in.
     (PLAIN, (0, 4), b"1KB\n2KB\n", sum!(3000), b"1 KB\n2 KB\n"),
-    (PLAIN, (0, 5), b"1KB\n2KB\n", Err(Stop::Memory), b"1 KB\n"),
+    (
+        PLAIN,
+        (0, 5),
+        b"1KB\n2KB\n",
+        Err(RunError::Memory),
+        b"1 KB\n",
+    ),
     (PLAIN, (1, 1), b"1\n2", sum!(3), b"1 B\n2 B\n"),
-    (PLAIN, (1, 1), b"1\n10", Err(Stop::Memory), b"1 B\n"),
+    (PLAIN, (1, 1), b"1\n10", Err(RunError::Memory), b"1 B\n"),
     (PLAIN, (4, 1), b"1000\n2KB", sum!(3000), b"1 KB\n2 KB\n"),
-    (PLAIN, (3, 1), b"1000\n", Err(Stop::Memory), b""),
+    (PLAIN, (3, 1), b"1000\n", Err(RunError::Memory), b""),
     // A longer record is converted if one read gives all of it.
     (PLAIN, (3, 5), b"1000\n", sum!(1000), b"1 KB\n"),
     (COLUMNS, (1 << 19, 4096), MIXED, COUNTED, CONVERTED),
     // Messages are allocated. Without one, a rejected field ends the run as it does with memory.
-    (WARN, (4, 8), b"1KB\nx\n", Err(Stop::Memory), b"1 KB\n"),
+    (WARN, (4, 8), b"1KB\nx\n", Err(RunError::Memory), b"1 KB\n"),
     (IGNORE, (4, 8), b"1KB\nx\n", ONE_REJECTED, b"1 KB\nx\n"),
 ];
 
@@ -219,13 +225,13 @@ fn the_start(rt: HostRuntime) {
         arena.set_allocation_limit(Some(0));
         let _rest = filled(&rt, &arena, *bytes);
         let mut streams = Streams {
-            reader: Reading::new(MemoryReader {
+            reader: FusedReader::new(MemoryReader {
                 rest: b"1000\n2KB",
                 pace: AT_ONCE,
             }),
             word: "line",
-            writer: Writing::new(Vec::new(alloc)),
-            errors: Writing::new(Vec::new(alloc)),
+            writer: FusedWriter::new(Vec::new(alloc)),
+            errors: FusedWriter::new(Vec::new(alloc)),
         };
         let started = run_with_capacity(
             &arena,

@@ -1,8 +1,8 @@
 //! Tests of the command `byte-unit` with many reads, long records, and long texts of the records of one read. A record
 //! of 17 MB is left to `tools/dev test command`.
 use super::command::{PLAIN, assert_run};
+use byte_unit_command::error::RunError;
 use byte_unit_command::options::Options;
-use byte_unit_command::stop::Stop;
 use byte_unit_command::tally::Tally;
 use byte_unit_stream::paced::{AT_ONCE, Pace, Then};
 use std::process::Abort;
@@ -31,7 +31,7 @@ fn many_reads(rt: HostRuntime) {
     let input = repeated(&rt, b"12\n", 100_000, b"");
     let output = repeated(&rt, b"12 B\n", 100_000, b"");
     // The read after the last byte finds the end of the input, or fails.
-    for (reads, result) in [(300_001, Ok(MANY)), (300_000, Err(Stop::Read))] {
+    for (reads, result) in [(300_001, Ok(MANY)), (300_000, Err(RunError::Read))] {
         assert_run(
             &rt,
             &PLAIN,

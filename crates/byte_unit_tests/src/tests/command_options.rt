@@ -1,8 +1,8 @@
 //! Tests of the command `byte-unit`: what each option does to the lines that are written, the total and the messages,
 //! and why a run ends early.
 use super::command::{PLAIN, assert_run};
+use byte_unit_command::error::RunError;
 use byte_unit_command::options::{FieldRange, Form, Invalid, Kind, Options};
-use byte_unit_command::stop::Stop;
 use byte_unit_command::tally::Tally;
 use byte_unit_stream::paced::AT_ONCE;
 
@@ -46,7 +46,7 @@ const FIELDS: Options<'static> = Options {
 };
 
 /// What is counted of two fields whose sum is 1025, and of rejected ones.
-const REJECTED: Result<Tally, Stop> = Ok(Tally {
+const REJECTED: Result<Tally, RunError> = Ok(Tally {
     total: 1025,
     beyond: false,
     rejected: true,
@@ -66,7 +66,7 @@ type Row = (
     &'static str,
     Options<'static>,
     &'static [u8],
-    Result<Tally, Stop>,
+    Result<Tally, RunError>,
     &'static [u8],
     &'static [u8],
 );
@@ -89,7 +89,7 @@ const ROWS: &[Row] = &rows! {
     ("greatest total", TOTAL, b"999999999999999999999999999999\n", sum!(999_999_999_999_999_999_999_999_999_999),
         b"999999999999999999999999999.999 KB\n999999999999999999999999999.999 KB\n", b""),
     ("total out of range", TOTAL, b"999999999999999999999999999999\n1 B",
-        Err(Stop::Total), b"999999999999999999999999999.999 KB\n1 B\n", b""),
+        Err(RunError::Total), b"999999999999999999999999999.999 KB\n1 B\n", b""),
     ("padding on the left", PADDED, b"1KB\n1.5 KiB\n123456789\n",
         sum!(123_459_325), b"    1 KB\n 1.5 KiB\n123456.789 KB\n", b""),
     ("padding on the right", Options { align_left: true, ..PADDED }, b"1KB\n", sum!(1000), b"1 KB    \n", b""),
@@ -98,9 +98,9 @@ const ROWS: &[Row] = &rows! {
         b"1.001 KB\n", b"byte-unit: line 1: '1001': above the maximum\n"),
     ("a size below the minimum", LIMITED, b"9", Ok(Tally { total: 9, beyond: true, rejected: false }),
         b"9 B\n", b"byte-unit: line 1: '9': below the minimum\n"),
-    ("a rejected line", PLAIN, b"1 KB\n1 x\n2 KB\n", Err(Stop::Rejected), b"1 KB\n", NO_UNIT),
-    ("a rejected last line", PLAIN, b"1 KB\n1 x", Err(Stop::Rejected), b"1 KB\n", NO_UNIT),
-    ("an empty line", PLAIN, b"\n", Err(Stop::Rejected), b"", b"byte-unit: line 1: '': no value can be found\n"),
+    ("a rejected line", PLAIN, b"1 KB\n1 x\n2 KB\n", Err(RunError::Rejected), b"1 KB\n", NO_UNIT),
+    ("a rejected last line", PLAIN, b"1 KB\n1 x", Err(RunError::Rejected), b"1 KB\n", NO_UNIT),
+    ("an empty line", PLAIN, b"\n", Err(RunError::Rejected), b"", b"byte-unit: line 1: '': no value can be found\n"),
     ("rejected fields that fail", Options { invalid: Invalid::Fail, total: true, ..FIELDS },
         b"x,1024,1024\n\xff,y,1\n", REJECTED, b"x,1024,1 KiB\n\xff,y,1 B\n1.025 KB\n", TWO_MESSAGES),
     ("rejected fields with a message", Options { invalid: Invalid::Warn, total: true, ..FIELDS },

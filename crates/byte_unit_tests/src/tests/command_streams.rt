@@ -1,6 +1,6 @@
 //! Tests of the command `byte-unit` with streams that go in small steps, and with reads and writes that fail.
 use super::command::{PLAIN, assert_run};
-use byte_unit_command::stop::Stop;
+use byte_unit_command::error::RunError;
 use byte_unit_command::tally::Tally;
 use byte_unit_stream::paced::{ALL_BUT_ONE, AT_ONCE, BYTE_BY_BYTE, Pace, Then};
 
@@ -11,17 +11,17 @@ const INPUT: &[u8] = b"1024\n1.5 KiB\n100 MB\n7";
 const OUTPUT: &[u8] = b"1 KiB\n1.5 KiB\n100 MB\n7 B\n";
 
 /// The paces of reads and of writes, what was counted or why the run ends early, and what is written.
-const ROWS: &[(Pace, Pace, Result<Tally, Stop>, &[u8])] = &rows! {
+const ROWS: &[(Pace, Pace, Result<Tally, RunError>, &[u8])] = &rows! {
     (BYTE_BY_BYTE, BYTE_BY_BYTE, sum!(100_002_567), OUTPUT),
     (ALL_BUT_ONE, ALL_BUT_ONE, sum!(100_002_567), OUTPUT),
     // Reads of five bytes, before one that fails.
-    (Pace(5, 0, Then::Fail), AT_ONCE, Err(Stop::Read), b""),
-    (Pace(5, 2, Then::Fail), AT_ONCE, Err(Stop::Read), b"1 KiB\n"),
-    (Pace(5, 3, Then::Fail), AT_ONCE, Err(Stop::Read), b"1 KiB\n1.5 KiB\n"),
-    (Pace(5, 4, Then::Fail), AT_ONCE, Err(Stop::Read), b"1 KiB\n1.5 KiB\n100 MB\n"),
+    (Pace(5, 0, Then::Fail), AT_ONCE, Err(RunError::Read), b""),
+    (Pace(5, 2, Then::Fail), AT_ONCE, Err(RunError::Read), b"1 KiB\n"),
+    (Pace(5, 3, Then::Fail), AT_ONCE, Err(RunError::Read), b"1 KiB\n1.5 KiB\n"),
+    (Pace(5, 4, Then::Fail), AT_ONCE, Err(RunError::Read), b"1 KiB\n1.5 KiB\n100 MB\n"),
     // Writes of three bytes, before one that fails or accepts no byte.
-    (AT_ONCE, Pace(3, 0, Then::Fail), Err(Stop::Write), b""),
-    (AT_ONCE, Pace(3, 3, Then::TakeNothing), Err(Stop::Write), b"1 KiB\n1.5"),
+    (AT_ONCE, Pace(3, 0, Then::Fail), Err(RunError::Write), b""),
+    (AT_ONCE, Pace(3, 3, Then::TakeNothing), Err(RunError::Write), b"1 KiB\n1.5"),
 };
 
 #[test]

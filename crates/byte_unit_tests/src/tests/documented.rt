@@ -1,6 +1,6 @@
 //! The examples of the Rust crate's documentation, with the corresponding calls of the port.
 use super::asserting::assert_is;
-use super::shown::{Shown, assert_row};
+use super::shown::{AnySize, assert_row};
 use byte_unit::{Bit, Byte, Decimal, FormatSpec, Unit, UnitType};
 
 const UNITS_BY_THEIR_NAMES: &[(&str, bool, bool, Unit)] = &[
@@ -48,15 +48,15 @@ fn sizes_from_numbers_and_texts(rt: HostRuntime) {
 fn sizes_in_a_unit(rt: HostRuntime) {
     let alloc = rt.alloc();
     let size = Byte::parse_str("123KiB", true).ok().expect(&rt, "a size");
-    let adjusted = Shown::AdjustedByte(size.get_adjusted_unit(Unit::KB));
+    let adjusted = AnySize::AdjustedByte(size.get_adjusted_unit(Unit::KB));
     assert_row(&rt, alloc, &adjusted, FormatSpec::PLAIN, "125.952 KB");
     assert_row(&rt, alloc, &adjusted, places!(2), "125.95 KB");
     let size = Bit::parse_str("123Kib").ok().expect(&rt, "a size");
-    let adjusted = Shown::AdjustedBit(size.get_adjusted_unit(Unit::Kbit));
+    let adjusted = AnySize::AdjustedBit(size.get_adjusted_unit(Unit::Kbit));
     assert_row(&rt, alloc, &adjusted, FormatSpec::PLAIN, "125.952 Kb");
     assert_row(&rt, alloc, &adjusted, places!(2), "125.95 Kb");
     let size = Byte::from_u64(1_500_000);
-    let appropriate = Shown::AdjustedByte(size.get_appropriate_unit(UnitType::Binary));
+    let appropriate = AnySize::AdjustedByte(size.get_appropriate_unit(UnitType::Binary));
     assert_row(&rt, alloc, &appropriate, places!(2), "1.43 MiB");
 }
 

@@ -3,7 +3,8 @@
 //! The contracts of the calls that create a text or a JSON string, and those of `Display`, define the result if the
 //! call returns `Ok`. Here no allocation fails, and each call must return `Ok`.
 use super::shown::{
-    Shown, assert_row, assert_same, assert_shown, assert_string, great_size, great_size_in, stored,
+    AnySize, assert_row, assert_same, assert_shown, assert_string, great_size, great_size_in,
+    stored,
 };
 use byte_unit::{Expansion, FormatSpec, Kind, Unit, append_layout};
 use std::alloc::Global;
@@ -11,7 +12,7 @@ use std::process::Abort;
 
 /// Asserts that each call returns `Ok` with the expected text: the plain one, which is also the `Display` text, and the
 /// one with a unit, which is also the JSON string.
-pub fn assert_all_ok(rt: &impl Abort, alloc: Global, shown: Shown, plain: &str, with_unit: &str) {
+pub fn assert_all_ok(rt: &impl Abort, alloc: Global, shown: AnySize, plain: &str, with_unit: &str) {
     assert_row(rt, alloc, &shown, FormatSpec::PLAIN, plain);
     assert_row(rt, alloc, &shown, FormatSpec::ALTERNATE, with_unit);
     assert_shown(rt, alloc, &shown, plain);

@@ -1,7 +1,7 @@
 //! Tests of the `Display` text of the minimum and maximum of each type, and of values with the most decimals.
 use super::error_texts::assert_value_text;
 use super::shown::{
-    Shown, assert_display, assert_displays, bits, bytes, great_size, great_size_in,
+    AnySize, assert_display, assert_displays, bits, bytes, great_size, great_size_in,
 };
 use byte_unit::{Bit, Byte, Decimal, Expansion, Kind, Unit, ValueParseError};
 use std::alloc::Global;
@@ -75,8 +75,8 @@ fn sizes(rt: HostRuntime) {
         &rt,
         rt.alloc(),
         &rows! {
-            (Shown::Byte(Byte::MAX), "999999999999999999999999999999"),
-            (Shown::Bit(Bit::MAX), "999999999999999999999999999999"),
+            (AnySize::Byte(Byte::MAX), "999999999999999999999999999999"),
+            (AnySize::Bit(Bit::MAX), "999999999999999999999999999999"),
             (bytes(18_446_744_073_709_551_615), "18446744073709551615"),
             (bits(18_446_744_073_709_551_615), "18446744073709551615"),
             (great_size(&rt, Kind::Byte, past), "18446744073709551616"),

@@ -3,8 +3,8 @@ use super::answers::Expected;
 use super::asserting::assert_is;
 use super::long_strings::{assert_rejected_by_each, assert_unit, assert_unit_stored};
 use super::shown::{
-    Shown, assert_stored, assert_string, bits, bits_in, bytes, bytes_in, great_size_in, read_like,
-    stored,
+    AnySize, assert_stored, assert_string, bits, bits_in, bytes, bytes_in, great_size_in,
+    read_like, stored,
 };
 use byte_unit::{Bit, Byte, Kind, Unit, unit_to_json};
 use serde_json::{Map, Value};
@@ -12,7 +12,7 @@ use std::alloc::Global;
 use std::process::Abort;
 
 /// Returns sizes, each with its JSON string.
-fn sizes_and_strings() -> [(Shown, &'static str); 7] {
+fn sizes_and_strings() -> [(AnySize, &'static str); 7] {
     [
         (bytes(15_500), "15.5 KB"),
         (bytes(0), "0 B"),
@@ -28,8 +28,8 @@ fn sizes_and_strings() -> [(Shown, &'static str); 7] {
 fn sizes_and_units_round_trip(rt: HostRuntime) {
     assert_stored(&rt, rt.alloc(), &sizes_and_strings());
     assert_unit_stored(&rt, rt.alloc(), Unit::Kbit, "Kb");
-    let most = Shown::AdjustedByte(Byte::MAX.get_adjusted_unit(Unit::YiB));
-    let max_bits = Shown::AdjustedBit(Bit::MAX.get_adjusted_unit(Unit::YiB));
+    let most = AnySize::AdjustedByte(Byte::MAX.get_adjusted_unit(Unit::YiB));
+    let max_bits = AnySize::AdjustedBit(Bit::MAX.get_adjusted_unit(Unit::YiB));
     let before_last = 999_999_999_999_999_999_999_999_999_998;
     let before_last = great_size_in(&rt, Kind::Byte, before_last, Unit::KB);
     assert_stored(
@@ -50,7 +50,7 @@ fn sizes_and_units_round_trip(rt: HostRuntime) {
 }
 
 /// Asserts that a size is stored as a string with too many decimals to be parsed, as each type.
-fn assert_too_long(rt: &impl Abort, alloc: Global, shown: &Shown, wanted: &str) {
+fn assert_too_long(rt: &impl Abort, alloc: Global, shown: &AnySize, wanted: &str) {
     let value = stored(shown, alloc).expect(rt, "memory");
     assert_string(rt, &value, wanted);
     assert_rejected_by_each(rt, &value, Expected::NumberTooLong);
@@ -90,7 +90,7 @@ fn member<'a>(settings: &'a Value, name: &str, null: &'a Value) -> &'a Value {
 }
 
 /// Asserts the size that each member represents, parsed as the type of a size.
-fn assert_members(rt: &impl Abort, settings: &Value, rows: &[(&str, Shown, u128)]) {
+fn assert_members(rt: &impl Abort, settings: &Value, rows: &[(&str, AnySize, u128)]) {
     for (name, like, wanted) in rows {
         let read = read_like(like, member(settings, name, &Value::Null)).ok();
         assert_is(rt, (*name, read), (*name, Some(*wanted)));

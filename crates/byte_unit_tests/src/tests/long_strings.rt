@@ -1,7 +1,7 @@
 //! Tests of long JSON strings.
 use super::answers::{Expected, TEN, is_error, is_unit_error};
 use super::asserting::{assert_for, assert_is};
-use super::shown::{Shown, assert_string, bits, bits_in, bytes, bytes_in, read_like};
+use super::shown::{AnySize, assert_string, bits, bits_in, bytes, bytes_in, read_like};
 use byte_unit::{JsonSizeError, JsonUnitError, Unit, unit_from_json, unit_to_json};
 use serde_json::Value;
 use std::alloc::Global;
@@ -16,7 +16,7 @@ fn long(rt: &impl Abort, alloc: Global, (front, middle, end): (&str, &str, &str)
 }
 
 /// Returns a value of each type.
-pub fn each_type() -> [Shown; 4] {
+pub fn each_type() -> [AnySize; 4] {
     [
         bytes(0),
         bits(0),

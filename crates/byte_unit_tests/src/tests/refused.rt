@@ -5,7 +5,7 @@
 //! These calls take no allocator, so a test by itself cannot make an allocation fail. `tools/dev test memory` runs
 //! these tests under `rt try --test --fail-alloc N`, which makes the Nth allocation of each test fail, for N = 1, 2, ..
 use super::asserting::{assert_for, assert_is};
-use super::shown::{Shown, bits, bits_in, bytes, bytes_in, read_like, stored, text_of};
+use super::shown::{AnySize, bits, bits_in, bytes, bytes_in, read_like, stored, text_of};
 use byte_unit::{FormatSpec, Unit, unit_from_json, unit_to_json};
 use serde_json::Value;
 use std::alloc::Global;
@@ -17,7 +17,7 @@ fn assert_counts(rt: &impl Abort, right: u32, wrong: u32, wanted: &str) {
 }
 
 /// Asserts the JSON string of a size in three calls, of which at most one fails.
-fn assert_string(rt: &impl Abort, alloc: Global, shown: &Shown, wanted: &str) {
+fn assert_string(rt: &impl Abort, alloc: Global, shown: &AnySize, wanted: &str) {
     let mut right = 0u32;
     let mut wrong = 0u32;
     for _ in 0..3 {
@@ -65,7 +65,7 @@ fn json_string_of_a_unit(rt: HostRuntime) {
 }
 
 /// Asserts the text of a size with a unit in three calls, of which at most one fails.
-fn assert_text(rt: &impl Abort, alloc: Global, shown: &Shown, wanted: &str) {
+fn assert_text(rt: &impl Abort, alloc: Global, shown: &AnySize, wanted: &str) {
     let mut right = 0u32;
     let mut wrong = 0u32;
     for _ in 0..3 {

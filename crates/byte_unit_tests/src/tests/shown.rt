@@ -10,7 +10,7 @@ use std::process::Abort;
 
 /// A size or an adjusted size.
 #[derive(Clone, Copy)]
-pub enum Shown {
+pub enum AnySize {
     Byte(Byte),
     Bit(Bit),
     AdjustedByte(AdjustedByte),
@@ -18,92 +18,92 @@ pub enum Shown {
 }
 
 /// Creates a size in bytes.
-pub fn bytes(size: u64) -> Shown {
-    Shown::Byte(Byte::from_u64(size))
+pub fn bytes(size: u64) -> AnySize {
+    AnySize::Byte(Byte::from_u64(size))
 }
 
 /// Creates a size from a `u128`.
-pub fn great_size(rt: &impl Abort, kind: Kind, size: u128) -> Shown {
+pub fn great_size(rt: &impl Abort, kind: Kind, size: u128) -> AnySize {
     match kind {
-        Kind::Byte => Shown::Byte(Byte::from_u128(size).expect(rt, "a size")),
-        Kind::Bit => Shown::Bit(Bit::from_u128(size).expect(rt, "a size")),
+        Kind::Byte => AnySize::Byte(Byte::from_u128(size).expect(rt, "a size")),
+        Kind::Bit => AnySize::Bit(Bit::from_u128(size).expect(rt, "a size")),
     }
 }
 
 /// Creates a size in a unit from a `u128`.
-pub fn great_size_in(rt: &impl Abort, kind: Kind, size: u128, unit: Unit) -> Shown {
+pub fn great_size_in(rt: &impl Abort, kind: Kind, size: u128, unit: Unit) -> AnySize {
     match kind {
         Kind::Byte => {
             let size = Byte::from_u128(size).expect(rt, "a size");
-            Shown::AdjustedByte(size.get_adjusted_unit(unit))
+            AnySize::AdjustedByte(size.get_adjusted_unit(unit))
         }
         Kind::Bit => {
             let size = Bit::from_u128(size).expect(rt, "a size");
-            Shown::AdjustedBit(size.get_adjusted_unit(unit))
+            AnySize::AdjustedBit(size.get_adjusted_unit(unit))
         }
     }
 }
 
 /// Creates a size in bits.
-pub fn bits(size: u64) -> Shown {
-    Shown::Bit(Bit::from_u64(size))
+pub fn bits(size: u64) -> AnySize {
+    AnySize::Bit(Bit::from_u64(size))
 }
 
 /// Creates a size in bytes in a unit.
-pub fn bytes_in(size: u64, unit: Unit) -> Shown {
-    Shown::AdjustedByte(Byte::from_u64(size).get_adjusted_unit(unit))
+pub fn bytes_in(size: u64, unit: Unit) -> AnySize {
+    AnySize::AdjustedByte(Byte::from_u64(size).get_adjusted_unit(unit))
 }
 
 /// Creates a size in bits in a unit.
-pub fn bits_in(size: u64, unit: Unit) -> Shown {
-    Shown::AdjustedBit(Bit::from_u64(size).get_adjusted_unit(unit))
+pub fn bits_in(size: u64, unit: Unit) -> AnySize {
+    AnySize::AdjustedBit(Bit::from_u64(size).get_adjusted_unit(unit))
 }
 
-fn len_of(shown: &Shown, spec: FormatSpec) -> usize {
+fn len_of(shown: &AnySize, spec: FormatSpec) -> usize {
     match shown {
-        Shown::Byte(size) => size.text_len(spec),
-        Shown::Bit(size) => size.text_len(spec),
-        Shown::AdjustedByte(size) => size.text_len(spec),
-        Shown::AdjustedBit(size) => size.text_len(spec),
+        AnySize::Byte(size) => size.text_len(spec),
+        AnySize::Bit(size) => size.text_len(spec),
+        AnySize::AdjustedByte(size) => size.text_len(spec),
+        AnySize::AdjustedBit(size) => size.text_len(spec),
     }
 }
 
 /// Returns the text by `to_text`.
-pub fn text_of(shown: &Shown, alloc: Global, spec: FormatSpec) -> Result<String, AllocError> {
+pub fn text_of(shown: &AnySize, alloc: Global, spec: FormatSpec) -> Result<String, AllocError> {
     match shown {
-        Shown::Byte(size) => size.to_text(alloc, spec),
-        Shown::Bit(size) => size.to_text(alloc, spec),
-        Shown::AdjustedByte(size) => size.to_text(alloc, spec),
-        Shown::AdjustedBit(size) => size.to_text(alloc, spec),
+        AnySize::Byte(size) => size.to_text(alloc, spec),
+        AnySize::Bit(size) => size.to_text(alloc, spec),
+        AnySize::AdjustedByte(size) => size.to_text(alloc, spec),
+        AnySize::AdjustedBit(size) => size.to_text(alloc, spec),
     }
 }
 
 /// Returns the text by `to_text_in`, which takes any allocator.
-fn text_in(shown: &Shown, alloc: Global, spec: FormatSpec) -> Result<String, AllocError> {
+fn text_in(shown: &AnySize, alloc: Global, spec: FormatSpec) -> Result<String, AllocError> {
     match shown {
-        Shown::Byte(size) => size.to_text_in(alloc, spec),
-        Shown::Bit(size) => size.to_text_in(alloc, spec),
-        Shown::AdjustedByte(size) => size.to_text_in(alloc, spec),
-        Shown::AdjustedBit(size) => size.to_text_in(alloc, spec),
+        AnySize::Byte(size) => size.to_text_in(alloc, spec),
+        AnySize::Bit(size) => size.to_text_in(alloc, spec),
+        AnySize::AdjustedByte(size) => size.to_text_in(alloc, spec),
+        AnySize::AdjustedBit(size) => size.to_text_in(alloc, spec),
     }
 }
 
-fn append(shown: &Shown, spec: FormatSpec, text: &mut String) -> Result<(), AllocError> {
+fn append(shown: &AnySize, spec: FormatSpec, text: &mut String) -> Result<(), AllocError> {
     match shown {
-        Shown::Byte(size) => size.append_text(spec, text),
-        Shown::Bit(size) => size.append_text(spec, text),
-        Shown::AdjustedByte(size) => size.append_text(spec, text),
-        Shown::AdjustedBit(size) => size.append_text(spec, text),
+        AnySize::Byte(size) => size.append_text(spec, text),
+        AnySize::Bit(size) => size.append_text(spec, text),
+        AnySize::AdjustedByte(size) => size.append_text(spec, text),
+        AnySize::AdjustedBit(size) => size.append_text(spec, text),
     }
 }
 
 /// Writes the text to the start of `out`, and returns its length.
-fn write(shown: &Shown, spec: FormatSpec, out: &mut [u8]) -> usize {
+fn write(shown: &AnySize, spec: FormatSpec, out: &mut [u8]) -> usize {
     match shown {
-        Shown::Byte(size) => size.write_text(spec, out),
-        Shown::Bit(size) => size.write_text(spec, out),
-        Shown::AdjustedByte(size) => size.write_text(spec, out),
-        Shown::AdjustedBit(size) => size.write_text(spec, out),
+        AnySize::Byte(size) => size.write_text(spec, out),
+        AnySize::Bit(size) => size.write_text(spec, out),
+        AnySize::AdjustedByte(size) => size.write_text(spec, out),
+        AnySize::AdjustedBit(size) => size.write_text(spec, out),
     }
 }
 
@@ -113,7 +113,7 @@ pub fn assert_same(rt: &impl Abort, text: &str, wanted: &str) {
 }
 
 /// Asserts the length of the text that is written to a buffer, and the text if it fits.
-fn assert_written(rt: &impl Abort, shown: &Shown, spec: FormatSpec, wanted: &str) {
+fn assert_written(rt: &impl Abort, shown: &AnySize, spec: FormatSpec, wanted: &str) {
     let mut out = [0; 128];
     let len = write(shown, spec, &mut out);
     let is_written = len > 128 || out.starts_with(wanted.as_bytes());
@@ -121,7 +121,7 @@ fn assert_written(rt: &impl Abort, shown: &Shown, spec: FormatSpec, wanted: &str
 }
 
 /// Asserts the text by `to_text`, `to_text_in` and `append_text`, and its length by `text_len`.
-fn assert_text(rt: &impl Abort, alloc: Global, shown: &Shown, spec: FormatSpec, wanted: &str) {
+fn assert_text(rt: &impl Abort, alloc: Global, shown: &AnySize, spec: FormatSpec, wanted: &str) {
     assert_is(rt, len_of(shown, spec), wanted.len());
     let text = text_of(shown, alloc, spec).expect(rt, "memory");
     assert_same(rt, text.as_str(), wanted);
@@ -134,7 +134,7 @@ fn assert_text(rt: &impl Abort, alloc: Global, shown: &Shown, spec: FormatSpec, 
 }
 
 /// Asserts the text by each call that formats a size.
-pub fn assert_row(rt: &impl Abort, alloc: Global, shown: &Shown, spec: FormatSpec, wanted: &str) {
+pub fn assert_row(rt: &impl Abort, alloc: Global, shown: &AnySize, spec: FormatSpec, wanted: &str) {
     assert_text(rt, alloc, shown, spec, wanted);
     assert_written(rt, shown, spec, wanted);
 }
@@ -167,49 +167,49 @@ pub fn assert_display<D: Display>(rt: &impl Abort, alloc: Global, value: &D, wan
 }
 
 /// Asserts the `Display` text of a size.
-pub fn assert_shown(rt: &impl Abort, alloc: Global, shown: &Shown, wanted: &str) {
+pub fn assert_shown(rt: &impl Abort, alloc: Global, shown: &AnySize, wanted: &str) {
     match shown {
-        Shown::Byte(size) => assert_display(rt, alloc, size, wanted),
-        Shown::Bit(size) => assert_display(rt, alloc, size, wanted),
-        Shown::AdjustedByte(size) => assert_display(rt, alloc, size, wanted),
-        Shown::AdjustedBit(size) => assert_display(rt, alloc, size, wanted),
+        AnySize::Byte(size) => assert_display(rt, alloc, size, wanted),
+        AnySize::Bit(size) => assert_display(rt, alloc, size, wanted),
+        AnySize::AdjustedByte(size) => assert_display(rt, alloc, size, wanted),
+        AnySize::AdjustedBit(size) => assert_display(rt, alloc, size, wanted),
     }
 }
 
 /// Asserts the `Display` text of each size.
-pub fn assert_displays(rt: &impl Abort, alloc: Global, rows: &[(Shown, &str)]) {
+pub fn assert_displays(rt: &impl Abort, alloc: Global, rows: &[(AnySize, &str)]) {
     for (shown, wanted) in rows {
         assert_shown(rt, alloc, shown, wanted);
     }
 }
 
 /// Returns the JSON string of a size.
-pub fn stored(shown: &Shown, alloc: Global) -> Result<Value, AllocError> {
+pub fn stored(shown: &AnySize, alloc: Global) -> Result<Value, AllocError> {
     match shown {
-        Shown::Byte(size) => size.to_json(alloc),
-        Shown::Bit(size) => size.to_json(alloc),
-        Shown::AdjustedByte(size) => size.to_json(alloc),
-        Shown::AdjustedBit(size) => size.to_json(alloc),
+        AnySize::Byte(size) => size.to_json(alloc),
+        AnySize::Bit(size) => size.to_json(alloc),
+        AnySize::AdjustedByte(size) => size.to_json(alloc),
+        AnySize::AdjustedBit(size) => size.to_json(alloc),
     }
 }
 
 /// Returns the size as an integer.
-pub fn number_of(shown: &Shown) -> u128 {
+pub fn number_of(shown: &AnySize) -> u128 {
     match shown {
-        Shown::Byte(size) => size.as_u128(),
-        Shown::Bit(size) => size.as_u128(),
-        Shown::AdjustedByte(size) => size.get_byte().as_u128(),
-        Shown::AdjustedBit(size) => size.get_bit().as_u128(),
+        AnySize::Byte(size) => size.as_u128(),
+        AnySize::Bit(size) => size.as_u128(),
+        AnySize::AdjustedByte(size) => size.get_byte().as_u128(),
+        AnySize::AdjustedBit(size) => size.get_bit().as_u128(),
     }
 }
 
 /// Parses a JSON value as the type of `shown`, and returns the size as an integer.
-pub fn read_like(shown: &Shown, value: &Value) -> Result<u128, JsonSizeError> {
+pub fn read_like(shown: &AnySize, value: &Value) -> Result<u128, JsonSizeError> {
     match shown {
-        Shown::Byte(_) => Byte::from_json(value).map(Byte::as_u128),
-        Shown::Bit(_) => Bit::from_json(value).map(Bit::as_u128),
-        Shown::AdjustedByte(_) => AdjustedByte::from_json(value).map(bytes_of),
-        Shown::AdjustedBit(_) => AdjustedBit::from_json(value).map(bits_of),
+        AnySize::Byte(_) => Byte::from_json(value).map(Byte::as_u128),
+        AnySize::Bit(_) => Bit::from_json(value).map(Bit::as_u128),
+        AnySize::AdjustedByte(_) => AdjustedByte::from_json(value).map(bytes_of),
+        AnySize::AdjustedBit(_) => AdjustedBit::from_json(value).map(bits_of),
     }
 }
 
@@ -227,7 +227,7 @@ pub fn assert_string(rt: &impl Abort, value: &Value, wanted: &str) {
 }
 
 /// Asserts the JSON string of each size, and that it round-trips.
-pub fn assert_stored(rt: &impl Abort, alloc: Global, rows: &[(Shown, &str)]) {
+pub fn assert_stored(rt: &impl Abort, alloc: Global, rows: &[(AnySize, &str)]) {
     for (shown, wanted) in rows {
         let value = stored(shown, alloc).expect(rt, "memory");
         assert_string(rt, &value, wanted);

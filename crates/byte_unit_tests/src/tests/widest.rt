@@ -1,6 +1,6 @@
 //! Tests of the longest texts: the maximum width and the maximum precision, for each type.
 use super::asserting::assert_is;
-use super::shown::{Shown, assert_row, assert_same, great_size, great_size_in};
+use super::shown::{AnySize, assert_row, assert_same, great_size, great_size_in};
 use byte_unit::{
     Align, Expansion, FormatSpec, Kind, Sign, Unit, append_layout, append_plain, layout_len,
     plain_len,
@@ -27,7 +27,7 @@ fn repeated(rt: &impl Abort, alloc: Global, texts: Repeated) -> String {
 }
 
 /// Creates a size, adjusted to a unit if one is given.
-fn size_of(rt: &impl Abort, kind: Kind, size: u128, unit: Option<Unit>) -> Shown {
+fn size_of(rt: &impl Abort, kind: Kind, size: u128, unit: Option<Unit>) -> AnySize {
     match unit {
         Some(unit) => great_size_in(rt, kind, size, unit),
         None => great_size(rt, kind, size),

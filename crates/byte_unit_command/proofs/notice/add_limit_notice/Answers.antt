@@ -1,8 +1,8 @@
 -- The message about the maximum, and then that about the minimum.
 use Rattle.std.proofs.Common.{◌++◌, refl, ap, subst, ◌∙◌, append_assoc}
 use Rattle.byte_unit_command.specs.Messages.{IsMessageIf}
-use Rattle.byte_unit_command.specs.Progress.{messages_of}
-use Rattle.byte_unit_command.specs.declared.notice.Reason.TheVariants.{Above, Below}
+use Rattle.byte_unit_command.specs.RunState.{messages_of}
+use Rattle.byte_unit_command.specs.declared.notice.FieldError.TheVariants.{Above, Below}
 use Rattle.byte_unit_stream.proofs.Prefixes.{IsPrefix-trans}
 use Rattle.byte_unit_command.proofs.Results.{OnOk-map}
 use Rattle.byte_unit_command.proofs.notice.add_limit_notice.Goals as goal

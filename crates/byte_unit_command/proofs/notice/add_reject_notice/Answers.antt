@@ -1,7 +1,7 @@
 -- The message is told unless rejected fields are ignored.
 use Rattle.std.proofs.Common.{[], ◌∙◌, refl, sym, append-nil}
 use Rattle.byte_unit_command.specs.Messages.{rejected, ignored}
-use Rattle.byte_unit_command.specs.Progress.{messages_of}
+use Rattle.byte_unit_command.specs.RunState.{messages_of}
 use Rattle.byte_unit_command.proofs.Results.{OnOk-map}
 use Rattle.byte_unit_command.proofs.notice.add_reject_notice.Goals as goal
 

@@ -7,7 +7,7 @@ use Rattle.std.specs.Prelude.{vec_capacity}
 use Rattle.byte_unit_command.specs.Capacity.{end_room}
 use Rattle.std.specs.Io.KnownBytes.{IsAtEnd}
 use Rattle.std.proofs.KnownBytes.{Consumes-kept, Consumes-nil, Appends-nil}
-use Rattle.byte_unit_command.specs.Progress.{State, idle, state_of}
+use Rattle.byte_unit_command.specs.RunState.{State, idle, state_of}
 use Rattle.byte_unit_stream.specs.Streams.{reader_of, writer_of, writing_failed}
 use Rattle.byte_unit_stream.specs.Chunks.{begun_record}
 use Rattle.byte_unit_stream.specs.Records.{finished_records, records_of}
@@ -18,9 +18,9 @@ use Rattle.byte_unit_command.proofs.Served.{Consumes-piece, Consumes-at_end, App
 use Rattle.byte_unit_command.proofs.Runs.{AreRunMessages-read, AreRunMessages-piece, AreRunMessages-finished}
 use Rattle.byte_unit_command.proofs.Runs.{AreRunMessages-error}
 use Rattle.byte_unit_command.proofs.Telling.{IsTold-nothing, IsTold-more}
-use Rattle.byte_unit_command.specs.Progress.{IsFinished}
-use Rattle.byte_unit_command.specs.declared.stop.Stop.{Stop}
-use Rattle.byte_unit_command.specs.declared.stop.Stop.TheVariants.{Memory, Read}
+use Rattle.byte_unit_command.specs.RunState.{IsFinished}
+use Rattle.byte_unit_command.specs.declared.error.RunError.{RunError}
+use Rattle.byte_unit_command.specs.declared.error.RunError.TheVariants.{Memory, Read}
 use Rattle.byte_unit_command.specs.declared.tally.Tally.{Tally}
 use Rattle.byte_unit_command.proofs.Dues.{IsWritten-memory, AreRunMessages-memory, piece-untold, last-untold}
 use Rattle.byte_unit_command.proofs.Dues.{SufficeFor-piece, end-fits}
@@ -247,7 +247,7 @@ returns-in_err-answer_piece-in-Some-clause-read_failed g c = λ is.
 pub returns-clause-read_failed : goal.returns-clause-read_failed
 returns-clause-read_failed g c = λ is.
     let more = c.finish.ensures.written in
-    let Ends : Result Tally Stop → Type 0 =
+    let Ends : Result Tally RunError → Type 0 =
     λ result. IsFinished c.args.options.now c.deref.result.now (idle (state_of c.reads.buffers.converter)) result
     more.0 more.1 in
     absurd (subst Ends is more.6)

@@ -1,6 +1,6 @@
 -- What was read so far is served, nothing waits, and the record that was begun is within the limit; each read leaves
 -- fewer reads.
-use Rattle.byte_unit_command.specs.Progress.{messages_of, state_of}
+use Rattle.byte_unit_command.specs.RunState.{messages_of, state_of}
 use Rattle.byte_unit_stream.specs.Streams.{reader_of, writer_of, reads_left, writing_failed}
 use Rattle.byte_unit_stream.proofs.Longest.{IsWithin}
 use Rattle.std.specs.Prelude.{length}

@@ -11,7 +11,7 @@ returns-then-options-eq0-clause-ok g c =
     let before = c.args.text.now.items in
     let write = c.write_size-len in
     let written = write.ensures.written in
-    let room : write.result ≤ length c.args.digits.now = omega (arith, write.ensures.small, c.requires.capacity) in
+    let room : write.result ≤ length c.args.digits.now = omega (arith, write.ensures.bound, c.requires.capacity) in
     let taken = written_bytes c.args.digits.now write.new.out write.result written room in
     let shown_is = sym (padded-none options.width options.align_left written.form c.if-options-eq0.true) in
     OnOk-map c.add_first.result (λ added. (
@@ -28,7 +28,7 @@ returns-clause-ok g c =
     let before = c.args.text.now.items in
     let write = c.write_size-len in
     let written = write.ensures.written in
-    let room : write.result ≤ length c.args.digits.now = omega (arith, write.ensures.small, c.requires.capacity) in
+    let room : write.result ≤ length c.args.digits.now = omega (arith, write.ensures.bound, c.requires.capacity) in
     let taken = written_bytes c.args.digits.now write.new.out write.result written room in
     let shown = padded options.width options.align_left written.form in
     OnOk-map c.add_padded.result

@@ -12,4 +12,4 @@ returns g c =
     let written = c.put_form-len.ensures.written in
     appends_form
     written.form written.is_form (text_length_unique kind size alternate_spec written.form written.is_form)
-    (appends_same (front_written written (omega (arith, c.put_form-len.ensures.narrow))) c.append_ascii.ensures)
+    (appends_same (front_written written (omega (arith, c.put_form-len.ensures.bound))) c.append_ascii.ensures)

@@ -1,15 +1,15 @@
 -- The whole part and what follows it are the text of the size.
 use Rattle.std.proofs.Common.{◌++◌, ap, arith, refl, ◌∙◌, drop}
 use Rattle.std.specs.Fmt.{decimal}
-use Rattle.byte_unit_format.specs.Suffix.{suffix_text}
+use Rattle.byte_unit_format.specs.UnitFraction.{unit_fraction_text}
 use Rattle.byte_unit_format.proofs.TextParts.{front_is}
-use Rattle.byte_unit_format.proofs.Suffix.{form_of_split, split_ascii}
+use Rattle.byte_unit_format.proofs.UnitFraction.{form_of_split, split_ascii}
 use Rattle.byte_unit_format.proofs.alternate.put_form.Goals as goal
 
 pub returns-clause-written : goal.returns-clause-written
 returns-clause-written c =
     let split = c.split-whole in
-    let text = decimal split.result.0 ++ suffix_text c.args.kind split.result.1 in
+    let text = decimal split.result.0 ++ unit_fraction_text c.args.kind split.result.1 in
     let ends = c.put_split.ensures.ends in
     record {
       form = text;
@@ -17,7 +17,7 @@ returns-clause-written c =
           (split.ensures.split c.args.kind);
       needed_is = ends;
       fits = λ room. c.put_split.ensures.bytes ∙ ap (λ n. text ++ drop n c.args.out.now) ends;
-      too_long = λ less. absurd (omega (arith, less, ends, c.put_split.ensures.narrow, c.requires.room));
+      too_long = λ less. absurd (omega (arith, less, ends, c.put_split.ensures.bound, c.requires.room));
     }
 
 pub returns-clause-ascii : goal.returns-clause-ascii

@@ -8,8 +8,8 @@ returns-clause-greatest c =
     (binary_greatest c.args.places c.args.size _ c.requires.places c.requires.some c.requires.small
     (omega (arith, c.min.ensures))).0
 
-pub returns-clause-few : goal.returns-clause-few
-returns-clause-few c = few_binary _ c.args.size c.requires.small (returns-clause-greatest c).fits.not_above
+pub returns-clause-bound : goal.returns-clause-bound
+returns-clause-bound c = few_binary _ c.args.size c.requires.small (returns-clause-greatest c).fits.not_above
 
 pub returns-clause-eighths : goal.returns-clause-eighths
 returns-clause-eighths c =

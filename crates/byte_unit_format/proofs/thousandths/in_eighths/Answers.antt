@@ -1,6 +1,6 @@
 -- The number of eighths is the size.
 use Rattle.std.proofs.Common.{true}
-use Rattle.byte_unit_format.proofs.Suffix.{whole_below}
+use Rattle.byte_unit_format.proofs.UnitFraction.{whole_below}
 use Rattle.byte_unit_format.proofs.FewPlaces.{eighths_value, number_of_units}
 use Rattle.byte_unit_format.proofs.thousandths.in_eighths.Goals as goal
 

@@ -3,12 +3,12 @@ use Rattle.std.proofs.Common.{◌≡◌, ℕ, ◌*◌, false, arith, refl}
 use Rattle.byte_unit_math.specs.Bounds.{scale}
 use Rattle.byte_unit_base.specs.Choice.{IsRecoveredIn}
 use Rattle.byte_unit_base.specs.declared.kind.Kind.{Kind}
-use Rattle.byte_unit_format.specs.Suffix.{IsSplit}
-use Rattle.byte_unit_format.specs.declared.thousandths.Suffix.TheVariants.{Own}
+use Rattle.byte_unit_format.specs.UnitFraction.{IsSplit}
+use Rattle.byte_unit_format.specs.declared.thousandths.UnitFraction.TheVariants.{Own}
 use Rattle.byte_unit_base.specs.Kinds.{own_unit}
 use Rattle.byte_unit_base.specs.Version.{current}
 use Rattle.byte_unit_base.proofs.Choosing.{own_number}
-use Rattle.byte_unit_format.proofs.Suffix.{whole_below}
+use Rattle.byte_unit_format.proofs.UnitFraction.{whole_below}
 use Rattle.byte_unit_format.proofs.FewPlaces.{recovered_own, recovered_none, recovered_decimal, recovered_binary}
 use Rattle.byte_unit_format.proofs.FewPlaces.{number_of_units}
 use Rattle.byte_unit_format.proofs.thousandths.split.Goals as goal
@@ -29,7 +29,7 @@ returns-then-binary-power-clause-split c = λ kind.
     let found = c.in_thousands-whole in
     record {
       recovered = recovered_decimal kind c.args.places c.args.size c.requires.places
-          (omega (arith, c.if-binary-power.true)) found.ensures.few found.ensures.greatest
+          (omega (arith, c.if-binary-power.true)) found.ensures.bound found.ensures.greatest
           c.binary_power-binary.ensures.greatest c.if-binary-power.true;
       value = number_of_units kind c.args.size found.result.2 false found.result.0 found.result.1 found.ensures.value;
     }
@@ -44,7 +44,7 @@ pub returns-then-binary-gt0-clause-split : goal.returns-then-binary-gt0-clause-s
 returns-then-binary-gt0-clause-split c = λ kind.
     let twos = c.binary_power-binary.ensures in
     c.in_eighths.ensures.split kind c.args.places
-    (recovered_binary kind c.args.places c.args.size c.requires.places (omega (arith, c.if-binary-gt0.true)) twos.few
+    (recovered_binary kind c.args.places c.args.size c.requires.places (omega (arith, c.if-binary-gt0.true)) twos.bound
     twos.greatest
     (λ other fits. omega (arith, c.in_thousands-whole.ensures.greatest.greatest other fits, c.if-binary-power.false)))
 

@@ -3,7 +3,7 @@ use Rattle.std.proofs.Common.{◌≡◌, ◌+◌, ◌-◌, ◌<◌, ◌≤◌, �
 use Rattle.std.proofs.Common.{take, drop, length, length-append}
 use Rattle.std.proofs.lemmas.List.{length-take, length-drop}
 use Rattle.byte_unit_format.specs.WithDigits.{cut_digits}
-use Rattle.byte_unit_format.proofs.Suffix.{drop_known, named, written_over}
+use Rattle.byte_unit_format.proofs.UnitFraction.{drop_known, named, written_over}
 use Rattle.byte_unit_format.proofs.WithDigits.{text_at, front_at, take_kept, cut_some, cut_none, three_of}
 use Rattle.byte_unit_format.proofs.with_digits.put_decimal.Goals as goal
 use Rattle.byte_unit_format.proofs.with_digits.put_decimal.Goals.{then-used-cut, else-used-cut}

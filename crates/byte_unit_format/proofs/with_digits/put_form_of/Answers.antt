@@ -6,7 +6,7 @@ use Rattle.byte_unit_base.specs.Shape.{shape}
 use Rattle.byte_unit_base.proofs.Choosing.{own_number}
 use Rattle.byte_unit_format.specs.FewPlaces.{FitsPrefix}
 use Rattle.byte_unit_format.proofs.TextParts.{front_is}
-use Rattle.byte_unit_format.proofs.Suffix.{form_of_split, form_of_thousandths}
+use Rattle.byte_unit_format.proofs.UnitFraction.{form_of_split, form_of_thousandths}
 use Rattle.byte_unit_format.proofs.FewPlaces.{recovered_own, recovered_binary, recovered_decimal, number_of_units}
 use Rattle.byte_unit_format.proofs.WithDigits.{few_digits, found_power, cut_of_size, not_above_digits}
 use Rattle.byte_unit_format.proofs.with_digits.put_form_of.Goals as goal
@@ -26,7 +26,7 @@ pub overflow_sub-len : goal.overflow_sub-len
 overflow_sub-len c =
     let used = c.significant-used.ensures in
     let found = found_power c.requires.digits c.requires.len c.requires.small (omega (arith, c.if-most-eq0.false))
-    (assumption used) used.within refl in
+    (assumption used) used.bound refl in
     omega (arith, found.within, c.requires.len)
 
 pub in_eighths-whole-requires-clause-some : goal.in_eighths-whole-requires-clause-some
@@ -34,7 +34,7 @@ in_eighths-whole-requires-clause-some c = elim c.if-binary-most.branch [
   | then-binary-most+else-binary-power w ↦
       (let used = w.significant-used.ensures in
       let found = found_power {power = w.min-power.result} c.requires.digits c.requires.len c.requires.small
-      (omega (arith, c.if-most-eq0.false)) (assumption used) used.within (omega (arith, w.min-power.ensures)) in
+      (omega (arith, c.if-most-eq0.false)) (assumption used) used.bound (omega (arith, w.min-power.ensures)) in
       omega (arith, found.some, w.if-binary-power))
   | else-binary-most w ↦ omega (arith, c.if-most-eq0.false, w.if-binary-most)
 ]
@@ -43,7 +43,7 @@ pub put_decimal-requires-clause-known : goal.put_decimal-requires-clause-known
 put_decimal-requires-clause-known c =
     let used = c.significant-used.ensures in
     let found = found_power c.requires.digits c.requires.len c.requires.small (omega (arith, c.if-most-eq0.false))
-    (assumption used) used.within (omega (arith, c.min-power.ensures)) in
+    (assumption used) used.bound (omega (arith, c.min-power.ensures)) in
     found.known
 
 pub returns-then-binary-power-clause-form : goal.returns-then-binary-power-clause-form
@@ -53,7 +53,7 @@ returns-then-binary-power-clause-form c =
     let power = c.min-power.result in
     let used = c.significant-used.ensures in
     let found = found_power c.requires.digits c.requires.len c.requires.small (omega (arith, c.if-most-eq0.false))
-    (assumption used) used.within (omega (arith, c.min-power.ensures)) in
+    (assumption used) used.bound (omega (arith, c.min-power.ensures)) in
     let cut = cut_of_size size c.significant-used.result power found.some c.requires.small found.greatest.fits.not_above
     found.is_used (omega (arith, c.min-power.ensures, c.requires.len, found.within)) in
     rw (c.put_decimal.ensures.text, c.requires.digits, c.requires.len, cut.whole_is, cut.fraction_is)
@@ -74,7 +74,7 @@ returns-clause-form c =
       | then-binary-most+else-binary-power w ↦
           (let used = w.significant-used.ensures in
           let found = found_power {power = w.min-power.result} c.requires.digits c.requires.len c.requires.small
-          (omega (arith, c.if-most-eq0.false)) (assumption used) used.within (omega (arith, w.min-power.ensures)) in (
+          (omega (arith, c.if-most-eq0.false)) (assumption used) used.bound (omega (arith, w.min-power.ensures)) in (
             omega (arith, found.some, w.if-binary-power),
             λ other fits. omega (arith, found.greatest.greatest other fits, w.if-binary-power),
           ))
@@ -94,4 +94,4 @@ returns-clause-form c =
     rw (front_is _ _ c.put_split-2.ensures.bytes c.put_split-2.ensures.ends)
     (form_of_split kind size split.result.0 split.result.1 split.ensures.prefix
     (split.ensures.split kind 3
-    (recovered_binary kind 3 size (omega arith) not_less.0 twos.few twos.greatest not_less.1)))
+    (recovered_binary kind 3 size (omega arith) not_less.0 twos.bound twos.greatest not_less.1)))

@@ -3,7 +3,7 @@ use Rattle.std.proofs.Common.{◌≡◌, ◌≤◌, ◌+◌, ◌-◌, ◌++◌, 
 use Rattle.std.specs.Fmt.{decimal}
 use Rattle.std.proofs.Math.Seq.{take-append-add}
 use Rattle.std.proofs.lemmas.List.{take-append-le, length-take, length-drop}
-use Rattle.byte_unit_format.proofs.Suffix.{drop_known}
+use Rattle.byte_unit_format.proofs.UnitFraction.{drop_known}
 use Rattle.byte_unit_format.proofs.WithDigits.{text_at, front_at, take_kept, first_of_padded, padded_length}
 use Rattle.byte_unit_format.proofs.with_digits.put_with_digits.Goals as goal
 
@@ -18,7 +18,7 @@ returns-clause-text c =
     let written = c.put_form_of.new.out in
     let count = c.put_form_of.result in
     let len_is = c.put_padded_digits-len.ensures.len in
-    let few = c.put_padded_digits-len.ensures.few in
+    let few = c.put_padded_digits-len.ensures.bound in
     let array = c.put_padded_digits-len.new.digits in
     let digits = c.put_padded_digits-len.ensures.digits in
     let long : length array ≡ 32 = rw digits (padded_length size (omega (arith, len_is, few))) in

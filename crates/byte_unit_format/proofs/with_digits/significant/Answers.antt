@@ -64,8 +64,8 @@ last_is_used {vector} {used} bits i last long =
     div-eq_of_lt-le {k = 1} (2 ^ i) (omega (arith, bits.above, next)) (omega (arith, bits.below, next)) in
     λ same. grind (arith, nat_tests, bit_of vector i within, one, same)
 
-pub returns-clause-within : goal.returns-clause-within
-returns-clause-within c = (bits_of c.args.digits.now (omega (arith, c.told-digits))).few
+pub returns-clause-bound : goal.returns-clause-bound
+returns-clause-bound c = (bits_of c.args.digits.now (omega (arith, c.told-digits))).few
 
 pub returns-clause-zeros : goal.returns-clause-zeros
 returns-clause-zeros c = λ i behind within.

@@ -11,7 +11,7 @@ returns-in-Some-Ok-clause-ok g c =
     let reading = rw c.in-Some-Ok.field-0-is at c.in-Some-Ok.ensures in
     let end = c.write_with_digits-end in
     let text = rw c.as_u128.ensures.number at end.ensures.text in
-    let room : end.result < length end.new.out = omega (arith, end.ensures.narrow, end.auto.out) in
+    let room : end.result < length end.new.out = omega (arith, end.ensures.bound, end.auto.out) in
     AddsAnswer-if_ok Bit line c.extend_from_slice.result c.args.out.now.items _ c.extend_from_slice.new.self.items
     (answer_with_size line _ _ reading.0 reading.1.found text room) c.extend_from_slice.ensures.items
 

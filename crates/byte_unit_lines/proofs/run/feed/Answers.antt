@@ -4,7 +4,7 @@ use Rattle.std.proofs.Common.{◌+◌, ◌-◌, ◌++◌, ◌≡◌, length, tak
 use Rattle.std.specs.Prelude.{vec_capacity}
 use Rattle.std.proofs.lemmas.List.{take_all, take_rest}
 use Rattle.byte_unit_lines.proofs.Feeding.{Feed, IsAnsweredTo, AddsAnswer-same, IsFed-step, IsFedWithin}
-use Rattle.byte_unit_stream.proofs.Parts.{empty_from_length}
+use Rattle.byte_unit_stream.proofs.ChunkRecords.{empty_from_length}
 use Rattle.byte_unit_lines.proofs.run.feed.Goals.{then-is_empty+in_ok-add_answer}
 use Rattle.byte_unit_lines.proofs.run.feed.Goals.{else-is_empty+in_ok-extend_from_slice+in_ok-add_answer-2}
 use Rattle.byte_unit_lines.proofs.run.feed.Goals as goal

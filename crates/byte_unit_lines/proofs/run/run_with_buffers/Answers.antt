@@ -15,7 +15,7 @@ use Rattle.byte_unit_stream.specs.Chunks.{begun_record}
 use Rattle.byte_unit_stream.proofs.Bytes.{Consumes-at_end, IsWrittenBy}
 use Rattle.byte_unit_stream.proofs.Longest.{longest_of-ended_records-append, longest_record-unfinished}
 use Rattle.byte_unit_stream.proofs.Longest.{longest_record-below}
-use Rattle.byte_unit_stream.proofs.Parts.{begun_record-append, empty_from_length, nonempty_from_length}
+use Rattle.byte_unit_stream.proofs.ChunkRecords.{begun_record-append, empty_from_length, nonempty_from_length}
 use Rattle.byte_unit_lines.proofs.run.run_with_buffers.Goals as goal
 
 pub returns-in-None-clause-run : goal.returns-in-None-clause-run

@@ -47,5 +47,5 @@ returns-clause-powers c =
     let none = no_five (goal.at.returns-clause-powers c).Joined-left in
     record { left = c.if-left.left; product = off.product; odd = off.odd; no_five = none }
 
-pub returns-clause-few : goal.returns-clause-few
-returns-clause-few c = omega (arith, few (goal.at.returns-clause-few c).Joined-left)
+pub returns-clause-bound : goal.returns-clause-bound
+returns-clause-bound c = omega (arith, few (goal.at.returns-clause-bound c).Joined-left)

@@ -20,7 +20,7 @@ returns-clause-digits c =
     let short = few_30 n c.requires in
     let length_is : count - c.decimal_len-len-2.result + 32 - (count - c.decimal_len-len-2.result) ≡ 32 = omega arith in
     let both : 32 ≡ length (decimal n) + (32 - length (decimal n)) = omega (arith, short) in
-    let zeros = take-replicate {X = ℕ} (32 - length (decimal n)) (48 - count) 48 (omega (arith, all.few, short)) in
+    let zeros = take-replicate {X = ℕ} (32 - length (decimal n)) (48 - count) 48 (omega (arith, all.bound, short)) in
     c.copy_from_slice.ensures.after
     ∙ rw (length_is, c.decimal_len-len-2.ensures.exact, all.digits)
     (ap (λ k. take k (decimal n ++ replicate (48 - count) 48)) both

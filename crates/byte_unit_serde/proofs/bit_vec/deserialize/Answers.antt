@@ -5,7 +5,7 @@ use Rattle.serde.specs.Steps.{Stays}
 use Rattle.byte_unit.specs.Accepted.{IsAccepted}
 use Rattle.byte_unit.specs.declared.Kind.TheVariants.{Bit as InBits}
 use Rattle.byte_unit_serde.specs.Outcomes.{ReadingSize}
-use Rattle.byte_unit_serde.specs.Stored.{ReadsEach}
+use Rattle.byte_unit_serde.specs.Serialized.{ReadsEach}
 use Rattle.byte_unit_serde.proofs.Reading.{reads_each_snoc, next_error, item_error, append_error, holds_of_error}
 use Rattle.byte_unit_serde.proofs.bit_vec.deserialize.Goals as goal
 

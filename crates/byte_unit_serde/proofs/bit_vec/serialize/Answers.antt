@@ -5,7 +5,7 @@ use Rattle.std.proofs.lemmas.Result.{on_ok_weaker}
 use Rattle.serde.proofs.Events.{WritesEach-more, WritesSeq-ends}
 use Rattle.byte_unit.specs.declared.Kind.TheVariants.{Bit as InBits}
 use Rattle.byte_unit_serde.specs.Outcomes.{WritingSize}
-use Rattle.byte_unit_serde.specs.Stored.{WritesSize}
+use Rattle.byte_unit_serde.specs.Serialized.{WritesSize}
 use Rattle.byte_unit_serde.proofs.Writing.{Continues, continues_more, continues_error, continues_end, drop_value}
 use Rattle.byte_unit_serde.proofs.bit_vec.serialize.Goals as goal
 

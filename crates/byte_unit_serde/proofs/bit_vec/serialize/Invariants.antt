@@ -4,7 +4,7 @@ use Rattle.std.proofs.Common.{take, drop}
 use Rattle.serde.specs.Event.{WritesEach}
 use Rattle.byte_unit.specs.declared.Kind.TheVariants.{Bit as InBits}
 use Rattle.byte_unit_serde.specs.Outcomes.{WritingSize}
-use Rattle.byte_unit_serde.specs.Stored.{WritesSize}
+use Rattle.byte_unit_serde.specs.Serialized.{WritesSize}
 use Rattle.byte_unit_serde.proofs.Writing.{Continues}
 use Rattle.byte_unit_serde.proofs.bit_vec.serialize.Given as goal
 

@@ -4,7 +4,7 @@ use Rattle.serde.specs.Steps.{Stays}
 use Rattle.byte_unit.specs.Accepted.{IsAccepted}
 use Rattle.byte_unit.specs.declared.Kind.TheVariants.{Byte as InBytes}
 use Rattle.byte_unit_serde.specs.Outcomes.{ReadingSize}
-use Rattle.byte_unit_serde.specs.Stored.{ReadsEach}
+use Rattle.byte_unit_serde.specs.Serialized.{ReadsEach}
 use Rattle.byte_unit_serde.proofs.Reading.{reads_each_snoc, next_error, item_error, append_error, holds_of_error}
 use Rattle.byte_unit_serde.proofs.byte_vec.deserialize.Goals as goal
 

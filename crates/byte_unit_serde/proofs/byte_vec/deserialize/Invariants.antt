@@ -2,7 +2,7 @@
 use Rattle.std.proofs.Common.{false, ◌-◌, ◌^◌, length}
 use Rattle.byte_unit.specs.Accepted.{IsAccepted}
 use Rattle.byte_unit.specs.declared.Kind.TheVariants.{Byte as InBytes}
-use Rattle.byte_unit_serde.specs.Stored.{ReadsEach}
+use Rattle.byte_unit_serde.specs.Serialized.{ReadsEach}
 use Rattle.byte_unit_serde.proofs.byte_vec.deserialize.Given as goal
 
 abbrev pub invariant-loop-alloc : goal.invariant-loop-alloc

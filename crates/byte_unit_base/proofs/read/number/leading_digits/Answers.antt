@@ -17,9 +17,9 @@ so_far c =
           let count = w.up_to_eight-count in
           let many : 8 ≤ length c.args.bytes.now - from = omega (arith, w.if-bytes-from-ge8) in
           let found = (digits_of_word line c.args.bytes.now from _ _ _ c.requires.line c.requires.from many
-          (λ k. (c.type_inv.bytes k).fits) w.load_eight.ensures count.ensures.few count.ensures.read).0 in
+          (λ k. (c.type_inv.bytes k).fits) w.load_eight.ensures count.ensures.bound count.ensures.read).0 in
           let end : from + count.result.0 ≡ c.if-bytes-from-ge8.start =
-          omega (arith, w.start-is, w.if-count-lt8, count.ensures.few) in
+          omega (arith, w.start-is, w.if-count-lt8, count.ensures.bound) in
           subst (λ end. HasDigits line from end c.if-bytes-from-ge8.value) end
           (subst (λ value. HasDigits line from (from + count.result.0) value) (sym w.value-is) found)
       | else-bytes-from-ge8 w ↦
@@ -31,11 +31,12 @@ pub returns-then-count-lt8 : goal.returns-then-count-lt8
 returns-then-count-lt8 c =
     let count = c.up_to_eight-count in
     let found = digits_of_word c.args.line.now c.args.bytes.now c.args.from _ _ _ c.requires.line c.requires.from
-    c.if-bytes-from-ge8.true (λ k. (c.type_inv.bytes k).fits) c.load_eight.ensures count.ensures.few count.ensures.read in
+    c.if-bytes-from-ge8.true (λ k. (c.type_inv.bytes k).fits) c.load_eight.ensures count.ensures.bound
+    count.ensures.read in
     let fits : count.result.1 < 2 ^ 64 = omega arith in
     record {
       end = omega (arith, found.1 c.if-count-lt8.true);
-      within = found.0.within;
+      bound = found.0.within;
       value = omega (arith, found.0.value_is, fits);
     }
 

@@ -11,4 +11,4 @@ returns-in-Err-read_unit c =
     let spaces = c.leading_spaces in
     let stop = c.in-Err-read_unit.stop in
     stops_in_unit c.args.flags line _ c.in-Ok.found.1 end spaces.result stop.1 stop.0 c.in-Ok.ensures
-    (sym (take_rest line end)) spaces.ensures.within spaces.ensures.spaces spaces.ensures.all c.in-Err-read_unit.ensures
+    (sym (take_rest line end)) spaces.ensures.bound spaces.ensures.spaces spaces.ensures.all c.in-Err-read_unit.ensures

@@ -40,5 +40,5 @@ returns-clause-letters c =
     rw (same, lower_is 98 tt w, lower_is 105 tt (w / 256), lower_is 116 tt (w / 256 / 256))
     (rw (lower_is 115 tt (w / 256 / 256 / 256), lower_is 0 tt (w / 256 / 256 / 256 / 256)) (zeros_are _ _ _ _ _ _ _))
 
-pub returns-clause-few : goal.returns-clause-few
-returns-clause-few c = grind (arith, returns-clause-letters c)
+pub returns-clause-bound : goal.returns-clause-bound
+returns-clause-bound c = grind (arith, returns-clause-letters c)

@@ -3,10 +3,10 @@ use Rattle.std.proofs.Common.{refl, sym, subst, ◌∙◌, []}
 use Rattle.std.specs.Io.KnownBytes.{Appends}
 use Rattle.std.proofs.KnownBytes.{Appends-nil}
 use Rattle.byte_unit_stream.specs.Prefix.{IsPrefix}
-use Rattle.byte_unit_command.specs.Progress.{State, idle, messages_of, state_of}
+use Rattle.byte_unit_command.specs.RunState.{State, idle, messages_of, state_of}
 use Rattle.byte_unit_stream.specs.Chunks.{ended_records}
 use Rattle.byte_unit_stream.specs.Streams.{writer_of, writing_failed}
-use Rattle.byte_unit_command.specs.declared.stop.Stop.TheVariants.{Read, Total}
+use Rattle.byte_unit_command.specs.declared.error.RunError.TheVariants.{Read, Total}
 use Rattle.byte_unit_command.proofs.Answering.{HasFed-from_empty, IsAnswered-fed, IsAnswered-failed, fed-not_total}
 use Rattle.byte_unit_command.proofs.Answering.{fed-not_read}
 use Rattle.byte_unit_command.proofs.Answering.{fed-not_write, write_is_not_total, write_is_not_read}
@@ -22,7 +22,7 @@ returns-in_err-write_whole-clause-written g c =
     let before : State = state_of c.args.self.now.converter in
     let new : State = state_of call.new.self.converter in
     let fed = HasFed-from_empty options records before new call.result c.requires.empty c.requires.untold
-    call.ensures.ok call.ensures.stop in
+    call.ensures.ok call.ensures.error in
     let failed = c.in_err-write_whole in
     let written = failed.ensures.err in
     let begins : IsPrefix written.0 new.out = subst (IsPrefix written.0) c.deref.ensures.value written.2 in (
@@ -57,7 +57,7 @@ returns-clause-written g c =
     let before : State = state_of c.args.self.now.converter in
     let new : State = state_of call.new.self.converter in
     let fed = HasFed-from_empty options records before new call.result c.requires.empty c.requires.untold
-    call.ensures.ok call.ensures.stop in
+    call.ensures.ok call.ensures.error in
     let held = g.W.Write.contents (writer_of c.args.writer.now) in
     let holds = g.W.Write.contents (writer_of c.write_whole.new.writer) in
     let wrote = subst (Appends held holds) c.deref.ensures.value c.in_ok-write_whole.ensures.ok in
@@ -74,7 +74,7 @@ returns-clause-failed g c = λ is.
     let before : State = state_of c.args.self.now.converter in
     let new : State = state_of call.new.self.converter in
     let fed = HasFed-from_empty options records before new call.result c.requires.empty c.requires.untold
-    call.ensures.ok call.ensures.stop in
+    call.ensures.ok call.ensures.error in
     absurd (fed-not_write options records (idle before) new call.result fed is)
 
 pub returns-clause-no_total : goal.returns-clause-no_total
@@ -85,7 +85,7 @@ returns-clause-no_total g c =
     let before : State = state_of c.args.self.now.converter in
     let new : State = state_of call.new.self.converter in
     let fed = HasFed-from_empty options records before new call.result c.requires.empty c.requires.untold
-    call.ensures.ok call.ensures.stop in
+    call.ensures.ok call.ensures.error in
     fed-not_total options records (idle before) new call.result fed
 
 pub returns-clause-no_read : goal.returns-clause-no_read
@@ -96,5 +96,5 @@ returns-clause-no_read g c =
     let before : State = state_of c.args.self.now.converter in
     let new : State = state_of call.new.self.converter in
     let fed = HasFed-from_empty options records before new call.result c.requires.empty c.requires.untold
-    call.ensures.ok call.ensures.stop in
+    call.ensures.ok call.ensures.error in
     fed-not_read options records (idle before) new call.result fed

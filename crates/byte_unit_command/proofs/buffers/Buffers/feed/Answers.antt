@@ -4,9 +4,9 @@ use Rattle.std.proofs.Common.{true≢false, ◌≡◌, ◌+◌, ◌-◌, ◌++�
 use Rattle.std.proofs.Common.{vec_len}
 use Rattle.std.proofs.Common.{Err, arith, length-drop}
 use Rattle.std.proofs.lemmas.List.{take_rest, length-take-le}
-use Rattle.byte_unit_command.specs.Progress.{AddsRecords, messages_of}
+use Rattle.byte_unit_command.specs.RunState.{AddsRecords, messages_of}
 use Rattle.byte_unit_command.proofs.Rooms.{IsFedWithin, IsFedWithin-fits, feed_room, feed_len-step}
-use Rattle.byte_unit_command.proofs.Feeding.{IsFed, IsNext, IsFed-start, IsFed-step, IsNext-untold, Stops-record}
+use Rattle.byte_unit_command.proofs.Feeding.{IsFed, IsNext, IsFed-start, IsFed-step, IsNext-untold, EndsEarly-record}
 use Rattle.byte_unit_command.proofs.Feeding.{empty_from_length, feed_of, part_capacity, part_in, part_len, state_in}
 use Rattle.byte_unit_command.proofs.Feeding.{waiting_capacity, waiting_len}
 use Rattle.byte_unit_command.proofs.Results.{IfErr-passed}
@@ -14,8 +14,8 @@ use Rattle.byte_unit_command.proofs.buffers.Buffers.feed.Goals.{then-is_empty+in
 use Rattle.byte_unit_command.proofs.buffers.Buffers.feed.Goals.{else-is_empty+in_ok-extend_from_slice+in_ok-add_record-2}
 use Rattle.byte_unit_command.proofs.buffers.Buffers.feed.Goals as goal
 
-pub returns-in_err-add_record-clause-stop : goal.returns-in_err-add_record-clause-stop
-returns-in_err-add_record-clause-stop g c =
+pub returns-in_err-add_record-clause-error : goal.returns-in_err-add_record-clause-error
+returns-in_err-add_record-clause-error g c =
     let options = c.args.options.now in
     let rest = c.loop-n.rest.now in
     let place = c.in-Some.n in
@@ -28,13 +28,13 @@ returns-in_err-add_record-clause-stop g c =
     let failed = c.in_err-add_record in
     let error = failed.field-0.0 in
     IfErr-passed _ c.from_residual.result error c.from_residual.ensures.1
-    (Stops-record options start now place (take place rest) c.loop-n.invariant.0 next
+    (EndsEarly-record options start now place (take place rest) c.loop-n.invariant.0 next
     c.add_record.new.self.waiting.items
-    (messages_of c.add_record.new.self.notices) (sym failed.ensures.err) error failed.ensures.stop
+    (messages_of c.add_record.new.self.notices) (sym failed.ensures.err) error failed.ensures.error
     (λ is. failed.ensures.memory (ap Err is)) (λ is. failed.ensures.rejected (ap Err is)))
 
-pub returns-in_err-add_record-2-clause-stop : goal.returns-in_err-add_record-2-clause-stop
-returns-in_err-add_record-2-clause-stop g c =
+pub returns-in_err-add_record-2-clause-error : goal.returns-in_err-add_record-2-clause-error
+returns-in_err-add_record-2-clause-error g c =
     let options = c.args.options.now in
     let rest = c.loop-n.rest.now in
     let place = c.in-Some.n in
@@ -50,9 +50,9 @@ returns-in_err-add_record-2-clause-stop g c =
     let failed = c.in_err-add_record-2 in
     let error = failed.field-0.0 in
     IfErr-passed _ c.from_residual-in_err-add_record-2.result error c.from_residual-in_err-add_record-2.ensures.1
-    (Stops-record options start now place bytes c.loop-n.invariant.0 next
+    (EndsEarly-record options start now place bytes c.loop-n.invariant.0 next
     c.add_record-else-is_empty.new.self.waiting.items
-    (messages_of c.add_record-else-is_empty.new.self.notices) (sym failed.ensures.err) error failed.ensures.stop
+    (messages_of c.add_record-else-is_empty.new.self.notices) (sym failed.ensures.err) error failed.ensures.error
     (λ is. failed.ensures.memory (ap Err is)) (λ is. failed.ensures.rejected (ap Err is)))
 
 pub loop-n-init : goal.loop-n-init

@@ -1,6 +1,6 @@
 -- A field that is not chosen is copied.
 use Rattle.std.proofs.Common.{List, ℕ, ap}
-use Rattle.byte_unit_command.specs.Progress.{State, state_of}
+use Rattle.byte_unit_command.specs.RunState.{State, state_of}
 use Rattle.byte_unit_command.proofs.Converting.{AddsField-other}
 use Rattle.byte_unit_command.proofs.converter.Converter.add_field.Goals as goal
 

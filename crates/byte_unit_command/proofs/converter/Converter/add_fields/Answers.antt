@@ -2,7 +2,7 @@
 use Rattle.std.proofs.Common.{[], length, subst, arith}
 use Rattle.byte_unit_command.specs.Fields.{fields_of}
 use Rattle.byte_unit_command.specs.Messages.{AreMessagesOfFields}
-use Rattle.byte_unit_command.specs.Progress.{State, messages_of, state_of}
+use Rattle.byte_unit_command.specs.RunState.{State, messages_of, state_of}
 use Rattle.byte_unit_command.proofs.Converting.{AddsFields-whole, Aborts-whole}
 use Rattle.byte_unit_command.proofs.Results.{OnOk-map}
 use Rattle.byte_unit_command.proofs.Rooms.{fields_room-whole}

@@ -2,7 +2,7 @@
 use Rattle.std.proofs.Common.{◌≡◌, ◌∷◌, ℕ, Bool, false, true≢false, List, [], ◌++◌, Some, sym, ap, subst, ◌∙◌}
 use Rattle.std.proofs.Common.{append-nil}
 use Rattle.byte_unit_command.specs.Messages.{AreLimitMessages}
-use Rattle.byte_unit_command.specs.Progress.{State, messages_of, state_of}
+use Rattle.byte_unit_command.specs.RunState.{State, messages_of, state_of}
 use Rattle.byte_unit_command.proofs.Converting.{messages_in, AddsField-size, AreLimitMessages-none, after-is}
 use Rattle.byte_unit_stream.proofs.Prefixes.{IsPrefix-self, IsPrefix-same}
 use Rattle.byte_unit_command.proofs.Untold.{within-untold}

@@ -1,7 +1,7 @@
 -- Without a last record, nothing is appended.
 use Rattle.std.proofs.Common.{List, ℕ, subst, sym, arith}
 use Rattle.std.proofs.lemmas.List.{nil_from_length}
-use Rattle.byte_unit_command.specs.Progress.{AddsRecords, State, state_of}
+use Rattle.byte_unit_command.specs.RunState.{AddsRecords, State, state_of}
 use Rattle.byte_unit_stream.specs.Chunks.{nonempty_record}
 use Rattle.byte_unit_command.proofs.Converting.{AddsRecords-none}
 use Rattle.byte_unit_command.proofs.converter.Converter.add_last.Goals as goal

@@ -1,8 +1,8 @@
 -- After an error, truncating leaves what was there before, since it is a prefix of what is there then. The messages stay
 -- if a field was rejected.
 use Rattle.std.proofs.Common.{◌≢◌, Err, take, refl, sym, ap, subst, ◌∙◌, arith}
-use Rattle.byte_unit_command.specs.Progress.{Aborts, at_next, messages_of, state_of}
-use Rattle.byte_unit_command.specs.declared.stop.Stop.TheVariants.{Memory, Rejected}
+use Rattle.byte_unit_command.specs.RunState.{Aborts, at_next, messages_of, state_of}
+use Rattle.byte_unit_command.specs.declared.error.RunError.TheVariants.{Memory, Rejected}
 use Rattle.byte_unit_stream.proofs.Prefixes.{take-IsPrefix}
 use Rattle.byte_unit_command.proofs.Results.{error-passed}
 use Rattle.byte_unit_command.proofs.converter.Converter.add_record.Goals as goal
@@ -22,13 +22,13 @@ pub returns-in-Err-clause-memory : goal.returns-in-Err-clause-memory
 returns-in-Err-clause-memory g c = λ is.
     let before = messages_of c.args.self.now.notices in
     let after = messages_of c.append_record.new.self.notices in
-    let stop = error-passed (Err c.in-Err.stop) c.in-Err.stop Memory refl is in
-    c.undo.ensures.memory stop ∙ ap (λ count. take count after) c.len-messages.ensures
+    let error = error-passed (Err c.in-Err.error) c.in-Err.error Memory refl is in
+    c.undo.ensures.memory error ∙ ap (λ count. take count after) c.len-messages.ensures
     ∙ take-IsPrefix before after c.in-Err.ensures.kept_messages
 
 pub returns-in-Err-clause-rejected : goal.returns-in-Err-clause-rejected
 returns-in-Err-clause-rejected g c = λ is.
-    let stop = error-passed (Err c.in-Err.stop) c.in-Err.stop Rejected refl is in
-    let same = c.undo.ensures.other (λ memory. rejected_is_not_memory (sym stop ∙ memory)) in
+    let error = error-passed (Err c.in-Err.error) c.in-Err.error Rejected refl is in
+    let same = c.undo.ensures.other (λ memory. rejected_is_not_memory (sym error ∙ memory)) in
     let at = c.in-Err.ensures.rejected is in
     (at.0, subst (Aborts c.args.options.now c.args.bytes.now (at_next (state_of c.args.self.now))) (sym same) at.1)

@@ -1,7 +1,7 @@
 -- A field that is not a size adds a copy of itself, and a message about it.
 use Rattle.std.proofs.Common.{true≢false, ap, sym, ◌∙◌, arith}
 use Rattle.byte_unit_command.specs.Messages.{tells_rejected}
-use Rattle.byte_unit_command.specs.Progress.{State, messages_of, state_of}
+use Rattle.byte_unit_command.specs.RunState.{State, messages_of, state_of}
 use Rattle.byte_unit_command.proofs.Converting.{AddsField-rejected}
 use Rattle.byte_unit_command.proofs.Untold.{ignored-untold}
 use Rattle.byte_unit_command.proofs.converter.Converter.add_rejected.Goals as goal

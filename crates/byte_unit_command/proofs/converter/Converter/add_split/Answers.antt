@@ -7,8 +7,8 @@ use Rattle.std.proofs.lemmas.List.{take_rest, length-take-le}
 use Rattle.byte_unit_command.specs.Capacity.{text_room}
 use Rattle.byte_unit_command.specs.Fields.{fields_of}
 use Rattle.byte_unit_command.specs.Messages.{AreMessagesOfFields}
-use Rattle.byte_unit_command.specs.Progress.{AddsFields, State, messages_of, state_of}
-use Rattle.byte_unit_command.specs.declared.stop.Stop.TheVariants.{Rejected}
+use Rattle.byte_unit_command.specs.RunState.{AddsFields, State, messages_of, state_of}
+use Rattle.byte_unit_command.specs.declared.error.RunError.TheVariants.{Rejected}
 use Rattle.byte_unit_command.proofs.Results.{OnOk-map, error-passed}
 use Rattle.byte_unit_stream.specs.Records.{parts}
 use Rattle.byte_unit_stream.proofs.Ends.{parts-EndsAt, parts-IsUnbroken}

@@ -1,6 +1,6 @@
 -- The fields before the rest were added, within their room; the rest gets shorter.
 use Rattle.std.proofs.Common.{length}
-use Rattle.byte_unit_command.specs.Progress.{state_of}
+use Rattle.byte_unit_command.specs.RunState.{state_of}
 use Rattle.byte_unit_command.proofs.Rooms.{IsSplitWithin}
 use Rattle.byte_unit_command.proofs.Splitting.{IsSplitting}
 use Rattle.byte_unit_command.proofs.converter.Converter.add_split.Given as goal

@@ -1,6 +1,6 @@
 -- A header record is copied, and the fields of any other are added; the end byte follows.
 use Rattle.std.proofs.Common.{◌≡◌, ◌-◌, ◌++◌, ◌∷◌, [], List, ℕ, suc, ap, subst, ◌∙◌, arith}
-use Rattle.byte_unit_command.specs.Progress.{AddsFields, State, messages_of, state_of}
+use Rattle.byte_unit_command.specs.RunState.{AddsFields, State, messages_of, state_of}
 use Rattle.byte_unit_command.proofs.Converting.{messages_in, AddsRecords-header, AddsRecords-fields}
 use Rattle.byte_unit_stream.proofs.Prefixes.{IsPrefix-self, IsPrefix-same}
 use Rattle.byte_unit_command.proofs.converter.Converter.append_record.Goals.{then-self-gt0+in_ok-extend_from_slice}

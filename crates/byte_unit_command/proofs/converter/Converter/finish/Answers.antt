@@ -1,10 +1,10 @@
 -- What is written and told at the end is right for each result: with and without a total, and if a write fails.
 use Rattle.std.proofs.Common.{◌≡◌, true, false, rules, subst, ap, ◌∙◌, ◌∷◌, Err, List, ℕ, []}
-use Rattle.byte_unit_command.specs.Progress.{Aborts, State, at_next, idle, messages_of, state_of}
+use Rattle.byte_unit_command.specs.RunState.{Aborts, State, at_next, idle, messages_of, state_of}
 use Rattle.byte_unit_stream.specs.Chunks.{nonempty_record}
 use Rattle.byte_unit_command.proofs.Finishing.{AddsRecords-idle, IsFinished-total_ok, IsFinished-total_error}
 use Rattle.byte_unit_command.proofs.Finishing.{IsFinished-plain_ok}
-use Rattle.byte_unit_command.proofs.Finishing.{IsFinished-plain_error, IsFinished-stopped, IsFinished-error}
+use Rattle.byte_unit_command.proofs.Finishing.{IsFinished-plain_error, IsFinished-early, IsFinished-error}
 use Rattle.byte_unit_stream.specs.Prefix.{IsPrefix}
 use Rattle.byte_unit_stream.specs.Streams.{writer_of}
 use Rattle.std.specs.Io.KnownBytes.{Appends}
@@ -21,13 +21,13 @@ returns-in_err-added-clause-written g c =
     let failed = c.in_err-added in
     let error = failed.field-0.0 in
     let told = c.tell.ensures.told in
-    let Stopped : List ℕ → List ℕ → Type 0 = λ out told. (old.header ≡ 0)
+    let EndedEarly : List ℕ → List ℕ → Type 0 = λ out told. (old.header ≡ 0)
     × Aborts options part (at_next (record before { out = out; messages = told })) messages
     × (nonempty_record part ≡ part ∷ []) in
-    let at = IsFinished-stopped options part old messages error failed.ensures.stop
+    let at = IsFinished-early options part old messages error failed.ensures.error
     (λ is. failed.ensures.memory (ap Err is) ∙ c.requires.untold)
-    (λ is. subst (λ out. Stopped out []) c.requires.empty
-    (subst (Stopped before.out) c.requires.untold (failed.ensures.rejected (ap Err is)))) in (
+    (λ is. subst (λ out. EndedEarly out []) c.requires.empty
+    (subst (EndedEarly before.out) c.requires.untold (failed.ensures.rejected (ap Err is)))) in (
       [],
       messages,
       told.0,

@@ -1,9 +1,9 @@
 -- The digits are written, and the space and the name over what is left of their four bytes.
 use Rattle.std.proofs.Common.{◌≡◌, ◌+◌, ◌∷◌, [], ◌++◌, true, false, refl, ap, subst, arith, ◌∙◌, drop}
-use Rattle.byte_unit_format.specs.Suffix.{thousandths_text, HasPrefix}
-use Rattle.byte_unit_format.proofs.Suffix.{drop_known, named, written_over}
-use Rattle.byte_unit_format.proofs.alternate.put_suffix.Goals as goal
-use Rattle.byte_unit_format.proofs.alternate.put_suffix.Goals.{then-len-gt0, else-len-gt0}
+use Rattle.byte_unit_format.specs.UnitFraction.{thousandths_text, HasPrefix}
+use Rattle.byte_unit_format.proofs.UnitFraction.{drop_known, named, written_over}
+use Rattle.byte_unit_format.proofs.alternate.put_unit_fraction.Goals as goal
+use Rattle.byte_unit_format.proofs.alternate.put_unit_fraction.Goals.{then-len-gt0, else-len-gt0}
 
 pub returns-in-Eighths-clause-bytes : goal.returns-in-Eighths-clause-bytes
 returns-in-Eighths-clause-bytes c =
@@ -12,7 +12,7 @@ returns-in-Eighths-clause-bytes c =
     let known = subst HasPrefix c.in-Eighths.is c.requires.prefix in
     rw (c.in-Eighths.is, ← named c.args.kind c.in-Eighths.power true known.1 c.prefix_letter.ensures c.own_letter-own.ensures)
     (written_over c.args.out.now c.put-end.new.out c.put-in-Eighths.new.out written.result.0 _ c.args.point
-    written.result.1 _ written.ensures.four written.ensures.few (omega arith) written.ensures.text
+    written.result.1 _ written.ensures.four written.ensures.bound (omega arith) written.ensures.text
     (omega (arith, c.put-end.ensures.begins, written.ensures.four)) c.put-end.ensures.bytes (omega (arith, name.begins))
     name.before name.bytes)
 
@@ -33,7 +33,7 @@ returns-after-len-gt0-clause-bytes c =
           (let digits = w.put-then-len-gt0.ensures in
           let bytes = ap (λ list. drop w.put-then-len-gt0.result list) w.out-is ∙ digits.bytes in
           written_over old c.if-len-gt0.out new written.result.0 letters point written.result.1 end four
-          written.ensures.few (omega (arith, w.if-len-gt0)) written.ensures.text
+          written.ensures.bound (omega (arith, w.if-len-gt0)) written.ensures.text
           (omega (arith, digits.begins, four)) bytes (omega (arith, name.begins)) name.before name.bytes)
       | else-len-gt0 w ↦
           (let none : written.result.1 ≡ 0 = omega (arith, w.if-len-gt0) in

@@ -17,8 +17,8 @@ use Rattle.byte_unit_command.specs.declared.notice.Notices.{Notices}
 use Rattle.byte_unit_command.specs.declared.options.Invalid.TheVariants.{Abort}
 use Rattle.byte_unit_command.specs.declared.options.Options.{Options}
 use Rattle.byte_unit_command.specs.declared.converter.Converter.{Converter}
-use Rattle.byte_unit_command.specs.declared.stop.Stop.{Stop}
-use Rattle.byte_unit_command.specs.declared.stop.Stop.TheVariants.{Memory, Read, Write, Rejected, Total}
+use Rattle.byte_unit_command.specs.declared.error.RunError.{RunError}
+use Rattle.byte_unit_command.specs.declared.error.RunError.TheVariants.{Memory, Read, Write, Rejected, Total}
 use Rattle.byte_unit_command.specs.declared.tally.Tally.{Tally}
 use Rattle.byte_unit_stream.specs.Chunks.{nonempty_record}
 
@@ -159,25 +159,25 @@ pub record AddsRecords (options : Options) (records : List (List ℕ)) (old new 
 -- what a call that converts these records leaves appended if it stops: the texts of some first ones of them if it is
 -- out of memory; or those of the records before the one that has a rejected field, in the mode `abort`. And so for the
 -- messages, with those up to the rejected field
-abbrev pub Stops : Options → List (List ℕ) → State → Stop → List ℕ → List ℕ → Type 0
-Stops options records old Memory out messages =
+abbrev pub EndsEarly : Options → List (List ℕ) → State → RunError → List ℕ → List ℕ → Type 0
+EndsEarly options records old Memory out messages =
     (first : List (List ℕ)) × (new : State) × IsPrefix first records
     × AddsRecords options first old new × (new.out ≡ out) × (new.messages ≡ messages)
-Stops options records old Rejected out messages =
+EndsEarly options records old Rejected out messages =
     (before after : List (List ℕ)) × (bytes : List ℕ) × (new : State) × (records ≡ before ++ bytes ∷ after)
     × AddsRecords options before old new × (new.out ≡ out) × (new.header ≡ 0)
     × Aborts options bytes (at_next new) messages
-Stops options records old _ out messages = ⊥
+EndsEarly options records old _ out messages = ⊥
 
 -- what a call has written that converts these records, reads nothing and returns this result, and the messages that it
 -- tells: nothing was to be written or told before
-abbrev pub IsAnswered : Options → List (List ℕ) → State → State → Result ⊤ Stop → List ℕ → List ℕ → Type 0
+abbrev pub IsAnswered : Options → List (List ℕ) → State → State → Result ⊤ RunError → List ℕ → List ℕ → Type 0
 IsAnswered options records old new (Ok _) written messages =
     AddsRecords options records old (record new { out = written; messages = messages })
 IsAnswered options records old new (Err Write) written messages =
     ((first : List (List ℕ)) × (whole : State) × IsPrefix first records × AddsRecords options first old whole
     × IsPrefix written whole.out) × (messages ≡ [])
-IsAnswered options records old new (Err stop) written messages = Stops options records old stop written messages
+IsAnswered options records old new (Err error) written messages = EndsEarly options records old error written messages
 
 -- from one state of standard error to another one, this was told of these messages: nothing if a write had failed
 -- before; a prefix if a write fails; and else all of them
@@ -192,7 +192,7 @@ IsTotalFor options total line =
     (shown : List ℕ) × (total < size_limit) × IsShown options total shown × (line ≡ shown ++ options.output_end ∷ [])
 
 -- what a call has written that writes these bytes and then the total
-abbrev pub IsTotalWritten : Options → ℕ → List ℕ → Result ⊤ Stop → List ℕ → Type 0
+abbrev pub IsTotalWritten : Options → ℕ → List ℕ → Result ⊤ RunError → List ℕ → Type 0
 IsTotalWritten options total before (Ok _) written =
     (line : List ℕ) × IsTotalFor options total line × (written ≡ before ++ line)
 IsTotalWritten options total before (Err Memory) written = written ≡ []
@@ -203,7 +203,7 @@ IsTotalWritten options total before (Err _) written = ⊥
 
 -- what a call has written that converts the last record, if there is one, and then writes the total, if it is asked
 -- for, and the messages that it tells. Nothing was to be written or told before
-abbrev pub IsFinished : Options → List ℕ → State → Result Tally Stop → List ℕ → List ℕ → Type 0
+abbrev pub IsFinished : Options → List ℕ → State → Result Tally RunError → List ℕ → List ℕ → Type 0
 IsFinished options part old (Ok tally) written messages =
     (new : State) × (line : List ℕ) × AddsRecords options (nonempty_record part) old new × (tally ≡ new.tally)
     × MatchBool options.total (IsTotalFor options new.tally.total line) (line ≡ []) × (written ≡ new.out ++ line)

@@ -5,7 +5,7 @@ use Rattle.byte_unit_base.specs.Expected.{named_in}
 use Rattle.byte_unit_base.specs.declared.errors.ParseError.TheVariants.{Unit as UnitError}
 use Rattle.byte_unit_base.specs.Errors.{unit_fault}
 use Rattle.byte_unit_c.specs.Error.{expected_bytes, IsErrorOf}
-use Rattle.byte_unit_c.proofs.reading.write_stop.Goals as goal
+use Rattle.byte_unit_c.proofs.parse.write_stop.Goals as goal
 
 pub returns-in-InUnit : goal.returns-in-InUnit
 returns-in-InUnit c =

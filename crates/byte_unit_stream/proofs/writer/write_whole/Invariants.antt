@@ -2,7 +2,7 @@
 use Rattle.std.proofs.Common.{length}
 use Rattle.byte_unit_stream.specs.Streams.{writer_of}
 use Rattle.byte_unit_stream.proofs.Bytes.{IsWrittenTo}
-use Rattle.byte_unit_stream.proofs.writing.write_whole.Given as goal
+use Rattle.byte_unit_stream.proofs.writer.write_whole.Given as goal
 
 abbrev pub invariant-loop-rest : goal.invariant-loop-rest
 invariant-loop-rest g l =

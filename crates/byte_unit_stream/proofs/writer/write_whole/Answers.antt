@@ -1,7 +1,7 @@
 -- After each write, the bytes that were taken are written, and the rest is left.
 use Rattle.byte_unit_stream.specs.Streams.{writer_of}
 use Rattle.byte_unit_stream.proofs.Bytes.{IsWrittenTo-step}
-use Rattle.byte_unit_stream.proofs.writing.write_whole.Goals as goal
+use Rattle.byte_unit_stream.proofs.writer.write_whole.Goals as goal
 
 pub loop-rest-preserved : goal.loop-rest-preserved
 loop-rest-preserved g c =

@@ -1,6 +1,6 @@
 -- The message is that of the number and the unit, or of the error where the parser stops.
 use Rattle.std.specs.Prelude.{Err, Some}
-use Rattle.byte_unit_c.proofs.reading.explain_as.Goals as goal
+use Rattle.byte_unit_c.proofs.parse.explain_as.Goals as goal
 
 pub returns-in-Ok-clause-reading : goal.returns-in-Ok-clause-reading
 returns-in-Ok-clause-reading c =

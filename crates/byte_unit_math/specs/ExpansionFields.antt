@@ -11,7 +11,7 @@ expansion_view e = record { whole = e.whole; digits = take e.places e.digits }
 
 -- The array holds the digits after the point, the last of them not zero, and then zeros. The whole part is at most
 -- 2^112, and below it if there are such digits: rounding up can add one to it, and then leaves no digits.
-pub record IsStored (e : Inside) : Type 0 where
+pub record IsNormalizedExpansion (e : Inside) : Type 0 where
   pub size : length e.digits ≡ expansion_places
   pub few : e.places ≤ expansion_places
   pub small : All (λ d. d < 10) e.digits

@@ -3,8 +3,8 @@ use Rattle.std.specs.Prelude.{Option, Result, Err, Some}
 use Rattle.std.proofs.Common.{◌≡◌, ℕ, refl, sym, ap, subst, ◌∙◌}
 use Rattle.byte_unit_base.specs.declared.errors.ParseError.{ParseError}
 use Rattle.byte_unit_base.specs.declared.errors.ParseError.TheVariants.{Unit as UnitError}
-use Rattle.byte_unit_c.specs.Reading.{IsReturned}
-use Rattle.byte_unit_c.proofs.reading.write_result.Goals as goal
+use Rattle.byte_unit_c.specs.Parse.{IsReturned}
+use Rattle.byte_unit_c.proofs.parse.write_result.Goals as goal
 
 pub returns-in-Some-Err-Unit : goal.returns-in-Some-Err-Unit
 returns-in-Some-Err-Unit c =

@@ -12,16 +12,16 @@ use std::io::{ErrorKind, Write};
 ///
 /// # Examples
 /// ```rust
-/// use byte_unit_stream::Writing;
+/// use byte_unit_stream::FusedWriter;
 /// use byte_unit_stream::paced::{MemoryWriter, Pace, Then};
 /// let inner = MemoryWriter { taken: Vec::new(alloc), pace: Pace(4, 1, Then::Fail) };
-/// let mut writer = Writing::new(inner);
+/// let mut writer = FusedWriter::new(inner);
 /// assert_eq!(rt; writer.write(b"1 KiB\n"), Some(4));
 /// assert_eq!(rt; (writer.write(b"B\n"), writer.failed(), writer.closed()), (None, true, false));
 /// assert_eq!(rt; writer.into_inner().taken.as_slice(), b"1 Ki".as_slice());
 /// ```
 #[derive(Drop)]
-pub struct Writing<W> {
+pub struct FusedWriter<W> {
     inner: W,
     failure: Option<Failure>,
 }
@@ -35,14 +35,14 @@ enum Failure {
     Other,
 }
 
-impl<W: Write> Writing<W> {
-    /// Creates a `Writing` over a writer, with no failure recorded.
-    pub fn new(inner: W) -> Writing<W>
+impl<W: Write> FusedWriter<W> {
+    /// Creates a `FusedWriter` over a writer, with no failure recorded.
+    pub fn new(inner: W) -> FusedWriter<W>
         ensures inner { writer_of result ≡ inner }
         ensures failed { writing_failed result ≡ false }
         ensures closed { output_closed result ≡ false }
     {
-        Writing {
+        FusedWriter {
             inner,
             failure: None,
         }
@@ -71,7 +71,7 @@ impl<W: Write> Writing<W> {
     pub fn into_inner(self) -> W
         ensures { result ≡ writer_of self }
     {
-        let Writing { inner, failure: _ } = self;
+        let FusedWriter { inner, failure: _ } = self;
         inner
     }
 
@@ -130,14 +130,14 @@ impl<W: Write> Writing<W> {
 ///
 /// # Examples
 /// ```rust
-/// use byte_unit_stream::{Writing, write_whole};
+/// use byte_unit_stream::{FusedWriter, write_whole};
 /// use byte_unit_stream::paced::{BYTE_BY_BYTE, MemoryWriter};
-/// let mut writer = Writing::new(MemoryWriter { taken: Vec::new(alloc), pace: BYTE_BY_BYTE });
+/// let mut writer = FusedWriter::new(MemoryWriter { taken: Vec::new(alloc), pace: BYTE_BY_BYTE });
 /// assert!(rt; write_whole(&mut writer, b"1 KiB\n", "no output").is_ok());
 /// assert_eq!(rt; writer.into_inner().taken.as_slice(), b"1 KiB\n".as_slice());
 /// ```
 pub fn write_whole<W: Write, E: Copy>(
-    writer: &mut Writing<W>,
+    writer: &mut FusedWriter<W>,
     bytes: &[u8],
     error: E,
 ) -> Result<(), E>

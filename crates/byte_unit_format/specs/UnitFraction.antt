@@ -8,38 +8,38 @@ use Rattle.byte_unit_base.specs.Kinds.{bits_in, counts_bits, own_unit}
 use Rattle.byte_unit_base.specs.Shape.{Shape, bits, shape}
 use Rattle.byte_unit_base.specs.Version.{unit_name_in, current}
 use Rattle.byte_unit_base.specs.declared.kind.Kind.{Kind}
-use Rattle.byte_unit_format.specs.declared.thousandths.Suffix.{Suffix}
-use Rattle.byte_unit_format.specs.declared.thousandths.Suffix.TheVariants.{Own, Eighths, Thousandths}
+use Rattle.byte_unit_format.specs.declared.thousandths.UnitFraction.{UnitFraction}
+use Rattle.byte_unit_format.specs.declared.thousandths.UnitFraction.TheVariants.{Own, Eighths, Thousandths}
 
 -- The point and the digits of thousandths without trailing zeros, or nothing if there are no thousandths.
 abbrev pub thousandths_text : ℕ → List ℕ
 thousandths_text thousandths = fraction_text (trim_zeros (last_digits 3 thousandths))
 
--- The unit of the kind that the suffix names.
-abbrev pub unit_of : Kind → Suffix → Shape
+-- The unit of the kind that it is a fraction of.
+abbrev pub unit_of : Kind → UnitFraction → Shape
 unit_of kind Own = own_unit kind
 unit_of kind (Eighths eighths power) = shape power true (counts_bits kind)
 unit_of kind (Thousandths thousandths power) = shape power false (counts_bits kind)
 
 -- The thousandths of a unit.
-abbrev pub thousandths_of : Suffix → ℕ
+abbrev pub thousandths_of : UnitFraction → ℕ
 thousandths_of Own = 0
 thousandths_of (Eighths eighths power) = 125 * eighths
 thousandths_of (Thousandths thousandths power) = thousandths
 
 -- The digits after the point, a space, and the unit's name.
-abbrev pub suffix_text : Kind → Suffix → List ℕ
-suffix_text kind suffix =
-    thousandths_text (thousandths_of suffix) ++ 32 ∷ unit_name_in current (unit_of kind suffix)
+abbrev pub unit_fraction_text : Kind → UnitFraction → List ℕ
+unit_fraction_text kind fraction =
+    thousandths_text (thousandths_of fraction) ++ 32 ∷ unit_name_in current (unit_of kind fraction)
 
 -- Whole units and thousandths of one are the size, in its largest unit within the precision.
-pub record IsSplit (kind : Kind) (size precision whole : ℕ) (suffix : Suffix) : Type 0 where
-  pub recovered : IsRecoveredIn current kind false size precision (unit_of kind suffix)
-  pub value : (whole * scale + thousandths_of suffix * 10 ^ 25) * bits (unit_of kind suffix)
+pub record IsSplit (kind : Kind) (size precision whole : ℕ) (fraction : UnitFraction) : Type 0 where
+  pub recovered : IsRecoveredIn current kind false size precision (unit_of kind fraction)
+  pub value : (whole * scale + thousandths_of fraction * 10 ^ 25) * bits (unit_of kind fraction)
       ≡ size * bits_in kind * scale
 
 -- The prefix is one of the nine, and the eighths or thousandths are less than a unit.
-abbrev pub HasPrefix : Suffix → Type 0
+abbrev pub HasPrefix : UnitFraction → Type 0
 HasPrefix Own = Unit {0}
 HasPrefix (Eighths eighths power) = (eighths < 8) × (1 ≤ power) × (power ≤ 9)
 HasPrefix (Thousandths thousandths power) = (thousandths < 1000) × (1 ≤ power) × (power ≤ 9)

@@ -25,9 +25,10 @@ use Rattle.byte_unit_base.proofs.Names.{name_ascii, with_prefix}
 use Rattle.byte_unit_base.proofs.NumberTexts.{number_ascii}
 use Rattle.byte_unit_format.specs.Forms.{IsSizeForm}
 use Rattle.byte_unit_format.specs.NamedSpecs.{alternate_spec}
-use Rattle.byte_unit_format.specs.Suffix.{thousandths_text, thousandths_of, unit_of, suffix_text, HasPrefix, IsSplit}
-use Rattle.byte_unit_format.specs.declared.thousandths.Suffix.{Suffix}
-use Rattle.byte_unit_format.specs.declared.thousandths.Suffix.TheVariants.{Own, Eighths, Thousandths}
+use Rattle.byte_unit_format.specs.UnitFraction.{thousandths_text, thousandths_of, unit_of}
+use Rattle.byte_unit_format.specs.UnitFraction.{unit_fraction_text, HasPrefix, IsSplit}
+use Rattle.byte_unit_format.specs.declared.thousandths.UnitFraction.{UnitFraction}
+use Rattle.byte_unit_format.specs.declared.thousandths.UnitFraction.TheVariants.{Own, Eighths, Thousandths}
 
 -- Whole units and thousandths as one decimal without trailing zeros.
 text_of_thousandths : (whole thousandths : ℕ) → thousandths < 1000
@@ -36,11 +37,11 @@ text_of_thousandths : (whole thousandths : ℕ) → thousandths < 1000
 text_of_thousandths whole thousandths below = grind arith
 
 -- The thousandths are less than one, and the prefix is one of the nine.
-suffix_bounds : (kind : Kind) (suffix : Suffix) → HasPrefix suffix
-    → (thousandths_of suffix < 1000) × ((unit_of kind suffix).power ≤ 9)
-suffix_bounds kind Own known = (omega arith, omega arith)
-suffix_bounds kind (Eighths eighths power) known = (omega (arith, known.0), known.2)
-suffix_bounds kind (Thousandths thousandths power) known = (known.0, known.2)
+unit_fraction_bounds : (kind : Kind) (fraction : UnitFraction) → HasPrefix fraction
+    → (thousandths_of fraction < 1000) × ((unit_of kind fraction).power ≤ 9)
+unit_fraction_bounds kind Own known = (omega arith, omega arith)
+unit_fraction_bounds kind (Eighths eighths power) known = (omega (arith, known.0), known.2)
+unit_fraction_bounds kind (Thousandths thousandths power) known = (known.0, known.2)
 
 -- Whole units and thousandths of the unit that the size is shown in are the text of the size.
 pub form_of_thousandths : (kind : Kind) (size whole thousandths : ℕ) (unit : Shape) → thousandths < 1000
@@ -66,11 +67,12 @@ form_of_thousandths kind size whole thousandths unit below recovered product =
     }
 
 -- A split size is the text of its whole part and of what follows.
-pub form_of_split : (kind : Kind) (size whole : ℕ) (suffix : Suffix) → HasPrefix suffix
-    → IsSplit kind size 3 whole suffix → IsSizeForm kind size alternate_spec (decimal whole ++ suffix_text kind suffix)
-form_of_split kind size whole suffix known split =
-    form_of_thousandths kind size whole (thousandths_of suffix) (unit_of kind suffix)
-    (suffix_bounds kind suffix known).0 split.recovered split.value
+pub form_of_split : (kind : Kind) (size whole : ℕ) (fraction : UnitFraction) → HasPrefix fraction
+    → IsSplit kind size 3 whole fraction
+    → IsSizeForm kind size alternate_spec (decimal whole ++ unit_fraction_text kind fraction)
+form_of_split kind size whole fraction known split =
+    form_of_thousandths kind size whole (thousandths_of fraction) (unit_of kind fraction)
+    (unit_fraction_bounds kind fraction known).0 split.recovered split.value
 
 -- A space, the letter of a prefix, an `i` if it is binary, and the letter of the kind are a space and the unit's name.
 pub named : {first last : ℕ} (kind : Kind) (power : ℕ) (binary : Bool) → 1 ≤ power
@@ -127,7 +129,8 @@ form_ascii whole thousandths unit small known =
     (IsAscii-cons 32 name (omega arith) (name_ascii unit known)))
 
 -- A size with what follows its whole part is ASCII.
-pub split_ascii : (kind : Kind) (whole : ℕ) (suffix : Suffix) → whole < 10 ^ 27 → HasPrefix suffix
-    → IsAscii (decimal whole ++ suffix_text kind suffix)
-split_ascii kind whole suffix small known =
-    form_ascii whole (thousandths_of suffix) (unit_of kind suffix) small (suffix_bounds kind suffix known).1
+pub split_ascii : (kind : Kind) (whole : ℕ) (fraction : UnitFraction) → whole < 10 ^ 27 → HasPrefix fraction
+    → IsAscii (decimal whole ++ unit_fraction_text kind fraction)
+split_ascii kind whole fraction small known =
+    form_ascii whole (thousandths_of fraction) (unit_of kind fraction) small
+    (unit_fraction_bounds kind fraction known).1

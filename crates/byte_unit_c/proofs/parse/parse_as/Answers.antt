@@ -1,6 +1,6 @@
 -- The result is that of the number and the unit, or the error where the parser stops.
 use Rattle.std.specs.Prelude.{Err, Some}
-use Rattle.byte_unit_c.proofs.reading.parse_as.Goals as goal
+use Rattle.byte_unit_c.proofs.parse.parse_as.Goals as goal
 
 pub returns-in-Ok : goal.returns-in-Ok
 returns-in-Ok c =

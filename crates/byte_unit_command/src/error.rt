@@ -6,7 +6,7 @@ use std::alloc::AllocError;
 
 /// The reason why a run ended before the end of its input, or without its total.
 #[derive(Debug, Clone, Copy, PartialEq, Eq)]
-pub enum Stop {
+pub enum RunError {
     /// Allocation failed.
     Memory,
     /// A read failed.
@@ -20,12 +20,12 @@ pub enum Stop {
 }
 
 /// Converts a failed allocation to `Memory`.
-impl From<AllocError> for Stop {
-    ghost use Rattle.byte_unit_command.specs.declared.stop.Stop.TheVariants.{Memory};
+impl From<AllocError> for RunError {
+    ghost use Rattle.byte_unit_command.specs.declared.error.RunError.TheVariants.{Memory};
 
     ghost from_gives = { λ _ error. error ≡ Memory };
 
-    fn from(_: AllocError) -> Stop {
-        Stop::Memory
+    fn from(_: AllocError) -> RunError {
+        RunError::Memory
     }
 }

@@ -8,14 +8,14 @@ ghost use Rattle.byte_unit_base.specs.declared.errors.ParseError.{ParseError};
 ghost use Rattle.byte_unit_base.specs.declared.errors.UnitParseError.{UnitParseError};
 ghost use Rattle.byte_unit_base.specs.declared.unit.Unit.{Unit as UnitName};
 ghost use Rattle.byte_unit_format.specs.Written.{WritesForm};
-ghost use Rattle.byte_unit_c.specs.Flags.{reading_at, prefers_byte};
+ghost use Rattle.byte_unit_c.specs.Flags.{parse_flags_at, prefers_byte};
 ghost use Rattle.byte_unit_c.specs.Error.{invalid_argument};
-ghost use Rattle.byte_unit_c.specs.Reading.{IsReturned, IsUnitBytesReading, IsUnitReturned, IsExplanation};
-ghost use Rattle.byte_unit_c.specs.Reading.{IsUnitExplanation};
+ghost use Rattle.byte_unit_c.specs.Parse.{IsReturned, IsUnitBytesReading, IsUnitReturned, IsExplanation};
+ghost use Rattle.byte_unit_c.specs.Parse.{IsUnitExplanation};
 
 use crate::codes::code_of;
 use crate::error::{Error, INVALID_ARGUMENT, NOT_UTF8, OK, UNIT, bytes_of};
-use crate::flags::reading_at;
+use crate::flags::parse_flags_at;
 use crate::message::{write_message, write_not_utf8, write_unit_message, write_unknown_flag};
 use crate::values::Number;
 use byte_unit_base::{Flags, Kind, ParseError, Reason, Unit, UnitParseError, error_at, size};
@@ -37,13 +37,14 @@ pub extern "C" fn byte_unit_parse_to(
     size: &mut Number,
     error: &mut [Error],
 ) -> u32
-    ensures reading { IfSome (reading_at flags) (λ asked. (answer : Option (Result ℕ ParseError))
+    ensures reading { IfSome (parse_flags_at flags)
+        (λ asked. (answer : Option (Result ℕ ParseError))
         × IsBytesReading asked.kind asked.ignore_case text.now answer
         × IsReturned answer result size.old size.new error.old error.new) }
-    ensures rejected { IfNone (reading_at flags)
+    ensures rejected { IfNone (parse_flags_at flags)
         ((result ≡ invalid_argument) × (size.new ≡ size.old) × (error.new ≡ error.old)) }
 {
-    match reading_at(flags) {
+    match parse_flags_at(flags) {
         Some(asked) => parse_as(text, asked.kind, asked.ignore_case, size, error),
         None => INVALID_ARGUMENT,
     }
@@ -166,13 +167,14 @@ pub extern "C" fn byte_unit_parse_unit_to(
     unit: &mut u32,
     error: &mut [Error],
 ) -> u32
-    ensures reading { IfSome (reading_at flags) (λ asked. (answer : Option (Result UnitName UnitParseError))
+    ensures reading { IfSome (parse_flags_at flags)
+        (λ asked. (answer : Option (Result UnitName UnitParseError))
         × IsUnitBytesReading asked.ignore_case (prefers_byte asked.kind) text.now answer
         × IsUnitReturned answer result unit.old unit.new error.old error.new) }
-    ensures rejected { IfNone (reading_at flags)
+    ensures rejected { IfNone (parse_flags_at flags)
         ((result ≡ invalid_argument) × (unit.new ≡ unit.old) × (error.new ≡ error.old)) }
 {
-    match reading_at(flags) {
+    match parse_flags_at(flags) {
         Some(asked) => parse_unit_as(text, asked.kind, asked.ignore_case, unit, error),
         None => INVALID_ARGUMENT,
     }
@@ -232,14 +234,15 @@ fn prefers_byte(kind: Kind) -> bool
 /// For example, `-1` gives 33, the length of `the character '-' is not a number`.
 #[unsafe(no_mangle)]
 pub extern "C" fn byte_unit_explain(text: &[u8], flags: u32, out: &mut [u8]) -> usize
-    ensures reading { IfSome (reading_at flags) (λ asked. (answer : Option (Result ℕ ParseError))
+    ensures reading { IfSome (parse_flags_at flags)
+        (λ asked. (answer : Option (Result ℕ ParseError))
         × IsBytesReading asked.kind asked.ignore_case text.now answer
         × IsExplanation answer out.old out.new result) }
-    ensures unknown_flag { IfNone (reading_at flags)
+    ensures unknown_flag { IfNone (parse_flags_at flags)
         (WritesForm (λ words. words ≡ codes "a flag is unknown") out.old out.new result) }
     ensures bound { result ≤ 256 }
 {
-    match reading_at(flags) {
+    match parse_flags_at(flags) {
         Some(asked) => explain_as(text, asked.kind, asked.ignore_case, out),
         None => write_unknown_flag(out),
     }
@@ -305,14 +308,15 @@ fn explain_result(answer: &Option<Result<u128, ParseError>>, out: &mut [u8]) -> 
 /// For example, `Kx` gives 71, the length of `the character 'x' is incorrect ('B' or 'b' or no character is expected)`.
 #[unsafe(no_mangle)]
 pub extern "C" fn byte_unit_explain_unit(text: &[u8], flags: u32, out: &mut [u8]) -> usize
-    ensures reading { IfSome (reading_at flags) (λ asked. (answer : Option (Result UnitName UnitParseError))
+    ensures reading { IfSome (parse_flags_at flags)
+        (λ asked. (answer : Option (Result UnitName UnitParseError))
         × IsUnitBytesReading asked.ignore_case (prefers_byte asked.kind) text.now answer
         × IsUnitExplanation answer out.old out.new result) }
-    ensures unknown_flag { IfNone (reading_at flags)
+    ensures unknown_flag { IfNone (parse_flags_at flags)
         (WritesForm (λ words. words ≡ codes "a flag is unknown") out.old out.new result) }
     ensures bound { result ≤ 256 }
 {
-    match reading_at(flags) {
+    match parse_flags_at(flags) {
         Some(asked) => explain_unit_as(text, asked.kind, asked.ignore_case, out),
         None => write_unknown_flag(out),
     }
