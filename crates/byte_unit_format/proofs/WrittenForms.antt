@@ -133,7 +133,8 @@ pub record AreParts (number whole digits places : ℕ) : Type 0 where
   pub digits_are : digits * 10 ^ (places_of_decimal - places) ≡ number % scale
   pub below : digits < 10 ^ places
 
-parts_expansion :
+-- The parts of a number are its expansion.
+pub parts_expansion :
     {number whole digits places : ℕ} → AreParts number whole digits places
     → IsExpansion number scale (record { whole = whole; digits = last_digits places digits })
 parts_expansion {number} {whole} {digits} {places} parts =

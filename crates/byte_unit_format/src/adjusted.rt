@@ -1,13 +1,13 @@
 //! Formatting of a size in a given unit.
 
-ghost use Rattle.std.specs.Prelude.{◌≡◌, ℕ, ◌*◌, ◌<◌, ◌≤◌, List, length, IfSome, Some};
+ghost use Rattle.std.specs.Prelude.{◌≡◌, ℕ, ◌*◌, ◌^◌, ◌<◌, ◌≤◌, List, length, IfSome, Some};
 ghost use Rattle.std.specs.Fmt.{DisplaysOnOk, DisplaysStyledOnOk};
 ghost use Rattle.byte_unit_math.specs.Finite.{IsExpansion};
 ghost use Rattle.byte_unit_math.specs.Nearest.{IsNearest};
 ghost use Rattle.byte_unit_math.specs.Numeral.{numeral, text_of};
 ghost use Rattle.byte_unit_math.specs.declared.expansion.Ties.TheVariants.{Even};
 ghost use Rattle.byte_unit_base.specs.Shape.{bits};
-ghost use Rattle.byte_unit_math.specs.Bounds.{places_of_decimal, size_limit};
+ghost use Rattle.byte_unit_math.specs.Bounds.{places_of_decimal, scale, size_limit};
 ghost use Rattle.byte_unit_base.specs.Units.{shape_of};
 ghost use Rattle.byte_unit_base.specs.Kinds.{bits_in};
 ghost use Rattle.byte_unit_base.specs.Version.{unit_name};
@@ -17,13 +17,16 @@ ghost use Rattle.byte_unit_format.specs.TextParts.{IsReady, parts_text};
 ghost use Rattle.byte_unit_format.specs.Room.{AppendsForm};
 ghost use Rattle.byte_unit_format.specs.Written.{WritesForm};
 ghost use Rattle.byte_unit_format.specs.Forms.{text_limit};
-ghost use Rattle.byte_unit_format.specs.Adjusted.{IsNumeralBy, IsRoundNumeral, round_to, rule_of, IsAdjustedForm, adjusted_text, has_no_prefix};
+ghost use Rattle.byte_unit_format.specs.Adjusted.{IsNumeralBy, IsFullNumeral, IsRoundNumeral, round_to, rule_of, IsAdjustedForm, adjusted_text, has_no_prefix};
 
 use crate::FormatSpec;
 use crate::layout::layout_parts;
 use crate::parts::{Fraction, TextParts};
 use byte_unit_base::{Kind, Unit};
-use byte_unit_math::{Expansion, Ties, div_rem, power_of_ten, rounded_quotient};
+use byte_unit_math::{
+    DECIMAL_PLACES, Decimal, Expansion, Ties, div_rem, power_of_ten, rounded_quotient,
+    short_quotient,
+};
 use std::alloc::{AllocError, Allocator};
 use std::fmt;
 use std::fmt::Display;
@@ -40,6 +43,8 @@ const FEW_PLACES: u32 = 7;
 enum FixedDecimal {
     /// The number times 10^places, which is a whole number.
     Scaled(u128, u32),
+    /// A number with at most 28 digits after the point, all of which are shown.
+    Short(Decimal),
     /// A decimal, cut off or padded with zeros.
     Expanded(Expansion, u32),
 }
@@ -57,6 +62,10 @@ impl FixedDecimal {
     {
         match self {
             FixedDecimal::Scaled(number, places) => scaled_parts(*number, *places, unit, spec),
+            FixedDecimal::Short(number) => {
+                let fraction = Fraction::Last(number.digits(), number.places());
+                layout_parts(number.whole(), fraction, unit, spec)
+            }
             FixedDecimal::Expanded(e, places) => {
                 layout_parts(e.whole(), Fraction::First(e, *places), unit, spec)
             }
@@ -198,19 +207,43 @@ fn rounded_in_unit(size: u128, kind: Kind, unit: Unit, spec: FormatSpec) -> Fixe
     ensures bound { FitsFixedDecimal result }
 {
     match spec.precision {
-        None => all_places(number_in_unit(size, kind, unit)),
+        None => all_digits(size, kind, unit),
         Some(precision) => {
             if spec.alternate {
                 let exact = number_in_unit(size, kind, unit);
                 let places = u32::from(precision.min(ALTERNATE_PLACES));
                 all_places(exact.rounded(places, Ties::Up))
             } else if is_single(unit) {
-                all_places(number_in_unit(size, kind, unit))
+                all_digits(size, kind, unit)
             } else {
                 rounded_to(size, kind, unit, u32::from(precision))
             }
         }
     }
+}
+
+/// Returns the size in the unit, of which all digits are shown.
+fn all_digits(size: u128, kind: Kind, unit: Unit) -> FixedDecimal
+    requires { size < size_limit }
+    ensures number { let unit = shape_of unit in
+        IsFullNumeral (size * bits_in kind) (bits unit) (fixed_decimal_text result) }
+    ensures fits { FitsFixedDecimal result }
+{
+    match short_number(size, kind, unit) {
+        Some(number) => FixedDecimal::Short(number),
+        None => all_places(number_in_unit(size, kind, unit)),
+    }
+}
+
+/// Returns the size in the unit, exactly, if one product and one division give it. Then it has at most 28 digits after
+/// the point.
+fn short_number(size: u128, kind: Kind, unit: Unit) -> Option<Decimal>
+    requires { size < size_limit }
+    ensures { IfSome result
+        (λ N. N * bits (shape_of unit) ≡ size * bits_in kind * scale) }
+{
+    let (twos, fives) = unit.powers();
+    short_quotient(size * kind.bits(), twos, fives)
 }
 
 /// Returns the size in the unit, rounded to exactly `places` digits after the point.
@@ -221,11 +254,27 @@ fn rounded_to(size: u128, kind: Kind, unit: Unit, places: u32) -> FixedDecimal
         IsRoundNumeral (size * bits_in kind) (bits unit) places (fixed_decimal_text result) }
     ensures bound { FitsFixedDecimal result }
 {
-    if places > FEW_PLACES {
-        let exact = number_in_unit(size, kind, unit);
-        return FixedDecimal::Expanded(exact.rounded(places, Ties::Even), places);
+    match scaled_size(size, kind, places) {
+        Some(scaled) => FixedDecimal::Scaled(rounded_quotient(scaled, unit.as_bits_u128()), places),
+        None => {
+            let exact = number_in_unit(size, kind, unit);
+            FixedDecimal::Expanded(exact.rounded(places, Ties::Even), places)
+        }
     }
-    FixedDecimal::Scaled(rounded_to_few(size, kind, unit, places), places)
+}
+
+/// Returns the size in bits times 10^places. Returns `None` if that is 2^127 or more, or `places` is more than 28.
+fn scaled_size(size: u128, kind: Kind, places: u32) -> Option<u128>
+    requires { size < size_limit }
+    ensures scaled { IfSome result (λ n. n ≡ size * bits_in kind * 10 ^ places) }
+    ensures bound { IfSome result (λ n. n < 2 ^ 127) }
+    ensures places { IfSome result (λ n. places ≤ places_of_decimal) }
+{
+    if places > DECIMAL_PLACES {
+        return None;
+    }
+    let scaled = (size * kind.bits()).checked_mul(power_of_ten(places))?;
+    (scaled < 1 << 127).then_some(scaled)
 }
 
 /// Returns the size in the unit times 10^places, rounded to a whole number, ties to even.

@@ -242,7 +242,7 @@ IsDividing-ended num den whole rest places digits h none =
 pub factors_within_limit : (a b : ℕ) → 2 ^ a * 5 ^ b ≤ unit_limit → (2 ^ a ≤ unit_limit) × (5 ^ b ≤ unit_limit)
 factors_within_limit a b h = grind (arith, mul-le, one-le-pow)
 
-exponents_within_places : (a b : ℕ) → 2 ^ a * 5 ^ b ≤ unit_limit → (a ≤ expansion_places) × (b ≤ expansion_places)
+pub exponents_within_places : (a b : ℕ) → 2 ^ a * 5 ^ b ≤ unit_limit → (a ≤ expansion_places) × (b ≤ expansion_places)
 exponents_within_places a b h =
     let small = factors_within_limit a b h in (
       exponent_at_most 2 expansion_places a (unit_limit + 1) (omega arith) (omega (arith, small.0)) (omega arith),

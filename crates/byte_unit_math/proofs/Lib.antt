@@ -2,6 +2,7 @@ pub mod Scales
 pub mod RoundedUp
 pub mod Estimates
 pub mod ShortDecimals
+pub mod ShortQuotients
 pub mod Digits
 pub mod WrittenDigits
 pub mod PairsInLanes

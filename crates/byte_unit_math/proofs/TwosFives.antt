@@ -8,7 +8,7 @@ use Rattle.byte_unit_math.specs.Bounds.{size_limit}
 use Rattle.byte_unit_math.proofs.Scales.{exponent_at_most}
 
 -- A number whose lowest `twos` bits are 0 is a multiple of 2^twos.
-trailing_zeros_divide : (number twos : ℕ) → ((i : ℕ) → i < twos → bit_at number i ≡ 0)
+pub trailing_zeros_divide : (number twos : ℕ) → ((i : ℕ) → i < twos → bit_at number i ≡ 0)
     → number ≡ number / 2 ^ twos * 2 ^ twos
 trailing_zeros_divide number zero zeros = omega (arith, div-one number)
 trailing_zeros_divide number (suc twos) zeros =

@@ -10,7 +10,7 @@ use Rattle.byte_unit_format.proofs.adjusted.rounded_in_unit.Goals as goal
 
 pub returns-in-None-clause-number : goal.returns-in-None-clause-number
 returns-in-None-clause-number c =
-    rw c.in-None.is (c.number_in_unit.result, c.number_in_unit.ensures, c.all_places.ensures.text)
+    rw c.in-None.is c.all_digits.ensures.number
 
 pub returns-then-spec-clause-number : goal.returns-then-spec-clause-number
 returns-then-spec-clause-number c =
@@ -22,14 +22,13 @@ returns-then-spec-clause-number c =
       near.0,
       nearest_of_expansion (c.args.size * bits_in c.args.kind) (bits unit) exact.result places Up near.0
           (some_bits unit, exact.ensures.exact) near.1,
-      c.all_places-then-spec.ensures.text ∙ text_of_short_numeral near.0 places c.rounded.result near.2,
+      c.all_places.ensures.text ∙ text_of_short_numeral near.0 places c.rounded.result near.2,
     )
 
 pub returns-then-is_single-clause-number : goal.returns-then-is_single-clause-number
 returns-then-is_single-clause-number c =
-    let exact = c.number_in_unit-then-is_single in
     rw (c.in-Some.is, c.if-spec.false, sym c.is_single.ensures ∙ c.if-is_single.true)
-    (exact.result, exact.ensures, c.all_places-then-is_single.ensures.text)
+    c.all_digits-then-is_single.ensures.number
 
 pub returns-else-is_single-clause-number : goal.returns-else-is_single-clause-number
 returns-else-is_single-clause-number c =

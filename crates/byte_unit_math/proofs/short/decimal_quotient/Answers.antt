@@ -1,0 +1,64 @@
+-- The scaled number is split at the point.
+use Rattle.std.proofs.Common.{◌≡◌, ℕ, ◌+◌, ◌*◌, ◌/◌, ◌^◌, ◌<◌, ◌≤◌, arith, ap, ◌∙◌}
+use Rattle.std.proofs.Math.Nat.{pow-le-pow_right, mul-le-mul_left, one-le-pow, div-le_self}
+use Rattle.std.proofs.lemmas.Nat.{mod_below}
+use Rattle.byte_unit_math.specs.Bounds.{bits_limit, places_of_decimal}
+use Rattle.byte_unit_math.proofs.Scales.{cut_at_point}
+use Rattle.byte_unit_math.proofs.ShortQuotients.{ten_over_two, decimal_is_exact}
+use Rattle.byte_unit_math.proofs.short.decimal_quotient.Goals.{After-power_of_ten, After-div_rem-whole}
+use Rattle.byte_unit_math.proofs.short.decimal_quotient.Goals as goal
+
+-- The numerator times 5^twos, as the code has it.
+abbrev scaled_of : After-power_of_ten → ℕ
+scaled_of c = c.args.numerator * (c.power_of_ten.result / 2 ^ c.args.twos)
+
+scaled_is : (c : After-power_of_ten) → scaled_of c ≡ c.args.numerator * 5 ^ c.args.twos
+scaled_is c =
+    rw c.power_of_ten.ensures (ap (λ power. c.args.numerator * power) (ten_over_two c.args.twos))
+
+scaled_small : (c : After-power_of_ten) → scaled_of c < 125 * bits_limit
+scaled_small c =
+    let power : 5 ^ c.args.twos ≤ 125 =
+    pow-le-pow_right {n = 5} (omega arith) {i = c.args.twos} {j = 3} c.if-twos-gt-BYTE_TWOS.false in
+    omega (arith, scaled_is c, mul-le-mul_left c.args.numerator power, c.requires)
+
+pub overflow_mul-scaled : goal.overflow_mul-scaled
+overflow_mul-scaled c = omega (arith, scaled_small (goal.at.overflow_mul-scaled c).After-power_of_ten)
+
+pub div_rem-whole-requires : goal.div_rem-whole-requires
+div_rem-whole-requires c =
+    omega (arith, c.power_of_ten-2.ensures, one-le-pow (c.args.tens + c.args.twos) 10 (omega arith))
+
+abbrev start_of : After-div_rem-whole → After-power_of_ten
+start_of c = (goal.at.from_digits-requires-clause-whole c).After-power_of_ten
+
+pub from_digits-requires-clause-whole : goal.from_digits-requires-clause-whole
+from_digits-requires-clause-whole c =
+    omega (
+      arith,
+      c.div_rem-whole.ensures.quotient,
+      div-le_self (scaled_of (start_of c)) c.power_of_ten-2.result,
+      scaled_small (start_of c),
+    )
+
+pub from_digits-requires-clause-digits : goal.from_digits-requires-clause-digits
+from_digits-requires-clause-digits c =
+    let power = 10 ^ (c.args.tens + c.args.twos) in
+    rw (c.div_rem-whole.ensures.rest, c.power_of_ten-2.ensures)
+    (mod_below (scaled_of (start_of c)) power
+    (omega (arith, one-le-pow (c.args.tens + c.args.twos) 10 (omega arith))))
+
+pub returns : goal.returns
+returns c =
+    let split = (goal.at.returns c).After-div_rem-whole in
+    let few : c.args.tens + c.args.twos ≤ places_of_decimal = omega arith in
+    rw (
+      c.from_digits.ensures,
+      c.div_rem-whole.ensures.quotient,
+      c.div_rem-whole.ensures.rest,
+      c.power_of_ten-2.ensures,
+      scaled_is (start_of split),
+    )
+    (ap (λ N. N * (2 ^ c.args.twos * 10 ^ c.args.tens))
+    (cut_at_point (c.args.numerator * 5 ^ c.args.twos) (c.args.tens + c.args.twos) few)
+    ∙ decimal_is_exact c.args.numerator c.args.twos c.args.tens few)

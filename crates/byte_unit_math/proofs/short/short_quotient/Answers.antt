@@ -1,0 +1,54 @@
+-- Numerator and denominator are divided by the same power of two.
+use Rattle.std.proofs.Common.{◌≡◌, ◌+◌, ◌-◌, ◌*◌, ◌/◌, ◌^◌, ◌≤◌, arith}
+use Rattle.std.specs.Int.{trailing_zeros, w128}
+use Rattle.std.proofs.Math.Nat.{min-le_left, min-le_right}
+use Rattle.std.proofs.lemmas.Option.{IfSome_then}
+use Rattle.byte_unit_math.proofs.Expanding.{exponents_within_places}
+use Rattle.byte_unit_math.proofs.ShortQuotients.{shared_twos, of_reduced_binary, of_reduced_decimal}
+use Rattle.byte_unit_math.proofs.short.short_quotient.Goals.{After-min-shared}
+use Rattle.byte_unit_math.proofs.short.short_quotient.Goals as goal
+
+-- At most the twos beside the fives are shared.
+shared_few : (c : After-min-shared) → c.min-shared.result ≤ c.args.twos - c.args.fives
+shared_few c =
+    omega (
+      arith,
+      c.min-shared.ensures,
+      min-le_right (trailing_zeros w128 c.args.numerator) (c.args.twos - c.args.fives),
+    )
+
+-- The numerator is the reduced one times the power of two that was shared.
+number_is : (c : After-min-shared)
+    → c.args.numerator ≡ c.args.numerator / 2 ^ c.min-shared.result * 2 ^ c.min-shared.result
+number_is c =
+    shared_twos c.args.numerator c.min-shared.result (omega (arith, c.requires.small))
+    (omega (
+      arith,
+      c.min-shared.ensures,
+      min-le_left (trailing_zeros w128 c.args.numerator) (c.args.twos - c.args.fives),
+    ))
+
+pub overflow_shr-reduced : goal.overflow_shr-reduced
+overflow_shr-reduced c =
+    let start = (goal.at.overflow_shr-reduced c).After-min-shared in
+    omega (arith, shared_few start, (exponents_within_places c.args.twos c.args.fives c.requires.den).0)
+
+pub returns-then-fives-eq0 : goal.returns-then-fives-eq0
+returns-then-fives-eq0 c =
+    let start = (goal.at.returns-then-fives-eq0 c).After-min-shared in
+    let sum : c.args.twos ≡ c.args.twos - c.args.fives - c.min-shared.result + c.min-shared.result =
+    omega (arith, shared_few start, c.if-fives-eq0.true) in
+    IfSome_then c.binary_quotient.result c.binary_quotient.ensures
+    (λ N exact. rw c.if-fives-eq0.true
+    (of_reduced_binary N c.args.numerator (c.args.numerator / 2 ^ c.min-shared.result) c.min-shared.result
+    (c.args.twos - c.args.fives - c.min-shared.result) c.args.twos sum (number_is start) exact))
+
+pub returns-else-fives-eq0 : goal.returns-else-fives-eq0
+returns-else-fives-eq0 c =
+    let start = (goal.at.returns-else-fives-eq0 c).After-min-shared in
+    let left = c.args.twos - c.args.fives - c.min-shared.result in
+    let sum : c.args.twos ≡ left + c.args.fives + c.min-shared.result =
+    omega (arith, shared_few start, c.requires.order) in
+    IfSome_then c.decimal_quotient.result c.decimal_quotient.ensures
+    (λ N exact. of_reduced_decimal N c.args.numerator (c.args.numerator / 2 ^ c.min-shared.result) c.min-shared.result
+    left c.args.twos c.args.fives sum (number_is start) exact)
