@@ -4,7 +4,7 @@ use Rattle.std.specs.Fmt.{decimal}
 use Rattle.std.proofs.Math.Nat.{div-add-mod', mod-eq_of_lt, pow-le-pow_right}
 use Rattle.std.proofs.lemmas.Nat.{pow-add, mul-pow, mod_below}
 use Rattle.std.proofs.lemmas.Bool.{cases_lt}
-use Rattle.byte_unit_math.specs.Bounds.{size_limit}
+use Rattle.byte_unit_math.specs.Bounds.{places_of_decimal, scale, size_limit}
 use Rattle.byte_unit_math.specs.Finite.{Finite, ulps_of}
 use Rattle.byte_unit_math.specs.Nearest.{IsNearest}
 use Rattle.byte_unit_math.specs.Digits.{at_places, trim_expansion, last_digits}
@@ -16,15 +16,19 @@ use Rattle.byte_unit_math.proofs.Digits.{scaled_at_places}
 use Rattle.byte_unit_math.proofs.Nearest.{lies_above_quotient, nearest_down, nearest_up, tie_up_next, nearest_even_next}
 use Rattle.byte_unit_math.proofs.Nearest.{nearest_even_this}
 use Rattle.byte_unit_math.proofs.Texts.{same_finite, expansion_unique, nearest_unique, short_numeral_is_expansion}
-use Rattle.byte_unit_math.proofs.Texts.{expansion_of_same_fraction}
+use Rattle.byte_unit_math.proofs.Texts.{SameFraction, expansion_of_same_fraction}
 use Rattle.byte_unit_base.specs.Shape.{Shape, bits, twos, fives}
-use Rattle.byte_unit_base.specs.Version.{Version, unit_name_in}
+use Rattle.byte_unit_base.specs.Version.{Version, unit_name, unit_name_in}
 use Rattle.byte_unit_base.proofs.Choosing.{some_bits}
 use Rattle.byte_unit_base.specs.declared.kind.Kind.{Kind}
 use Rattle.byte_unit_format.specs.declared.spec.FormatSpec.{FormatSpec}
 use Rattle.byte_unit_base.specs.Kinds.{bits_in}
 use Rattle.byte_unit_format.specs.Layout.{layout}
-use Rattle.byte_unit_format.specs.Adjusted.{Rule, full, round_to, short_to, IsNumeralBy, rule_of, IsAdjustedFormIn}
+use Rattle.byte_unit_format.specs.Adjusted.{Rule, full, round_to, short_to, IsFullNumeral, IsNumeralBy, rule_of, IsAdjustedFormIn, IsAdjustedForm}
+use Rattle.byte_unit_format.specs.Rounding.{rule_from, IsRoundingOf}
+use Rattle.byte_unit_format.specs.declared.adjusted.Rounding.{Rounding}
+use Rattle.byte_unit_base.specs.Units.{shape_of}
+use Rattle.byte_unit_base.specs.declared.unit.Unit.{Unit as UnitName}
 use Rattle.byte_unit_format.specs.FormLaws.{SizeHasOneAdjustedForm}
 
 numeral_unique : (rule : Rule) (num den : ℕ) (text other : List ℕ) → 0 < den → IsNumeralBy rule num den text
@@ -121,3 +125,19 @@ pub scaled_size_small : (size bits power places : ℕ) → size < size_limit →
     → size * bits * power < 2 ^ 127
 scaled_size_small size bits power places small few power_is at_most =
     grind (arith, pow-le-pow_right {n = 10} (omega arith) {i = places} {j = 7} at_most)
+
+-- The text of a number by the rounding of the spec, laid out with the unit, is the adjusted text.
+pub adjusted_by_rounding :
+    {kind : Kind} {size : ℕ} {unit : UnitName} {spec : FormatSpec} {rounding : Rounding} (number : List ℕ)
+    → IsRoundingOf unit spec rounding
+    → IsNumeralBy (rule_from rounding) (size * bits_in kind) (bits (shape_of unit)) number
+    → IsAdjustedForm kind size unit spec (layout number (unit_name unit) spec)
+adjusted_by_rounding number by numeral = record { number = number; number_is = rw by.rule numeral; text_is = refl }
+
+-- A decimal that is the size, scaled by 10^28 in both, shows all digits of the size in the unit.
+pub all_digits_of_decimal :
+    (N num den : ℕ) → 0 < den → N * den ≡ num * scale → IsFullNumeral num den (short_numeral N places_of_decimal)
+all_digits_of_decimal N num den some same =
+    let e = trim_expansion (at_places places_of_decimal N) in
+    let fractions : SameFraction N scale num den = record { positive = omega arith; positive' = some; same = same } in
+    (e, expansion_of_same_fraction N scale num den e fractions (short_numeral_is_expansion N places_of_decimal), refl)

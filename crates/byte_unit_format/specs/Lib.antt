@@ -4,7 +4,7 @@ pub mod Forms
 pub mod NamedSpecs
 pub mod Adjusted
 pub mod AdjustedString
-pub mod FixedDecimal
+pub mod Rounding
 pub mod Room
 pub mod Written
 pub mod TextParts

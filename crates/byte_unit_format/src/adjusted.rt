@@ -5,6 +5,7 @@ ghost use Rattle.std.specs.Fmt.{DisplaysOnOk, DisplaysStyledOnOk};
 ghost use Rattle.byte_unit_math.specs.Finite.{IsExpansion};
 ghost use Rattle.byte_unit_math.specs.Nearest.{IsNearest};
 ghost use Rattle.byte_unit_math.specs.Numeral.{numeral, text_of};
+ghost use Rattle.byte_unit_math.specs.Padded.{pad_of};
 ghost use Rattle.byte_unit_math.specs.declared.expansion.Ties.TheVariants.{Even};
 ghost use Rattle.byte_unit_base.specs.Shape.{bits};
 ghost use Rattle.byte_unit_math.specs.Bounds.{places_of_decimal, scale, size_limit};
@@ -12,15 +13,15 @@ ghost use Rattle.byte_unit_base.specs.Units.{shape_of};
 ghost use Rattle.byte_unit_base.specs.Kinds.{bits_in};
 ghost use Rattle.byte_unit_base.specs.Version.{unit_name};
 ghost use Rattle.byte_unit_format.specs.Layout.{layout};
-ghost use Rattle.byte_unit_format.specs.FixedDecimal.{fixed_decimal_text, FitsFixedDecimal};
+ghost use Rattle.byte_unit_format.specs.Rounding.{rule_from, FitsRounding, IsRoundingOf};
 ghost use Rattle.byte_unit_format.specs.TextParts.{IsReady, parts_text};
 ghost use Rattle.byte_unit_format.specs.Room.{AppendsForm};
 ghost use Rattle.byte_unit_format.specs.Written.{WritesForm};
 ghost use Rattle.byte_unit_format.specs.Forms.{text_limit};
-ghost use Rattle.byte_unit_format.specs.Adjusted.{IsNumeralBy, IsFullNumeral, IsRoundNumeral, round_to, rule_of, IsAdjustedForm, adjusted_text, has_no_prefix};
+ghost use Rattle.byte_unit_format.specs.Adjusted.{IsNumeralBy, IsAdjustedForm, adjusted_text, has_no_prefix};
 
 use crate::FormatSpec;
-use crate::layout::layout_parts;
+use crate::layout::{append_layout, layout_len, layout_parts, write_layout};
 use crate::parts::{Fraction, TextParts};
 use byte_unit_base::{Kind, Unit};
 use byte_unit_math::{
@@ -38,39 +39,15 @@ const ALTERNATE_PLACES: u16 = 16;
 /// bits.
 const FEW_PLACES: u32 = 7;
 
-/// A number, and how many digits after the point are shown.
+/// How the number of a size in a unit is rounded.
 #[derive(Clone, Copy)]
-enum FixedDecimal {
-    /// The number times 10^places, which is a whole number.
-    Scaled(u128, u32),
-    /// A number with at most 28 digits after the point, all of which are shown.
-    Short(Decimal),
-    /// A decimal, cut off or padded with zeros.
-    Expanded(Expansion, u32),
-}
-
-impl FixedDecimal {
-    /// Returns the parts of the number with its unit.
-    #[inline(always)]
-    fn parts<'a>(&'a self, unit: Unit, spec: FormatSpec) -> TextParts<'a>
-        requires { FitsFixedDecimal self.now }
-        ensures text { parts_text result
-            ≡ layout (fixed_decimal_text self.now) (unit_name unit) spec }
-        ensures len { result.len ≡ length (parts_text result) }
-        ensures bound { result.len < text_limit }
-        ensures ready { IsReady result }
-    {
-        match self {
-            FixedDecimal::Scaled(number, places) => scaled_parts(*number, *places, unit, spec),
-            FixedDecimal::Short(number) => {
-                let fraction = Fraction::Last(number.digits(), number.places());
-                layout_parts(number.whole(), fraction, unit, spec)
-            }
-            FixedDecimal::Expanded(e, places) => {
-                layout_parts(e.whole(), Fraction::First(e, *places), unit, spec)
-            }
-        }
-    }
+enum Rounding {
+    /// Not at all: all digits are shown.
+    Exact,
+    /// To exactly this many digits after the point, ties to even.
+    To(u32),
+    /// To at most this many digits after the point, ties up, without trailing zeros.
+    AtMost(u32),
 }
 
 /// Returns the length in bytes of a size formatted in a unit. Does not allocate.
@@ -88,8 +65,14 @@ pub fn adjusted_len(size: u128, kind: Kind, unit: Unit, spec: FormatSpec) -> usi
         → result ≡ length form }
     ensures bound { result < text_limit }
 {
-    let number = rounded_in_unit(size, kind, unit, spec);
-    number.parts(unit, spec).len
+    let rounding = rounding_of(unit, spec);
+    match short_parts(size, kind, unit, rounding, spec) {
+        Some(parts) => parts.len,
+        None => {
+            let (number, places) = expanded(size, kind, unit, rounding);
+            layout_len(&number, places, unit, spec)
+        }
+    }
 }
 
 /// Appends a size formatted in a unit.
@@ -121,8 +104,14 @@ pub fn append_adjusted<A: Allocator>(
     requires { size < size_limit }
     ensures { AppendsForm (IsAdjustedForm kind size unit spec) text.old text.new result }
 {
-    let number = rounded_in_unit(size, kind, unit, spec);
-    number.parts(unit, spec).append(text)
+    let rounding = rounding_of(unit, spec);
+    match short_parts(size, kind, unit, rounding, spec) {
+        Some(parts) => parts.append(text),
+        None => {
+            let (number, places) = expanded(size, kind, unit, rounding);
+            append_layout(&number, places, unit, spec, text)
+        }
+    }
 }
 
 /// Writes what `append_adjusted` appends to the beginning of `out`, and returns its length. Writes nothing if it does
@@ -142,12 +131,13 @@ pub fn write_adjusted(size: u128, kind: Kind, unit: Unit, spec: FormatSpec, out:
     ensures written { WritesForm (IsAdjustedForm kind size unit spec) out.old out.new result }
     ensures bound { result < text_limit }
 {
-    match few_places(unit, spec) {
-        Some(places) => {
+    let rounding = rounding_of(unit, spec);
+    match rounding {
+        Rounding::To(places) if places <= FEW_PLACES => {
             let number = rounded_to_few(size, kind, unit, places);
             scaled_parts(number, places, unit, spec).write(out)
         }
-        None => write_shown(size, kind, unit, spec, out),
+        _ => write_longer(size, kind, unit, rounding, spec, out),
     }
 }
 
@@ -174,69 +164,101 @@ pub fn display_adjusted<W: fmt::Write>(
     f.write_str(unit.as_str())
 }
 
-/// Writes as `write_adjusted`: the slow path, whose numbers are large values.
+/// Writes as `write_adjusted`, with the rounding of the spec.
 #[inline(never)]
 #[tactic(auto, using(crate::proofs::TextParts::writes_form))]
-fn write_shown(size: u128, kind: Kind, unit: Unit, spec: FormatSpec, out: &mut [u8]) -> usize
-    requires { size < size_limit }
+fn write_longer(
+    size: u128,
+    kind: Kind,
+    unit: Unit,
+    rounding: Rounding,
+    spec: FormatSpec,
+    out: &mut [u8],
+) -> usize
+    requires size { size < size_limit }
+    requires rounding { IsRoundingOf unit spec rounding }
     ensures written { WritesForm (IsAdjustedForm kind size unit spec) out.old out.new result }
-    ensures bound { result < text_limit }
+    ensures small { result < text_limit }
 {
-    let number = rounded_in_unit(size, kind, unit, spec);
-    number.parts(unit, spec).write(out)
+    match short_parts(size, kind, unit, rounding, spec) {
+        Some(parts) => parts.write(out),
+        None => write_expanded(size, kind, unit, rounding, spec, out),
+    }
 }
 
-/// Returns the number of digits after the point if the spec asks for exactly that number, and it is at most
-/// [`FEW_PLACES`].
+/// Writes as `write_longer`, digit by digit.
+#[inline(never)]
+fn write_expanded(
+    size: u128,
+    kind: Kind,
+    unit: Unit,
+    rounding: Rounding,
+    spec: FormatSpec,
+    out: &mut [u8],
+) -> usize
+    requires size { size < size_limit }
+    requires rounding { IsRoundingOf unit spec rounding }
+    ensures written { WritesForm (IsAdjustedForm kind size unit spec) out.old out.new result }
+    ensures small { result < text_limit }
+{
+    let (number, places) = expanded(size, kind, unit, rounding);
+    write_layout(&number, places, unit, spec, out)
+}
+
+/// Returns how the spec rounds a number in the unit.
 #[inline(always)]
-fn few_places(unit: Unit, spec: FormatSpec) -> Option<u32>
-    ensures { IfSome result (λ places. (places ≤ FEW_PLACES)
-        × (rule_of spec.precision spec.alternate (shape_of unit) ≡ round_to places)) }
-{
-    let places = u32::from(spec.precision?);
-    let few = !spec.alternate && !is_single(unit) && places <= FEW_PLACES;
-    few.then_some(places)
-}
-
-/// Returns the size in the unit, rounded as the spec says.
-fn rounded_in_unit(size: u128, kind: Kind, unit: Unit, spec: FormatSpec) -> FixedDecimal
-    requires { size < size_limit }
-    ensures number { let unit = shape_of unit in
-        IsNumeralBy (rule_of spec.precision spec.alternate unit) (size * bits_in kind)
-        (bits unit) (fixed_decimal_text result) }
-    ensures bound { FitsFixedDecimal result }
+fn rounding_of(unit: Unit, spec: FormatSpec) -> Rounding
+    ensures { IsRoundingOf unit spec result }
 {
     match spec.precision {
-        None => all_digits(size, kind, unit),
+        None => Rounding::Exact,
         Some(precision) => {
             if spec.alternate {
-                let exact = number_in_unit(size, kind, unit);
-                let places = u32::from(precision.min(ALTERNATE_PLACES));
-                all_places(exact.rounded(places, Ties::Up))
+                Rounding::AtMost(u32::from(precision.min(ALTERNATE_PLACES)))
             } else if is_single(unit) {
-                all_digits(size, kind, unit)
+                Rounding::Exact
             } else {
-                rounded_to(size, kind, unit, u32::from(precision))
+                Rounding::To(u32::from(precision))
             }
         }
     }
 }
 
-/// Returns the size in the unit, of which all digits are shown.
-fn all_digits(size: u128, kind: Kind, unit: Unit) -> FixedDecimal
-    requires { size < size_limit }
-    ensures number { let unit = shape_of unit in
-        IsFullNumeral (size * bits_in kind) (bits unit) (fixed_decimal_text result) }
-    ensures fits { FitsFixedDecimal result }
+/// Returns the parts of a size in a unit with the unit, if one product and one division give the number. Then it has at
+/// most 28 digits after the point.
+#[inline(always)]
+fn short_parts(
+    size: u128,
+    kind: Kind,
+    unit: Unit,
+    rounding: Rounding,
+    spec: FormatSpec,
+) -> Option<TextParts<'static>>
+    requires size { size < size_limit }
+    requires rounding { IsRoundingOf unit spec rounding }
+    ensures text { IfSome result (λ parts. IsAdjustedForm kind size unit spec (parts_text parts)) }
+    ensures len { IfSome result (λ parts. parts.len ≡ length (parts_text parts)) }
+    ensures small { IfSome result (λ parts. parts.len < text_limit) }
+    ensures ready { IfSome result (λ parts. IsReady parts) }
 {
-    match short_number(size, kind, unit) {
-        Some(number) => FixedDecimal::Short(number),
-        None => all_places(number_in_unit(size, kind, unit)),
+    match rounding {
+        Rounding::Exact => {
+            let number = short_number(size, kind, unit)?;
+            let fraction = Fraction::Last(number.digits(), number.places());
+            Some(layout_parts(number.whole(), fraction, unit, spec))
+        }
+        Rounding::To(places) => {
+            let scaled = scaled_size(size, kind, places)?;
+            let number = rounded_quotient(scaled, unit.as_bits_u128());
+            Some(scaled_parts(number, places, unit, spec))
+        }
+        Rounding::AtMost(_) => None,
     }
 }
 
 /// Returns the size in the unit, exactly, if one product and one division give it. Then it has at most 28 digits after
 /// the point.
+#[inline(always)]
 fn short_number(size: u128, kind: Kind, unit: Unit) -> Option<Decimal>
     requires { size < size_limit }
     ensures { IfSome result
@@ -246,24 +268,8 @@ fn short_number(size: u128, kind: Kind, unit: Unit) -> Option<Decimal>
     short_quotient(size * kind.bits(), twos, fives)
 }
 
-/// Returns the size in the unit, rounded to exactly `places` digits after the point.
-fn rounded_to(size: u128, kind: Kind, unit: Unit, places: u32) -> FixedDecimal
-    requires size { size < size_limit }
-    requires places { places ≤ u16.MAX }
-    ensures number { let unit = shape_of unit in
-        IsRoundNumeral (size * bits_in kind) (bits unit) places (fixed_decimal_text result) }
-    ensures bound { FitsFixedDecimal result }
-{
-    match scaled_size(size, kind, places) {
-        Some(scaled) => FixedDecimal::Scaled(rounded_quotient(scaled, unit.as_bits_u128()), places),
-        None => {
-            let exact = number_in_unit(size, kind, unit);
-            FixedDecimal::Expanded(exact.rounded(places, Ties::Even), places)
-        }
-    }
-}
-
 /// Returns the size in bits times 10^places. Returns `None` if that is 2^127 or more, or `places` is more than 28.
+#[inline(always)]
 fn scaled_size(size: u128, kind: Kind, places: u32) -> Option<u128>
     requires { size < size_limit }
     ensures scaled { IfSome result (λ n. n ≡ size * bits_in kind * 10 ^ places) }
@@ -275,6 +281,33 @@ fn scaled_size(size: u128, kind: Kind, places: u32) -> Option<u128>
     }
     let scaled = (size * kind.bits()).checked_mul(power_of_ten(places))?;
     (scaled < 1 << 127).then_some(scaled)
+}
+
+/// Returns the size in the unit, rounded, and how many digits after the point are shown.
+fn expanded(size: u128, kind: Kind, unit: Unit, rounding: Rounding) -> (Expansion, u32)
+    requires size { size < size_limit }
+    requires fits { FitsRounding rounding }
+    ensures number { let unit = shape_of unit in
+        IsNumeralBy (rule_from rounding) (size * bits_in kind) (bits unit)
+        (text_of (pad_of result.1 result.0)) }
+    ensures fits { result.1 < 2 ^ 16 }
+{
+    let exact = number_in_unit(size, kind, unit);
+    match rounding {
+        Rounding::Exact => with_all_places(exact),
+        Rounding::To(places) => (exact.rounded(places, Ties::Even), places),
+        Rounding::AtMost(places) => with_all_places(exact.rounded(places, Ties::Up)),
+    }
+}
+
+/// Returns a decimal and the number of its digits after the point.
+#[tactic(auto, using(crate::proofs::WrittenForms::all_places))]
+fn with_all_places(number: Expansion) -> (Expansion, u32)
+    ensures text { text_of (pad_of result.1 result.0) ≡ text_of number }
+    ensures fits { result.1 < 2 ^ 16 }
+{
+    let places = number.places();
+    (number, places)
 }
 
 /// Returns the size in the unit times 10^places, rounded to a whole number, ties to even.
@@ -302,16 +335,6 @@ fn scaled_parts<'a>(number: u128, places: u32, unit: Unit, spec: FormatSpec) -> 
 {
     let (whole, digits) = div_rem(number, power_of_ten(places));
     layout_parts(whole, Fraction::Last(digits, places), unit, spec)
-}
-
-/// Shows all digits of a decimal.
-#[tactic(auto, using(crate::proofs::WrittenForms::all_places))]
-fn all_places(decimal: Expansion) -> FixedDecimal
-    ensures text { fixed_decimal_text result ≡ text_of decimal }
-    ensures bound { FitsFixedDecimal result }
-{
-    let places = decimal.places();
-    FixedDecimal::Expanded(decimal, places)
 }
 
 /// Returns the size in the unit, exactly: with at most 93 digits after the point.

@@ -75,7 +75,7 @@ impl Expansion {
         requires den { 2 ^ twos * 5 ^ fives ≤ unit_limit }
         ensures { IsExpansion numerator (2 ^ twos * 5 ^ fives) result }
     {
-        let den = power(2, twos) * power(5, fives);
+        let den = power_of_two(twos) * power_of_five(fives);
         divide(numerator / den, numerator % den, den)
     }
 
@@ -317,12 +317,20 @@ pub fn glyphs_of(e: &Expansion) -> [u8; EXPANSION_PLACES]
     glyphs
 }
 
-/// Returns `base^exponent`.
-fn power(base: u128, exponent: u32) -> u128
-    requires { base ^ exponent ≤ unit_limit }
-    ensures { result ≡ base ^ exponent }
+/// Returns `2^exponent`.
+fn power_of_two(exponent: u32) -> u128
+    requires { 2 ^ exponent ≤ unit_limit }
+    ensures { result ≡ 2 ^ exponent }
 {
-    base.pow(exponent)
+    1 << exponent
+}
+
+/// Returns `5^exponent`.
+fn power_of_five(exponent: u32) -> u128
+    requires { 5 ^ exponent ≤ unit_limit }
+    ensures { result ≡ 5 ^ exponent }
+{
+    5u128.pow(exponent)
 }
 
 /// Expands `whole + remainder / den` by long division.

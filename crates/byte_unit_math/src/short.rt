@@ -18,7 +18,8 @@ const BYTE_TWOS: u32 = 3;
 /// ```rust
 /// assert_eq!(rt; short_quotient(13, 3, 0), Some(Decimal::from_digits(1, 625, 3)));
 /// assert_eq!(rt; short_quotient(12_288, 6, 3), Some(Decimal::from_digits(1, 536, 3)));
-/// assert_eq!(rt; short_quotient(1, 29, 0), None);
+/// assert_eq!(rt; short_quotient(3, 28, 0), Some(Decimal::from_digits(0, 3 * 5u128.pow(28), 28)));
+/// assert_eq!(rt; short_quotient(3, 29, 0), None);
 /// ```
 pub fn short_quotient(numerator: u128, twos: u32, fives: u32) -> Option<Decimal>
     requires small { numerator < bits_limit }

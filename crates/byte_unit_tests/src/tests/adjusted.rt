@@ -111,6 +111,21 @@ const EXPANSIONS_IN_BITS_BY_PRECISION: &[(u64, Unit, FormatSpec, &str)] = &[
     (10_000, Unit::Kbit, precise!(2), "10 Kb"),
 ];
 
+/// At 28 and 29 digits after the point, and at scaled sizes below and above 2^127.
+const EXPANSIONS_BY_ONE_DIVISION_AND_MORE: &[(u64, Unit, FormatSpec, &str)] = &rows! {
+    (4, Unit::GiB, FormatSpec::PLAIN, "0.0000000037252902984619140625 GiB"),
+    (2, Unit::GiB, FormatSpec::PLAIN, "0.00000000186264514923095703125 GiB"),
+    (18_446_744_073_709_551_615, Unit::GB, FormatSpec::PLAIN, "18446744073.709551615 GB"),
+    (18_446_744_073_709_551_615, Unit::MiB, FormatSpec::PLAIN, "17592186044415.99999904632568359375 MiB"),
+    (123_456_789, Unit::KiB, places!(8), "120563.27050781 KiB"),
+    (123_456_789, Unit::KiB, places!(9), "120563.270507812 KiB"),
+    (18_446_744_073_709_551_615, Unit::GiB, places!(18), "17179869183.999999999068677425 GiB"),
+    (18_446_744_073_709_551_615, Unit::GiB, places!(19), "17179869183.9999999990686774254 GiB"),
+    (18_446_744_073_709_551_615, Unit::KB, places!(28), "18446744073709551.6150000000000000000000000000 KB"),
+    (1, Unit::KB, places!(28), "0.0010000000000000000000000000 KB"),
+    (1, Unit::KB, places!(29), "0.00100000000000000000000000000 KB"),
+};
+
 const WIDE: FormatSpec = spec!(false, Sign::Plus, Some(2), Some(10), Some(Align::Right));
 
 const CLOSE: FormatSpec = spec!(false, Sign::Minus, None, None, None);
@@ -134,6 +149,7 @@ fn texts_in_given_units(rt: HostRuntime) {
     assert_texts_in(&rt, alloc, Kind::Bit, SHORT_EXPANSIONS_OF_BITS);
     assert_texts_in(&rt, alloc, Kind::Byte, EXPANSIONS_BY_PRECISION);
     assert_texts_in(&rt, alloc, Kind::Bit, EXPANSIONS_IN_BITS_BY_PRECISION);
+    assert_texts_in(&rt, alloc, Kind::Byte, EXPANSIONS_BY_ONE_DIVISION_AND_MORE);
     assert_texts_in(&rt, alloc, Kind::Byte, LAYOUTS);
 }
 

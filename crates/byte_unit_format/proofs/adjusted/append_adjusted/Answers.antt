@@ -1,16 +1,23 @@
--- The parts of the rounded number with its unit are the adjusted text.
-use Rattle.std.proofs.Common.{ap, length, rules}
-use Rattle.byte_unit_base.specs.Version.{current}
-use Rattle.byte_unit_base.specs.Units.{shape_of}
-use Rattle.byte_unit_format.specs.Adjusted.{IsAdjustedFormIn}
+-- The parts, or the number and its unit, are the adjusted text.
+use Rattle.std.proofs.Common.{ap, length}
+use Rattle.byte_unit_math.specs.Numeral.{text_of}
+use Rattle.byte_unit_math.specs.Padded.{pad_of}
+use Rattle.byte_unit_format.specs.Layout.{layout_of}
 use Rattle.byte_unit_format.specs.TextParts.{parts_text}
 use Rattle.byte_unit_format.proofs.TextParts.{appends_form}
-use Rattle.byte_unit_format.proofs.AdjustedForms.{adjusted_form_unique}
+use Rattle.byte_unit_format.proofs.AdjustedForms.{adjusted_by_rounding, adjusted_form_unique}
 use Rattle.byte_unit_format.proofs.adjusted.append_adjusted.Goals as goal
 
-pub returns : goal.returns
-returns g c =
-    let form : IsAdjustedFormIn current c.args.kind c.args.size (shape_of c.args.unit) c.args.spec
-    (parts_text c.parts.result) = search rules in
-    appends_form (parts_text c.parts.result) form (λ other is_other. ap length (adjusted_form_unique is_other form))
+pub returns-in-Some : goal.returns-in-Some
+returns-in-Some g c =
+    let form = c.in-Some.ensures.text in
+    appends_form (parts_text c.in-Some.parts) form (λ other is_other. ap length (adjusted_form_unique is_other form))
     c.append.ensures
+
+pub returns-in-None : goal.returns-in-None
+returns-in-None g c =
+    let number = c.expanded-number.result in
+    let form = adjusted_by_rounding (text_of (pad_of number.1 number.0)) c.rounding_of-rounding.ensures
+    c.expanded-number.ensures.number in
+    appends_form (layout_of number.0 number.1 c.args.unit c.args.spec) form
+    (λ other is_other. ap length (adjusted_form_unique is_other form)) c.append_layout.ensures

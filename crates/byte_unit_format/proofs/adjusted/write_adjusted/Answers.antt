@@ -1,22 +1,18 @@
 -- The number, rounded by one division, with its unit is the adjusted text.
 use Rattle.std.proofs.Common.{refl}
 use Rattle.byte_unit_math.specs.Numeral.{numeral}
-use Rattle.byte_unit_base.specs.Version.{current}
-use Rattle.byte_unit_base.specs.Units.{shape_of}
-use Rattle.byte_unit_format.specs.Adjusted.{IsAdjustedFormIn}
+use Rattle.byte_unit_format.specs.Adjusted.{IsAdjustedForm}
 use Rattle.byte_unit_format.specs.TextParts.{parts_text}
 use Rattle.byte_unit_format.proofs.TextParts.{writes_form}
+use Rattle.byte_unit_format.proofs.AdjustedForms.{adjusted_by_rounding}
 use Rattle.byte_unit_format.proofs.adjusted.write_adjusted.Goals as goal
 
-pub returns-in-Some-clause-written : goal.returns-in-Some-clause-written
-returns-in-Some-clause-written c =
-    let unit = shape_of c.args.unit in
+pub returns-in-To-clause-written : goal.returns-in-To-clause-written
+returns-in-To-clause-written c =
     let number = c.rounded_to_few-number.result in
-    let text = numeral number c.in-Some.places in
-    let form : IsAdjustedFormIn current c.args.kind c.args.size unit c.args.spec (parts_text c.scaled_parts.result) =
-    record {
-      number = text;
-      number_is = rw c.in-Some.ensures.1 (number, c.rounded_to_few-number.ensures, refl);
-      text_is = c.scaled_parts.ensures.text;
-    } in
+    let by = c.rounding_of-rounding.ensures in
+    let form : IsAdjustedForm c.args.kind c.args.size c.args.unit c.args.spec (parts_text c.scaled_parts.result) =
+    rw c.scaled_parts.ensures.text
+    (adjusted_by_rounding (numeral number c.in-To.places) by
+    (rw c.in-To.is (number, c.rounded_to_few-number.ensures, refl))) in
     writes_form (parts_text c.scaled_parts.result) form c.write.ensures.written
