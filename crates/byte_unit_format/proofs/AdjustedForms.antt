@@ -4,7 +4,7 @@ use Rattle.std.specs.Fmt.{decimal}
 use Rattle.std.proofs.Math.Nat.{div-add-mod', mod-eq_of_lt, pow-le-pow_right}
 use Rattle.std.proofs.lemmas.Nat.{pow-add, mul-pow, mod_below}
 use Rattle.std.proofs.lemmas.Bool.{cases_lt}
-use Rattle.byte_unit_math.specs.Bounds.{places_of_decimal, scale, size_limit}
+use Rattle.byte_unit_math.specs.Bounds.{size_limit}
 use Rattle.byte_unit_math.specs.Finite.{Finite, ulps_of}
 use Rattle.byte_unit_math.specs.Nearest.{IsNearest}
 use Rattle.byte_unit_math.specs.Digits.{at_places, trim_expansion, last_digits}
@@ -16,7 +16,7 @@ use Rattle.byte_unit_math.proofs.Digits.{scaled_at_places}
 use Rattle.byte_unit_math.proofs.Nearest.{lies_above_quotient, nearest_down, nearest_up, tie_up_next, nearest_even_next}
 use Rattle.byte_unit_math.proofs.Nearest.{nearest_even_this}
 use Rattle.byte_unit_math.proofs.Texts.{same_finite, expansion_unique, nearest_unique, short_numeral_is_expansion}
-use Rattle.byte_unit_math.proofs.Texts.{SameFraction, expansion_of_same_fraction}
+use Rattle.byte_unit_math.proofs.Texts.{expansion_of_same_fraction}
 use Rattle.byte_unit_base.specs.Shape.{Shape, bits, twos, fives}
 use Rattle.byte_unit_base.specs.Version.{Version, unit_name, unit_name_in}
 use Rattle.byte_unit_base.proofs.Choosing.{some_bits}
@@ -24,7 +24,7 @@ use Rattle.byte_unit_base.specs.declared.kind.Kind.{Kind}
 use Rattle.byte_unit_format.specs.declared.spec.FormatSpec.{FormatSpec}
 use Rattle.byte_unit_base.specs.Kinds.{bits_in}
 use Rattle.byte_unit_format.specs.Layout.{layout}
-use Rattle.byte_unit_format.specs.Adjusted.{Rule, full, round_to, short_to, IsFullNumeral, IsNumeralBy, rule_of, IsAdjustedFormIn, IsAdjustedForm}
+use Rattle.byte_unit_format.specs.Adjusted.{Rule, full, round_to, short_to, IsNumeralBy, rule_of, IsAdjustedFormIn, IsAdjustedForm}
 use Rattle.byte_unit_format.specs.Rounding.{rule_from, IsRoundingOf}
 use Rattle.byte_unit_format.specs.declared.adjusted.Rounding.{Rounding}
 use Rattle.byte_unit_base.specs.Units.{shape_of}
@@ -133,11 +133,3 @@ pub adjusted_by_rounding :
     → IsNumeralBy (rule_from rounding) (size * bits_in kind) (bits (shape_of unit)) number
     → IsAdjustedForm kind size unit spec (layout number (unit_name unit) spec)
 adjusted_by_rounding number by numeral = record { number = number; number_is = rw by.rule numeral; text_is = refl }
-
--- A decimal that is the size, scaled by 10^28 in both, shows all digits of the size in the unit.
-pub all_digits_of_decimal :
-    (N num den : ℕ) → 0 < den → N * den ≡ num * scale → IsFullNumeral num den (short_numeral N places_of_decimal)
-all_digits_of_decimal N num den some same =
-    let e = trim_expansion (at_places places_of_decimal N) in
-    let fractions : SameFraction N scale num den = record { positive = omega arith; positive' = some; same = same } in
-    (e, expansion_of_same_fraction N scale num den e fractions (short_numeral_is_expansion N places_of_decimal), refl)

@@ -1,8 +1,8 @@
 -- A size has exactly one text with a unit by each spec, and what the code writes of it is this text.
-use Rattle.std.proofs.Common.{rules, ◌≡◌, ℕ, ◌*◌, inl, inr, false, List, refl, sym, ◌∙◌, ⊎_elim, ◌+◌, ◌-◌, ◌/◌, ◌%◌}
-use Rattle.std.proofs.Common.{◌^◌, ◌<◌, ◌≤◌, min, zero, suc, Bool, true, ◌∷◌, ◌++◌, length, take, replicate, arith, ap}
+use Rattle.std.proofs.Common.{rules, ◌≡◌, ℕ, ◌*◌, inl, inr, false, List, refl, sym, ◌∙◌, ⊎_elim, ◌+◌, ◌-◌}
+use Rattle.std.proofs.Common.{◌<◌, min, zero, suc, Bool, true, ◌∷◌, ◌++◌, length, take, replicate, arith, ap}
 use Rattle.std.proofs.Common.{subst}
-use Rattle.std.proofs.Math.Nat.{eq_of_mul-eq-mul_right, mod-eq_of_lt}
+use Rattle.std.proofs.Math.Nat.{eq_of_mul-eq-mul_right}
 use Rattle.byte_unit_base.specs.Shape.{Shape, bits}
 use Rattle.byte_unit_base.specs.Version.{Version, unit_name_in, current}
 use Rattle.byte_unit_base.specs.Choice.{IsRecoveredIn, family_for}
@@ -23,12 +23,10 @@ use Rattle.std.specs.Fmt.{decimal}
 use Rattle.std.proofs.lemmas.List.{length-map, map-append}
 use Rattle.std.proofs.lemmas.Grind.{common_steps}
 use Rattle.byte_unit_math.specs.Digits.{last_digits}
-use Rattle.byte_unit_math.specs.Exact.{IsLeastPlaces}
-use Rattle.byte_unit_math.specs.Finite.{Finite, IsExpansion}
+use Rattle.byte_unit_math.specs.Finite.{Finite}
 use Rattle.byte_unit_math.specs.Padded.{pad_of}
-use Rattle.byte_unit_math.proofs.Digits.{length_last_digits, last_digits_below_ten, value_of_last_digits}
 use Rattle.byte_unit_math.proofs.Fractions.{fraction_text_some}
-use Rattle.byte_unit_math.proofs.Scales.{pow10_split}
+use Rattle.byte_unit_math.proofs.ShortExpansions.{AreParts, parts_expansion}
 use Rattle.byte_unit_math.proofs.Texts.{text_of_short_numeral, padded_to_own_places}
 use Rattle.byte_unit_format.specs.Plain.{plain}
 
@@ -124,30 +122,6 @@ fraction_length places digits =
 -- Padded to its own number of digits after the point, a decimal has the same text.
 pub all_places : (e : Finite) (places : ℕ) → places ≡ length e.digits → text_of (pad_of places e) ≡ text_of e
 all_places e places count = ap (λ places. text_of (pad_of places e)) count ∙ ap text_of (padded_to_own_places e)
-
--- The whole part of a number that is scaled by 10^28, and its digits after the point without trailing zeros.
-pub record AreParts (number whole digits places : ℕ) : Type 0 where
-  pub few : places ≤ places_of_decimal
-  pub least : IsLeastPlaces number scale places
-  pub whole_is : whole ≡ number / scale
-  pub digits_are : digits * 10 ^ (places_of_decimal - places) ≡ number % scale
-  pub below : digits < 10 ^ places
-
--- The parts of a number are its expansion.
-pub parts_expansion :
-    {number whole digits places : ℕ} → AreParts number whole digits places
-    → IsExpansion number scale (record { whole = whole; digits = last_digits places digits })
-parts_expansion {number} {whole} {digits} {places} parts =
-    let value = value_of_last_digits places digits ∙ mod-eq_of_lt parts.below in
-    let product = ap (λ power. digits * power) (pow10_split places places_of_decimal parts.few) in
-    let split : number ≡ whole * scale + digits * 10 ^ (places_of_decimal - places) =
-    omega (arith, parts.whole_is, parts.digits_are) in
-    let times = ap (λ number. number * 10 ^ places) split in
-    record {
-      small = last_digits_below_ten places digits;
-      exact = rw (length_last_digits places digits, value) (omega (arith, times, product));
-      least = rw (length_last_digits places digits) parts.least.least;
-    }
 
 -- If the number is the size in its exact unit, these parts, formatted with the unit, are the text of the size.
 pub size_form_of_parts : (kind : Kind) (size : ℕ) (spec : FormatSpec) {unit : Shape}

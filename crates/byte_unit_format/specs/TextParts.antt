@@ -1,7 +1,7 @@
 -- Private: the parts of a text in their order, which are passed to the writing code.
 use Rattle.std.specs.Prelude.{ℕ, ◌^◌, ◌<◌, ◌≤◌, List, ◌++◌, length, IsAscii}
 use Rattle.std.specs.Fmt.{decimal}
-use Rattle.byte_unit_math.specs.Bounds.{places_of_decimal}
+use Rattle.byte_unit_math.specs.Bounds.{places_of_number}
 use Rattle.byte_unit_math.specs.Digits.{last_digits}
 use Rattle.byte_unit_math.specs.Numeral.{fraction_text}
 use Rattle.byte_unit_math.specs.Padded.{pad_of}
@@ -20,10 +20,10 @@ abbrev pub places_in : Fraction → ℕ
 places_in (Last digits places) = places
 places_in (First e places) = places
 
--- Digits that are held as one number are at most 28, and the number has no more digits than that. There is no condition
+-- Digits that are held as one number are at most 38, and the number has no more digits than that. There is no condition
 -- on those of a decimal.
 abbrev pub FitsPlaces : Fraction → Type 0
-FitsPlaces (Last digits places) = (places ≤ places_of_decimal) × (digits < 10 ^ places)
+FitsPlaces (Last digits places) = (places ≤ places_of_number) × (digits < 10 ^ places)
 FitsPlaces (First e places) = Unit {0}
 
 -- The text of the number: sign, whole part and digits after the point.

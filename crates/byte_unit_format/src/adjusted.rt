@@ -4,11 +4,12 @@ ghost use Rattle.std.specs.Prelude.{◌≡◌, ℕ, ◌*◌, ◌^◌, ◌<◌, �
 ghost use Rattle.std.specs.Fmt.{DisplaysOnOk, DisplaysStyledOnOk};
 ghost use Rattle.byte_unit_math.specs.Finite.{IsExpansion};
 ghost use Rattle.byte_unit_math.specs.Nearest.{IsNearest};
+ghost use Rattle.byte_unit_math.specs.ShortExpansion.{IsShortExpansion};
 ghost use Rattle.byte_unit_math.specs.Numeral.{numeral, text_of};
 ghost use Rattle.byte_unit_math.specs.Padded.{pad_of};
 ghost use Rattle.byte_unit_math.specs.declared.expansion.Ties.TheVariants.{Even};
 ghost use Rattle.byte_unit_base.specs.Shape.{bits};
-ghost use Rattle.byte_unit_math.specs.Bounds.{places_of_decimal, scale, size_limit};
+ghost use Rattle.byte_unit_math.specs.Bounds.{places_of_decimal, size_limit};
 ghost use Rattle.byte_unit_base.specs.Units.{shape_of};
 ghost use Rattle.byte_unit_base.specs.Kinds.{bits_in};
 ghost use Rattle.byte_unit_base.specs.Version.{unit_name};
@@ -25,8 +26,8 @@ use crate::layout::{append_layout, layout_len, layout_parts, write_layout};
 use crate::parts::{Fraction, TextParts};
 use byte_unit_base::{Kind, Unit};
 use byte_unit_math::{
-    DECIMAL_PLACES, Decimal, Expansion, Ties, div_rem, power_of_ten, rounded_quotient,
-    short_quotient,
+    DECIMAL_PLACES, Expansion, ShortExpansion, Ties, div_rem, power_of_ten, rounded_quotient,
+    short_expansion,
 };
 use std::alloc::{AllocError, Allocator};
 use std::fmt;
@@ -225,7 +226,7 @@ fn rounding_of(unit: Unit, spec: FormatSpec) -> Rounding
 }
 
 /// Returns the parts of a size in a unit with the unit, if one product and one division give the number. Then it has at
-/// most 28 digits after the point.
+/// most 38 digits after the point.
 #[inline(always)]
 fn short_parts(
     size: u128,
@@ -244,8 +245,8 @@ fn short_parts(
     match rounding {
         Rounding::Exact => {
             let number = short_number(size, kind, unit)?;
-            let fraction = Fraction::Last(number.digits(), number.places());
-            Some(layout_parts(number.whole(), fraction, unit, spec))
+            let fraction = Fraction::Last(number.digits, number.places);
+            Some(layout_parts(number.whole, fraction, unit, spec))
         }
         Rounding::To(places) => {
             let scaled = scaled_size(size, kind, places)?;
@@ -256,16 +257,15 @@ fn short_parts(
     }
 }
 
-/// Returns the size in the unit, exactly, if one product and one division give it. Then it has at most 28 digits after
+/// Returns the size in the unit, exactly, if one product and one division give it. Then it has at most 38 digits after
 /// the point.
 #[inline(always)]
-fn short_number(size: u128, kind: Kind, unit: Unit) -> Option<Decimal>
+fn short_number(size: u128, kind: Kind, unit: Unit) -> Option<ShortExpansion>
     requires { size < size_limit }
-    ensures { IfSome result
-        (λ N. N * bits (shape_of unit) ≡ size * bits_in kind * scale) }
+    ensures { IfSome result (IsShortExpansion (size * bits_in kind) (bits (shape_of unit))) }
 {
     let (twos, fives) = unit.powers();
-    short_quotient(size * kind.bits(), twos, fives)
+    short_expansion(size * kind.bits(), twos, fives)
 }
 
 /// Returns the size in bits times 10^places. Returns `None` if that is 2^127 or more, or `places` is more than 28.

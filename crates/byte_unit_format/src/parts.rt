@@ -2,7 +2,7 @@
 
 ghost use Rattle.std.specs.Prelude.{◌≡◌, ◌+◌, ◌^◌, ◌<◌, ◌≤◌, ◌++◌, length, drop, IsAscii};
 ghost use Rattle.std.specs.String.{string_bytes};
-ghost use Rattle.byte_unit_math.specs.Bounds.{places_of_decimal};
+ghost use Rattle.byte_unit_math.specs.Bounds.{places_of_number};
 ghost use Rattle.byte_unit_math.specs.Digits.{last_digits};
 ghost use Rattle.byte_unit_math.specs.Numeral.{fraction_text};
 ghost use Rattle.byte_unit_math.specs.Padded.{pad_of};
@@ -21,7 +21,7 @@ const BUFFER_LEN: usize = 96;
 /// The digits after the point, and their number.
 #[derive(Clone, Copy)]
 pub(crate) enum Fraction<'a> {
-    /// The last digits of a number, at most 28, with leading zeros.
+    /// The last digits of a number, at most 38, with leading zeros.
     Last(u128, u32),
     /// The first digits of an expansion, with trailing zeros.
     First(&'a Expansion, u32),
@@ -192,7 +192,7 @@ fn put_first(e: &Expansion, places: u32, out: &mut [u8], end: usize) -> usize
 /// Appends the point and the last `places` digits of a number.
 #[tactic(auto, using(crate::proofs::TextParts::last_digits_put))]
 fn push_last<A: Allocator>(text: &mut String<A>, digits: u128, places: u32)
-    requires short { (places ≤ places_of_decimal) × (digits < 10 ^ places) }
+    requires short { (places ≤ places_of_number) × (digits < 10 ^ places) }
     requires room { length (fraction_text (last_digits places digits)) ≤ spare_capacity text.old }
     ensures bytes { string_bytes text.new
         ≡ string_bytes text.old ++ fraction_text (last_digits places digits) }

@@ -2,7 +2,7 @@ pub mod Scales
 pub mod RoundedUp
 pub mod Estimates
 pub mod ShortDecimals
-pub mod ShortQuotients
+pub mod ShortExpansions
 pub mod Digits
 pub mod WrittenDigits
 pub mod PairsInLanes

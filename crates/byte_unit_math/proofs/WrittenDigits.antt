@@ -17,7 +17,8 @@ use Rattle.byte_unit_math.specs.Numeral.{fraction_text, glyphs}
 use Rattle.byte_unit_math.proofs.Digits.{length_last_digits, last_digits_below_ten, value_of_last_digits, same_digits}
 use Rattle.byte_unit_math.proofs.Digits.{one_le_pow10}
 use Rattle.byte_unit_math.proofs.Fractions.{fraction_text_some}
-use Rattle.byte_unit_math.proofs.Scales.{pow10_bounds}
+use Rattle.byte_unit_math.specs.Bounds.{places_of_number}
+use Rattle.byte_unit_math.proofs.Scales.{pow10_fits}
 use Rattle.std.specs.Int.Count.{count_leading_zeros}
 
 -- A number below ten is written as one digit.
@@ -97,12 +98,12 @@ without_leading_zeros (suc (suc k)) n behind below small some = ⊎_elim
 
 -- A power of ten plus digits below it is written as a one and the digits, leading zeros kept.
 pub decimal_of_one_and_digits :
-    (places digits : ℕ) → digits < 10 ^ places → places ≤ 28
+    (places digits : ℕ) → digits < 10 ^ places → places ≤ places_of_number
     → decimal (10 ^ places + digits) ≡ 49 ∷ glyphs (last_digits places digits)
 decimal_of_one_and_digits places digits below few =
     let power = 10 ^ places in
     let parts : power + digits ≡ 1 * power + digits = omega arith in
-    let cut = decimal_cut places (1 * power + digits) (omega arith) (omega (arith, below, pow10_bounds places few)) in
+    let cut = decimal_cut places (1 * power + digits) (omega arith) (omega (arith, below, pow10_fits places few)) in
     ap decimal parts
     ∙ (sym (rw (div-mul-add 1 power digits below, mod-mul-add 1 power digits below) at cut)
     ∙ ap (λ l. l ++ glyphs (last_digits places digits)) (decimal_one_digit 1 (omega arith)))
@@ -153,14 +154,14 @@ fraction_text_glyphs places digits some = grind (arith, fraction_text_some, leng
 
 -- A one and the digits are as long as a point and the digits.
 pub length_of_one_and_digits :
-    (places digits : ℕ) → 0 < places → digits < 10 ^ places → places ≤ 28
+    (places digits : ℕ) → 0 < places → digits < 10 ^ places → places ≤ places_of_number
     → (length (decimal (10 ^ places + digits)) ≡ length (fraction_text (last_digits places digits)))
     × (0 < length (decimal (10 ^ places + digits)))
 length_of_one_and_digits places digits some below few = grind (arith, decimal_of_one_and_digits, fraction_text_glyphs)
 
 -- Replacing the one before digits by a point gives the text of the fraction.
 pub one_becomes_point :
-    (places digits point : ℕ) (bytes behind : List ℕ) → (0 < places) × (digits < 10 ^ places) × (places ≤ 28)
+    (places digits point : ℕ) (bytes behind : List ℕ) → (0 < places) × (digits < 10 ^ places) × (places ≤ places_of_number)
     → point < length bytes → drop point bytes ≡ decimal (10 ^ places + digits) ++ behind
     → drop point (set bytes point 46) ≡ fraction_text (last_digits places digits) ++ behind
 one_becomes_point places digits point bytes behind fits within h =
@@ -173,7 +174,7 @@ one_becomes_point places digits point bytes behind fits within h =
 
 -- The text of a fraction is ASCII.
 pub fraction_ascii :
-    (places digits : ℕ) → (0 < places) × (digits < 10 ^ places) × (places ≤ 28)
+    (places digits : ℕ) → (0 < places) × (digits < 10 ^ places) × (places ≤ places_of_number)
     → IsAscii (decimal (10 ^ places + digits)) → IsAscii (fraction_text (last_digits places digits))
 fraction_ascii places digits fits ascii =
     let glyphs_ascii = IsAscii-drop (49 ∷ glyphs (last_digits places digits)) 1
@@ -191,7 +192,7 @@ pub ruleset decimal_ascii = (IsAscii-decimal_wide)
 pub ruleset ascii_texts = (IsUtf8-from_ascii, IsAscii-take)
 
 -- What the proof of a fraction's text uses.
-pub ruleset fractions_written = (pow10_bounds, length_of_one_and_digits, one_becomes_point, fraction_ascii)
+pub ruleset fractions_written = (pow10_fits, length_of_one_and_digits, one_becomes_point, fraction_ascii)
 
 -- A number of more than k digits is written as the number without them, and these digits.
 pub digits_before :

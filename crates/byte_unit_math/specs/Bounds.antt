@@ -5,6 +5,11 @@ use Rattle.std.specs.Prelude.{ℕ, ◌*◌, ◌^◌}
 abbrev pub places_of_decimal : ℕ
 places_of_decimal = 28
 
+-- The most digits after the point that a number of 128 bits holds as one number: the greatest power of ten below 2^128
+-- is 10^38.
+abbrev pub places_of_number : ℕ
+places_of_number = 38
+
 -- 10^28, the scale of decimals: a `Decimal` is seen as its value times 10^28, a natural number N.
 abbrev pub scale : ℕ
 scale = 10 ^ places_of_decimal

@@ -15,3 +15,4 @@ pub mod NumberLaws
 pub mod CountLaws
 pub mod DecimalFields
 pub mod ExpansionFields
+pub mod ShortExpansion

@@ -2,7 +2,7 @@
 
 ghost use Rattle.std.specs.Prelude.{◌≡◌, ◌+◌, ◌^◌, ◌≤◌, ◌<◌, ◌++◌, length, drop, IsAscii, Some};
 ghost use Rattle.std.specs.Fmt.{decimal, DisplaysOnOk, DisplaysStyledOnOk};
-ghost use Rattle.byte_unit_math.specs.Bounds.{places_of_decimal};
+ghost use Rattle.byte_unit_math.specs.Bounds.{places_of_number};
 ghost use Rattle.byte_unit_math.specs.Digits.{last_digits};
 ghost use Rattle.byte_unit_math.specs.Numeral.{fraction_text, glyphs};
 
@@ -191,7 +191,7 @@ pub fn put_u128(n: u128, bytes: &mut [u8], end: usize) -> usize
 /// Writes a point and `places` digits of a number, with leading zeros, so that they end before the index `end`, and
 /// returns the index where they begin. Writes nothing if `places` is 0.
 ///
-/// Precondition (proved at every call): `places <= 28`, `digits < 10^places`, the text fits before `end`, and
+/// Precondition (proved at every call): `places <= 38`, `digits < 10^places`, the text fits before `end`, and
 /// `end <= bytes.len()`.
 ///
 /// # Examples
@@ -204,7 +204,7 @@ pub fn put_u128(n: u128, bytes: &mut [u8], end: usize) -> usize
 #[inline(always)]
 #[tactic(auto, using(crate::proofs::WrittenDigits::fractions_written))]
 pub fn put_fraction(digits: u128, places: u32, bytes: &mut [u8], end: usize) -> usize
-    requires few { places ≤ places_of_decimal }
+    requires few { places ≤ places_of_number }
     requires below { digits < 10 ^ places }
     requires room { length (fraction_text (last_digits places digits)) ≤ end }
     requires within { end ≤ length bytes.old }

@@ -1,64 +1,82 @@
-//! Quotients with at most 28 digits after the point, by one product and one division or shift.
-ghost use Rattle.std.specs.Prelude.{◌≡◌, ℕ, ◌*◌, ◌^◌, ◌<◌, ◌≤◌, IfSome};
-ghost use Rattle.byte_unit_math.specs.Bounds.{bits_limit, scale, unit_limit};
+//! Terminating decimal expansions with few digits after the point, by one product and one division or shift.
+ghost use Rattle.std.specs.Prelude.{◌≢◌, ℕ, ◌*◌, ◌%◌, ◌^◌, ◌<◌, ◌≤◌, IfSome};
+ghost use Rattle.byte_unit_math.specs.Bounds.{bits_limit, unit_limit};
+ghost use Rattle.byte_unit_math.specs.ShortExpansion.{IsShortExpansion};
 
 use crate::dividing::div_rem;
 use crate::tens::power_of_ten;
 use crate::{DECIMAL_PLACES, Decimal};
 
+/// The most digits after the point of a [`ShortExpansion`].
+const MOST_PLACES: u32 = 38;
+
 /// The most factors 2 that a decimal unit has beside its factors 10: the eight bits of a byte.
 const BYTE_TWOS: u32 = 3;
 
-/// Returns `numerator / (2^twos * 5^fives)`, exactly. Returns `None` if it has more than 28 digits after the point, or
-/// may have.
+/// A terminating decimal expansion with at most 38 digits after the point, the last of which is not 0.
+#[derive(Clone, Copy, Debug)]
+pub struct ShortExpansion {
+    pub whole: u128,
+    /// The digits after the point as a number of `places` digits, leading zeros included.
+    pub digits: u128,
+    pub places: u32,
+}
+
+/// Returns the expansion of `numerator / (2^twos * 5^fives)`. Returns `None` if it has more than 38 digits after the
+/// point, or may have: for `fives > 0` if `twos` exceeds it by more than 3, or if it may have more than 28.
 ///
 /// Precondition (proved at every call): `numerator < 8 * 10^30`, `fives <= twos` and `2^twos * 5^fives <= 2^93`.
 ///
 /// # Examples
 /// ```rust
-/// assert_eq!(rt; short_quotient(13, 3, 0), Some(Decimal::from_digits(1, 625, 3)));
-/// assert_eq!(rt; short_quotient(12_288, 6, 3), Some(Decimal::from_digits(1, 536, 3)));
-/// assert_eq!(rt; short_quotient(3, 28, 0), Some(Decimal::from_digits(0, 3 * 5u128.pow(28), 28)));
-/// assert_eq!(rt; short_quotient(3, 29, 0), None);
+/// let eighths = short_expansion(13, 3, 0).unwrap();
+/// assert_eq!(rt; (eighths.whole, eighths.digits, eighths.places), (1, 625, 3));
+/// let thousandths = short_expansion(12_288, 6, 3).unwrap();
+/// assert_eq!(rt; (thousandths.whole, thousandths.digits, thousandths.places), (1, 536, 3));
+/// assert!(rt; short_expansion(3, 38, 0).is_some());
+/// assert!(rt; short_expansion(3, 39, 0).is_none());
 /// ```
-pub fn short_quotient(numerator: u128, twos: u32, fives: u32) -> Option<Decimal>
+pub fn short_expansion(numerator: u128, twos: u32, fives: u32) -> Option<ShortExpansion>
     requires small { numerator < bits_limit }
     requires order { fives ≤ twos }
     requires den { 2 ^ twos * 5 ^ fives ≤ unit_limit }
-    ensures { IfSome result (λ N. N * (2 ^ twos * 5 ^ fives) ≡ numerator * scale) }
+    ensures { IfSome result (IsShortExpansion numerator (2 ^ twos * 5 ^ fives)) }
 {
     // The factors 2 that numerator and denominator share, without those of the denominator's factors 10.
     let shared = numerator.trailing_zeros().min(twos - fives);
     let left = twos - fives - shared;
     let reduced = numerator >> shared;
     if fives == 0 {
-        binary_quotient(reduced, left)
+        binary_expansion(reduced, left)
     } else {
-        decimal_quotient(reduced, left, fives)
+        decimal_expansion(reduced, left, fives)
     }
 }
 
-/// Returns `numerator / 2^places`, or `None` if `places` is more than 28.
+/// Returns the expansion of `numerator / 2^places`, which is in lowest terms, or `None` if `places` is more than 38.
 #[inline(always)]
-fn binary_quotient(numerator: u128, places: u32) -> Option<Decimal>
-    requires { numerator < bits_limit }
-    ensures { IfSome result (λ N. N * 2 ^ places ≡ numerator * scale) }
+fn binary_expansion(numerator: u128, places: u32) -> Option<ShortExpansion>
+    requires odd { 0 < places → numerator % 2 ≢ 0 }
+    ensures { IfSome result (IsShortExpansion numerator (2 ^ places)) }
 {
-    if places > DECIMAL_PLACES {
+    if places > MOST_PLACES {
         return None;
     }
     let rest = numerator & ((1 << places) - 1);
-    // 10^places / 2^places is 5^places.
-    let digits = rest * (power_of_ten(places) >> places);
-    Some(Decimal::from_digits(numerator >> places, digits, places))
+    Some(ShortExpansion {
+        whole: numerator >> places,
+        // 10^places / 2^places is 5^places.
+        digits: rest * (power_of_ten(places) >> places),
+        places,
+    })
 }
 
-/// Returns `numerator / (2^twos * 10^tens)`, or `None` if `twos` is more than 3 or it may have more than 28 digits after
-/// the point.
+/// Returns the expansion of `numerator / (2^twos * 10^tens)`, or `None` if `twos` is more than 3 or it may have more than
+/// 28 digits after the point.
 #[inline(always)]
-fn decimal_quotient(numerator: u128, twos: u32, tens: u32) -> Option<Decimal>
+fn decimal_expansion(numerator: u128, twos: u32, tens: u32) -> Option<ShortExpansion>
     requires { numerator < bits_limit }
-    ensures { IfSome result (λ N. N * (2 ^ twos * 10 ^ tens) ≡ numerator * scale) }
+    ensures { IfSome result (IsShortExpansion numerator (2 ^ twos * 10 ^ tens)) }
 {
     if twos > BYTE_TWOS || tens > DECIMAL_PLACES - twos {
         return None;
@@ -66,5 +84,11 @@ fn decimal_quotient(numerator: u128, twos: u32, tens: u32) -> Option<Decimal>
     let places = tens + twos;
     let scaled = numerator * (power_of_ten(twos) >> twos);
     let (whole, digits) = div_rem(scaled, power_of_ten(places));
-    Some(Decimal::from_digits(whole, digits, places))
+    // Leaves trailing zeros out.
+    let number = Decimal::from_digits(whole, digits, places);
+    Some(ShortExpansion {
+        whole: number.whole(),
+        digits: number.digits(),
+        places: number.places(),
+    })
 }

@@ -111,10 +111,11 @@ const EXPANSIONS_IN_BITS_BY_PRECISION: &[(u64, Unit, FormatSpec, &str)] = &[
     (10_000, Unit::Kbit, precise!(2), "10 Kb"),
 ];
 
-/// At 28 and 29 digits after the point, and at scaled sizes below and above 2^127.
+/// At 28, 29 and 40 digits after the point, and at scaled sizes below and above 2^127.
 const EXPANSIONS_BY_ONE_DIVISION_AND_MORE: &[(u64, Unit, FormatSpec, &str)] = &rows! {
     (4, Unit::GiB, FormatSpec::PLAIN, "0.0000000037252902984619140625 GiB"),
     (2, Unit::GiB, FormatSpec::PLAIN, "0.00000000186264514923095703125 GiB"),
+    (1, Unit::TiB, FormatSpec::PLAIN, "0.0000000000009094947017729282379150390625 TiB"),
     (18_446_744_073_709_551_615, Unit::GB, FormatSpec::PLAIN, "18446744073.709551615 GB"),
     (18_446_744_073_709_551_615, Unit::MiB, FormatSpec::PLAIN, "17592186044415.99999904632568359375 MiB"),
     (123_456_789, Unit::KiB, places!(8), "120563.27050781 KiB"),

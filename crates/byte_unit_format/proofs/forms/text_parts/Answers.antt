@@ -1,7 +1,8 @@
 -- The chosen unit and the number in it are the form with a unit; its parts are laid out as the spec says.
 use Rattle.std.proofs.Common.{◌≡◌, true, rules}
 use Rattle.byte_unit_format.specs.Forms.{places_of}
-use Rattle.byte_unit_format.proofs.WrittenForms.{AreParts, size_form_is_text, size_form_of_parts}
+use Rattle.byte_unit_math.proofs.ShortExpansions.{AreParts}
+use Rattle.byte_unit_format.proofs.WrittenForms.{size_form_is_text, size_form_of_parts}
 use Rattle.byte_unit_format.proofs.forms.text_parts.Goals as goal
 
 pub returns-clause-text : goal.returns-clause-text

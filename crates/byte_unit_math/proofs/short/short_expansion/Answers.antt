@@ -4,9 +4,9 @@ use Rattle.std.specs.Int.{trailing_zeros, w128}
 use Rattle.std.proofs.Math.Nat.{min-le_left, min-le_right}
 use Rattle.std.proofs.lemmas.Option.{IfSome_then}
 use Rattle.byte_unit_math.proofs.Expanding.{exponents_within_places}
-use Rattle.byte_unit_math.proofs.ShortQuotients.{shared_twos, of_reduced_binary, of_reduced_decimal}
-use Rattle.byte_unit_math.proofs.short.short_quotient.Goals.{After-min-shared}
-use Rattle.byte_unit_math.proofs.short.short_quotient.Goals as goal
+use Rattle.byte_unit_math.proofs.ShortExpansions.{odd_if_shared, shared_twos, reduced_binary, reduced_decimal, short_of_same_fraction}
+use Rattle.byte_unit_math.proofs.short.short_expansion.Goals.{After-min-shared}
+use Rattle.byte_unit_math.proofs.short.short_expansion.Goals as goal
 
 -- At most the twos beside the fives are shared.
 shared_few : (c : After-min-shared) → c.min-shared.result ≤ c.args.twos - c.args.fives
@@ -33,15 +33,23 @@ overflow_shr-reduced c =
     let start = (goal.at.overflow_shr-reduced c).After-min-shared in
     omega (arith, shared_few start, (exponents_within_places c.args.twos c.args.fives c.requires.den).0)
 
+pub binary_expansion-requires : goal.binary_expansion-requires
+binary_expansion-requires c = record {
+  odd = λ left.
+      odd_if_shared c.args.numerator (c.args.twos - c.args.fives) c.min-shared.result (omega (arith, c.requires.small))
+      (omega (arith, (exponents_within_places c.args.twos c.args.fives c.requires.den).0)) c.min-shared.ensures
+      (omega (arith, left));
+}
+
 pub returns-then-fives-eq0 : goal.returns-then-fives-eq0
 returns-then-fives-eq0 c =
     let start = (goal.at.returns-then-fives-eq0 c).After-min-shared in
     let sum : c.args.twos ≡ c.args.twos - c.args.fives - c.min-shared.result + c.min-shared.result =
     omega (arith, shared_few start, c.if-fives-eq0.true) in
-    IfSome_then c.binary_quotient.result c.binary_quotient.ensures
-    (λ N exact. rw c.if-fives-eq0.true
-    (of_reduced_binary N c.args.numerator (c.args.numerator / 2 ^ c.min-shared.result) c.min-shared.result
-    (c.args.twos - c.args.fives - c.min-shared.result) c.args.twos sum (number_is start) exact))
+    let same = reduced_binary c.args.numerator (c.args.numerator / 2 ^ c.min-shared.result) c.min-shared.result
+    (c.args.twos - c.args.fives - c.min-shared.result) c.args.twos sum (number_is start) in
+    IfSome_then c.binary_expansion.result c.binary_expansion.ensures
+    (λ e is_short. rw c.if-fives-eq0.true (short_of_same_fraction same is_short))
 
 pub returns-else-fives-eq0 : goal.returns-else-fives-eq0
 returns-else-fives-eq0 c =
@@ -49,6 +57,7 @@ returns-else-fives-eq0 c =
     let left = c.args.twos - c.args.fives - c.min-shared.result in
     let sum : c.args.twos ≡ left + c.args.fives + c.min-shared.result =
     omega (arith, shared_few start, c.requires.order) in
-    IfSome_then c.decimal_quotient.result c.decimal_quotient.ensures
-    (λ N exact. of_reduced_decimal N c.args.numerator (c.args.numerator / 2 ^ c.min-shared.result) c.min-shared.result
-    left c.args.twos c.args.fives sum (number_is start) exact)
+    let same = reduced_decimal c.args.numerator (c.args.numerator / 2 ^ c.min-shared.result) c.min-shared.result left
+    c.args.twos c.args.fives sum (number_is start) in
+    IfSome_then c.decimal_expansion.result c.decimal_expansion.ensures
+    (λ e is_short. short_of_same_fraction same is_short)

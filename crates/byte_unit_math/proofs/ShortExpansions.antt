@@ -1,0 +1,180 @@
+-- Expansions with few digits after the point, from one product.
+use Rattle.std.proofs.Common.{◌≡◌, ◌≢◌, ℕ, zero, suc, ◌+◌, ◌-◌, ◌*◌, ◌/◌, ◌%◌, ◌^◌, ◌<◌, ◌≤◌, min, bit_and, arith, ap, ◌∙◌}
+use Rattle.std.specs.Int.{trailing_zeros, w128}
+use Rattle.std.specs.Int.Count.{trailing_of_zero}
+use Rattle.std.proofs.Math.Nat.{mul-lt-mul_of_pos_right, one-le-pow, div-add-mod', pow-zero, pow-succ', mod-eq_of_lt}
+use Rattle.std.proofs.Math.Nat.{pow-le-pow_right}
+use Rattle.std.proofs.lemmas.Nat.{mul-pow, mul-le, mod_below, and_mask}
+use Rattle.std.proofs.lemmas.Nat.Bits.{bit_at-trailing_zeros}
+use Rattle.byte_unit_math.specs.Bounds.{scale, places_of_decimal, places_of_number}
+use Rattle.byte_unit_math.specs.Digits.{last_digits}
+use Rattle.byte_unit_math.specs.Exact.{IsLeastPlaces}
+use Rattle.byte_unit_math.specs.Finite.{IsExpansion}
+use Rattle.byte_unit_math.specs.ShortExpansion.{IsShortExpansion, finite_of}
+use Rattle.byte_unit_math.specs.declared.short.ShortExpansion.{ShortExpansion}
+use Rattle.byte_unit_math.proofs.Digits.{length_last_digits, last_digits_below_ten, value_of_last_digits}
+use Rattle.byte_unit_math.proofs.Expanding.{IsLeastPlaces-last_digit}
+use Rattle.byte_unit_math.proofs.Texts.{SameFraction, expansion_of_same_fraction}
+use Rattle.byte_unit_math.proofs.Scales.{pow10_split, pow10_times_rest, power_of_sum}
+use Rattle.byte_unit_math.proofs.TwosFives.{FivesOff-trailing_zeros, trailing_zeros_divide}
+
+-- 10^p is 2^p times 5^p.
+pub ten_power : (p : ℕ) → 10 ^ p ≡ 2 ^ p * 5 ^ p
+ten_power p = mul-pow 2 5 p
+
+-- 10^p / 2^p is 5^p.
+pub ten_over_two : (p : ℕ) → 10 ^ p / 2 ^ p ≡ 5 ^ p
+ten_over_two p = rw (ten_power p) (grind (arith, one-le-pow))
+
+-- Masked by its last p bits, a number is its remainder by 2^p.
+pub masked_rest : (n p : ℕ) → p ≤ places_of_number → bit_and n (1 * 2 ^ p % 2 ^ 128 - 1) ≡ n % 2 ^ p
+masked_rest n p few =
+    let small : 1 * 2 ^ p < 2 ^ 128 = omega (arith, pow-le-pow_right {n = 2} (omega arith) {i = p} {j = 38} few) in
+    let one : 1 * 2 ^ p % 2 ^ 128 ≡ 2 ^ p = omega (arith, mod-eq_of_lt small) in
+    ap (λ power. bit_and n (power - 1)) one ∙ and_mask n p
+
+-- A remainder by 2^p, times 5^p, is below 10^p.
+pub rest_below_ten_power : (n p : ℕ) → n % 2 ^ p * 5 ^ p < 10 ^ p
+rest_below_ten_power n p =
+    rw (ten_power p) (mul-lt-mul_of_pos_right {k = 5 ^ p} (mod_below n (2 ^ p) (omega (arith, one-le-pow p 2 (omega arith))))
+    (omega (arith, one-le-pow p 5 (omega arith))))
+
+-- A power of five is odd.
+five_power_odd : (p : ℕ) → 5 ^ p % 2 ≡ 1
+five_power_odd zero = rw (pow-zero 5) (omega arith)
+five_power_odd (suc p) = rw (pow-succ' 5 p) (omega (arith, five_power_odd p))
+
+-- The product of an odd number and a power of five does not end in the digit 0.
+odd_times_fives : (n p : ℕ) → n % 2 ≢ 0 → 0 < n * 5 ^ p % 10
+odd_times_fives n p odd =
+    let power = 5 ^ p in
+    let five : power ≡ power / 2 * 2 + 1 = omega (arith, five_power_odd p) in
+    let number : n ≡ n / 2 * 2 + 1 = omega (arith, odd) in
+    let product : n * power ≡ 2 * (n / 2 * 2 * (power / 2) + n / 2 + power / 2) + 1 =
+    ap (λ n. n * power) number ∙ ap (λ power. (n / 2 * 2 + 1) * power) five ∙ omega arith in
+    omega (arith, product)
+
+-- The whole part, and the remainder by 2^p as p digits, are the number times 5^p.
+binary_count : (n p : ℕ) → n / 2 ^ p * 10 ^ p + n % 2 ^ p * 5 ^ p ≡ n * 5 ^ p
+binary_count n p =
+    let power = ap (λ power. n / 2 ^ p * power) (ten_power p) in
+    let number = ap (λ m. m * 5 ^ p) (div-add-mod' n (2 ^ p)) in
+    omega (arith, power, number)
+
+-- A whole part and the remainder by 2^p as p digits are the expansion of n / 2^p, if n is odd or p is 0.
+pub binary_is_expansion : (n p : ℕ) → (0 < p → n % 2 ≢ 0)
+    → IsExpansion n (2 ^ p) (record { whole = n / 2 ^ p; digits = last_digits p (n % 2 ^ p * 5 ^ p) })
+binary_is_expansion n p odd =
+    let digits : ℕ = n % 2 ^ p * 5 ^ p in
+    let value = value_of_last_digits p digits ∙ mod-eq_of_lt (rest_below_ten_power n p) in
+    let exact : n * 10 ^ p ≡ (n / 2 ^ p * 10 ^ p + digits) * 2 ^ p =
+    omega (arith, ap (λ power. n * power) (ten_power p), ap (λ m. m * 2 ^ p) (binary_count n p)) in
+    let positive : 0 < 2 ^ p = omega (arith, one-le-pow p 2 (omega arith)) in
+    let least = IsLeastPlaces-last_digit n (2 ^ p) (n / 2 ^ p * 10 ^ p + digits) p positive exact
+    (λ some. rw (binary_count n p) (odd_times_fives n p (odd some))) in
+    record {
+      small = last_digits_below_ten p digits;
+      exact = rw (length_last_digits p digits, value) exact;
+      least = rw (length_last_digits p digits) least.least;
+    }
+
+-- The whole part of a number that is scaled by 10^28, and its digits after the point without trailing zeros.
+pub record AreParts (number whole digits places : ℕ) : Type 0 where
+  pub few : places ≤ places_of_decimal
+  pub least : IsLeastPlaces number scale places
+  pub whole_is : whole ≡ number / scale
+  pub digits_are : digits * 10 ^ (places_of_decimal - places) ≡ number % scale
+  pub below : digits < 10 ^ places
+
+-- The parts of a number are its expansion.
+pub parts_expansion :
+    {number whole digits places : ℕ} → AreParts number whole digits places
+    → IsExpansion number scale (record { whole = whole; digits = last_digits places digits })
+parts_expansion {number} {whole} {digits} {places} parts =
+    let value = value_of_last_digits places digits ∙ mod-eq_of_lt parts.below in
+    let product = ap (λ power. digits * power) (pow10_split places places_of_decimal parts.few) in
+    let split : number ≡ whole * scale + digits * 10 ^ (places_of_decimal - places) =
+    omega (arith, parts.whole_is, parts.digits_are) in
+    let times = ap (λ number. number * 10 ^ places) split in
+    record {
+      small = last_digits_below_ten places digits;
+      exact = rw (length_last_digits places digits, value) (omega (arith, times, product));
+      least = rw (length_last_digits places digits) parts.least.least;
+    }
+
+-- The number times 5^twos, split `tens + twos` digits from the right, is the quotient by 2^twos * 10^tens, scaled by
+-- 10^28.
+pub decimal_is_exact : (n twos tens : ℕ) → tens + twos ≤ places_of_decimal
+    → n * 5 ^ twos * 10 ^ (places_of_decimal - (tens + twos)) * (2 ^ twos * 10 ^ tens) ≡ n * scale
+decimal_is_exact n twos tens few =
+    let behind = 10 ^ (places_of_decimal - (tens + twos)) in
+    let twice = ap (λ power. n * (power * 10 ^ tens * behind)) (ten_power twos) in
+    let power = ap (λ power. n * (power * behind)) (power_of_sum 10 (tens + twos) tens twos (omega arith)) in
+    let all = ap (λ s. n * s) (pow10_times_rest (tens + twos) few) in
+    omega (arith, twice, power, all)
+
+-- A number is a multiple of 2^k if k is at most the number of its trailing zero bits.
+pub shared_twos : (number k : ℕ) → number < 2 ^ 128 → k ≤ trailing_zeros w128 number
+    → number ≡ number / 2 ^ k * 2 ^ k
+shared_twos zero k small within = omega arith
+shared_twos (suc n) k small within =
+    let lowest = bit_at-trailing_zeros w128 (suc n) (omega arith) small in
+    trailing_zeros_divide (suc n) k (λ i below. lowest.2 i (omega (arith, below, within)))
+
+-- Divided by 2^k, where k is at most the number of its trailing zero bits and below another bound, a number is odd.
+pub odd_if_shared : (number most k : ℕ) → number < 2 ^ 128 → most < 128 → k ≡ min (trailing_zeros w128 number) most
+    → k < most → number / 2 ^ k % 2 ≢ 0
+odd_if_shared zero most k small few k_is below =
+    let zeros : trailing_zeros w128 0 ≡ 128 = trailing_of_zero 128 in absurd (grind (arith, zeros))
+odd_if_shared (suc n) most k small few k_is below =
+    let all : k ≡ trailing_zeros w128 (suc n) = grind arith in
+    rw all (FivesOff-trailing_zeros (suc n) (omega arith) small).odd
+
+-- The product of positive numbers is positive.
+pub some_product : {a b : ℕ} → 1 ≤ a → 1 ≤ b → 0 < a * b
+some_product {a} {b} some some' = omega (arith, mul-le 1 1 a b some some')
+
+-- Equal fractions have the same expansion.
+pub short_of_same_fraction :
+    {num den num' den' : ℕ} {e : ShortExpansion} → SameFraction num den num' den' → IsShortExpansion num den e
+    → IsShortExpansion num' den' e
+short_of_same_fraction {num} {den} {num'} {den'} {e} same h = record {
+  few = h.few;
+  below = h.below;
+  is_expansion = expansion_of_same_fraction num den num' den' (finite_of e) same h.is_expansion;
+}
+
+-- If a decimal is num / den, both scaled by 10^28, its parts are the expansion.
+pub short_of_decimal :
+    {N num den : ℕ} {e : ShortExpansion} → 0 < den → N * den ≡ num * scale → AreParts N e.whole e.digits e.places
+    → IsShortExpansion num den e
+short_of_decimal {N} {num} {den} {e} some same parts =
+    let fractions : SameFraction N scale num den = record { positive = omega arith; positive' = some; same = same } in
+    record {
+      few = omega (arith, parts.few);
+      below = parts.below;
+      is_expansion = expansion_of_same_fraction N scale num den (finite_of e) fractions (parts_expansion parts);
+    }
+
+-- A power of two that numerator and binary unit share can be left out.
+pub reduced_binary : (number reduced shared left twos : ℕ) → twos ≡ left + shared → number ≡ reduced * 2 ^ shared
+    → SameFraction reduced (2 ^ left) number (2 ^ twos * 5 ^ 0)
+reduced_binary number reduced shared left twos sum number_is =
+    let power = power_of_sum 2 twos left shared sum in record {
+      positive = omega (arith, one-le-pow left 2 (omega arith));
+      positive' = rw (pow-zero 5) (omega (arith, one-le-pow twos 2 (omega arith)));
+      same = rw (pow-zero 5, number_is, power) (omega arith);
+    }
+
+-- The same for a decimal unit.
+pub reduced_decimal : (number reduced shared left twos fives : ℕ) → twos ≡ left + fives + shared
+    → number ≡ reduced * 2 ^ shared
+    → SameFraction reduced (2 ^ left * 10 ^ fives) number (2 ^ twos * 5 ^ fives)
+reduced_decimal number reduced shared left twos fives sum number_is =
+    let first = power_of_sum 2 twos (left + fives) shared sum in
+    let second = power_of_sum 2 (left + fives) left fives (omega arith) in
+    record {
+      positive = some_product (one-le-pow left 2 (omega arith)) (one-le-pow fives 10 (omega arith));
+      positive' = some_product (one-le-pow twos 2 (omega arith)) (one-le-pow fives 5 (omega arith));
+      same = rw (number_is, first, second, ten_power fives) (omega arith);
+    }

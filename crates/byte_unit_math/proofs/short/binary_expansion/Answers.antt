@@ -1,0 +1,36 @@
+-- The digits of the remainder are it times a power of five.
+use Rattle.std.proofs.Common.{◌≡◌, ℕ, ◌-◌, ◌*◌, ◌/◌, ◌%◌, ◌^◌, ◌<◌, bit_and, arith, ap}
+use Rattle.byte_unit_math.proofs.Scales.{pow10_fits}
+use Rattle.byte_unit_math.proofs.ShortExpansions.{masked_rest, ten_over_two, rest_below_ten_power, binary_is_expansion}
+use Rattle.byte_unit_math.proofs.short.binary_expansion.Goals.{After-power_of_ten}
+use Rattle.byte_unit_math.proofs.short.binary_expansion.Goals as goal
+
+-- The remainder times 5^places, as the code has it.
+abbrev digits_of : After-power_of_ten → ℕ
+digits_of c =
+    bit_and c.args.numerator (1 * 2 ^ c.args.places % 2 ^ 128 - 1) * (c.power_of_ten.result / 2 ^ c.args.places)
+
+digits_are : (c : After-power_of_ten) → digits_of c ≡ c.args.numerator % 2 ^ c.args.places * 5 ^ c.args.places
+digits_are c =
+    rw (masked_rest c.args.numerator c.args.places c.if-places-gt-MOST_PLACES.false, c.power_of_ten.ensures)
+    (ap (λ power. c.args.numerator % 2 ^ c.args.places * power) (ten_over_two c.args.places))
+
+digits_below : (c : After-power_of_ten) → digits_of c < 10 ^ c.args.places
+digits_below c = rw (digits_are c) (rest_below_ten_power c.args.numerator c.args.places)
+
+pub overflow_mul-result : goal.overflow_mul-result
+overflow_mul-result c =
+    omega (
+      arith,
+      digits_below (goal.at.overflow_mul-result c).After-power_of_ten,
+      pow10_fits c.args.places c.if-places-gt-MOST_PLACES.false,
+    )
+
+pub returns : goal.returns
+returns c = record {
+  few = c.if-places-gt-MOST_PLACES.false;
+  below = digits_below (goal.at.returns c).After-power_of_ten;
+  is_expansion =
+      rw (digits_are (goal.at.returns c).After-power_of_ten)
+      (binary_is_expansion c.args.numerator c.args.places c.requires.odd);
+}
