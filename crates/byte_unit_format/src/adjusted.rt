@@ -179,7 +179,7 @@ fn write_longer(
     requires size { size < size_limit }
     requires rounding { IsRoundingOf unit spec rounding }
     ensures written { WritesForm (IsAdjustedForm kind size unit spec) out.old out.new result }
-    ensures small { result < text_limit }
+    ensures bound { result < text_limit }
 {
     match short_parts(size, kind, unit, rounding, spec) {
         Some(parts) => parts.write(out),
@@ -200,7 +200,7 @@ fn write_expanded(
     requires size { size < size_limit }
     requires rounding { IsRoundingOf unit spec rounding }
     ensures written { WritesForm (IsAdjustedForm kind size unit spec) out.old out.new result }
-    ensures small { result < text_limit }
+    ensures bound { result < text_limit }
 {
     let (number, places) = expanded(size, kind, unit, rounding);
     write_layout(&number, places, unit, spec, out)
@@ -239,7 +239,7 @@ fn short_parts(
     requires rounding { IsRoundingOf unit spec rounding }
     ensures text { IfSome result (λ parts. IsAdjustedForm kind size unit spec (parts_text parts)) }
     ensures len { IfSome result (λ parts. parts.len ≡ length (parts_text parts)) }
-    ensures small { IfSome result (λ parts. parts.len < text_limit) }
+    ensures bound { IfSome result (λ parts. parts.len < text_limit) }
     ensures ready { IfSome result (λ parts. IsReady parts) }
 {
     match rounding {
@@ -290,7 +290,7 @@ fn expanded(size: u128, kind: Kind, unit: Unit, rounding: Rounding) -> (Expansio
     ensures number { let unit = shape_of unit in
         IsNumeralBy (rule_from rounding) (size * bits_in kind) (bits unit)
         (text_of (pad_of result.1 result.0)) }
-    ensures fits { result.1 < 2 ^ 16 }
+    ensures bound { result.1 < 2 ^ 16 }
 {
     let exact = number_in_unit(size, kind, unit);
     match rounding {
@@ -304,7 +304,7 @@ fn expanded(size: u128, kind: Kind, unit: Unit, rounding: Rounding) -> (Expansio
 #[tactic(auto, using(crate::proofs::WrittenForms::all_places))]
 fn with_all_places(number: Expansion) -> (Expansion, u32)
     ensures text { text_of (pad_of result.1 result.0) ≡ text_of number }
-    ensures fits { result.1 < 2 ^ 16 }
+    ensures bound { result.1 < 2 ^ 16 }
 {
     let places = number.places();
     (number, places)
