@@ -23,6 +23,7 @@ pub mod SizeScan
 pub mod Parsed
 pub mod Readings
 pub mod SizeReading
+pub mod BinaryReading
 pub mod JsonReading
 pub mod Family
 pub mod Choice
@@ -31,6 +32,7 @@ pub mod ParsedAdjusted
 pub mod ReaderLaws
 pub mod ChoiceLaws
 pub mod SizeLaws
+pub mod BinaryLaws
 pub mod ParsedLaws
 pub mod Versions
 -- private: no public contract cites these
