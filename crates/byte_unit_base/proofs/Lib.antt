@@ -41,3 +41,5 @@ pub mod SizeRest
 pub mod UnitStops
 pub mod UnitLetters
 pub mod NumberEnds
+pub mod WrongPlaces
+pub mod Positions

@@ -1,5 +1,4 @@
--- The laws of the binary reading: it is the reading of the text with an `i` after its decimal prefix. An input is given
--- by its UTF-8 bytes, and a text is the list of its characters.
+-- The laws of the binary reading. An input is given by its UTF-8 bytes, and a text is the list of its characters.
 use Rattle.std.specs.Prelude.{◌≡◌, ◌↔◌, ℕ, ◌⊎◌, Bool, List, [], ◌∷◌, ◌++◌, replicate, Result}
 use Rattle.byte_unit_base.specs.Version.{current}
 use Rattle.byte_unit_base.specs.Spelling.{Flags, IsPrefixLetter, SpellsCount}

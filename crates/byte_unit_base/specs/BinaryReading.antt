@@ -1,5 +1,5 @@
--- The binary reading of a size: the grammar is the same, and a decimal prefix means the binary one, so that `10m` and
--- `128MB` are by 1024. An input is given by its UTF-8 bytes, and a number is scaled by 10^28.
+-- The binary reading of a size: a decimal prefix means the binary one, so `10m` and `128MB` are by 1024. The grammar is
+-- the same. An input is given by its UTF-8 bytes, and a number is scaled by 10^28.
 use Rattle.std.specs.Prelude.{◌≡◌, ℕ, ◌<◌, ◌≤◌, ◌⊎◌, Bool, true, List, Option, MatchOption, Result, Ok, IfOk, IfErr}
 use Rattle.std.specs.Prelude.{IsErrAnd, if◌then◌else◌, nat_lt}
 use Rattle.std.specs.Result.{result_map_both}
@@ -58,8 +58,7 @@ parsed_binary_size kind ignore_case bytes =
     size_of_parsed kind
     (result_map_both binary_parts (λ fault. fault) (parsed_number (flags_for kind ignore_case) bytes))
 
--- the result is the size that the input is accepted as, the error of a size that is too large (with its number), or the
--- error of an input that is not in the grammar. What is returned is right, and what is right is returned
+-- as `IsSizeReading`, if decimal prefixes mean binary ones
 pub record IsBinaryReading
     (kind : Kind) (ignore_case : Bool) (bytes : List ℕ) (result : Result ℕ ParseError) : Type 0 where
   pub found : IfOk result (IsBinaryAccepted kind ignore_case bytes)
@@ -70,7 +69,7 @@ pub record IsBinaryReading
   -- the same as an equation, which a proof can compute for a literal; it follows from the others
   pub computed : result_map_both (λ n. n) size_fault result ≡ parsed_binary_size kind ignore_case bytes
 
--- `None` if the bytes are not UTF-8, and otherwise the binary reading of the string that they are
+-- as `IsBytesReading`, if decimal prefixes mean binary ones
 abbrev pub IsBinaryBytesReading : Kind → Bool → List ℕ → Option (Result ℕ ParseError) → Type 0
 IsBinaryBytesReading kind ignore_case bytes result =
     MatchOption result (IsNotUtf8 bytes) (λ answer. IsUtf8 bytes × IsBinaryReading kind ignore_case bytes answer)

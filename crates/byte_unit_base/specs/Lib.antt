@@ -29,6 +29,7 @@ pub mod Family
 pub mod Choice
 pub mod AdjustedSize
 pub mod ParsedAdjusted
+pub mod ErrorPosition
 pub mod ReaderLaws
 pub mod ChoiceLaws
 pub mod SizeLaws
@@ -39,4 +40,5 @@ pub mod Versions
 pub mod PartsReading
 pub mod Expected
 pub mod StopReading
+pub mod PlaceReading
 pub mod Multiples

@@ -22,6 +22,7 @@ mod choice;
 mod errors;
 mod kind;
 pub mod laws;
+pub mod position;
 mod read;
 mod recover;
 pub mod size;
