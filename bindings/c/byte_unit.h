@@ -59,10 +59,11 @@ typedef struct byte_unit_decimal {
 /* Flags. A flags word is the sum of its flags. Each call lists the flags that it knows; a call with any other is
  * rejected. */
 enum {
-    BYTE_UNIT_BYTES = 0,       /* sizes are in bytes: the default */
-    BYTE_UNIT_BITS = 1,        /* sizes are in bits */
-    BYTE_UNIT_IGNORE_CASE = 2, /* parsing: the suffix `b` means bytes too */
-    BYTE_UNIT_EITHER_KIND = 4  /* choice of a unit: from the units of bytes and of bits */
+    BYTE_UNIT_BYTES = 0,          /* sizes are in bytes: the default */
+    BYTE_UNIT_BITS = 1,           /* sizes are in bits */
+    BYTE_UNIT_IGNORE_CASE = 2,    /* parsing: the suffix `b` means bytes too */
+    BYTE_UNIT_EITHER_KIND = 4,    /* choice of a unit: from the units of bytes and of bits */
+    BYTE_UNIT_BINARY_PREFIXES = 8 /* parsing: `K` and `KB` are by 1024, as `Ki` and `KiB` are, up to `R` and `RB` */
 };
 
 /* A format spec, with the fields of a format spec of the Rust crate. If every field is zero, it is `{}`: digits
@@ -157,7 +158,7 @@ uint32_t byte_unit_parse_many_32_to(const char *data, size_t data_len, const int
 /* Parses a size: the exact value, rounded up to a whole byte, or to a whole bit with BYTE_UNIT_BITS. Returns
  * BYTE_UNIT_OK and writes `size`, or returns the code of the error and writes its details to `error` if it is not
  * NULL. Writes nothing if it returns BYTE_UNIT_NOT_UTF8 or BYTE_UNIT_INVALID_ARGUMENT.
- * Flags: BITS, IGNORE_CASE (which has no effect with BITS). */
+ * Flags: BITS, IGNORE_CASE (which has no effect with BITS), BINARY_PREFIXES. */
 static inline uint32_t byte_unit_parse(const char *text, size_t len, uint32_t flags, byte_unit_number *size,
                                        byte_unit_error *error)
 {
@@ -179,7 +180,7 @@ static inline uint32_t byte_unit_parse_unit(const char *text, size_t len, uint32
  * may be NULL. Returns BYTE_UNIT_OK, and writes the code of each text to `codes` and its size to `sizes`, 0 there if
  * it has none. Returns BYTE_UNIT_INVALID_ARGUMENT and writes nothing if a flag is unknown, an offset is negative,
  * less than the one before it or greater than `data_len`.
- * Flags: BITS, IGNORE_CASE. */
+ * Flags: BITS, IGNORE_CASE, BINARY_PREFIXES. */
 static inline uint32_t byte_unit_parse_many(const char *data, size_t data_len, const int64_t *offsets, size_t count,
                                             uint32_t flags, byte_unit_number *sizes, uint8_t *codes)
 {
@@ -200,7 +201,7 @@ static inline uint32_t byte_unit_parse_many_32(const char *data, size_t data_len
 
 /* Writes the error message for a string that byte_unit_parse rejects, at most 256 bytes of UTF-8. Returns 0 if and
  * only if the string represents a size: an unknown flag has a message too.
- * Flags: BITS, IGNORE_CASE. */
+ * Flags: BITS, IGNORE_CASE, BINARY_PREFIXES. */
 size_t byte_unit_explain(const char *text, size_t len, uint32_t flags, char *out, size_t out_len);
 
 /* Writes the error message for a string that byte_unit_parse_unit rejects, at most 256 bytes of UTF-8. Returns 0 if and

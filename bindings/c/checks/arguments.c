@@ -74,7 +74,8 @@ static void specs(void)
 static void flags(uint32_t word)
 {
     static const int64_t offsets[] = { 0, 1 };
-    bool parses = (word & ~(uint32_t)(BYTE_UNIT_BITS | BYTE_UNIT_IGNORE_CASE)) == 0;
+    bool parses_units = (word & ~(uint32_t)(BYTE_UNIT_BITS | BYTE_UNIT_IGNORE_CASE)) == 0;
+    bool parses = (word & ~(uint32_t)(BYTE_UNIT_BITS | BYTE_UNIT_IGNORE_CASE | BYTE_UNIT_BINARY_PREFIXES)) == 0;
     bool formats = (word & ~(uint32_t)BYTE_UNIT_BITS) == 0;
     bool chooses = (word & ~(uint32_t)(BYTE_UNIT_BITS | BYTE_UNIT_EITHER_KIND)) == 0;
     byte_unit_number size = { 7, 7 };
@@ -92,14 +93,14 @@ static void flags(uint32_t word)
     check("error", error.character == (parses ? 'x' : UINT32_C(0x78787878)));
     check("size", size.low == 7 && (byte_unit_parse("1", 1, word, &size, NULL) == BYTE_UNIT_OK) == parses
                       && size.low == (parses ? 1 : 7));
-    check("parse_unit", (byte_unit_parse_unit("b", 1, word, &unit, NULL) == BYTE_UNIT_OK) == parses
-                            && (unit == 77) == !parses);
+    check("parse_unit", (byte_unit_parse_unit("b", 1, word, &unit, NULL) == BYTE_UNIT_OK) == parses_units
+                            && (unit == 77) == !parses_units);
     check("parse_many", (byte_unit_parse_many("1", 1, offsets, 1, word, &size, &code) == BYTE_UNIT_OK) == parses
                             && code == (parses ? 0 : 77));
     check("explain", byte_unit_explain("", 0, word, out, sizeof out) == (parses ? 21u : 17u)
                          && memcmp(out, parses ? "no value" : "a flag i", 8) == 0);
-    check("explain_unit", byte_unit_explain_unit("bix", 3, word, out, sizeof out) == (parses ? 48u : 17u)
-                              && memcmp(out, parses ? "the char" : "a flag i", 8) == 0);
+    check("explain_unit", byte_unit_explain_unit("bix", 3, word, out, sizeof out) == (parses_units ? 48u : 17u)
+                              && memcmp(out, parses_units ? "the char" : "a flag i", 8) == 0);
     check("text", (byte_unit_text(number(1), word, spec, out, sizeof out) != 0) == formats);
     check("adjusted_text", (byte_unit_adjusted_text(number(1), word, 0, spec, out, sizeof out) != 0) == formats);
     check("appropriate_unit", (byte_unit_appropriate_unit(number(1), word, 0) != BYTE_UNIT_NO_UNIT) == formats);

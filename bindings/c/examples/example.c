@@ -72,6 +72,11 @@ static void parse_sizes(void)
     line("50.84 mb", BYTE_UNIT_IGNORE_CASE, "50840000 = 50.84 MB");
     line("123Kib", BYTE_UNIT_BITS, "125952 = 123 Kib");
     line("1 KB", BYTE_UNIT_BITS | BYTE_UNIT_IGNORE_CASE, "8000 = 8 Kb");
+    line("10m", BYTE_UNIT_BINARY_PREFIXES, "10485760 = 10 MiB");
+    line("1.5 kb", BYTE_UNIT_IGNORE_CASE | BYTE_UNIT_BINARY_PREFIXES, "1536 = 1.5 KiB");
+    line("1 KB", BYTE_UNIT_BITS | BYTE_UNIT_BINARY_PREFIXES, "8192 = 8 Kib");
+    line("1 Kix", BYTE_UNIT_BINARY_PREFIXES,
+         "the character 'x' is incorrect ('B' or 'b' or no character is expected)");
     line("999 RB", 0, "999000000000000000000000000000 = 999 RB");
     line("123456789", 0, "123456789 = 123456.789 KB");
     line("1 byte", 0, "the character 'y' is incorrect ('i' or no character is expected)");

@@ -32,6 +32,7 @@ pub use Rattle.byte_unit_base.specs.LeastOfKind
 pub use Rattle.byte_unit_base.specs.SizeOrNone
 pub use Rattle.byte_unit_base.specs.Accepted
 pub use Rattle.byte_unit_base.specs.SizeReading
+pub use Rattle.byte_unit_base.specs.BinaryReading
 pub use Rattle.byte_unit_base.specs.Line
 pub use Rattle.byte_unit_base.specs.JsonReading
 pub use Rattle.byte_unit_base.specs.Family
@@ -49,6 +50,7 @@ pub use Rattle.byte_unit_format.specs.Written
 pub use Rattle.byte_unit_base.specs.ReaderLaws
 pub use Rattle.byte_unit_base.specs.ChoiceLaws
 pub use Rattle.byte_unit_base.specs.SizeLaws
+pub use Rattle.byte_unit_base.specs.BinaryLaws
 pub use Rattle.byte_unit_base.specs.ParsedLaws
 pub use Rattle.byte_unit_base.specs.Versions
 pub use Rattle.byte_unit_format.specs.FormLaws

@@ -1,6 +1,9 @@
 //! Laws over the definitions. Each is a public function whose contract is the law. Most return nothing;
 //! `byte_constant`, `byte_bounds`, `bit_constant` and `bit_bounds` return the values that their laws are about.
 
+pub use byte_unit_base::laws::binary::{
+    binary_readings_are_those_with_i, each_text_has_one_with_i,
+};
 pub use byte_unit_base::laws::choices::{
     choices_are_one, choices_at_no_places_are_whole, each_size_has_a_choice_or_none,
     more_places_give_no_smaller_unit, number_times_unit_is_size, sizes_are_exact_by_powers,

@@ -18,6 +18,9 @@ pub mod Rounding
 pub mod SizeOfText
 pub mod SizeOrFault
 pub mod ParsedTexts
+pub mod BinaryUnits
+pub mod BinarySizes
+pub mod BinaryTexts
 pub mod Quotients
 pub mod Falling
 pub mod Choosing
@@ -38,3 +41,5 @@ pub mod SizeRest
 pub mod UnitStops
 pub mod UnitLetters
 pub mod NumberEnds
+pub mod WrongPlaces
+pub mod Positions

@@ -118,7 +118,7 @@ module _ {S Meaning : Type 0} {scan : Scan S Meaning} {Reached : S → List ℕ 
   Answers text = IsAnswer (Means text) (IsFirstFault IsViable current scan.flags text)
 
   -- if the state machine stops after a text, no longer beginning of the input is a viable prefix
-  no_longer_front : (s : S) (front rest : List ℕ) → run scan.step scan.start front ≡ Some s
+  pub no_longer_front : (s : S) (front rest : List ℕ) → run scan.step scan.start front ≡ Some s
       → CannotStep scan.step s rest
       → NoLongerFront IsViable front rest
   no_longer_front s front rest e stops farther [] others r f = refl

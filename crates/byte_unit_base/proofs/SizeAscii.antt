@@ -70,7 +70,8 @@ prefix_visible text power binary h =
     let visible : is_ascii_graphic h.letter ≡ true = grind (arith, nat_tests, ap is_ascii_graphic is.2 ∙ letter) in
     ap (list_all is_ascii_graphic) h.text_is ∙ and_from _ _ visible (binary_visible h.infix_part binary h.infix_is)
 
-spelling_visible : (flags : Flags) (text : List ℕ) (unit : Shape) → Spells current flags text unit → IsVisible text
+-- a spelling is visible
+pub spelling_visible : (flags : Flags) (text : List ℕ) (unit : Shape) → Spells current flags text unit → IsVisible text
 spelling_visible flags text unit (inl h) = count_visible flags text unit.bit h.count_is
 spelling_visible flags text unit (inr h) = ap (list_all is_ascii_graphic) h.text_is
     ∙ visible_append h.prefix_part h.count_part (prefix_visible h.prefix_part unit.power unit.binary h.prefix_is)
@@ -78,13 +79,15 @@ spelling_visible flags text unit (inr h) = ap (list_all is_ascii_graphic) h.text
 
 -- numbers and sizes
 
-number_visible : (text : List ℕ) (number : ℕ) → IsNumberText current text number → IsVisible text
+-- a number is visible
+pub number_visible : (text : List ℕ) (number : ℕ) → IsNumberText current text number → IsVisible text
 number_visible text number (inl h) = digits_visible text h.1.0.1
 number_visible text number (inr h) = ap (list_all is_ascii_graphic) h.text_is
     ∙ visible_append h.whole (46 ∷ h.fraction) (digits_visible h.whole h.whole_is.0.1)
     (digits_visible h.fraction h.fraction_is.0.1)
 
-number_some : (text : List ℕ) (number : ℕ) → IsNumberText current text number → 0 < length text
+-- a number is not empty
+pub number_some : (text : List ℕ) (number : ℕ) → IsNumberText current text number → 0 < length text
 number_some text number (inl h) = h.1.0.0
 number_some text number (inr h) =
     omega (arith, ap length h.text_is, length-append h.whole (46 ∷ h.fraction), h.whole_is.0.0)

@@ -84,7 +84,7 @@ run_more_places (c ∷ cs) w f j h k =
     ∙ (run_more_places cs w value (j + 1) h.1 (omega arith)
     ∙ ap (λ n. Some (Fraction w (digits_value_after 10 value cs) n)) count)
 
-run_pointed : (text : List ℕ) (w : ℕ) → IsPointed current text w → run size_step Beginning text ≡ Some (Point w)
+pub run_pointed : (text : List ℕ) (w : ℕ) → IsPointed current text w → run size_step Beginning text ≡ Some (Point w)
 run_pointed text w h = ap (run size_step Beginning) h.text_is
     ∙ (run_through size_step Beginning (Whole w) h.whole (46 ∷ []) (run_whole h.whole w h.whole_is)
     ∙ run_step size_step (Whole w) (Point w) 46 [] (step_point w))
@@ -172,7 +172,7 @@ run_spaces : (n k : ℕ) (s : SizeScan) → AtNumber n s → RunsTo (AtNumber n)
 run_spaces n zero s h = record { state = s; run = refl; holds = h }
 run_spaces n (suc k) s h = record { state = Gap n; run = run_some_spaces n (suc k) s (omega arith) h; holds = refl }
 
-run_in_unit : (n : ℕ) (u : UnitScan) (cs : List ℕ) (s : UnitScan) → run unit_step s cs ≡ Some u
+pub run_in_unit : (n : ℕ) (u : UnitScan) (cs : List ℕ) (s : UnitScan) → run unit_step s cs ≡ Some u
     → run size_step (UnitAt n s) cs ≡ Some (UnitAt n u)
 unfolding size_step
 run_in_unit n u [] s h = ap (option_map (UnitAt n)) h

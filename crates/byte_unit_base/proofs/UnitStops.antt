@@ -33,7 +33,7 @@ use Rattle.byte_unit_base.proofs.SizeRest.{first_char, text_from, utf8_from}
 -- beginnings of units are ASCII
 
 -- no character before the letters, and none past ASCII, continues a unit
-no_other_step : (m : Multiple) (w : Word) (c : ℕ) → (c < 65) ⊎ (128 ≤ c) → unit_step (scan_of m w) c ≡ None
+pub no_other_step : (m : Multiple) (w : Word) (c : ℕ) → (c < 65) ⊎ (128 ≤ c) → unit_step (scan_of m w) c ≡ None
 unfolding unit_step
 no_other_step m Bits c other = refl
 no_other_step One Empty c other =

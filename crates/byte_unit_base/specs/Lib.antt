@@ -23,18 +23,22 @@ pub mod SizeScan
 pub mod Parsed
 pub mod Readings
 pub mod SizeReading
+pub mod BinaryReading
 pub mod JsonReading
 pub mod Family
 pub mod Choice
 pub mod AdjustedSize
 pub mod ParsedAdjusted
+pub mod ErrorPosition
 pub mod ReaderLaws
 pub mod ChoiceLaws
 pub mod SizeLaws
+pub mod BinaryLaws
 pub mod ParsedLaws
 pub mod Versions
 -- private: no public contract cites these
 pub mod PartsReading
 pub mod Expected
 pub mod StopReading
+pub mod PlaceReading
 pub mod Multiples

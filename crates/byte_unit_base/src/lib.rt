@@ -17,10 +17,12 @@ pub use crate::unit::tables::{prefix_letter, unit_at};
 pub use crate::unit::unit_type::UnitType;
 pub use crate::unit::{Unit, unit_with_prefix};
 
+pub mod binary;
 mod choice;
 mod errors;
 mod kind;
 pub mod laws;
+pub mod position;
 mod read;
 mod recover;
 pub mod size;

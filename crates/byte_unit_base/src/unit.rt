@@ -6,6 +6,7 @@ ghost use Rattle.byte_unit_base.specs.Kinds.{counts_bits};
 ghost use Rattle.byte_unit_base.specs.Shape.{bits, shape, twos, fives};
 ghost use Rattle.byte_unit_base.specs.Units.{shape_of};
 ghost use Rattle.byte_unit_base.specs.Version.{unit_name};
+ghost use Rattle.byte_unit_base.specs.BinaryReading.{binary_of};
 
 use crate::Kind;
 use crate::unit::scan::unit_of;
@@ -193,6 +194,22 @@ impl Unit {
         } else {
             (3 * power + byte, 3 * power)
         }
+    }
+
+    /// Returns the unit with the binary (IEC) prefix of the same letter, in bits or bytes as before. A unit without a
+    /// prefix, or with a binary one, is returned as it is.
+    ///
+    /// # Examples
+    /// ```rust
+    /// assert_eq!(rt; (Unit::MB.to_binary(), Unit::Kbit.to_binary()), (Unit::MiB, Unit::Kibit));
+    /// assert_eq!(rt; (Unit::B.to_binary(), Unit::GiB.to_binary()), (Unit::B, Unit::GiB));
+    /// ```
+    #[tactic(auto, using(crate::proofs::Names::unit_known, crate::proofs::BinaryUnits::binary_shape))]
+    pub fn to_binary(self) -> Unit
+        ensures { shape_of result ≡ binary_of (shape_of self) }
+    {
+        let Shape { power, bit, .. } = self.shape();
+        unit_of(power as usize, true, bit)
     }
 
     /// Returns the shape of the unit, which determines its name and its bits.

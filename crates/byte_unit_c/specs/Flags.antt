@@ -1,5 +1,7 @@
--- The flags words of the C API: sums of the flags 1 (bits), 2 (ignore case) and 4 (units of either kind).
-use Rattle.std.specs.Prelude.{ℕ, ◌==◌, Bool, true, false, if◌then◌else◌, [], ◌∷◌, Option, Some, None, slice_get}
+-- The flags words of the C API: sums of the flags 1 (bits), 2 (ignore case), 4 (units of either kind) and 8 (decimal
+-- prefixes mean binary ones).
+use Rattle.std.specs.Prelude.{ℕ, ◌-◌, ◌==◌, nat_lt, Bool, true, false, if◌then◌else◌, [], ◌∷◌, Option, Some, None}
+use Rattle.std.specs.Prelude.{slice_get}
 use Rattle.byte_unit_base.specs.declared.kind.Kind.{Kind}
 use Rattle.byte_unit_base.specs.declared.kind.Kind.TheVariants.{Byte as InBytes, Bit as InBits}
 use Rattle.byte_unit_c.specs.declared.flags.ParseFlags.{ParseFlags}
@@ -16,6 +18,11 @@ parse_flags_at flags =
     (record { kind = InBytes; ignore_case = false } ∷ record { kind = InBits; ignore_case = false }
     ∷ record { kind = InBytes; ignore_case = true } ∷ record { kind = InBits; ignore_case = true } ∷ [])
     flags
+
+-- how a parsing call parses if decimal prefixes mean binary ones, by the flag 8 and the flags 1 and 2 beside it; `None`
+-- without the flag 8, or with any other flag
+abbrev pub binary_reading_at : ℕ → Option ParseFlags
+binary_reading_at flags = if nat_lt flags 8 then None else parse_flags_at (flags - 8)
 
 -- how a unit is chosen, by the flags 1 and 4; `None` with any other flag
 unfoldable pub choice_flags_at : ℕ → Option ChoiceFlags

@@ -3,6 +3,7 @@ use Rattle.std.specs.Prelude.{◌≡◌, ℕ, ◌+◌, ◌-◌, ◌<◌, ℤ, po
 use Rattle.std.specs.Prelude.{slice_index, slice_index_or, slice_range, Option, Some, None, Result, Ok, Err}
 use Rattle.byte_unit_base.specs.Errors.{size_fault}
 use Rattle.byte_unit_base.specs.SizeReading.{IsBytesReading}
+use Rattle.byte_unit_base.specs.BinaryReading.{IsBinaryBytesReading}
 use Rattle.byte_unit_base.specs.declared.errors.ParseError.{ParseError}
 use Rattle.byte_unit_base.specs.declared.kind.Kind.{Kind}
 use Rattle.byte_unit_c.specs.declared.offsets.Offsets.{Offsets}
@@ -50,6 +51,12 @@ IsParsed kind ignore_case bytes code size =
     (answer : Option (Result ℕ ParseError)) × IsBytesReading kind ignore_case bytes answer
     × IsCoded answer code (number_of size)
 
+-- the same, if decimal prefixes mean binary ones
+abbrev pub IsBinaryParsed : Kind → Bool → List ℕ → ℕ → Number → Type 0
+IsBinaryParsed kind ignore_case bytes code size =
+    (answer : Option (Result ℕ ParseError)) × IsBinaryBytesReading kind ignore_case bytes answer
+    × IsCoded answer code (number_of size)
+
 -- the number zero
 abbrev pub zero_number : Number
 zero_number = record { low = 0; high = 0 }
@@ -59,6 +66,12 @@ abbrev pub AreParsed : Kind → Bool → List ℕ → List ℤ → ℕ → List 
 AreParsed kind ignore_case bytes offsets n codes sizes =
     (i : ℕ) → i < n
     → IsParsed kind ignore_case (text_of bytes offsets i) (slice_index codes i) (slice_index_or sizes i zero_number)
+
+-- the same, if decimal prefixes mean binary ones
+abbrev pub AreBinaryParsed : Kind → Bool → List ℕ → List ℤ → ℕ → List ℕ → List Number → Type 0
+AreBinaryParsed kind ignore_case bytes offsets n codes sizes =
+    (i : ℕ) → i < n
+    → IsBinaryParsed kind ignore_case (text_of bytes offsets i) (slice_index codes i) (slice_index_or sizes i zero_number)
 
 -- the call is rejected: an argument is invalid, and nothing is written
 abbrev pub IsRejectedCall : ℕ → List Number → List Number → List ℕ → List ℕ → Type 0

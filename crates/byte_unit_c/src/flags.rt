@@ -1,8 +1,8 @@
 //! The flags words of the C API. A flags word is a sum of flags: 1 for sizes of bits (and else of bytes), 2 for parsing
-//! that ignores case, and 4 for units of either kind.
+//! that ignores case, 4 for units of either kind, and 8 for parsing in which decimal prefixes mean binary ones.
 
 ghost use Rattle.std.specs.Prelude.{◌≡◌};
-ghost use Rattle.byte_unit_c.specs.Flags.{kind_at, parse_flags_at, choice_flags_at};
+ghost use Rattle.byte_unit_c.specs.Flags.{kind_at, parse_flags_at, binary_reading_at, choice_flags_at};
 
 use byte_unit_base::Kind;
 
@@ -14,6 +14,9 @@ const IGNORE_CASE: u32 = 2;
 
 /// The flag of a choice among the units of either kind.
 const EITHER_KIND: u32 = 4;
+
+/// The flag of parsing in which decimal prefixes mean binary ones.
+const BINARY_PREFIXES: u32 = 8;
 
 const BITS_IGNORE_CASE: u32 = BITS | IGNORE_CASE;
 
@@ -77,6 +80,18 @@ pub fn parse_flags_at(flags: u32) -> Option<ParseFlags>
         IGNORE_CASE => Some(ParseFlags::new(Kind::Byte, true)),
         BITS_IGNORE_CASE => Some(ParseFlags::new(Kind::Bit, true)),
         _ => None,
+    }
+}
+
+/// Returns how to parse, by a word with the flag `BINARY_PREFIXES` and, beside it, `BITS` and `IGNORE_CASE`, one of
+/// them, or none. Returns `None` if the word does not have the flag `BINARY_PREFIXES`, or has another flag.
+pub fn binary_reading_at(flags: u32) -> Option<ParseFlags>
+    ensures { result ≡ binary_reading_at flags }
+{
+    if flags < BINARY_PREFIXES {
+        None
+    } else {
+        parse_flags_at(flags - BINARY_PREFIXES)
     }
 }
 

@@ -3,9 +3,10 @@
 ghost use Rattle.std.specs.Prelude.{◌≡◌, ◌↔◌, IsTrue, length, IfSome, IfNone};
 ghost use Rattle.byte_unit_base.specs.Errors.{size_fault};
 ghost use Rattle.byte_unit_c.specs.Error.{ok, code_of};
-ghost use Rattle.byte_unit_c.specs.Flags.{parse_flags_at};
-ghost use Rattle.byte_unit_c.specs.Many.{offsets_of, IsLayout, IsParsed, AreParsed, IsRejectedCall};
+ghost use Rattle.byte_unit_c.specs.Flags.{parse_flags_at, binary_reading_at};
+ghost use Rattle.byte_unit_c.specs.Many.{offsets_of, IsLayout, IsParsed, AreParsed, AreBinaryParsed};
 
+use crate::binary::parse_many_flagged;
 use crate::error::{Error, INVALID_ARGUMENT, NOT_UTF8, OK, UNIT};
 use crate::flags::{ParseFlags, parse_flags_at};
 use crate::offsets::Offsets;
@@ -33,8 +34,13 @@ pub extern "C" fn byte_unit_parse_many_to(
         → (result ≡ ok)
         × AreParsed asked.kind asked.ignore_case «data».now offsets.now
         (length codes.old) codes.new sizes.new) }
-    ensures unknown_flag { IfNone (parse_flags_at flags)
-        (IsRejectedCall result sizes.old sizes.new codes.old codes.new) }
+    ensures binary { IfSome (binary_reading_at flags) (λ asked.
+        IsLayout (length «data».now) offsets.now (length sizes.old) (length codes.old)
+        → (result ≡ ok)
+        × AreBinaryParsed asked.kind asked.ignore_case «data».now offsets.now
+        (length codes.old) codes.new sizes.new) }
+    ensures unknown_flag { IfNone (parse_flags_at flags) (IfNone (binary_reading_at flags)
+        (IsRejectedCall result sizes.old sizes.new codes.old codes.new)) }
     ensures no_layout { ¬ IsLayout (length «data».now) offsets.now (length sizes.old)
         (length codes.old)
         → IsRejectedCall result sizes.old sizes.new codes.old codes.new }
@@ -56,8 +62,13 @@ pub extern "C" fn byte_unit_parse_many_32_to(
         → (result ≡ ok)
         × AreParsed asked.kind asked.ignore_case «data».now offsets.now
         (length codes.old) codes.new sizes.new) }
-    ensures unknown_flag { IfNone (parse_flags_at flags)
-        (IsRejectedCall result sizes.old sizes.new codes.old codes.new) }
+    ensures binary { IfSome (binary_reading_at flags) (λ asked.
+        IsLayout (length «data».now) offsets.now (length sizes.old) (length codes.old)
+        → (result ≡ ok)
+        × AreBinaryParsed asked.kind asked.ignore_case «data».now offsets.now
+        (length codes.old) codes.new sizes.new) }
+    ensures unknown_flag { IfNone (parse_flags_at flags) (IfNone (binary_reading_at flags)
+        (IsRejectedCall result sizes.old sizes.new codes.old codes.new)) }
     ensures no_layout { ¬ IsLayout (length «data».now) offsets.now (length sizes.old)
         (length codes.old)
         → IsRejectedCall result sizes.old sizes.new codes.old codes.new }
@@ -80,14 +91,21 @@ fn parse_many(
         × AreParsed asked.kind asked.ignore_case «data».now (offsets_of offsets.entry)
         (length codes.old) codes.new
         sizes.new) }
-    ensures unknown_flag { IfNone (parse_flags_at flags)
-        (IsRejectedCall result sizes.old sizes.new codes.old codes.new) }
+    ensures binary { IfSome (binary_reading_at flags) (λ asked.
+        IsLayout (length «data».now) (offsets_of offsets.entry) (length sizes.old)
+        (length codes.old)
+        → (result ≡ ok)
+        × AreBinaryParsed asked.kind asked.ignore_case «data».now (offsets_of offsets.entry)
+        (length codes.old)
+        codes.new sizes.new) }
+    ensures unknown_flag { IfNone (parse_flags_at flags) (IfNone (binary_reading_at flags)
+        (IsRejectedCall result sizes.old sizes.new codes.old codes.new)) }
     ensures no_layout { ¬ IsLayout (length «data».now) (offsets_of offsets.entry) (length sizes.old)
         (length codes.old)
         → IsRejectedCall result sizes.old sizes.new codes.old codes.new }
 {
     let Some(asked) = parse_flags_at(flags) else {
-        return INVALID_ARGUMENT;
+        return parse_many_flagged(data, offsets, flags, sizes, codes);
     };
     if !is_layout(data, offsets, sizes.len(), codes.len()) {
         return INVALID_ARGUMENT;
@@ -97,7 +115,7 @@ fn parse_many(
 }
 
 /// Whether the offsets ascend within the data, and there is a size and a code for each text.
-fn is_layout(data: &[u8], offsets: Offsets<'_>, sizes_len: usize, codes_len: usize) -> bool
+pub fn is_layout(data: &[u8], offsets: Offsets<'_>, sizes_len: usize, codes_len: usize) -> bool
     ensures { IsTrue result
         ↔ IsLayout (length «data».now) (offsets_of offsets.entry) sizes_len codes_len }
 {
@@ -142,7 +160,7 @@ fn parse_one(text: &[u8], asked: ParseFlags) -> (u8, Number)
 
 /// Returns the code of an error.
 #[cold]
-fn code_of(error: ParseError) -> u8
+pub fn code_of(error: ParseError) -> u8
     ensures { result ≡ code_of (size_fault error) }
 {
     match error {

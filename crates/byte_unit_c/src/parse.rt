@@ -4,15 +4,17 @@ ghost use Rattle.std.specs.Prelude.{◌≡◌, ℕ, ◌<◌, ◌≤◌, length, 
 ghost use Rattle.byte_unit_base.specs.Errors.{size_fault};
 ghost use Rattle.byte_unit_base.specs.PartsReading.{stop_fault};
 ghost use Rattle.byte_unit_base.specs.SizeReading.{IsBytesReading};
+ghost use Rattle.byte_unit_base.specs.BinaryReading.{IsBinaryBytesReading};
 ghost use Rattle.byte_unit_base.specs.declared.errors.ParseError.{ParseError};
 ghost use Rattle.byte_unit_base.specs.declared.errors.UnitParseError.{UnitParseError};
 ghost use Rattle.byte_unit_base.specs.declared.unit.Unit.{Unit as UnitName};
 ghost use Rattle.byte_unit_format.specs.Written.{WritesForm};
-ghost use Rattle.byte_unit_c.specs.Flags.{parse_flags_at, prefers_byte};
+ghost use Rattle.byte_unit_c.specs.Flags.{parse_flags_at, binary_reading_at, prefers_byte};
 ghost use Rattle.byte_unit_c.specs.Error.{invalid_argument};
 ghost use Rattle.byte_unit_c.specs.Parse.{IsReturned, IsUnitBytesReading, IsUnitReturned, IsExplanation};
 ghost use Rattle.byte_unit_c.specs.Parse.{IsUnitExplanation};
 
+use crate::binary::{explain_flagged, parse_flagged};
 use crate::codes::code_of;
 use crate::error::{Error, INVALID_ARGUMENT, NOT_UTF8, OK, UNIT, bytes_of};
 use crate::flags::parse_flags_at;
@@ -23,7 +25,8 @@ use std::str;
 
 /// Parses a size, rounded up to the next whole byte, or to the next whole bit with the flag `BITS` (1). Sizes are below
 /// 10^30. With the flag `IGNORE_CASE` (2) the suffix `b` means bytes too. Sizes in bits are always case-sensitive: with
-/// `BITS`, `IGNORE_CASE` has no effect.
+/// `BITS`, `IGNORE_CASE` has no effect. With the flag `BINARY_PREFIXES` (8) a decimal prefix means the binary one: `K`
+/// and `KB` are by 1024, as `Ki` and `KiB` are.
 ///
 /// Returns `OK` and writes `size` if the string represents a size. Otherwise returns the code of the error and writes
 /// its details to the first of `error`, if it is not empty. Returns `NOT_UTF8` and writes nothing if the bytes are not
@@ -41,12 +44,16 @@ pub extern "C" fn byte_unit_parse_to(
         (λ asked. (answer : Option (Result ℕ ParseError))
         × IsBytesReading asked.kind asked.ignore_case text.now answer
         × IsReturned answer result size.old size.new error.old error.new) }
-    ensures rejected { IfNone (parse_flags_at flags)
-        ((result ≡ invalid_argument) × (size.new ≡ size.old) × (error.new ≡ error.old)) }
+    ensures binary { IfSome (binary_reading_at flags)
+        (λ asked. (answer : Option (Result ℕ ParseError))
+        × IsBinaryBytesReading asked.kind asked.ignore_case text.now answer
+        × IsReturned answer result size.old size.new error.old error.new) }
+    ensures rejected { IfNone (parse_flags_at flags) (IfNone (binary_reading_at flags)
+        ((result ≡ invalid_argument) × (size.new ≡ size.old) × (error.new ≡ error.old))) }
 {
     match parse_flags_at(flags) {
         Some(asked) => parse_as(text, asked.kind, asked.ignore_case, size, error),
-        None => INVALID_ARGUMENT,
+        None => parse_flagged(text, flags, size, error),
     }
 }
 
@@ -126,7 +133,7 @@ fn parse_text_as(
 ///
 /// `#[inline(always)]`: each caller knows which result it has, which is then never in memory.
 #[inline(always)]
-fn write_result(
+pub fn write_result(
     answer: Option<Result<u128, ParseError>>,
     size: &mut Number,
     errors: &mut [Error],
@@ -238,13 +245,17 @@ pub extern "C" fn byte_unit_explain(text: &[u8], flags: u32, out: &mut [u8]) -> 
         (λ asked. (answer : Option (Result ℕ ParseError))
         × IsBytesReading asked.kind asked.ignore_case text.now answer
         × IsExplanation answer out.old out.new result) }
-    ensures unknown_flag { IfNone (parse_flags_at flags)
-        (WritesForm (λ words. words ≡ codes "a flag is unknown") out.old out.new result) }
+    ensures binary { IfSome (binary_reading_at flags)
+        (λ asked. (answer : Option (Result ℕ ParseError))
+        × IsBinaryBytesReading asked.kind asked.ignore_case text.now answer
+        × IsExplanation answer out.old out.new result) }
+    ensures unknown_flag { IfNone (parse_flags_at flags) (IfNone (binary_reading_at flags)
+        (WritesForm (λ words. words ≡ codes "a flag is unknown") out.old out.new result)) }
     ensures bound { result ≤ 256 }
 {
     match parse_flags_at(flags) {
         Some(asked) => explain_as(text, asked.kind, asked.ignore_case, out),
-        None => write_unknown_flag(out),
+        None => explain_flagged(text, flags, out),
     }
 }
 
@@ -289,7 +300,7 @@ fn write_stop_message(
 }
 
 /// Writes the message of the result of a parser, if it is an error, and returns its length.
-fn explain_result(answer: &Option<Result<u128, ParseError>>, out: &mut [u8]) -> usize
+pub fn explain_result(answer: &Option<Result<u128, ParseError>>, out: &mut [u8]) -> usize
     ensures text { IsExplanation answer.now out.old out.new result }
     ensures bound { result ≤ 256 }
 {

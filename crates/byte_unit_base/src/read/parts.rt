@@ -46,7 +46,7 @@ pub fn read_parts(line: &[u8], bytes: &[u8], flags: Flags) -> Result<(Unit, Deci
 }
 
 /// Returns the number of leading spaces.
-fn leading_spaces(bytes: &[u8]) -> usize
+pub fn leading_spaces(bytes: &[u8]) -> usize
     ensures bound { result ≤ length bytes.now }
     ensures spaces { take result bytes.now ≡ replicate result space }
     ensures all { IsFirst IsNoSpace (drop result bytes.now) }

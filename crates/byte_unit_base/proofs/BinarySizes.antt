@@ -1,0 +1,112 @@
+-- What the binary reading of a size returns, by the result of parsing its number and unit.
+use Rattle.std.proofs.Common.{◌≡◌, ℕ, Bool, List, Some, None, Ok, Err, sym, ap, arith, inl, inr, refl, ◌∙◌}
+use Rattle.std.specs.Result.{result_map_both}
+use Rattle.byte_unit_base.specs.Version.{current}
+use Rattle.byte_unit_base.specs.Units.{shape_of}
+use Rattle.byte_unit_base.specs.Fault.{exceeded, IsSizeFault}
+use Rattle.byte_unit_base.specs.Errors.{size_fault}
+use Rattle.byte_unit_base.specs.Kinds.{flags_for}
+use Rattle.byte_unit_base.specs.LeastOfKind.{IsLeastOf}
+use Rattle.byte_unit_base.specs.SizeOrNone.{IsSizeOrNone}
+use Rattle.byte_unit_base.specs.SizeText.{trim_of, IsSizeText}
+use Rattle.byte_unit_base.specs.SizeScan.{with_shape}
+use Rattle.byte_unit_base.specs.Readings.{IsNumberReading}
+use Rattle.byte_unit_base.specs.Parsed.{parsed_number, rounded_up, size_of_parsed, size_within_limit}
+use Rattle.byte_unit_base.specs.BinaryReading.{binary_of, binary_parts, parsed_binary_size, IsBinaryRead, IsBinaryReading}
+use Rattle.byte_unit_base.specs.declared.unit.Unit.{Unit as UnitName}
+use Rattle.byte_unit_base.specs.declared.errors.ParseError.{ParseError}
+use Rattle.byte_unit_base.specs.declared.errors.ParseError.TheVariants.{Value}
+use Rattle.byte_unit_base.specs.declared.errors.ValueParseError.TheVariants.{ExceededBounds}
+use Rattle.byte_unit_base.specs.declared.kind.Kind.{Kind}
+use Rattle.byte_unit_base.proofs.Computed.{rounded_up_is_least, size_within, size_above}
+use Rattle.byte_unit_base.proofs.Scans.{reads_meaning, reads_fault}
+use Rattle.byte_unit_base.proofs.SizeReads.{size_scan_is}
+use Rattle.byte_unit_base.proofs.Rounding.{least_is_unique}
+
+-- an input has only the number and unit that the parser found, so each of its sizes is that number of the binary unit,
+-- rounded up
+found_as_read : {kind : Kind} {ignore_case : Bool} {bytes : List ℕ} {found : ℕ × UnitName} {number n : ℕ}
+    → IsNumberReading (flags_for kind ignore_case) bytes (Ok found)
+    → IsBinaryRead kind ignore_case bytes number n
+    → (found.0 ≡ number) × IsLeastOf kind found.0 (binary_of (shape_of found.1)) n
+found_as_read {number} reading read =
+    let same = reading.reads number read.unit read.is_size in (same.0, rw (same.0, same.1) read.is_least)
+
+module _ (kind : Kind) (ignore_case : Bool) (bytes : List ℕ) where
+  parsed_found : (found : ℕ × UnitName)
+      → IsSizeText current (flags_for kind ignore_case) (trim_of bytes) found.0 (shape_of found.1)
+      → parsed_binary_size kind ignore_case bytes
+      ≡ size_within_limit found.0 (rounded_up kind found.0 (binary_of (shape_of found.1)))
+  unfolding parsed_binary_size parsed_number
+  parsed_found found h =
+      ap (λ result. size_of_parsed kind (result_map_both binary_parts (λ fault. fault) result))
+      (reads_meaning (size_scan_is (flags_for kind ignore_case)) (trim_of bytes) (with_shape found) h)
+
+  parsed_fault : (error : ParseError)
+      → IsSizeFault current (flags_for kind ignore_case) (trim_of bytes) (size_fault error)
+      → parsed_binary_size kind ignore_case bytes ≡ Err (size_fault error)
+  unfolding parsed_binary_size parsed_number
+  parsed_fault error h =
+      ap (λ result. size_of_parsed kind (result_map_both binary_parts (λ fault. fault) result))
+      (reads_fault (size_scan_is (flags_for kind ignore_case)) (trim_of bytes) (size_fault error) h)
+
+  -- the result if the number of the binary unit is a size
+  pub binary_of_size : (found : ℕ × UnitName) (n : ℕ)
+      → IsNumberReading (flags_for kind ignore_case) bytes (Ok found)
+      → IsSizeOrNone (IsLeastOf kind found.0 (binary_of (shape_of found.1))) (Some n)
+      → IsBinaryReading kind ignore_case bytes (Ok n)
+  binary_of_size found n reading size =
+      let unit = binary_of (shape_of found.1) in
+      let unique = least_is_unique kind found.0 unit in
+      record {
+        found = record {
+          number = found.0;
+          is_read = record { unit = shape_of found.1; is_size = reading.found; is_least = size.0 };
+          below = size.1;
+        };
+        reads = λ m a. ap (λ k. Ok k) (unique n m size.0 (found_as_read reading a.is_read).1);
+        exceeds = λ number e.
+            let same = unique n e.size size.0 (found_as_read reading e.is_read).1 in
+            absurd (omega (arith, same, size.1, e.above));
+        fault = tt;
+        computed =
+            let same = unique _ n (rounded_up_is_least kind found.0 unit) size.0 in
+            sym (parsed_found found reading.found
+            ∙ (ap (size_within_limit found.0) same ∙ size_within found.0 n size.1));
+      }
+
+  -- the result if the size of the number of the binary unit reaches the limit: an error with the number
+  pub binary_of_excess : (found : ℕ × UnitName)
+      → IsNumberReading (flags_for kind ignore_case) bytes (Ok found)
+      → IsSizeOrNone (IsLeastOf kind found.0 (binary_of (shape_of found.1))) None
+      → IsBinaryReading kind ignore_case bytes (Err (Value (ExceededBounds found.0)))
+  binary_of_excess found reading none =
+      let unit = binary_of (shape_of found.1) in
+      let rounded = rounded_up kind found.0 unit in
+      let least = rounded_up_is_least kind found.0 unit in
+      record {
+        found = tt;
+        reads = λ m a. let other = found_as_read reading a.is_read in absurd (omega (arith, none m other.1, a.below));
+        exceeds = λ number e. ap exceeded (found_as_read reading e.is_read).0;
+        fault = inl (
+          found.0,
+          refl,
+          record {
+            size = rounded;
+            is_read = record { unit = shape_of found.1; is_size = reading.found; is_least = least };
+            above = none rounded least;
+          },
+        );
+        computed = sym (parsed_found found reading.found ∙ size_above found.0 rounded (none rounded least));
+      }
+
+  -- the result if the input is not a number and a unit: its error
+  pub binary_of_fault : (error : ParseError) → IsNumberReading (flags_for kind ignore_case) bytes (Err error)
+      → IsBinaryReading kind ignore_case bytes (Err error)
+  binary_of_fault error reading = record {
+    found = tt;
+    reads = λ m a. absurd (reading.reads a.number a.is_read.unit a.is_read.is_size);
+    exceeds = λ number e. absurd (reading.reads number e.is_read.unit e.is_read.is_size);
+    fault = inr reading.fault;
+    computed = sym (parsed_fault error reading.fault);
+  }

@@ -1,0 +1,368 @@
+-- The binary reading of an input is the reading of the input with an `i` after its decimal prefix.
+use Rattle.std.proofs.Common.{◌≡◌, ℕ, ◌<◌, Bool, true, false, ◌⊎◌, inl, inr, ⊎_elim, List, [], ◌∷◌, ◌++◌, length}
+use Rattle.std.proofs.Common.{replicate, Result, Ok, Err, refl, sym, ap, subst, ◌∙◌, arith, append_assoc}
+use Rattle.std.specs.Prelude.{nat_lt}
+use Rattle.std.specs.Result.{result_map_both}
+use Rattle.std.specs.Str.{skip_leading_whitespace, drop_trailing_whitespace}
+use Rattle.std.proofs.lemmas.Bool.{and_parts, cond_both}
+use Rattle.std.proofs.lemmas.Bool.Decides.{nat_tests}
+use Rattle.std.proofs.lemmas.Str.{chars-IsAscii}
+use Rattle.byte_unit_base.specs.Shape.{Shape, shape}
+use Rattle.byte_unit_base.specs.Version.{current}
+use Rattle.byte_unit_base.specs.Spelling.{Flags, Spells, SpellsBinary, SpellsMultiple}
+use Rattle.byte_unit_base.specs.SizeText.{space, trim_of, IsSizeText}
+use Rattle.byte_unit_base.specs.Fault.{Fault, IsSizeFault, letter_i}
+use Rattle.byte_unit_base.specs.Errors.{size_fault}
+use Rattle.byte_unit_base.specs.Kinds.{flags_for}
+use Rattle.byte_unit_base.specs.LeastOfKind.{IsLeastOf}
+use Rattle.byte_unit_base.specs.Accepted.{IsRead, IsAccepted, Exceeds, IsRejected}
+use Rattle.byte_unit_base.specs.ReaderLaws.{IsOneAnswer, Represents}
+use Rattle.byte_unit_base.specs.SizeReading.{IsSizeReading}
+use Rattle.byte_unit_base.specs.Parsed.{parsed_number, parsed_size, size_of_parsed}
+use Rattle.byte_unit_base.specs.BinaryReading.{binary_of, binary_parts, parsed_binary_size, IsBinaryRead, IsBinaryAccepted}
+use Rattle.byte_unit_base.specs.BinaryReading.{BinaryExceeds, IsBinaryRejected, IsBinaryReading}
+use Rattle.byte_unit_base.specs.BinaryLaws.{HasDecimalPrefix, IsWithI, BinaryReadingsAreThoseWithI, EachTextHasOneWithI}
+use Rattle.byte_unit_base.specs.declared.errors.ParseError.{ParseError}
+use Rattle.byte_unit_base.specs.declared.kind.Kind.{Kind}
+use Rattle.byte_unit_base.proofs.Scans
+use Rattle.byte_unit_base.proofs.SizeReads.{size_scan_is}
+use Rattle.byte_unit_base.proofs.ParsedTexts.{parsed_numbers_are_represented}
+use Rattle.byte_unit_base.proofs.SizeAscii.{IsVisible, size_ascii, number_visible, number_some, spelling_visible}
+use Rattle.byte_unit_base.proofs.Trim.{StartsWithoutSpace, EndsWithoutSpace, nothing_to_drop, visible_not_white}
+
+-- a text is one number of one unit, or has one error
+one_answer : (flags : Flags) (text : List ℕ)
+    → IsOneAnswer (ℕ × Shape) (Represents flags text) (IsSizeFault current flags text)
+one_answer flags text = Scans.one_answer (size_scan_is flags) text
+
+-- the text has a decimal prefix
+module _ (flags : Flags) (text front suffix : List ℕ) (h : HasDecimalPrefix flags text front suffix) where
+  spells_with : (infix_part : List ℕ) (binary : Bool) → SpellsBinary infix_part binary
+      → Spells current flags (h.letter ∷ (infix_part ++ suffix)) (shape h.power binary h.bit)
+  spells_with infix_part binary is = inr record {
+    prefix_part = h.letter ∷ infix_part;
+    count_part = suffix;
+    text_is = refl;
+    prefix_is = record {
+      letter = h.letter;
+      infix_part = infix_part;
+      text_is = refl;
+      letter_is = h.letter_is;
+      infix_is = is;
+    };
+    count_is = h.suffix_is;
+  }
+
+  -- with an `i` or nothing after the letter, it is the number of the binary or of the decimal unit
+  abbrev size_with : (infix_part : List ℕ) (binary : Bool) → SpellsBinary infix_part binary
+      → IsSizeText current flags (front ++ (infix_part ++ suffix)) h.number (shape h.power binary h.bit)
+  size_with infix_part binary is =
+      let rest = infix_part ++ suffix in
+      let gap = replicate h.spaces space in
+      record {
+        number_part = h.number_part;
+        spaces = h.spaces;
+        unit_part = h.letter ∷ rest;
+        text_is = ap (λ t. t ++ rest) h.front_is ∙ (append_assoc h.number_part (gap ++ h.letter ∷ []) rest
+            ∙ ap (λ t. h.number_part ++ t) (append_assoc gap (h.letter ∷ []) rest));
+        number_is = h.number_is;
+        unit_is = spells_with infix_part binary is;
+      }
+
+  decimal_size : IsSizeText current flags text h.number (shape h.power false h.bit)
+  decimal_size = subst (λ t. IsSizeText current flags t h.number (shape h.power false h.bit)) (sym h.text_is)
+      (size_with [] false (inl (refl, refl)))
+
+  abbrev binary_size : IsSizeText current flags (front ++ letter_i ∷ suffix) h.number (shape h.power true h.bit)
+  binary_size = size_with (letter_i ∷ []) true (inr (refl, refl))
+
+  binary_unit : binary_of (shape h.power false h.bit) ≡ shape h.power true h.bit
+  binary_unit = let some : nat_lt 0 h.power ≡ true = grind (arith, nat_tests, h.letter_is.0) in rw some refl
+
+-- some beginning of the text ends in its decimal prefix
+abbrev SomePrefix : Flags → List ℕ → Type 0
+SomePrefix flags text = (front suffix : List ℕ) × HasDecimalPrefix flags text front suffix
+
+-- a unit without a prefix, or with a binary one, is its own binary unit
+
+plain_same : (unit : Shape) → unit.power ≡ 0 → binary_of unit ≡ unit
+plain_same unit e = let none : nat_lt 0 unit.power ≡ false = grind (arith, nat_tests, e) in rw none refl
+
+binary_same : (unit : Shape) → unit.binary ≡ true → binary_of unit ≡ unit
+binary_same unit e = cond_both (nat_lt 0 unit.power) _ _ (λ s. s ≡ unit)
+    (λ _. ap (λ binary. shape unit.power binary unit.bit) (sym e)) (λ _. refl)
+
+-- the text is a number of the unit: its prefix is decimal, or the unit is its own binary unit
+module _ (flags : Flags) (text : List ℕ) (number : ℕ) (unit : Shape) (h : IsSizeText current flags text number unit) where
+  decimal_prefix : (m : SpellsMultiple current flags h.unit_part unit) → m.prefix_is.infix_part ≡ []
+      → SomePrefix flags text
+  decimal_prefix m none =
+      let letter = m.prefix_is.letter in
+      let gap = replicate h.spaces space in
+      let unit_is : h.unit_part ≡ letter ∷ m.count_part =
+      m.text_is ∙ ap (λ p. p ++ m.count_part) (m.prefix_is.text_is ∙ ap (λ i. letter ∷ i) none) in (
+        h.number_part ++ (gap ++ letter ∷ []),
+        m.count_part,
+        record {
+          number_part = h.number_part;
+          number = number;
+          spaces = h.spaces;
+          letter = letter;
+          power = unit.power;
+          bit = unit.bit;
+          text_is = h.text_is ∙ (ap (λ u. h.number_part ++ (gap ++ u)) unit_is
+              ∙ sym (append_assoc h.number_part (gap ++ letter ∷ []) m.count_part
+              ∙ ap (λ t. h.number_part ++ t) (append_assoc gap (letter ∷ []) m.count_part)));
+          front_is = refl;
+          number_is = h.number_is;
+          letter_is = m.prefix_is.letter_is;
+          suffix_is = m.count_is;
+        },
+      )
+
+  multiple_cases : (m : SpellsMultiple current flags h.unit_part unit) → SpellsBinary m.prefix_is.infix_part unit.binary
+      → SomePrefix flags text ⊎ (binary_of unit ≡ unit)
+  multiple_cases m (inl none) = inl (decimal_prefix m none.0)
+  multiple_cases m (inr some) = inr (binary_same unit some.1)
+
+  unit_cases : Spells current flags h.unit_part unit → SomePrefix flags text ⊎ (binary_of unit ≡ unit)
+  unit_cases (inl plain) = inr (plain_same unit plain.power_is)
+  unit_cases (inr m) = multiple_cases m m.prefix_is.infix_is
+
+  prefix_or_same : SomePrefix flags text ⊎ (binary_of unit ≡ unit)
+  prefix_or_same = unit_cases h.unit_is
+
+-- `other` is a number of the binary unit exactly where the text is this number of the unit, and has its errors
+record IsBinaryText (flags : Flags) (text other : List ℕ) : Type 0 where
+  pub to : (number : ℕ) (unit : Shape) → IsSizeText current flags text number unit
+      → IsSizeText current flags other number (binary_of unit)
+  pub from : (number : ℕ) (unit : Shape) → IsSizeText current flags other number unit
+      → (of : Shape) × IsSizeText current flags text number of × (binary_of of ≡ unit)
+  pub fault_to : (fault : Fault) → IsSizeFault current flags text fault → IsSizeFault current flags other fault
+  pub fault_from : (fault : Fault) → IsSizeFault current flags other fault → IsSizeFault current flags text fault
+
+same_meaning : (flags : Flags) (text : List ℕ) (number other : ℕ) (unit another : Shape)
+    → IsSizeText current flags text number unit → IsSizeText current flags text other another
+    → ◌≡◌ {A = ℕ × Shape} (number, unit) (other, another)
+same_meaning flags text number other unit another h k =
+    (one_answer flags text).one_meaning (number, unit) (other, another) h k
+
+no_fault : (flags : Flags) (text : List ℕ) (number : ℕ) (unit : Shape) (fault : Fault)
+    → IsSizeText current flags text number unit → ¬ (IsSizeFault current flags text fault)
+no_fault flags text number unit fault h k = (one_answer flags text).not_both (number, unit) fault h k
+
+module _ (flags : Flags) (text other : List ℕ) where
+  with_prefix : (front suffix : List ℕ) → HasDecimalPrefix flags text front suffix → other ≡ front ++ letter_i ∷ suffix
+      → IsBinaryText flags text other
+  with_prefix front suffix h e =
+      let decimal = shape h.power false h.bit in
+      let binary = shape h.power true h.bit in
+      let same_unit = binary_unit flags text front suffix h in
+      let as_decimal = decimal_size flags text front suffix h in
+      let as_binary : IsSizeText current flags other h.number binary =
+      subst (λ t. IsSizeText current flags t h.number binary) (sym e) (binary_size flags text front suffix h) in
+      record {
+        to = λ number unit k.
+            let same = same_meaning flags text h.number number decimal unit as_decimal k in
+            subst (λ r. IsSizeText current flags other r.0 (binary_of r.1)) same
+            (subst (λ u. IsSizeText current flags other h.number u) (sym same_unit) as_binary);
+        from = λ number unit k.
+            let same = same_meaning flags other h.number number binary unit as_binary k in (
+              decimal,
+              subst (λ r. IsSizeText current flags text r.0 decimal) same as_decimal,
+              same_unit ∙ ap (λ r. r.1) same,
+            );
+        fault_to = λ fault k. absurd (no_fault flags text h.number decimal fault as_decimal k);
+        fault_from = λ fault k. absurd (no_fault flags other h.number binary fault as_binary k);
+      }
+
+  without_prefix : ((front suffix : List ℕ) → ¬ (HasDecimalPrefix flags text front suffix)) → other ≡ text
+      → IsBinaryText flags text other
+  without_prefix none e =
+      let same : (number : ℕ) (unit : Shape) → IsSizeText current flags text number unit → binary_of unit ≡ unit =
+      λ number unit k. ⊎_elim (λ some. absurd (none some.0 some.1 some.2)) (λ is. is)
+      (prefix_or_same flags text number unit k) in
+      record {
+        to = λ number unit k. subst (λ t. IsSizeText current flags t number (binary_of unit)) (sym e)
+            (subst (λ u. IsSizeText current flags text number u) (sym (same number unit k)) k);
+        from = λ number unit k.
+            let is = subst (λ t. IsSizeText current flags t number unit) e k in (unit, is, same number unit is);
+        fault_to = λ fault k. subst (λ t. IsSizeFault current flags t fault) (sym e) k;
+        fault_from = λ fault k. subst (λ t. IsSizeFault current flags t fault) e k;
+      }
+
+  binary_text : IsWithI flags text other → IsBinaryText flags text other
+  binary_text (inl h) = with_prefix h.0 h.1 h.2 h.3
+  binary_text (inr h) = without_prefix h.0 h.1
+
+-- the binary reading of the input is the reading of the other
+module _ (kind : Kind) (ignore_case : Bool) (bytes other : List ℕ)
+    (is : IsBinaryText (flags_for kind ignore_case) (trim_of bytes) (trim_of other)) where
+  read_to : (number n : ℕ) → IsBinaryRead kind ignore_case bytes number n
+      → IsRead current kind ignore_case other number n
+  read_to number n r = record {
+    unit = binary_of r.unit;
+    is_size = is.to number r.unit r.is_size;
+    is_least = r.is_least;
+  }
+
+  read_from : (number n : ℕ) → IsRead current kind ignore_case other number n
+      → IsBinaryRead kind ignore_case bytes number n
+  read_from number n r =
+      let of = is.from number r.unit r.is_size in
+      record {
+        unit = of.0;
+        is_size = of.1;
+        is_least = subst (λ u. IsLeastOf kind number u n) (sym of.2) r.is_least;
+      }
+
+  accepted_to : (n : ℕ) → IsBinaryAccepted kind ignore_case bytes n → IsAccepted kind ignore_case other n
+  accepted_to n a = record { number = a.number; is_read = read_to a.number n a.is_read; below = a.below }
+
+  accepted_from : (n : ℕ) → IsAccepted kind ignore_case other n → IsBinaryAccepted kind ignore_case bytes n
+  accepted_from n a = record { number = a.number; is_read = read_from a.number n a.is_read; below = a.below }
+
+  exceeds_to : (number : ℕ) → BinaryExceeds kind ignore_case bytes number → Exceeds kind ignore_case other number
+  exceeds_to number e = record { size = e.size; is_read = read_to number e.size e.is_read; above = e.above }
+
+  exceeds_from : (number : ℕ) → Exceeds kind ignore_case other number → BinaryExceeds kind ignore_case bytes number
+  exceeds_from number e = record { size = e.size; is_read = read_from number e.size e.is_read; above = e.above }
+
+  rejected_to : (fault : Fault) → IsBinaryRejected kind ignore_case bytes fault
+      → IsRejected kind ignore_case other fault
+  rejected_to fault (inl e) = inl (e.0, e.1, exceeds_to e.0 e.2)
+  rejected_to fault (inr f) = inr (is.fault_to fault f)
+
+  rejected_from : (fault : Fault) → IsRejected kind ignore_case other fault
+      → IsBinaryRejected kind ignore_case bytes fault
+  rejected_from fault (inl e) = inl (e.0, e.1, exceeds_from e.0 e.2)
+  rejected_from fault (inr f) = inr (is.fault_from fault f)
+
+  -- both have the same number, one of the unit and the other of its binary unit, or the same error
+  same_parts : result_map_both binary_parts (λ fault. fault) (parsed_number (flags_for kind ignore_case) bytes)
+      ≡ parsed_number (flags_for kind ignore_case) other
+  same_parts =
+      let flags = flags_for kind ignore_case in
+      let of_bytes = parsed_numbers_are_represented flags bytes in
+      let of_other = parsed_numbers_are_represented flags other in
+      ⊎_elim
+      (λ m. ap (result_map_both binary_parts (λ fault. fault)) ((of_bytes.is_meaning m.0).1 m.1)
+      ∙ sym ((of_other.is_meaning (binary_parts m.0)).1 (is.to m.0.0 m.0.1 m.1)))
+      (λ f. ap (result_map_both binary_parts (λ fault. fault)) ((of_bytes.is_fault f.0).1 f.1)
+      ∙ sym ((of_other.is_fault f.0).1 (is.fault_to f.0 f.1)))
+      (one_answer flags (trim_of bytes)).some
+
+  same_size : parsed_binary_size kind ignore_case bytes ≡ parsed_size kind ignore_case other
+  unfolding parsed_binary_size parsed_size
+  same_size = ap (size_of_parsed kind) same_parts
+
+  reading_to : (result : Result ℕ ParseError) → IsBinaryReading kind ignore_case bytes result
+      → IsSizeReading kind ignore_case other result
+  reading_to (Ok n) r = record {
+    found = accepted_to n r.found;
+    reads = λ m a. r.reads m (accepted_from m a);
+    exceeds = λ number e. r.exceeds number (exceeds_from number e);
+    fault = tt;
+    computed = r.computed ∙ same_size;
+  }
+  reading_to (Err error) r = record {
+    found = tt;
+    reads = λ m a. r.reads m (accepted_from m a);
+    exceeds = λ number e. r.exceeds number (exceeds_from number e);
+    fault = rejected_to (size_fault error) r.fault;
+    computed = r.computed ∙ same_size;
+  }
+
+  reading_from : (result : Result ℕ ParseError) → IsSizeReading kind ignore_case other result
+      → IsBinaryReading kind ignore_case bytes result
+  reading_from (Ok n) r = record {
+    found = accepted_from n r.found;
+    reads = λ m a. r.reads m (accepted_to m a);
+    exceeds = λ number e. r.exceeds number (exceeds_to number e);
+    fault = tt;
+    computed = r.computed ∙ sym same_size;
+  }
+  reading_from (Err error) r = record {
+    found = tt;
+    reads = λ m a. r.reads m (accepted_to m a);
+    exceeds = λ number e. r.exceeds number (exceeds_to number e);
+    fault = rejected_from (size_fault error) r.fault;
+    computed = r.computed ∙ sym same_size;
+  }
+
+-- the binary reading of an input is the reading of the input with an `i` after its decimal prefix
+pub readings_with_i : BinaryReadingsAreThoseWithI
+readings_with_i kind ignore_case bytes other h result =
+    let is = binary_text (flags_for kind ignore_case) (trim_of bytes) (trim_of other) h in
+    (reading_to kind ignore_case bytes other is result, reading_from kind ignore_case bytes other is result)
+
+-- trimming changes nothing of a text with an `i` after its prefix
+
+visible_start : (front rest : List ℕ) → IsVisible front → 0 < length front → StartsWithoutSpace (front ++ rest)
+visible_start [] rest h some = absurd (omega (arith, some))
+visible_start (c ∷ cs) rest h some = record {
+  head = c;
+  tail = cs ++ rest;
+  text_is = refl;
+  head_is = visible_not_white c (and_parts _ _ h).0;
+}
+
+visible_end : (front text : List ℕ) → IsVisible text → 0 < length text → EndsWithoutSpace (front ++ text)
+visible_end front [] h some = absurd (omega (arith, some))
+visible_end front (c ∷ []) h some = record {
+  front = front;
+  last = c;
+  text_is = refl;
+  last_is = visible_not_white c (and_parts _ _ h).0;
+}
+visible_end front (c ∷ d ∷ ds) h some =
+    subst EndsWithoutSpace (append_assoc front (c ∷ []) (d ∷ ds))
+    (visible_end (front ++ c ∷ []) (d ∷ ds) (and_parts _ _ h).1 (omega arith))
+
+-- a number of a unit whose spelling is not empty has no white space at its ends
+size_trimmed : (flags : Flags) (text : List ℕ) (number : ℕ) (unit : Shape)
+    → (h : IsSizeText current flags text number unit) → 0 < length h.unit_part → trim_of text ≡ text
+size_trimmed flags text number unit h some =
+    let gap = replicate h.spaces space in
+    let start = visible_start h.number_part (gap ++ h.unit_part) (number_visible h.number_part number h.number_is)
+    (number_some h.number_part number h.number_is) in
+    let end = visible_end (h.number_part ++ gap) h.unit_part (spelling_visible flags h.unit_part unit h.unit_is) some in
+    ap (λ t. drop_trailing_whitespace (skip_leading_whitespace t)) (chars-IsAscii text (size_ascii flags text number unit h))
+    ∙ nothing_to_drop text (subst StartsWithoutSpace (sym h.text_is) start)
+    (subst EndsWithoutSpace (append_assoc h.number_part gap h.unit_part ∙ sym h.text_is) end)
+
+module _ (flags : Flags) (bytes : List ℕ) where
+  text_with_i : (front suffix : List ℕ) → HasDecimalPrefix flags (trim_of bytes) front suffix
+      → (other : List ℕ) × IsWithI flags (trim_of bytes) (trim_of other)
+  text_with_i front suffix h =
+      let other = front ++ letter_i ∷ suffix in
+      let is = binary_size flags (trim_of bytes) front suffix h in
+      let some : 0 < length (h.letter ∷ letter_i ∷ suffix) = omega arith in
+      let kept = size_trimmed flags other h.number (shape h.power true h.bit) is some in
+      (other, inl (front, suffix, h, kept))
+
+  no_prefix : (meaning : ℕ × Shape) → Represents flags (trim_of bytes) meaning → binary_of meaning.1 ≡ meaning.1
+      → (front suffix : List ℕ) → ¬ (HasDecimalPrefix flags (trim_of bytes) front suffix)
+  no_prefix meaning is same front suffix h =
+      let text = trim_of bytes in
+      let decimal = shape h.power false h.bit in
+      let one = same_meaning flags text meaning.0 h.number meaning.1 decimal is (decimal_size flags text front suffix h) in
+      let unit : binary_of decimal ≡ decimal = subst (λ r. binary_of r.1 ≡ r.1) one same in
+      let binary : true ≡ false = ap (λ u. u.binary) (sym (binary_unit flags text front suffix h) ∙ unit) in
+      let z : ⊥ = cc in z
+
+  itself : ((front suffix : List ℕ) → ¬ (HasDecimalPrefix flags (trim_of bytes) front suffix))
+      → (other : List ℕ) × IsWithI flags (trim_of bytes) (trim_of other)
+  itself none = (bytes, inr (none, refl))
+
+  some_with_i : (other : List ℕ) × IsWithI flags (trim_of bytes) (trim_of other)
+  some_with_i = ⊎_elim
+      (λ m. ⊎_elim (λ some. text_with_i some.0 some.1 some.2) (λ same. itself (no_prefix m.0 m.1 same))
+      (prefix_or_same flags (trim_of bytes) m.0.0 m.0.1 m.1))
+      (λ f. itself (λ front suffix h. no_fault flags (trim_of bytes) h.number (shape h.power false h.bit) f.0
+      (decimal_size flags (trim_of bytes) front suffix h) f.1))
+      (one_answer flags (trim_of bytes)).some
+
+-- for each input there is one with an `i` after its decimal prefix
+pub each_text_with_i : EachTextHasOneWithI
+each_text_with_i flags bytes = some_with_i flags bytes

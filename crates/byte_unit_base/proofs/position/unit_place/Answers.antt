@@ -1,0 +1,15 @@
+-- The bytes spell a unit under any flags, or the parser of a unit stops in them.
+use Rattle.std.proofs.Common.{drop}
+use Rattle.byte_unit_base.specs.Spelling.{flags_of}
+use Rattle.byte_unit_base.specs.Units.{shape_of}
+use Rattle.std.proofs.Common.{true, false}
+use Rattle.byte_unit_base.proofs.Positions.{spells_any, stop_place}
+use Rattle.byte_unit_base.proofs.position.unit_place.Goals as goal
+
+pub returns-in-Ok : goal.returns-in-Ok
+returns-in-Ok c = λ flags.
+    spells_any (flags_of false true) flags (drop c.args.from c.args.bytes.now) (shape_of c.in-Ok.field-0) c.in-Ok.ensures
+
+pub returns-in-Err : goal.returns-in-Err
+returns-in-Err c = stop_place (flags_of false true) (drop c.args.from c.args.bytes.now) c.in-Err.stop.0 c.in-Err.stop.1
+    c.in-Err.ensures

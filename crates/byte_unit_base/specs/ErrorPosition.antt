@@ -1,0 +1,33 @@
+-- Where an input is wrong: the index in bytes of its first wrong character. An input is given by its UTF-8 bytes.
+use Rattle.std.specs.Prelude.{◌≡◌, ℕ, ◌+◌, ◌-◌, List, length, Option, Some, None}
+use Rattle.std.specs.Str.{trim_start}
+use Rattle.byte_unit_base.specs.Version.{current}
+use Rattle.byte_unit_base.specs.Spelling.{Flags}
+use Rattle.byte_unit_base.specs.SizeText.{trim_of}
+use Rattle.byte_unit_base.specs.ViablePrefix.{ParserState, IsViableUnitPrefix, IsViableSizePrefix}
+use Rattle.byte_unit_base.specs.Fault.{Fault, IsFirstFault}
+
+-- the number of bytes of the white space at the start of an input
+abbrev pub leading_white : List ℕ → ℕ
+leading_white bytes = length bytes - length (trim_start bytes)
+
+-- without the white space at its ends, the input has an error, and the position is the index in the input, in bytes, of
+-- the end of its longest viable prefix. The characters of a viable prefix are ASCII, of one byte each
+pub record IsErrorAt (IsViable : ParserState → List ℕ → Type 0) (flags : Flags) (bytes : List ℕ) (position : ℕ)
+    : Type 0 where
+  pub fault : Fault
+  pub first : IsFirstFault IsViable current flags (trim_of bytes) fault
+  pub position_is : position ≡ leading_white bytes + length first.front
+
+-- the position of the error of the input, or `None` if it has no error
+abbrev pub IsPositionFor : (ParserState → List ℕ → Type 0) → Flags → List ℕ → Option ℕ → Type 0
+IsPositionFor IsViable flags bytes None = (fault : Fault) → ¬ (IsFirstFault IsViable current flags (trim_of bytes) fault)
+IsPositionFor IsViable flags bytes (Some position) = IsErrorAt IsViable flags bytes position
+
+-- the position of the error of a number and a unit, whatever the flags; `None` if the input is in the grammar
+abbrev pub IsSizePosition : List ℕ → Option ℕ → Type 0
+IsSizePosition bytes result = (flags : Flags) → IsPositionFor (IsViableSizePrefix current) flags bytes result
+
+-- the position of the error of a unit, whatever the flags; `None` if the input spells one
+abbrev pub IsUnitPosition : List ℕ → Option ℕ → Type 0
+IsUnitPosition bytes result = (flags : Flags) → IsPositionFor (IsViableUnitPrefix current) flags bytes result

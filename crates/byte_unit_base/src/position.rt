@@ -1,0 +1,159 @@
+//! Where a string is wrong: the index in bytes of its first wrong character.
+//!
+//! These calls parse the string once more, character by character, so that no parser keeps an index for them.
+
+ghost use Rattle.std.specs.Prelude.{◌≡◌, ◌≤◌, length, drop};
+ghost use Rattle.std.specs.Str.{IsUtf8};
+ghost use Rattle.byte_unit_base.specs.ErrorPosition.{IsSizePosition};
+ghost use Rattle.byte_unit_base.specs.PlaceReading.{IsWholeLen, IsPlacesLen, IsNumberPlace, IsUnitPlace, IsSizePlace};
+
+use crate::Unit;
+use crate::read::parts::leading_spaces;
+use crate::unit::parse::read_unit;
+use crate::unit::scan::Flags;
+use byte_unit_math::{DECIMAL_PLACES, WHOLE_LIMIT};
+
+/// Returns the index in bytes of the first wrong character of a string that is not in the grammar of sizes: no size can
+/// have it there. If the string ends too early, it is the index of its end, before white space there.
+///
+/// Returns `None` if the string is in the grammar. The index is the same for both kinds, with and without `ignore_case`.
+///
+/// # Examples
+/// ```rust
+/// assert_eq!(rt; position::of_size_error("1 byte"), Some(3));
+/// assert_eq!(rt; position::of_size_error("  1."), Some(4));
+/// assert_eq!(rt; position::of_size_error("1 KiB"), None);
+/// ```
+pub fn of_size_error(s: &str) -> Option<usize>
+    ensures { IsSizePosition s.now result }
+{
+    let rest = s.trim_start();
+    let text = rest.trim_end();
+    match size_place(text.as_bytes()) {
+        Some(place) => Some(s.len() - rest.len() + place),
+        None => None,
+    }
+}
+
+impl Unit {
+    ghost use Rattle.byte_unit_base.specs.ErrorPosition.{IsUnitPosition};
+
+    /// Returns the index in bytes of the first wrong character of a string that [`Unit::parse_str`] rejects: no unit can
+    /// have it there. If the string ends too early, it is the index of its end, before white space there.
+    ///
+    /// Returns `None` if the string spells a unit. The index does not depend on the options of `parse_str`.
+    ///
+    /// # Examples
+    /// ```rust
+    /// assert_eq!(rt; Unit::error_position("Kix"), Some(2));
+    /// assert_eq!(rt; Unit::error_position(" bi "), Some(3));
+    /// assert_eq!(rt; Unit::error_position("Kib"), None);
+    /// ```
+    pub fn error_position(s: &str) -> Option<usize>
+        ensures { IsUnitPosition s.now result }
+    {
+        let rest = s.trim_start();
+        let text = rest.trim_end();
+        match unit_place(text.as_bytes(), 0) {
+            Some(place) => Some(s.len() - rest.len() + place),
+            None => None,
+        }
+    }
+}
+
+/// Returns where bytes stop being the beginning of a number and a unit. Returns `None` if they are a number and a unit.
+fn size_place(bytes: &[u8]) -> Option<usize>
+    requires { IsUtf8 bytes.now }
+    ensures { IsSizePlace bytes.now result }
+{
+    match number_end(bytes) {
+        Ok(end) => {
+            let start = end + leading_spaces(&bytes[end..]);
+            match unit_place(bytes, start) {
+                Some(place) => Some(start + place),
+                None => None,
+            }
+        }
+        Err(place) => Some(place),
+    }
+}
+
+/// Returns the length of the number at the beginning of bytes.
+///
+/// # Errors
+/// Returns where the bytes stop being the beginning of a number.
+fn number_end(bytes: &[u8]) -> Result<usize, usize>
+    requires { IsUtf8 bytes.now }
+    ensures { IsNumberPlace bytes.now result }
+{
+    let whole = whole_len(bytes);
+    if whole == 0 {
+        return Err(0);
+    }
+    if whole == bytes.len() {
+        return Ok(whole);
+    }
+    if bytes[whole].is_ascii_digit() {
+        return Err(whole);
+    }
+    if bytes[whole] != b'.' {
+        return Ok(whole);
+    }
+    let start = whole + 1;
+    let places = places_len(&bytes[start..]);
+    let end = start + places;
+    if places == 0 {
+        return Err(end);
+    }
+    if end < bytes.len() && bytes[end].is_ascii_digit() {
+        return Err(end);
+    }
+    Ok(end)
+}
+
+/// Returns how many of the bytes, from the first on, are digits of a whole part that is below its limit.
+fn whole_len(bytes: &[u8]) -> usize
+    ensures { IsWholeLen bytes.now result }
+{
+    let mut whole = 0;
+    let mut count = 0;
+    'digits: while count < bytes.len() && bytes[count].is_ascii_digit() {
+        let next = whole * 10 + u128::from(bytes[count] - b'0');
+        if next >= WHOLE_LIMIT {
+            return count;
+        }
+        whole = next;
+        count += 1;
+    }
+    count
+}
+
+/// Returns how many of the bytes, from the first on, are digits of a fraction: at most 28.
+fn places_len(bytes: &[u8]) -> usize
+    ensures { IsPlacesLen bytes.now result }
+{
+    let mut count = 0;
+    'digits: while count < bytes.len()
+        && count < DECIMAL_PLACES as usize
+        && bytes[count].is_ascii_digit()
+    {
+        count += 1;
+    }
+    count
+}
+
+/// Returns where bytes, from an index on, stop being the beginning of a unit, counted from that index. Returns `None` if
+/// they are a unit.
+fn unit_place(bytes: &[u8], from: usize) -> Option<usize>
+    requires { from ≤ length bytes.now }
+    ensures { IsUnitPlace (drop from bytes.now) result }
+{
+    let flags = Flags {
+        ignore_case: false,
+        prefer_byte: true,
+    };
+    match read_unit(bytes, bytes, from, flags) {
+        Ok(_) => None,
+        Err(stop) => Some(stop.1),
+    }
+}

@@ -1,0 +1,133 @@
+//! Parsing with the flag `BINARY_PREFIXES`: decimal prefixes mean binary ones.
+//!
+//! The calls end here if the flags word is not one without that flag, so that parsing without it costs no instruction.
+
+ghost use Rattle.std.specs.Prelude.{◌≡◌, ℕ, ◌≤◌, length, Option, Result, IfSome, IfNone, codes};
+ghost use Rattle.byte_unit_base.specs.BinaryReading.{IsBinaryBytesReading};
+ghost use Rattle.byte_unit_base.specs.declared.errors.ParseError.{ParseError};
+ghost use Rattle.byte_unit_format.specs.Written.{WritesForm};
+ghost use Rattle.byte_unit_c.specs.Flags.{binary_reading_at};
+ghost use Rattle.byte_unit_c.specs.Error.{ok, invalid_argument};
+ghost use Rattle.byte_unit_c.specs.Many.{offsets_of, IsLayout, IsBinaryParsed, AreBinaryParsed};
+ghost use Rattle.byte_unit_c.specs.Parse.{IsReturned, IsExplanation};
+
+use crate::error::{Error, INVALID_ARGUMENT, NOT_UTF8, OK};
+use crate::flags::{ParseFlags, binary_reading_at};
+use crate::many::{code_of, is_layout};
+use crate::message::write_unknown_flag;
+use crate::offsets::Offsets;
+use crate::reading::{explain_result, write_result};
+use crate::values::Number;
+use byte_unit_base::binary;
+
+/// Parses as `byte_unit_parse_to` does with the flag `BINARY_PREFIXES`. Returns `INVALID_ARGUMENT` and writes nothing
+/// without it, or if another flag is set.
+#[cold]
+#[inline(never)]
+pub fn parse_flagged(text: &[u8], flags: u32, size: &mut Number, errors: &mut [Error]) -> u32
+    ensures binary { IfSome (binary_reading_at flags)
+        (λ asked. (answer : Option (Result ℕ ParseError))
+        × IsBinaryBytesReading asked.kind asked.ignore_case text.now answer
+        × IsReturned answer result size.old size.new errors.old errors.new) }
+    ensures rejected { IfNone (binary_reading_at flags)
+        ((result ≡ invalid_argument) × (size.new ≡ size.old) × (errors.new ≡ errors.old)) }
+{
+    match binary_reading_at(flags) {
+        Some(asked) => {
+            let answer = binary::parse_bytes(text, asked.ignore_case, asked.kind);
+            write_result(answer, size, errors)
+        }
+        None => INVALID_ARGUMENT,
+    }
+}
+
+/// Explains as `byte_unit_explain` does with the flag `BINARY_PREFIXES`. Without it, or if another flag is set, the
+/// message is `a flag is unknown`.
+#[cold]
+#[inline(never)]
+pub fn explain_flagged(text: &[u8], flags: u32, out: &mut [u8]) -> usize
+    ensures binary { IfSome (binary_reading_at flags)
+        (λ asked. (answer : Option (Result ℕ ParseError))
+        × IsBinaryBytesReading asked.kind asked.ignore_case text.now answer
+        × IsExplanation answer out.old out.new result) }
+    ensures unknown_flag { IfNone (binary_reading_at flags)
+        (WritesForm (λ words. words ≡ codes "a flag is unknown") out.old out.new result) }
+    ensures bound { result ≤ 256 }
+{
+    match binary_reading_at(flags) {
+        Some(asked) => {
+            let answer = binary::parse_bytes(text, asked.ignore_case, asked.kind);
+            explain_result(&answer, out)
+        }
+        None => write_unknown_flag(out),
+    }
+}
+
+/// Parses many texts as `byte_unit_parse_many_to` does with the flag `BINARY_PREFIXES`, with offsets of either width.
+/// Returns `INVALID_ARGUMENT` and writes nothing without it, if another flag is set, or if the offsets and lengths do
+/// not fit.
+#[cold]
+#[inline(never)]
+pub fn parse_many_flagged(
+    data: &[u8],
+    offsets: Offsets<'_>,
+    flags: u32,
+    sizes: &mut [Number],
+    codes: &mut [u8],
+) -> u32
+    ensures binary { IfSome (binary_reading_at flags) (λ asked.
+        IsLayout (length «data».now) (offsets_of offsets.entry) (length sizes.old)
+        (length codes.old)
+        → (result ≡ ok)
+        × AreBinaryParsed asked.kind asked.ignore_case «data».now (offsets_of offsets.entry)
+        (length codes.old)
+        codes.new sizes.new) }
+    ensures unknown_flag { IfNone (binary_reading_at flags)
+        ((result ≡ invalid_argument) × (sizes.new ≡ sizes.old) × (codes.new ≡ codes.old)) }
+    ensures no_layout { ¬ IsLayout (length «data».now) (offsets_of offsets.entry) (length sizes.old)
+        (length codes.old)
+        → (result ≡ invalid_argument) × (sizes.new ≡ sizes.old) × (codes.new ≡ codes.old) }
+{
+    let Some(asked) = binary_reading_at(flags) else {
+        return INVALID_ARGUMENT;
+    };
+    if !is_layout(data, offsets, sizes.len(), codes.len()) {
+        return INVALID_ARGUMENT;
+    }
+    parse_each(data, offsets, asked, sizes, codes);
+    OK
+}
+
+/// Parses each text, and writes its code and its size.
+///
+/// Precondition: the offsets and lengths are a layout.
+fn parse_each(
+    data: &[u8],
+    offsets: Offsets<'_>,
+    asked: ParseFlags,
+    sizes: &mut [Number],
+    codes: &mut [u8],
+)
+    requires { IsLayout (length «data».now) (offsets_of offsets) (length sizes.old)
+        (length codes.old) }
+    ensures { AreBinaryParsed asked.kind asked.ignore_case «data».now (offsets_of offsets.entry)
+        (length codes.old)
+        codes.new sizes.new }
+{
+    for i in 0..codes.len() {
+        let (code, size) = parse_one(offsets.text_at(data, i), asked);
+        codes[i] = code;
+        sizes[i] = size;
+    }
+}
+
+/// Parses one text to its code and its size, which is 0 if there is none.
+fn parse_one(text: &[u8], asked: ParseFlags) -> (u8, Number)
+    ensures { IsBinaryParsed asked.kind asked.ignore_case text.now result.0 result.1 }
+{
+    match binary::parse_bytes(text, asked.ignore_case, asked.kind) {
+        Some(Ok(size)) => (OK as u8, Number::new(size)),
+        Some(Err(error)) => (code_of(error), Number::ZERO),
+        None => (NOT_UTF8 as u8, Number::ZERO),
+    }
+}
