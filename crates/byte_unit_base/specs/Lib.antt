@@ -39,6 +39,6 @@ pub mod Versions
 -- private: no public contract cites these
 pub mod PartsReading
 pub mod Expected
-pub mod StopReading
+pub mod Outcome
 pub mod PlaceReading
 pub mod Multiples

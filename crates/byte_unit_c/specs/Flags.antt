@@ -21,8 +21,8 @@ parse_flags_at flags =
 
 -- how a parsing call parses if decimal prefixes mean binary ones, by the flag 8 and the flags 1 and 2 beside it; `None`
 -- without the flag 8, or with any other flag
-abbrev pub binary_reading_at : ℕ → Option ParseFlags
-binary_reading_at flags = if nat_lt flags 8 then None else parse_flags_at (flags - 8)
+abbrev pub binary_flags_at : ℕ → Option ParseFlags
+binary_flags_at flags = if nat_lt flags 8 then None else parse_flags_at (flags - 8)
 
 -- how a unit is chosen, by the flags 1 and 4; `None` with any other flag
 unfoldable pub choice_flags_at : ℕ → Option ChoiceFlags

@@ -6,17 +6,17 @@ ghost use Rattle.std.specs.Prelude.{◌≡◌, ℕ, ◌≤◌, length, Option, R
 ghost use Rattle.byte_unit_base.specs.BinaryReading.{IsBinaryBytesReading};
 ghost use Rattle.byte_unit_base.specs.declared.errors.ParseError.{ParseError};
 ghost use Rattle.byte_unit_format.specs.Written.{WritesForm};
-ghost use Rattle.byte_unit_c.specs.Flags.{binary_reading_at};
+ghost use Rattle.byte_unit_c.specs.Flags.{binary_flags_at};
 ghost use Rattle.byte_unit_c.specs.Error.{ok, invalid_argument};
 ghost use Rattle.byte_unit_c.specs.Many.{offsets_of, IsLayout, IsBinaryParsed, AreBinaryParsed};
 ghost use Rattle.byte_unit_c.specs.Parse.{IsReturned, IsExplanation};
 
 use crate::error::{Error, INVALID_ARGUMENT, NOT_UTF8, OK};
-use crate::flags::{ParseFlags, binary_reading_at};
+use crate::flags::{ParseFlags, binary_flags_at};
 use crate::many::{code_of, is_layout};
 use crate::message::write_unknown_flag;
 use crate::offsets::Offsets;
-use crate::reading::{explain_result, write_result};
+use crate::parse::{explain_result, write_result};
 use crate::values::Number;
 use byte_unit_base::binary;
 
@@ -25,14 +25,14 @@ use byte_unit_base::binary;
 #[cold]
 #[inline(never)]
 pub fn parse_flagged(text: &[u8], flags: u32, size: &mut Number, errors: &mut [Error]) -> u32
-    ensures binary { IfSome (binary_reading_at flags)
+    ensures binary { IfSome (binary_flags_at flags)
         (λ asked. (answer : Option (Result ℕ ParseError))
         × IsBinaryBytesReading asked.kind asked.ignore_case text.now answer
         × IsReturned answer result size.old size.new errors.old errors.new) }
-    ensures rejected { IfNone (binary_reading_at flags)
+    ensures rejected { IfNone (binary_flags_at flags)
         ((result ≡ invalid_argument) × (size.new ≡ size.old) × (errors.new ≡ errors.old)) }
 {
-    match binary_reading_at(flags) {
+    match binary_flags_at(flags) {
         Some(asked) => {
             let answer = binary::parse_bytes(text, asked.ignore_case, asked.kind);
             write_result(answer, size, errors)
@@ -46,18 +46,18 @@ pub fn parse_flagged(text: &[u8], flags: u32, size: &mut Number, errors: &mut [E
 #[cold]
 #[inline(never)]
 pub fn explain_flagged(text: &[u8], flags: u32, out: &mut [u8]) -> usize
-    ensures binary { IfSome (binary_reading_at flags)
+    ensures binary { IfSome (binary_flags_at flags)
         (λ asked. (answer : Option (Result ℕ ParseError))
         × IsBinaryBytesReading asked.kind asked.ignore_case text.now answer
         × IsExplanation answer out.old out.new result) }
-    ensures unknown_flag { IfNone (binary_reading_at flags)
+    ensures unknown_flag { IfNone (binary_flags_at flags)
         (WritesForm (λ words. words ≡ codes "a flag is unknown") out.old out.new result) }
     ensures bound { result ≤ 256 }
 {
-    match binary_reading_at(flags) {
+    match binary_flags_at(flags) {
         Some(asked) => {
             let answer = binary::parse_bytes(text, asked.ignore_case, asked.kind);
-            explain_result(&answer, out)
+            explain_result(answer, out)
         }
         None => write_unknown_flag(out),
     }
@@ -75,20 +75,20 @@ pub fn parse_many_flagged(
     sizes: &mut [Number],
     codes: &mut [u8],
 ) -> u32
-    ensures binary { IfSome (binary_reading_at flags) (λ asked.
+    ensures binary { IfSome (binary_flags_at flags) (λ asked.
         IsLayout (length «data».now) (offsets_of offsets.entry) (length sizes.old)
         (length codes.old)
         → (result ≡ ok)
         × AreBinaryParsed asked.kind asked.ignore_case «data».now (offsets_of offsets.entry)
         (length codes.old)
         codes.new sizes.new) }
-    ensures unknown_flag { IfNone (binary_reading_at flags)
+    ensures unknown_flag { IfNone (binary_flags_at flags)
         ((result ≡ invalid_argument) × (sizes.new ≡ sizes.old) × (codes.new ≡ codes.old)) }
     ensures no_layout { ¬ IsLayout (length «data».now) (offsets_of offsets.entry) (length sizes.old)
         (length codes.old)
         → (result ≡ invalid_argument) × (sizes.new ≡ sizes.old) × (codes.new ≡ codes.old) }
 {
-    let Some(asked) = binary_reading_at(flags) else {
+    let Some(asked) = binary_flags_at(flags) else {
         return INVALID_ARGUMENT;
     };
     if !is_layout(data, offsets, sizes.len(), codes.len()) {

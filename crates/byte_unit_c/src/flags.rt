@@ -2,7 +2,7 @@
 //! that ignores case, 4 for units of either kind, and 8 for parsing in which decimal prefixes mean binary ones.
 
 ghost use Rattle.std.specs.Prelude.{◌≡◌};
-ghost use Rattle.byte_unit_c.specs.Flags.{kind_at, parse_flags_at, binary_reading_at, choice_flags_at};
+ghost use Rattle.byte_unit_c.specs.Flags.{kind_at, parse_flags_at, binary_flags_at, choice_flags_at};
 
 use byte_unit_base::Kind;
 
@@ -85,8 +85,8 @@ pub fn parse_flags_at(flags: u32) -> Option<ParseFlags>
 
 /// Returns how to parse, by a word with the flag `BINARY_PREFIXES` and, beside it, `BITS` and `IGNORE_CASE`, one of
 /// them, or none. Returns `None` if the word does not have the flag `BINARY_PREFIXES`, or has another flag.
-pub fn binary_reading_at(flags: u32) -> Option<ParseFlags>
-    ensures { result ≡ binary_reading_at flags }
+pub fn binary_flags_at(flags: u32) -> Option<ParseFlags>
+    ensures { result ≡ binary_flags_at flags }
 {
     if flags < BINARY_PREFIXES {
         None

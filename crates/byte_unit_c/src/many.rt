@@ -3,7 +3,7 @@
 ghost use Rattle.std.specs.Prelude.{◌≡◌, ◌↔◌, IsTrue, length, IfSome, IfNone};
 ghost use Rattle.byte_unit_base.specs.Errors.{size_fault};
 ghost use Rattle.byte_unit_c.specs.Error.{ok, code_of};
-ghost use Rattle.byte_unit_c.specs.Flags.{parse_flags_at, binary_reading_at};
+ghost use Rattle.byte_unit_c.specs.Flags.{parse_flags_at, binary_flags_at};
 ghost use Rattle.byte_unit_c.specs.Many.{offsets_of, IsLayout, IsParsed, AreParsed, AreBinaryParsed};
 
 use crate::binary::parse_many_flagged;
@@ -34,12 +34,12 @@ pub extern "C" fn byte_unit_parse_many_to(
         → (result ≡ ok)
         × AreParsed asked.kind asked.ignore_case «data».now offsets.now
         (length codes.old) codes.new sizes.new) }
-    ensures binary { IfSome (binary_reading_at flags) (λ asked.
+    ensures binary { IfSome (binary_flags_at flags) (λ asked.
         IsLayout (length «data».now) offsets.now (length sizes.old) (length codes.old)
         → (result ≡ ok)
         × AreBinaryParsed asked.kind asked.ignore_case «data».now offsets.now
         (length codes.old) codes.new sizes.new) }
-    ensures unknown_flag { IfNone (parse_flags_at flags) (IfNone (binary_reading_at flags)
+    ensures unknown_flag { IfNone (parse_flags_at flags) (IfNone (binary_flags_at flags)
         (IsRejectedCall result sizes.old sizes.new codes.old codes.new)) }
     ensures no_layout { ¬ IsLayout (length «data».now) offsets.now (length sizes.old)
         (length codes.old)
@@ -62,12 +62,12 @@ pub extern "C" fn byte_unit_parse_many_32_to(
         → (result ≡ ok)
         × AreParsed asked.kind asked.ignore_case «data».now offsets.now
         (length codes.old) codes.new sizes.new) }
-    ensures binary { IfSome (binary_reading_at flags) (λ asked.
+    ensures binary { IfSome (binary_flags_at flags) (λ asked.
         IsLayout (length «data».now) offsets.now (length sizes.old) (length codes.old)
         → (result ≡ ok)
         × AreBinaryParsed asked.kind asked.ignore_case «data».now offsets.now
         (length codes.old) codes.new sizes.new) }
-    ensures unknown_flag { IfNone (parse_flags_at flags) (IfNone (binary_reading_at flags)
+    ensures unknown_flag { IfNone (parse_flags_at flags) (IfNone (binary_flags_at flags)
         (IsRejectedCall result sizes.old sizes.new codes.old codes.new)) }
     ensures no_layout { ¬ IsLayout (length «data».now) offsets.now (length sizes.old)
         (length codes.old)
@@ -91,14 +91,14 @@ fn parse_many(
         × AreParsed asked.kind asked.ignore_case «data».now (offsets_of offsets.entry)
         (length codes.old) codes.new
         sizes.new) }
-    ensures binary { IfSome (binary_reading_at flags) (λ asked.
+    ensures binary { IfSome (binary_flags_at flags) (λ asked.
         IsLayout (length «data».now) (offsets_of offsets.entry) (length sizes.old)
         (length codes.old)
         → (result ≡ ok)
         × AreBinaryParsed asked.kind asked.ignore_case «data».now (offsets_of offsets.entry)
         (length codes.old)
         codes.new sizes.new) }
-    ensures unknown_flag { IfNone (parse_flags_at flags) (IfNone (binary_reading_at flags)
+    ensures unknown_flag { IfNone (parse_flags_at flags) (IfNone (binary_flags_at flags)
         (IsRejectedCall result sizes.old sizes.new codes.old codes.new)) }
     ensures no_layout { ¬ IsLayout (length «data».now) (offsets_of offsets.entry) (length sizes.old)
         (length codes.old)

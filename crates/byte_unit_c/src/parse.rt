@@ -9,7 +9,7 @@ ghost use Rattle.byte_unit_base.specs.declared.errors.ParseError.{ParseError};
 ghost use Rattle.byte_unit_base.specs.declared.errors.UnitParseError.{UnitParseError};
 ghost use Rattle.byte_unit_base.specs.declared.unit.Unit.{Unit as UnitName};
 ghost use Rattle.byte_unit_format.specs.Written.{WritesForm};
-ghost use Rattle.byte_unit_c.specs.Flags.{parse_flags_at, binary_reading_at, prefers_byte};
+ghost use Rattle.byte_unit_c.specs.Flags.{parse_flags_at, binary_flags_at, prefers_byte};
 ghost use Rattle.byte_unit_c.specs.Error.{invalid_argument};
 ghost use Rattle.byte_unit_c.specs.Parse.{IsReturned, IsUnitBytesReading, IsUnitReturned, IsExplanation};
 ghost use Rattle.byte_unit_c.specs.Parse.{IsUnitExplanation};
@@ -20,6 +20,7 @@ use crate::error::{Error, INVALID_ARGUMENT, NOT_UTF8, OK, UNIT, bytes_of};
 use crate::flags::parse_flags_at;
 use crate::message::{write_message, write_not_utf8, write_unit_message, write_unknown_flag};
 use crate::values::Number;
+use byte_unit_base::size::Outcome;
 use byte_unit_base::{Flags, Kind, ParseError, Reason, Unit, UnitParseError, error_at, size};
 use std::str;
 
@@ -44,11 +45,11 @@ pub extern "C" fn byte_unit_parse_to(
         (λ asked. (answer : Option (Result ℕ ParseError))
         × IsBytesReading asked.kind asked.ignore_case text.now answer
         × IsReturned answer result size.old size.new error.old error.new) }
-    ensures binary { IfSome (binary_reading_at flags)
+    ensures binary { IfSome (binary_flags_at flags)
         (λ asked. (answer : Option (Result ℕ ParseError))
         × IsBinaryBytesReading asked.kind asked.ignore_case text.now answer
         × IsReturned answer result size.old size.new error.old error.new) }
-    ensures rejected { IfNone (parse_flags_at flags) (IfNone (binary_reading_at flags)
+    ensures rejected { IfNone (parse_flags_at flags) (IfNone (binary_flags_at flags)
         ((result ≡ invalid_argument) × (size.new ≡ size.old) × (error.new ≡ error.old))) }
 {
     match parse_flags_at(flags) {
@@ -71,14 +72,14 @@ fn parse_as(
         × IsReturned answer result size.old size.new errors.old errors.new }
 {
     match size::read_bytes(text, ignore_case, kind) {
-        Ok(found) => write_result(Some(size::size_of((found.1, found.0), kind)), size, errors),
-        Err(stop) => {
-            let flags = size::flags_for(kind, ignore_case);
-            match size::visible_next(text, stop.place) {
-                Some(next) => write_stop(next, stop.place == 0, stop.reason, flags, size, errors),
-                None => parse_text_as(text, kind, ignore_case, size, errors),
-            }
+        Outcome::Accepted(unit, number) => {
+            write_result(Some(size::size_of((number, unit), kind)), size, errors)
         }
+        Outcome::Stopped(next, at_start, reason) => {
+            let flags = size::flags_for(kind, ignore_case);
+            write_stop(next, at_start, reason, flags, size, errors)
+        }
+        Outcome::AsString => parse_text_as(text, kind, ignore_case, size, errors),
     }
 }
 
@@ -245,11 +246,11 @@ pub extern "C" fn byte_unit_explain(text: &[u8], flags: u32, out: &mut [u8]) -> 
         (λ asked. (answer : Option (Result ℕ ParseError))
         × IsBytesReading asked.kind asked.ignore_case text.now answer
         × IsExplanation answer out.old out.new result) }
-    ensures binary { IfSome (binary_reading_at flags)
+    ensures binary { IfSome (binary_flags_at flags)
         (λ asked. (answer : Option (Result ℕ ParseError))
         × IsBinaryBytesReading asked.kind asked.ignore_case text.now answer
         × IsExplanation answer out.old out.new result) }
-    ensures unknown_flag { IfNone (parse_flags_at flags) (IfNone (binary_reading_at flags)
+    ensures unknown_flag { IfNone (parse_flags_at flags) (IfNone (binary_flags_at flags)
         (WritesForm (λ words. words ≡ codes "a flag is unknown") out.old out.new result)) }
     ensures bound { result ≤ 256 }
 {
@@ -267,14 +268,14 @@ fn explain_as(text: &[u8], kind: Kind, ignore_case: bool, out: &mut [u8]) -> usi
     ensures bound { result ≤ 256 }
 {
     match size::read_bytes(text, ignore_case, kind) {
-        Ok(found) => explain_result(&Some(size::size_of((found.1, found.0), kind)), out),
-        Err(stop) => {
-            let flags = size::flags_for(kind, ignore_case);
-            match size::visible_next(text, stop.place) {
-                Some(next) => write_stop_message(next, stop.place == 0, stop.reason, flags, out),
-                None => explain_result(&size::parse_text(text, ignore_case, kind), out),
-            }
+        Outcome::Accepted(unit, number) => {
+            explain_result(Some(size::size_of((number, unit), kind)), out)
         }
+        Outcome::Stopped(next, at_start, reason) => {
+            let flags = size::flags_for(kind, ignore_case);
+            write_stop_message(next, at_start, reason, flags, out)
+        }
+        Outcome::AsString => explain_result(size::parse_text(text, ignore_case, kind), out),
     }
 }
 
@@ -300,13 +301,16 @@ fn write_stop_message(
 }
 
 /// Writes the message of the result of a parser, if it is an error, and returns its length.
-pub fn explain_result(answer: &Option<Result<u128, ParseError>>, out: &mut [u8]) -> usize
-    ensures text { IsExplanation answer.now out.old out.new result }
+///
+/// `#[inline(always)]`: each caller knows which result it has, which is then never in memory.
+#[inline(always)]
+pub fn explain_result(answer: Option<Result<u128, ParseError>>, out: &mut [u8]) -> usize
+    ensures text { IsExplanation answer out.old out.new result }
     ensures bound { result ≤ 256 }
 {
     match answer {
         Some(Ok(_)) => 0,
-        Some(Err(error)) => write_message(error, out),
+        Some(Err(error)) => write_message(&error, out),
         None => write_not_utf8(out),
     }
 }

@@ -11,7 +11,7 @@ use Rattle.byte_unit_base.proofs.SizeOfText.{reading_of_fault}
 use Rattle.byte_unit_base.proofs.size.visible_next.Goals as goal
 
 pub returns-then-is_ascii_from : goal.returns-then-is_ascii_from
-returns-then-is_ascii_from c kind ignore_case reason error stop error_is =
+returns-then-is_ascii_from c kind ignore_case reason stop error error_is =
     let bytes = c.args.bytes.now in
     let flags = flags_for kind ignore_case in
     let place = c.args.place in
