@@ -8,6 +8,7 @@ ghost use Rattle.byte_unit_base.specs.Kinds.{flags_for};
 ghost use Rattle.byte_unit_base.specs.Readings.{IsNumberReading};
 ghost use Rattle.byte_unit_base.specs.BinaryReading.{IsBinaryReading, IsBinaryBytesReading};
 
+use crate::size::Outcome;
 use crate::{Kind, ParseError, Unit, ValueParseError, read_size, size};
 use byte_unit_math::Decimal;
 use std::str;
@@ -28,7 +29,7 @@ use std::str;
 #[inline(never)]
 pub fn parse(s: &str, ignore_case: bool, kind: Kind) -> Result<u128, ParseError>
     ensures reading { IsBinaryReading kind ignore_case s.now result }
-    ensures small { IfOk result (λ n. n < size_limit) }
+    ensures bound { IfOk result (λ n. n < size_limit) }
 {
     let flags = size::flags_for(kind, ignore_case);
     match read_size(s, flags.ignore_case, flags.prefer_byte) {
@@ -50,11 +51,11 @@ pub fn parse(s: &str, ignore_case: bool, kind: Kind) -> Result<u128, ParseError>
 #[inline(always)]
 pub fn parse_bytes(bytes: &[u8], ignore_case: bool, kind: Kind) -> Option<Result<u128, ParseError>>
     ensures reading { IsBinaryBytesReading kind ignore_case bytes.now result }
-    ensures small { IfSome result (λ answer. IfOk answer (λ n. n < size_limit)) }
+    ensures bound { IfSome result (λ answer. IfOk answer (λ n. n < size_limit)) }
 {
     match size::read_bytes(bytes, ignore_case, kind) {
-        Ok(found) => Some(size_of((found.1, found.0), kind)),
-        Err(_) => parse_text(bytes, ignore_case, kind),
+        Outcome::Accepted(unit, number) => Some(size_of((number, unit), kind)),
+        _ => parse_text(bytes, ignore_case, kind),
     }
 }
 
@@ -64,7 +65,7 @@ pub fn parse_bytes(bytes: &[u8], ignore_case: bool, kind: Kind) -> Option<Result
 #[tactic(auto, using(crate::proofs::Computed::test_of_not_utf8))]
 fn parse_text(bytes: &[u8], ignore_case: bool, kind: Kind) -> Option<Result<u128, ParseError>>
     ensures reading { IsBinaryBytesReading kind ignore_case bytes.now result }
-    ensures small { IfSome result (λ answer. IfOk answer (λ n. n < size_limit)) }
+    ensures bound { IfSome result (λ answer. IfOk answer (λ n. n < size_limit)) }
 {
     let text = str::from_utf8(bytes).ok()?;
     Some(parse(text, ignore_case, kind))
@@ -85,7 +86,7 @@ pub fn size_of(found: (Decimal, Unit), kind: Kind) -> Result<u128, ParseError>
     ensures reading { (ignore_case : Bool) (bytes : List ℕ)
         → IsNumberReading (flags_for kind ignore_case) bytes (Ok found)
         → IsBinaryReading kind ignore_case bytes result }
-    ensures small { IfOk result (λ n. n < size_limit) }
+    ensures bound { IfOk result (λ n. n < size_limit) }
 {
     match size::from_decimal(found.0, found.1.to_binary(), kind) {
         Some(size) => Ok(size),

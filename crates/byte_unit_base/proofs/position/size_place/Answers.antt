@@ -13,7 +13,7 @@ returns-in-Some c =
     let wrong = c.in-Some.ensures in
     let rest = take_rest bytes c.in-Ok.end in
     wrong_in_unit bytes c.requires c.in-Ok.ensures.0 c.in-Ok.end spaces.result c.in-Some.place wrong.0 c.in-Ok.ensures.1
-    (subst (λ r. spaces.result ≤ length r) rest spaces.ensures.within)
+    (subst (λ r. spaces.result ≤ length r) rest spaces.ensures.bound)
     (subst (λ r. take spaces.result r ≡ replicate spaces.result space) rest spaces.ensures.spaces)
     (subst (λ r. IsFirst IsNoSpace (drop spaces.result r)) rest spaces.ensures.all) wrong.1 wrong.2
 
