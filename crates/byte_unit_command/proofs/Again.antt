@@ -1,7 +1,5 @@
 -- Lemmas: what is shown can be read again.
-use Rattle.std.proofs.Common.{◌≡◌, ◌≢◌, ℕ, ◌-◌, ◌<◌, Bool, true, false, List, ◌++◌, length, replicate, Option, refl}
-use Rattle.std.proofs.Common.{sym, ap, subst, ◌∙◌}
-use Rattle.std.proofs.Common.{arith, append-nil}
+use Rattle.std.proofs.Common.{◌≡◌, ◌≢◌, ℕ, ◌-◌, ◌<◌, Bool, List, Option, refl, sym, subst, ◌∙◌}
 use Rattle.byte_unit.specs.Accepted.{IsAccepted}
 use Rattle.byte_unit.specs.Bounds.{size_limit}
 use Rattle.byte_unit.specs.Version.{current}
@@ -12,21 +10,13 @@ use Rattle.byte_unit.specs.declared.Kind.{Kind}
 use Rattle.byte_unit.specs.declared.Sign.TheVariants.{Unset, Plus}
 use Rattle.byte_unit_command.specs.Field.{ignores_case}
 use Rattle.byte_unit_command.specs.Laws.{IsLossless, ShownSizesAreRead, ExactTwiceIsOnce}
-use Rattle.byte_unit_command.specs.Shown.{IsFormText, exact_spec, padded}
+use Rattle.byte_unit_command.specs.Shown.{IsFormText, exact_spec}
 use Rattle.byte_unit_command.specs.declared.options.Form.{Form}
 use Rattle.byte_unit_command.specs.declared.options.Form.TheVariants.{Exact, Plain, InUnit, Largest}
+use Rattle.byte_unit_command.proofs.Texts.{padded-none}
 
 unset_is_not_plus : Unset ≢ Plus
 unset_is_not_plus same = cc
-
--- without a width there are no spaces
-padded-no_width : (align_left : Bool) (width : ℕ) (text : List ℕ) → width ≡ 0 → padded width align_left text ≡ text
-padded-no_width true width text none =
-    let spaces : width - length text ≡ 0 = omega (arith, none) in
-    ap (λ count. text ++ replicate count 32) spaces ∙ append-nil text
-padded-no_width false width text none =
-    let spaces : width - length text ≡ 0 = omega (arith, none) in
-    ap (λ count. replicate count 32 ++ text) spaces
 
 -- a text in a lossless form is parsed as its size
 form_is_read : SizeFormReadsBack → PlainFormReadsBack → (kind : Kind) (form : Form) (precision : Option ℕ) (size : ℕ)
@@ -44,7 +34,7 @@ form_is_read exact digits kind (Largest unit_type) precision size ignore_case te
 
 pub shown_is_read : SizeFormReadsBack → PlainFormReadsBack → ShownSizesAreRead
 shown_is_read exact digits = λ options others size text below lossless no_width same_kind (form, is_form, shown_is).
-    let is = shown_is ∙ padded-no_width options.align_left options.width form no_width in
+    let is = shown_is ∙ padded-none options.width options.align_left form no_width in
     let ignore_case = ignores_case others.kind others.ignore_case in
     let at = form_is_read exact digits options.kind options.form options.precision size ignore_case form below
     lossless is_form in
@@ -68,7 +58,5 @@ exact_again shown_read texts one_form =
     (subst (λ way. IsFormText kind way options.precision again form_again) exact is_again) in
     let only = one_form current kind size spec in
     let forms : form_again ≡ form = only.one form_again is_form_again ∙ sym (only.one form is_form) in
-    again_is
-    ∙ padded-no_width options.align_left options.width form_again no_width
-    ∙ forms
-    ∙ sym (shown.2 ∙ padded-no_width options.align_left options.width form no_width)
+    again_is ∙ padded-none options.width options.align_left form_again no_width ∙ forms
+    ∙ sym (shown.2 ∙ padded-none options.width options.align_left form no_width)

@@ -6,9 +6,8 @@ use Rattle.std.proofs.lemmas.List.{length-append}
 use Rattle.byte_unit_command.specs.Field.{Found, IsSize, IsNoSize, other, size, rejected}
 use Rattle.byte_unit_command.specs.Fields.{IsChosen, fields_of}
 use Rattle.byte_unit_command.specs.Messages.{AreFieldMessages, AreLimitMessages, AreMessagesOfFields}
-use Rattle.byte_unit_command.specs.Messages.{AreMessagesToRejected}
-use Rattle.byte_unit_command.specs.Messages.{AreRecordMessages, AreMessages, IsMessageIf, next_place, last_place}
-use Rattle.byte_unit_command.specs.Messages.{other as other_told, size as size_told}
+use Rattle.byte_unit_command.specs.Messages.{AreMessagesToRejected, AreRecordMessages, AreMessages, IsMessageIf}
+use Rattle.byte_unit_command.specs.Messages.{next_place, last_place, other as other_told, size as size_told}
 use Rattle.byte_unit_command.specs.Outcome.{Passes}
 use Rattle.byte_unit_command.specs.Output.{AreFields, IsRecord, AreRecords, HasRejectedField}
 use Rattle.byte_unit_command.specs.RunState.{AddsField, AddsFields, AddsRecords, Aborts, IsRejectedField, State}
@@ -22,6 +21,8 @@ use Rattle.byte_unit_command.specs.declared.options.Options.{Options}
 use Rattle.byte_unit_command.specs.declared.options.Invalid.TheVariants.{Abort}
 use Rattle.byte_unit_command.specs.declared.tally.Tally.{Tally}
 use Rattle.byte_unit_command.proofs.Tallies.{tally_after-append, tally_after-then, Passes-append}
+use Rattle.byte_unit_stream.specs.Prefix.{IsPrefix}
+use Rattle.byte_unit_stream.proofs.Prefixes.{IsPrefix-same}
 
 -- if a disjunction is false, both its parts are
 or-false-left : (a b : Bool) → (a || b) ≡ false → a ≡ false
@@ -34,8 +35,7 @@ or-false-right false b is = is
 
 -- a size that is beyond no limit has no message
 pub AreLimitMessages-none : (options : Options) (word : List ℕ) (place number : ℕ) (field : List ℕ) (n : ℕ)
-    → is_beyond options n ≡ false
-    → AreLimitMessages options word place number field n []
+    → is_beyond options n ≡ false → AreLimitMessages options word place number field n []
 AreLimitMessages-none options word place number field n within =
     let none : (told : Bool) (reason : FieldError) → told ≡ false
     → IsMessageIf told options word place number field reason [] =
@@ -43,14 +43,18 @@ AreLimitMessages-none options word place number field n within =
       [],
       [],
       none (is_above options.max n) Above (or-false-left _ _ within),
-      none (is_below options.min n) Below
-          (or-false-right _ _ within),
+      none (is_below options.min n) Below (or-false-right _ _ within),
       refl,
     )
 
 -- the messages of a converter
 abbrev pub messages_in : {A : Type 0} → Converter A → List ℕ
 messages_in converter = messages_of converter.notices
+
+-- they begin with those before if they are those of a converter that do
+pub kept_messages-same : {A : Type 0} (old now same : Converter A) → now ≡ same
+    → IsPrefix (messages_in old) (messages_in same) → IsPrefix (messages_in old) (messages_in now)
+kept_messages-same old now same is = IsPrefix-same (messages_in old) (ap messages_in is)
 
 -- the state after a text, where messages and tally were written before it
 pub after-is : (options : Options) (old between : State) (text messages : List ℕ) (found : List Found) (tally : Tally)
@@ -75,8 +79,7 @@ after-then options old between new text own messages own_messages found own_foun
     let all = tally_after options old.tally (found ++ own_found) in
     let out = (old.out ++ text) ++ own in
     let told = (old.messages ++ messages) ++ own_messages in
-    second
-    ∙ ap (λ state. after options state own own_messages own_found) first
+    second ∙ ap (λ state. after options state own own_messages own_found) first
     ∙ ap (λ tally. With tally out told) (sym (tally_after-append options old.tally found own_found))
     ∙ ap (λ out. With all out told) (append_assoc old.out text own)
     ∙ ap (λ told. With all (old.out ++ (text ++ own)) told) (append_assoc old.messages messages own_messages)
@@ -142,8 +145,7 @@ AddsField-rejected options number field old (Ok _) messages new_messages out tal
       are_messages = are;
       passes = λ abort. absurd (goes_on abort);
       new_is = after-is options old (With new_messages) field messages (None ∷ []) tally (ap With messages_are)
-          tally_is out
-          out_is;
+          tally_is out out_is;
     }
 
 -- a record without a delimiter is one field
@@ -167,8 +169,7 @@ module _ (options : Options) (bytes : List ℕ) (old : State) where
 
   -- its one field is rejected
   pub Aborts-whole : (new_messages : List ℕ) → options.delimiter ≡ None
-      → IsRejectedField options 1 bytes old new_messages
-      → Aborts options bytes old new_messages
+      → IsRejectedField options 1 bytes old new_messages → Aborts options bytes old new_messages
   Aborts-whole new_messages no_delimiter is = record {
     mode = is.mode;
     has_rejected = subst (λ mark. HasRejectedField options 1 (fields_of mark bytes)) (sym no_delimiter)
@@ -176,8 +177,7 @@ module _ (options : Options) (bytes : List ℕ) (old : State) where
     messages = is.messages;
     to_rejected =
         subst (λ mark. AreMessagesToRejected options old.word old.place 1 (fields_of mark bytes) is.messages)
-        (sym no_delimiter)
-        (inl is.are_messages);
+        (sym no_delimiter) (inl is.are_messages);
     messages_are = is.messages_are;
   }
 
@@ -201,8 +201,7 @@ module _ (options : Options) (bytes : List ℕ) (old new : State) where
           is_record,
           (refl, refl),
           sym (append-nil (own ++ options.output_end ∷ [])),
-          sym
-              (append-nil found),
+          sym (append-nil found),
         );
         are_messages = (messages, [], are_messages, refl, sym (append-nil messages));
         passes = passes;
@@ -222,8 +221,7 @@ module _ (options : Options) (bytes : List ℕ) (old new : State) where
       let header : new.header ≡ left = ap (λ state. state.header) new_is in
       AddsRecords-one bytes [] [] (subst (λ header. IsRecord options header bytes bytes []) (sym some) (refl, refl))
       (subst (λ header. AreRecordMessages options old.word (next_place old.place) header bytes []) (sym some) refl)
-      (λ mode. refl)
-      (omega (arith, some, header)) (ap (λ state. state.word) new_is) (ap (λ state. state.place) new_is)
+      (λ mode. refl) (omega (arith, some, header)) (ap (λ state. state.word) new_is) (ap (λ state. state.place) new_is)
       (ap (λ state. state.out) new_is) (ap (λ state. state.messages) new_is ∙ sym (append-nil old.messages))
       (ap (λ state. state.tally) new_is)
 
@@ -269,8 +267,7 @@ AreRecords-append options header (bytes ∷ before) records front back front_fou
 
 -- the messages about two lists of records, one after the other
 AreMessages-append : (options : Options) (word : List ℕ) (place header : ℕ) (before records : List (List ℕ))
-    (front back : List ℕ)
-    → AreMessages options word place header before front
+    (front back : List ℕ) → AreMessages options word place header before front
     → AreMessages options word (last_place place before) (header - length before) records back
     → AreMessages options word place header (before ++ records) (front ++ back)
 AreMessages-append options word place header [] records front back none are =
@@ -357,8 +354,7 @@ behind front told state = record state { out = front ++ state.out; messages = to
 
 -- the same records, after other bytes and other messages
 pub AddsRecords-after : (options : Options) (records : List (List ℕ)) (front told : List ℕ) (old new : State)
-    → AddsRecords options records old new
-    → AddsRecords options records (behind front told old) (behind front told new)
+    → AddsRecords options records old new → AddsRecords options records (behind front told old) (behind front told new)
 AddsRecords-after options records front told old new adds = record {
   text = adds.text;
   messages = adds.messages;

@@ -1,12 +1,10 @@
 -- Lemmas: the loop over the records that end in a chunk.
 use Rattle.std.proofs.Common.{◌≡◌, ℕ, ◌+◌, List, [], ◌∷◌, ◌++◌, take, drop, refl, sym, ap, subst, ◌∙◌, append_assoc}
-use Rattle.std.proofs.Common.{append-nil, ◌⊎◌, inl, inr, ◌==◌, true, length}
+use Rattle.std.proofs.Common.{append-nil, ◌⊎◌, inl, inr}
 use Rattle.std.specs.Prelude.{vec_capacity, vec_len}
 use Rattle.byte_unit_stream.specs.Chunks.{ended_records, begun_record, IsUnbroken}
 use Rattle.byte_unit_command.specs.RunState.{AddsRecords, Aborts, State, EndsEarly, at_next}
 use Rattle.byte_unit_command.specs.declared.options.Options.{Options}
-use Rattle.std.proofs.lemmas.Bool.{eqb-true}
-use Rattle.std.proofs.lemmas.List.{nil_from_length}
 use Rattle.byte_unit_command.specs.RunState.{RecordHasNoMessage, RecordsHaveNoMessage, state_of}
 use Rattle.byte_unit_command.specs.declared.buffers.Buffers.{Buffers}
 use Rattle.byte_unit_command.specs.declared.error.RunError.{RunError}
@@ -68,6 +66,13 @@ pub record IsNext (options : Options) (now : Feed) (place : ℕ) (bytes : List �
   pub ends : EndsAt options.record_end now.rest place
   pub bytes_are : bytes ≡ now.part ++ take place now.rest
 
+-- without a part before the rest, it is in the rest alone
+pub IsNext-alone : {A : Type 0} (options : Options) (now : Buffers A) (rest : List ℕ) (place : ℕ)
+    → EndsAt options.record_end rest place → now.part.items ≡ []
+    → IsNext options (feed_of now rest) place (take place rest)
+IsNext-alone options now rest place ends none =
+    record { ends = ends; bytes_are = ap (λ part. part ++ take place rest) (sym none) }
+
 -- it is followed by the records of the bytes after it
 pub ended_records-next : (options : Options) (now : Feed) (place : ℕ) (bytes : List ℕ) → IsNext options now place bytes
     → ended_records options.record_end now.part now.rest
@@ -77,11 +82,10 @@ ended_records-next options now place bytes next =
     ∙ ap (λ first. first ∷ ended_records options.record_end [] (drop (place + 1) now.rest)) (sym next.bytes_are)
 
 -- one more record keeps the invariant
-pub IsFed-step : (options : Options) (start now : Feed) (place : ℕ) (bytes : List ℕ) → IsFed options start now
+pub IsFed-step : {options : Options} {start now : Feed} {place : ℕ} {bytes : List ℕ} → IsFed options start now
     → IsNext options now place bytes → (next : Feed) → AddsRecords options (bytes ∷ []) now.state next.state
-    → next.part ≡ []
-    → next.rest ≡ drop (place + 1) now.rest → IsFed options start next
-IsFed-step options start now place bytes fed is_next next adds part_is rest_is =
+    → next.part ≡ [] → next.rest ≡ drop (place + 1) now.rest → IsFed options start next
+IsFed-step {options} {start} {now} {place} {bytes} fed is_next next adds part_is rest_is =
     let end = options.record_end in
     let rest = drop (place + 1) now.rest in
     let records : ended_records end [] rest ≡ ended_records end next.part next.rest =
@@ -90,8 +94,7 @@ IsFed-step options start now place bytes fed is_next next adds part_is rest_is =
     ap (λ part. begun_record end part rest) (sym part_is) ∙ ap (begun_record end next.part) (sym rest_is) in record {
       converted = fed.converted ++ bytes ∷ [];
       added = AddsRecords-append options fed.converted (bytes ∷ []) start.state now.state next.state fed.added adds;
-      ended = fed.ended
-          ∙ ap (λ records. fed.converted ++ records) (ended_records-next options now place bytes is_next)
+      ended = fed.ended ∙ ap (λ records. fed.converted ++ records) (ended_records-next options now place bytes is_next)
           ∙ ap (λ records. fed.converted ++ bytes ∷ records) records
           ∙ sym (append_assoc fed.converted (bytes ∷ []) (ended_records end next.part next.rest));
       begun = fed.begun ∙ begun_record-EndsAt end now.part now.rest place is_next.ends ∙ begun;
@@ -114,8 +117,7 @@ begun_record-all options start now fed unbroken = sym (unbroken now.part).1 ∙ 
 
 -- out of memory, with nothing more appended
 pub EndsEarly-memory : (options : Options) (start now : Feed) → IsFed options start now → (out messages : List ℕ)
-    → now.state.out ≡ out
-    → now.state.messages ≡ messages
+    → now.state.out ≡ out → now.state.messages ≡ messages
     → EndsEarly options (ended_records options.record_end start.part start.rest) start.state Memory out messages
 EndsEarly-memory options start now fed out messages same told =
     (fed.converted, now.state, (ended_records options.record_end now.part now.rest, fed.ended), fed.added, same, told)
@@ -138,32 +140,28 @@ EndsEarly-rejected options start now place bytes fed next out messages same head
 )
 
 -- a call that converts the next record stopped
-pub EndsEarly-record : (options : Options) (start now : Feed) (place : ℕ) (bytes : List ℕ) → IsFed options start now
+pub EndsEarly-record : {options : Options} {start now : Feed} {place : ℕ} {bytes : List ℕ} → IsFed options start now
     → IsNext options now place bytes → (out messages : List ℕ) → now.state.out ≡ out → (error : RunError)
     → (error ≡ Memory) ⊎ (error ≡ Rejected) → (error ≡ Memory → messages ≡ now.state.messages)
-    → (error ≡ Rejected → (now.state.header ≡ 0)
-    × Aborts options bytes (at_next now.state) messages)
+    → (error ≡ Rejected → (now.state.header ≡ 0) × Aborts options bytes (at_next now.state) messages)
     → EndsEarly options (ended_records options.record_end start.part start.rest) start.state error out messages
-EndsEarly-record options start now place bytes fed next out messages same error (inl memory) kept aborts =
-    subst (λ error. EndsEarly options (ended_records options.record_end start.part start.rest) start.state error out
-    messages) (sym memory)
-    (EndsEarly-memory options start now fed out messages same (sym (kept memory)))
-EndsEarly-record options start now place bytes fed next out messages same error (inr rejected) kept aborts =
-    let at = aborts rejected in
-    subst (λ error. EndsEarly options (ended_records options.record_end start.part start.rest) start.state error out
-    messages) (sym rejected)
-    (EndsEarly-rejected options start now place bytes fed next out messages same at.0 at.1)
-
--- a part whose length is tested to be 0 is empty
-pub empty_from_length : (part : List ℕ) (count : ℕ) → count ≡ length part → true ≡ (count == 0) → part ≡ []
-empty_from_length part count count_is none = nil_from_length part (sym count_is ∙ eqb-true count 0 (sym none))
+EndsEarly-record {options} {start} {now} {place} {bytes} fed next out messages same error is kept aborts =
+    let EndedEarly : RunError → Type 0 = λ error. EndsEarly options
+    (ended_records options.record_end start.part start.rest) start.state error out messages in elim is [
+      | inl memory ↦
+          subst EndedEarly (sym memory) (EndsEarly-memory options start now fed out messages same (sym (kept memory)))
+      | inr rejected ↦
+          let at = aborts rejected in
+          subst EndedEarly (sym rejected)
+          (EndsEarly-rejected options start now place bytes fed next out messages same at.0 at.1)
+    ]
 
 -- if there is no message about the records of the chunk, there is none about the next one
-pub IsNext-untold : (options : Options) (start now : Feed) (place : ℕ) (bytes : List ℕ) → IsFed options start now
+pub IsNext-untold : {options : Options} {start now : Feed} {place : ℕ} {bytes : List ℕ} → IsFed options start now
     → IsNext options now place bytes
     → RecordsHaveNoMessage options (ended_records options.record_end start.part start.rest) start.state
     → RecordHasNoMessage options bytes now.state
-IsNext-untold options start now place bytes fed next untold =
+IsNext-untold {options} {start} {now} {place} {bytes} fed next untold =
     let others = ended_records options.record_end [] (drop (place + 1) now.rest) in
     let all = fed.ended ∙ ap (λ records. fed.converted ++ records) (ended_records-next options now place bytes next) in
     let both = subst (λ records. RecordsHaveNoMessage options records start.state) all untold in

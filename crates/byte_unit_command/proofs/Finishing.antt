@@ -1,67 +1,58 @@
 -- Lemmas: the end of a run.
-use Rattle.std.proofs.Common.{◌≡◌, ◌≢◌, ℕ, List, [], ◌∷◌, ◌++◌, true, false, Option, Result, Ok, Err, OnOk, OnErr}
-use Rattle.std.proofs.Common.{IfErr}
-use Rattle.std.proofs.Common.{refl, sym, subst, append-nil, inl, inr, MatchBool, ◌⊎◌}
+use Rattle.std.proofs.Common.{◌≡◌, ℕ, List, [], ◌∷◌, ◌++◌, true, false, Option, Result, Ok, Err, refl, sym, subst}
+use Rattle.std.proofs.Common.{append-nil, inl, inr, MatchBool, ◌⊎◌}
 use Rattle.std.specs.Prelude.{⊤, IsErrAnd}
 use Rattle.std.specs.Io.KnownBytes.{Appends}
-use Rattle.byte_unit_stream.specs.Prefix.{IsPrefix}
 use Rattle.byte_unit_command.specs.RunState.{Aborts, AddsRecords, State, IsTotalFor, IsTotalWritten, IsFinished}
-use Rattle.byte_unit_command.specs.RunState.{at_next, idle}
-use Rattle.byte_unit_stream.specs.Chunks.{nonempty_record}
+use Rattle.byte_unit_command.specs.RunState.{at_next, idle, messages_of, state_of}
+use Rattle.byte_unit_command.specs.declared.converter.Converter.{Converter}
 use Rattle.byte_unit_command.specs.declared.options.Options.{Options}
 use Rattle.byte_unit_command.specs.declared.error.RunError.{RunError}
 use Rattle.byte_unit_command.specs.declared.error.RunError.TheVariants.{Memory, Read, Write, Rejected, Total}
 use Rattle.byte_unit_command.specs.declared.tally.Tally.{Tally}
-
-memory_is_not_write : Memory ≢ Write
-memory_is_not_write same = cc
-
-read_is_not_write : Read ≢ Write
-read_is_not_write same = cc
-
-rejected_is_not_write : Rejected ≢ Write
-rejected_is_not_write same = cc
-
-total_is_not_write : Total ≢ Write
-total_is_not_write same = cc
+use Rattle.byte_unit_command.proofs.Results.{Err-passed}
+use Rattle.byte_unit_stream.specs.Chunks.{nonempty_record}
+use Rattle.byte_unit_stream.specs.Prefix.{IsPrefix}
+use Rattle.byte_unit_stream.proofs.Bytes.{IsWrittenBy}
 
 -- records that were added where nothing was to be written and told before
-pub AddsRecords-idle : (options : Options) (records : List (List ℕ)) (before new : State) → before.out ≡ []
-    → before.messages ≡ []
-    → AddsRecords options records before new → AddsRecords options records (idle before) new
-AddsRecords-idle options records before new none untold adds =
-    let From : List ℕ → List ℕ → Type 0 = λ out messages. AddsRecords options records
-    (record before { out = out; messages = messages }) new in
-    subst (λ out. From out []) none (subst (From before.out) untold adds)
-
--- the effect of a call that writes these bytes: it appends them, or it fails with `Write` and appends a prefix of them
-pub record IsWrittenBy (held holds : Option (List ℕ)) (bytes : List ℕ) (result : Result ⊤ RunError) : Type 0 where
-  pub whole : OnOk result (Appends held holds bytes)
-  pub part : OnErr result ((written : List ℕ) × Appends held holds written × IsPrefix written bytes)
-  pub error : IfErr result (λ error. error ≡ Write)
+pub AddsRecords-idle : {A : Type 0} (options : Options) (part : List ℕ) (before new : Converter A)
+    → before.waiting.items ≡ [] → messages_of before.notices ≡ []
+    → AddsRecords options (nonempty_record part) (state_of before) (state_of new)
+    → AddsRecords options (nonempty_record part) (idle (state_of before)) (state_of new)
+AddsRecords-idle options part before new none untold adds =
+    let From : List ℕ → List ℕ → Type 0 = λ out messages. AddsRecords options (nonempty_record part)
+    (record (state_of before) { out = out; messages = messages }) (state_of new) in
+    subst (λ out. From out []) none (subst (From before.waiting.items) untold adds)
 
 module _ (options : Options) (total : ℕ) (before : List ℕ) where
   -- out of memory, nothing was written
   pub IsTotalWritten-memory : (result : Result ⊤ RunError) → IsErrAnd result (λ error. error ≡ Memory)
       → IsTotalWritten options total before result []
-  IsTotalWritten-memory (Ok _) is = absurd is
-  IsTotalWritten-memory (Err error) is = subst (λ error. IsTotalWritten options total before (Err error) []) (sym is)
-      refl
+  IsTotalWritten-memory result is =
+      Err-passed (λ result. IsTotalWritten options total before result []) result Memory is refl
 
   -- a call that writes the line of the total too
   pub IsTotalWritten-line : {held holds : Option (List ℕ)} (line bytes : List ℕ) → IsTotalFor options total line
-      → bytes ≡ before ++ line
-      → (result : Result ⊤ RunError) → IsWrittenBy held holds bytes result
+      → bytes ≡ before ++ line → (result : Result ⊤ RunError) → IsWrittenBy held holds bytes Write result
       → (written : List ℕ) × Appends held holds written × IsTotalWritten options total before result written
   IsTotalWritten-line line bytes is_for are (Ok _) by = (bytes, by.whole, (line, is_for, are))
-  IsTotalWritten-line line bytes is_for are (Err Write) by =
-      (by.part.0, by.part.1, (line, inr is_for, subst (IsPrefix by.part.0) are by.part.2))
-  IsTotalWritten-line line bytes is_for are (Err Memory) by = absurd (memory_is_not_write by.error)
-  IsTotalWritten-line line bytes is_for are (Err Read) by = absurd (read_is_not_write by.error)
-  IsTotalWritten-line line bytes is_for are (Err Rejected) by = absurd (rejected_is_not_write by.error)
-  IsTotalWritten-line line bytes is_for are (Err Total) by = absurd (total_is_not_write by.error)
+  IsTotalWritten-line line bytes is_for are (Err error) by =
+      let at : IsTotalWritten options total before (Err Write) by.part.0 =
+      (line, inr is_for, subst (IsPrefix by.part.0) are by.part.2) in (
+        by.part.0,
+        by.part.1,
+        subst (λ error. IsTotalWritten options total before (Err error) by.part.0) (sym by.is_error) at,
+      )
 
-module _ (options : Options) (part : List ℕ) (old new : State)
+-- what is right for an error is right for the result with it
+pub IsFinished-passed : (options : Options) (part : List ℕ) (old : State) (written messages : List ℕ)
+    (result : Result Tally RunError) (error : RunError) → IsErrAnd result (λ other. other ≡ error)
+    → IsFinished options part old (Err error) written messages → IsFinished options part old result written messages
+IsFinished-passed options part old written messages =
+    Err-passed (λ result. IsFinished options part old result written messages)
+
+module _ {options : Options} (part : List ℕ) {old new : State}
     (adds : AddsRecords options (nonempty_record part) old new) where
   -- the total is asked for
   pub IsFinished-total_ok : options.total ≡ true → (written : List ℕ)
@@ -91,16 +82,9 @@ module _ (options : Options) (part : List ℕ) (old new : State)
   IsFinished-plain_ok not_asked =
       let For : Type 0 = IsTotalFor options new.tally.total [] in
       let Nothing : Type 0 = ◌≡◌ {A = List ℕ} [] [] in
-      let nothing : Nothing = refl in (
-        new,
-        [],
-        adds,
-        refl,
-        subst (λ total. MatchBool total For Nothing) (sym not_asked) nothing,
-        sym
-            (append-nil new.out),
-        refl,
-      )
+      let nothing : Nothing = refl in
+      let line = subst (λ total. MatchBool total For Nothing) (sym not_asked) nothing in
+      (new, [], adds, refl, line, sym (append-nil new.out), refl)
 
   pub IsFinished-plain_error : (error : RunError) (written : List ℕ) → error ≡ Write → IsPrefix written new.out
       → IsFinished options part old (Err error) written new.messages
@@ -119,13 +103,3 @@ IsFinished-early options part old messages error (inl memory) kept aborts =
 IsFinished-early options part old messages error (inr rejected) kept aborts =
     let at = aborts rejected in
     subst (λ error. IsFinished options part old (Err error) [] messages) (sym rejected) (refl, at.0, at.1, at.2)
-
--- what is right for an error is right for the result with it
-pub IsFinished-error : (options : Options) (part : List ℕ) (old : State) (written messages : List ℕ)
-    (result : Result Tally RunError)
-    (error : RunError) → IsErrAnd result (λ other. other ≡ error)
-    → IsFinished options part old (Err error) written messages
-    → IsFinished options part old result written messages
-IsFinished-error options part old written messages (Ok _) error is at = absurd is
-IsFinished-error options part old written messages (Err _) error is at =
-    subst (λ other. IsFinished options part old (Err other) written messages) (sym is) at

@@ -1,7 +1,6 @@
 -- Lemmas: the items of a list of fields.
 use Rattle.std.proofs.Common.{◌≡◌, ◌≢◌, ◌<◌, ℕ, zero, suc, List, [], ◌∷◌, ◌++◌, length, get_or, Option, Some, None}
-use Rattle.std.proofs.Common.{MatchOption}
-use Rattle.std.proofs.Common.{inl, inr, subst, sym, refl, ◌∙◌, arith, lit<}
+use Rattle.std.proofs.Common.{MatchOption, inl, inr, subst, sym, refl, ◌∙◌, arith, lit<}
 use Rattle.std.specs.Borrow.{Bor}
 use Rattle.std.specs.Char.{digit_value}
 use Rattle.std.specs.Str.Parse.{AllDigits}
@@ -35,8 +34,7 @@ firsts_lack_hyphens (c ∷ cs) first is i bound = digits_lack_hyphens (c ∷ cs)
 
 -- a range, cut at its first hyphen
 pub cut_range : (item : List ℕ) (range : FieldRange) (r : Option (Bor (List ℕ) × Bor (List ℕ)))
-    → IsSplitOnceResult 45 item r
-    → IsRange item range
+    → IsSplitOnceResult 45 item r → IsRange item range
     → MatchOption r (IsPositive item range.first × (range.last ≡ Some range.first))
     (λ parts. IsFirst parts.0.now range.first × IsLast parts.1.now range.first range.last)
 cut_range item range None split (inl single) = single
@@ -67,8 +65,7 @@ without_first item r parts split is none range is_range =
 
 -- the same after it
 pub without_last : (item : List ℕ) (r : Option (Bor (List ℕ) × Bor (List ℕ))) (parts : Bor (List ℕ) × Bor (List ℕ))
-    (first : ℕ)
-    → IsSplitOnceResult 45 item r → r ≡ Some parts → IsFirst parts.0.now first
+    (first : ℕ) → IsSplitOnceResult 45 item r → r ≡ Some parts → IsFirst parts.0.now first
     → ((last : Option ℕ) → ¬ IsLast parts.1.now first last) → (range : FieldRange) → ¬ IsRange item range
 without_last item r parts first split is is_first none range is_range =
     let cut = cut_range item range (Some parts) (subst (IsSplitOnceResult 45 item) is split) is_range in

@@ -39,7 +39,5 @@ joined-HasOperands [] none = refl
 joined-HasOperands (text ∷ texts) none =
     let own = All-head (All (λ byte. byte ≢ 0)) text texts none in
     let cut = slice_split_at (λ byte. eqb byte 0) text 0 (joined texts) (λ k d bound. ne_eqb _ _ (own k d bound)) refl
-    in
-    ap but_empty_last cut
-    ∙ first_record text (parts 0 (joined texts)) (parts_IsSplit 0 (joined texts))
+    in ap but_empty_last cut ∙ first_record text (parts 0 (joined texts)) (parts_IsSplit 0 (joined texts))
     ∙ ap (λ records. text ∷ records) (joined-HasOperands texts (All-tail (All (λ byte. byte ≢ 0)) text texts none))

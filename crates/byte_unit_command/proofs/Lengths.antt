@@ -6,6 +6,7 @@ use Rattle.std.proofs.lemmas.Fmt.{length-decimal-le_wide}
 use Rattle.std.proofs.lemmas.List.{length-append}
 use Rattle.std.specs.Fmt.{decimal}
 use Rattle.byte_unit.specs.Bounds.{size_limit}
+use Rattle.byte_unit.specs.Written.{WritesForm}
 use Rattle.byte_unit_math.specs.Bounds.{expansion_places}
 use Rattle.byte_unit_math.specs.Digits.{at_places}
 use Rattle.byte_unit_math.specs.Finite.{Finite, value_of_digits}
@@ -85,8 +86,7 @@ bits_few Byte size below = omega (arith, below)
 bits_few Bit size below = omega (arith, below)
 
 -- the text of a size in a unit
-pub adjusted-length : (kind : Kind) (size : ℕ) (unit : UnitName) (precision : Option ℕ) (text : List ℕ)
-    → size < size_limit
+adjusted-length : (kind : Kind) (size : ℕ) (unit : UnitName) (precision : Option ℕ) (text : List ℕ) → size < size_limit
     → IsAdjustedForm kind size unit (adjusted_spec precision) text → length text ≤ unit_text_max precision
 adjusted-length kind size unit precision text below form =
     let name = unit_name_in current (shape_of unit) in
@@ -96,7 +96,13 @@ adjusted-length kind size unit precision text below form =
       arith,
       ap length form.text_is,
       layout_fills_width form.number name (adjusted_spec precision),
-      name_short
-          (shape_of unit),
+      name_short (shape_of unit),
       number,
     )
+
+-- and of what is written
+pub adjusted-narrow : {kind : Kind} {size : ℕ} (unit : UnitName) (precision : Option ℕ) {old new : List ℕ} {needed : ℕ}
+    → size < size_limit → WritesForm (IsAdjustedForm kind size unit (adjusted_spec precision)) old new needed
+    → needed ≤ unit_text_max precision
+adjusted-narrow {kind} {size} unit precision below written =
+    omega (arith, written.needed_is, adjusted-length kind size unit precision written.form below written.is_form)

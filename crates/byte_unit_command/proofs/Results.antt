@@ -7,11 +7,6 @@ pub OnOk-always : {T E : Type 0} {P : Type 0} (result : Result T E) → P → On
 OnOk-always (Ok _) holds = holds
 OnOk-always (Err _) holds = tt
 
--- a fact at `Ok` that follows from another one
-pub OnOk-map : {T E : Type 0} {P Q : Type 0} (result : Result T E) → (P → Q) → OnOk result P → OnOk result Q
-OnOk-map (Ok _) gives holds = gives holds
-OnOk-map (Err _) gives holds = tt
-
 -- the error that `?` passes on is this one
 pub error-passed : {T E : Type 0} (result : Result T E) (error target : E) → IsErrAnd result (λ other. other ≡ error)
     → result ≡ Err target → error ≡ target
@@ -19,9 +14,13 @@ error-passed {T} {E} result error target passed is =
     let Passed : Result T E → Type 0 = λ result. IsErrAnd result (λ other. other ≡ error) in sym
     (subst Passed is passed)
 
+-- what holds of an error holds of the result by which `?` passes it on
+pub Err-passed : {T E : Type 0} (P : Result T E → Type 0) (result : Result T E) (error : E)
+    → IsErrAnd result (λ other. other ≡ error) → P (Err error) → P result
+Err-passed P (Ok _) error passed holds = absurd passed
+Err-passed P (Err other) error passed holds = subst (λ error. P (Err error)) (sym passed) holds
+
 -- a fact of the error that `?` passes on
 pub IfErr-passed : {T E : Type 0} (P : E → Type 0) (result : Result T E) (error : E)
-    → IsErrAnd result (λ other. other ≡ error)
-    → P error → IfErr result P
-IfErr-passed P (Ok _) error passed holds = tt
-IfErr-passed P (Err other) error passed holds = subst P (sym passed) holds
+    → IsErrAnd result (λ other. other ≡ error) → P error → IfErr result P
+IfErr-passed P = Err-passed (λ result. IfErr result P)

@@ -1,15 +1,17 @@
 -- Lemmas: the bytes that texts take while they are appended.
-use Rattle.std.proofs.Common.{◌≡◌, ℕ, ◌+◌, ◌-◌, ◌*◌, ◌<◌, ◌≤◌, Option, None, Some, arith, List, [], length, vec_len}
-use Rattle.std.proofs.Common.{ap, sym, subst, ◌∙◌}
+use Rattle.std.proofs.Common.{◌≡◌, ℕ, ◌+◌, ◌-◌, ◌*◌, ◌<◌, ◌≤◌, ◌∷◌, Option, None, Some, arith, List, [], length}
+use Rattle.std.proofs.Common.{vec_len, ap, sym, subst, ◌∙◌}
 use Rattle.std.proofs.Math.Nat.{mul-add, mul-le-mul_left, mul-one}
 use Rattle.std.specs.Prelude.{vec_capacity}
 use Rattle.std.specs.declared.vec.Vec.{Vec}
 use Rattle.byte_unit_command.specs.Capacity.{text_room, fields_max, fields_room, record_room, end_room}
 use Rattle.byte_unit_command.specs.Capacity.{read_fields_max, read_room, SufficeFor}
+use Rattle.byte_unit_command.specs.Fields.{fields_of}
 use Rattle.byte_unit_command.specs.Messages.{AreMessagesOfFields}
-use Rattle.byte_unit_command.specs.RunState.{State}
+use Rattle.byte_unit_command.specs.RunState.{FieldHasNoMessage, FieldsHaveNoMessage, State}
 use Rattle.byte_unit_stream.specs.Records.{parts}
 use Rattle.byte_unit_command.specs.declared.options.Options.{Options}
+use Rattle.byte_unit_command.proofs.Untold.{first-untold}
 
 -- the texts of some fields and of others are those of both
 times-le : (room some others all : ℕ) → some + others ≤ all → room * some + room * others ≤ room * all
@@ -120,21 +122,32 @@ module _ (options : Options) where
     omega (
       arith,
       waiting_fits,
-      read_room-more part rest longest chunk short
-          few,
+      read_room-more part rest longest chunk short few,
     ),
   )
 
 -- between two fields of a record: the text has grown by no more than the bytes that are no longer left account for, no
 -- capacity has fallen, and if there is no message about the record, there is none about the fields that are left
 pub record IsSplitWithin {Z : Type 0} (options : Options) (old : State) (delimiter : ℕ) (bytes : List ℕ)
-    (text : Vec ℕ Z)
-    (number : ℕ) (rest : List ℕ) (text_now : Vec ℕ Z) : Type 0 where
+    (text : Vec ℕ Z) (number : ℕ) (rest : List ℕ) (text_now : Vec ℕ Z) : Type 0 where
   pub len : vec_len text_now + split_room (text_room options) (length rest)
       ≤ vec_len text + split_room (text_room options) (length bytes)
   pub capacity : vec_capacity text ≤ vec_capacity text_now
   pub untold : AreMessagesOfFields options old.word old.place 1 (parts delimiter bytes) []
       → AreMessagesOfFields options old.word old.place number (parts delimiter rest) []
+
+-- if there is no message about the record, there is none about the first of the fields that are left
+pub IsSplitWithin-first : {Z : Type 0} {options : Options} {old : State} {delimiter : ℕ} {bytes : List ℕ}
+    {text : Vec ℕ Z} {number : ℕ} {rest : List ℕ} {text_now : Vec ℕ Z}
+    → IsSplitWithin options old delimiter bytes text number rest text_now → options.delimiter ≡ Some delimiter
+    → (field : List ℕ) (others : List (List ℕ)) → parts delimiter rest ≡ field ∷ others
+    → FieldsHaveNoMessage options bytes old → FieldHasNoMessage options number field old
+IsSplitWithin-first {options = options} {old = old} {bytes = bytes} {number = number} within is_delimiter field others
+    are untold =
+    let all = subst (λ mark. AreMessagesOfFields options old.word old.place 1 (fields_of mark bytes) []) is_delimiter
+    untold in
+    first-untold options old.word old.place number field others
+    (subst (λ fields. AreMessagesOfFields options old.word old.place number fields []) are (within.untold all))
 
 -- in a text with capacity for the record, there is room for the fields that are left
 pub IsSplitWithin-fits : {Z : Type 0} {options : Options} {old : State} {delimiter : ℕ} {bytes : List ℕ}
@@ -157,29 +170,42 @@ split_len-step room old all text rest place added ended left fits so_far more en
 -- from the start to now, the buffers have grown by no more than the bytes that are no longer left account for, and no
 -- capacity has fallen
 pub record IsFedWithin {Z : Type 0} (options : Options) (part waiting : Vec ℕ Z) (bytes : List ℕ)
-    (part_now waiting_now : Vec ℕ Z)
-    (rest : List ℕ) : Type 0 where
+    (part_now waiting_now : Vec ℕ Z) (rest : List ℕ) : Type 0 where
   pub part_len : vec_len part_now + length rest ≤ vec_len part + length bytes
   pub waiting_len : vec_len waiting_now + feed_room options (vec_len part_now) (length rest)
       ≤ vec_len waiting + feed_room options (vec_len part) (length bytes)
   pub part_capacity : vec_capacity part ≤ vec_capacity part_now
   pub waiting_capacity : vec_capacity waiting ≤ vec_capacity waiting_now
 
--- one more record keeps the room of the others
-pub feed_len-step : (options : Options) (most waiting part rest place added bytes next left : ℕ) → place < rest
-    → waiting + feed_room options part rest ≤ most → bytes ≡ part + place → added ≤ waiting + record_room options bytes
-    → next ≡ 0 → left ≡ rest - (place + 1) → added + feed_room options next left ≤ most
-feed_len-step options most waiting part rest place added bytes next left fits so_far bytes_are more none left_is =
-    let taken : added ≤ waiting + record_room options (part + place) =
-    subst (λ bytes. added ≤ waiting + record_room options bytes) bytes_are more in
-    subst (λ next. added + feed_room options next left ≤ most) (sym none)
-    (subst (λ left. added + feed_room options 0 left ≤ most) (sym left_is)
-    (omega (arith, feed_room-step options part rest place fits, so_far, taken)))
+-- one more record was converted
+pub IsFedWithin-step : {Z : Type 0} {options : Options} {part waiting : Vec ℕ Z} {bytes : List ℕ}
+    {part_now waiting_now : Vec ℕ Z} {rest : List ℕ} → IsFedWithin options part waiting bytes part_now waiting_now rest
+    → (place count : ℕ) → place < length rest → count ≡ vec_len part_now + place
+    → {part_next waiting_next : Vec ℕ Z} {left : List ℕ} → vec_len part_next ≡ 0
+    → vec_len waiting_next ≤ vec_len waiting_now + record_room options count
+    → vec_capacity part_now ≤ vec_capacity part_next → vec_capacity waiting_now ≤ vec_capacity waiting_next
+    → length left ≡ length rest - (place + 1) → IsFedWithin options part waiting bytes part_next waiting_next left
+IsFedWithin-step {options = options} {part = part} {waiting = waiting} {bytes = bytes} {part_now = part_now}
+    {waiting_now = waiting_now} {rest = rest} so_far place count ends count_is {part_next} {waiting_next} {left} none
+    added part_kept waiting_kept left_is =
+    let most = vec_len waiting + feed_room options (vec_len part) (length bytes) in
+    let taken : vec_len waiting_next ≤ vec_len waiting_now + record_room options (vec_len part_now + place) =
+    subst (λ count. vec_len waiting_next ≤ vec_len waiting_now + record_room options count) count_is added in record {
+      part_len = omega (arith, so_far.part_len, none, left_is, ends);
+      waiting_len = subst (λ next. vec_len waiting_next + feed_room options next (length left) ≤ most) (sym none)
+          (subst (λ left. vec_len waiting_next + feed_room options 0 left ≤ most) (sym left_is) (omega (
+            arith,
+            feed_room-step options (vec_len part_now) (length rest) place ends,
+            so_far.waiting_len,
+            taken,
+          )));
+      part_capacity = omega (arith, so_far.part_capacity, part_kept);
+      waiting_capacity = omega (arith, so_far.waiting_capacity, waiting_kept);
+    }
 
 -- in buffers that suffice, there is room for the next record
 pub IsFedWithin-fits : {Z : Type 0} {options : Options} {part waiting : Vec ℕ Z} {bytes : List ℕ}
-    {part_now waiting_now : Vec ℕ Z}
-    {rest : List ℕ} → IsFedWithin options part waiting bytes part_now waiting_now rest
+    {part_now waiting_now : Vec ℕ Z} {rest : List ℕ} → IsFedWithin options part waiting bytes part_now waiting_now rest
     → SufficeFor options (vec_len part) (length bytes) part waiting → (place count : ℕ) → place < length rest
     → count ≡ vec_len part_now + place → vec_len waiting_now + record_room options count ≤ vec_capacity waiting_now
 IsFedWithin-fits {options = options} {part = part} {bytes = bytes} {part_now = part_now} {waiting_now = waiting_now}

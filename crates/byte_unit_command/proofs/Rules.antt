@@ -41,8 +41,7 @@ excluding old new id rule is (new_is, added) = record {
 
 -- an argument that needs another
 pub needing : (old new : Arg) (need : ArgPredicate × Bor (List ℕ)) (rule : Rule) → IsArg rule old
-    → AddsRequirements old new (need ∷ [])
-    → IsArg (record rule { is_free = false }) new
+    → AddsRequirements old new (need ∷ []) → IsArg (record rule { is_free = false }) new
 needing old new need rule is (new_is, added) = record {
   rule_is =
       let same : rule_of new ≡ record (rule_of old) { is_free = is_free_arg new } =
@@ -55,6 +54,5 @@ needing old new need rule is (new_is, added) = record {
 
 -- a command with one more argument
 pub with_one : (old new : Command) (arg : Arg) (rule : Rule) (app : App) → app_of old ≡ app → IsArg rule arg
-    → AddsArg old arg new
-    → app_of new ≡ with_rule app rule
+    → AddsArg old arg new → app_of new ≡ with_rule app rule
 with_one old new arg rule app old_is is adds = adds.shape is.not_global ∙ ap₂ with_rule old_is is.rule_is

@@ -1,7 +1,6 @@
 -- Lemmas: the loop over the fields of a record.
-use Rattle.std.proofs.Common.{◌≡◌, ◌≤◌, ◌<◌, ℕ, ◌+◌, List, [], ◌∷◌, ◌++◌, take, drop, length, Some, Bool}
-use Rattle.std.proofs.Common.{refl, sym, ap, subst, ◌∙◌, arith, append_assoc, append-nil, inl, inr, true, false, cond}
-use Rattle.std.proofs.Common.{eqb}
+use Rattle.std.proofs.Common.{◌≡◌, ◌≤◌, ◌<◌, ℕ, ◌+◌, List, [], ◌∷◌, ◌++◌, take, drop, length, Some, Bool, refl, sym, ap}
+use Rattle.std.proofs.Common.{subst, ◌∙◌, arith, append_assoc, append-nil, inl, inr, true, false, cond, eqb}
 use Rattle.std.proofs.lemmas.Bool.{eqb-true}
 use Rattle.std.proofs.lemmas.List.{length-drop}
 use Rattle.std.specs.List.{onto_first}
@@ -70,8 +69,7 @@ AreFields-byte options number byte (field ∷ next ∷ others) text found not_ch
 
 -- fields none of which is chosen are copied, with the delimiters between them
 AreFields-copied : (options : Options) (delimiter : ℕ) → options.delimiter ≡ Some delimiter
-    → (bytes : List ℕ) (number : ℕ)
-    → ((later : ℕ) → number ≤ later → ¬ IsChosen options.fields.now later)
+    → (bytes : List ℕ) (number : ℕ) → ((later : ℕ) → number ≤ later → ¬ IsChosen options.fields.now later)
     → AreFields options number (parts delimiter bytes) bytes []
 AreFields-copied options delimiter is_delimiter [] number past = other (past number (omega arith)) refl refl
 AreFields-copied options delimiter is_delimiter (byte ∷ bytes) number past =
@@ -87,8 +85,7 @@ AreFields-copied options delimiter is_delimiter (byte ∷ bytes) number past =
     subst (λ mark. AreFields options number ([] ∷ parts delimiter bytes) (mark ++ bytes) []) between
     (AreFields-cons options number [] (parts delimiter bytes) [] bytes [] [] (parts_IsSplit delimiter bytes)
     (other not_chosen refl refl) next) in
-    let on_other : Copies false = λ ends.
-    AreFields-byte options number byte (parts delimiter bytes) bytes [] not_chosen
+    let on_other : Copies false = λ ends. AreFields-byte options number byte (parts delimiter bytes) bytes [] not_chosen
     (AreFields-copied options delimiter is_delimiter bytes number past) in
     elim (eqb byte delimiter) as Copies [ true ↦ on_end | false ↦ on_other ] refl
 
@@ -108,8 +105,7 @@ AreMessagesOfFields-none options word place (field ∷ fields) number past = (
 
 -- between two fields of a record: those before are appended and counted, and the rest gives the others
 pub record IsSplitting (options : Options) (delimiter : ℕ) (bytes : List ℕ) (old : State) (number : ℕ) (rest : List ℕ)
-    (new : State)
-    : Type 0 where
+    (new : State) : Type 0 where
   pub text : List ℕ
   pub messages : List ℕ
   pub found : List Found
@@ -146,7 +142,7 @@ IsSplitting-start options delimiter bytes old =
       few = omega arith;
     }
 
-module _ (options : Options) (delimiter : ℕ) (bytes : List ℕ) (old : State) (number : ℕ) (rest : List ℕ) (new : State)
+module _ {options : Options} {delimiter : ℕ} {bytes : List ℕ} {old : State} {number : ℕ} {rest : List ℕ} {new : State}
     (so_far : IsSplitting options delimiter bytes old number rest new) where
   -- the messages about a field, for the place of the record
   messages-old : (field : List ℕ) (is_rejected : Bool) (messages : List ℕ)
@@ -173,15 +169,13 @@ module _ (options : Options) (delimiter : ℕ) (bytes : List ℕ) (old : State) 
       let first = parts-EndsAt delimiter rest end ends in
       let own_messages = messages-old (take end rest) (has_rejected adds.found) adds.messages adds.are_messages in
       let both = after-then options old new next so_far.text adds.text so_far.messages adds.messages so_far.found
-      adds.found
-      so_far.new_is adds.new_is in
+      adds.found so_far.new_is adds.new_is in
       let between : delimiter_bytes options.delimiter ≡ delimiter ∷ [] = ap delimiter_bytes is_delimiter in record {
         text = so_far.text ++ adds.text ++ delimiter ∷ [];
         messages = so_far.messages ++ adds.messages;
         found = so_far.found ++ adds.found;
         new_is = after-more options old next (so_far.text ++ adds.text) (so_far.messages ++ adds.messages)
-            (delimiter ∷ [])
-            (so_far.found ++ adds.found) both;
+            (delimiter ∷ []) (so_far.found ++ adds.found) both;
         passes = Passes-append options so_far.found adds.found so_far.passes adds.passes;
         goes_on = λ more more_found are.
             let whole = AreFields-cons options number (take end rest) (parts delimiter behind) adds.text more
@@ -209,8 +203,7 @@ module _ (options : Options) (delimiter : ℕ) (bytes : List ℕ) (old : State) 
             let at = subst (λ fields. AreMessagesOfFields options old.word old.place number fields
             (adds.messages ++ more)) (sym first) whole in
             subst (AreMessagesOfFields options old.word old.place 1 (parts delimiter bytes))
-            (sym (append_assoc so_far.messages adds.messages more))
-            (so_far.tells_on (adds.messages ++ more) at);
+            (sym (append_assoc so_far.messages adds.messages more)) (so_far.tells_on (adds.messages ++ more) at);
         rejects = λ has. so_far.rejects (subst (HasRejectedField options number) (sym first) (inr has));
         tells_to = λ mode more are.
             let own = subst (λ is_rejected. AreFieldMessages options old.word old.place number (take end rest)
@@ -221,8 +214,7 @@ module _ (options : Options) (delimiter : ℕ) (bytes : List ℕ) (old : State) 
             let at = subst (λ fields. AreMessagesToRejected options old.word old.place number fields
             (adds.messages ++ more)) (sym first) whole in
             subst (AreMessagesToRejected options old.word old.place 1 (parts delimiter bytes))
-            (sym (append_assoc so_far.messages adds.messages more))
-            (so_far.tells_to mode (adds.messages ++ more) at);
+            (sym (append_assoc so_far.messages adds.messages more)) (so_far.tells_to mode (adds.messages ++ more) at);
         few =
             let long : end < length rest = ends.0 in
             omega (arith, so_far.few, long, length-drop {A = ℕ} (end + 1) rest);
@@ -230,8 +222,7 @@ module _ (options : Options) (delimiter : ℕ) (bytes : List ℕ) (old : State) 
 
   -- a rejected field, which is the first of the rest
   Aborts-first : options.delimiter ≡ Some delimiter → (field : List ℕ) (others : List (List ℕ)) → parts delimiter rest
-      ≡ field ∷ others
-      → (next_messages : List ℕ) → IsRejectedField options number field new next_messages
+      ≡ field ∷ others → (next_messages : List ℕ) → IsRejectedField options number field new next_messages
       → Aborts options bytes old next_messages
   Aborts-first is_delimiter field others first next_messages is =
       let has = so_far.rejects (subst (HasRejectedField options number) (sym first) (inl (is.chosen, is.no_size))) in
@@ -283,8 +274,7 @@ module _ (options : Options) (delimiter : ℕ) (bytes : List ℕ) (old : State) 
             (so_far.messages ++ adds.messages)) (sym is_delimiter) told;
         passes = Passes-append options so_far.found adds.found so_far.passes adds.passes;
         new_is = after-then options old new next so_far.text adds.text so_far.messages adds.messages so_far.found
-            adds.found
-            so_far.new_is adds.new_is;
+            adds.found so_far.new_is adds.new_is;
       }
 
   -- the other fields are copied with the delimiters between them

@@ -2,17 +2,19 @@
 use Rattle.std.proofs.Common.{◌≡◌, ℕ, ◌<◌, ◌≤◌, min, List, [], ◌∷◌, ◌++◌, true, false}
 use Rattle.std.proofs.Common.{sym, ap, subst, ◌∙◌, arith, MatchBool}
 use Rattle.byte_unit.specs.Bounds.{size_limit}
-use Rattle.byte_unit_command.specs.Messages.{AreMessages}
-use Rattle.byte_unit_command.specs.Outcome.{AreConverted, IsTotalLine}
+use Rattle.byte_unit_command.specs.Fields.{fields_of}
+use Rattle.byte_unit_command.specs.Messages.{AreMessages, AreMessagesToRejected, next_place, last_place}
+use Rattle.byte_unit_command.specs.Outcome.{AreConverted, IsAborted, IsTotalLine}
 use Rattle.byte_unit_command.specs.Output.{AreRecords}
-use Rattle.byte_unit_command.specs.RunState.{AddsRecords, State, IsTotalFor, start_of}
+use Rattle.byte_unit_command.specs.RunState.{Aborts, AddsRecords, State, IsTotalFor, start_of}
 use Rattle.byte_unit_command.specs.Shown.{IsShown}
 use Rattle.byte_unit_command.specs.Sums.{sum_of, tally_of}
+use Rattle.byte_unit_command.specs.Told.{AreAbortMessages}
 use Rattle.byte_unit_command.specs.declared.options.Options.{Options}
 use Rattle.byte_unit_command.proofs.Tallies.{tally_after-tally_of}
 
 -- what was appended from the start on, for some records
-module _ (options : Options) (word : List ℕ) (records : List (List ℕ)) (new : State)
+module _ (options : Options) (word : List ℕ) {records : List (List ℕ)} {new : State}
     (adds : AddsRecords options records (start_of options word) new) where
   -- they are converted
   pub converted-from_start : AreConverted options records new.out adds.found
@@ -43,8 +45,7 @@ module _ (options : Options) (word : List ℕ) (records : List (List ℕ)) (new 
       omega (arith, large, counted)
 
   pub total_line-from_start : (line : List ℕ) → MatchBool options.total (IsTotalFor options new.tally.total line)
-      (line ≡ [])
-      → IsTotalLine options adds.found line
+      (line ≡ []) → IsTotalLine options adds.found line
   total_line-from_start line at =
       let For : Type 0 = IsTotalFor options new.tally.total line in
       let sum = sum_of adds.found in
@@ -55,9 +56,41 @@ module _ (options : Options) (word : List ℕ) (records : List (List ℕ)) (new 
             let same = sum-from_start small in (
               shown,
               subst (λ total. total < size_limit) same small,
-              subst (λ total. IsShown options total shown) same
-                  is_shown,
+              subst (λ total. IsShown options total shown) same is_shown,
               is,
             )
         | false ↦ λ none. none
       ] at
+
+  -- the record after them has a rejected field: `old` is the state before it
+  pub aborted-from_start : (bytes : List ℕ) (after all : List (List ℕ)) → all ≡ records ++ bytes ∷ after
+      → new.header ≡ 0 → (old : State) → old.word ≡ new.word → old.place ≡ next_place new.place → {more : List ℕ}
+      → (aborts : Aborts options bytes old more) → (messages : List ℕ) → messages ≡ new.messages ++ aborts.messages
+      → IsAborted options all new.out × AreAbortMessages options word all messages
+  aborted-from_start bytes after all all_is header_is old word_is place_is aborts messages messages_are =
+      let To : List ℕ → ℕ → Type 0 = λ word place.
+      AreMessagesToRejected options word place 1 (fields_of options.delimiter bytes) aborts.messages in (
+        record {
+          before = records;
+          bytes = bytes;
+          after = after;
+          found = adds.found;
+          mode = aborts.mode;
+          records_are = all_is;
+          no_header = sym adds.header_is ∙ header_is;
+          has_rejected = aborts.has_rejected;
+          converted = converted-from_start;
+        },
+        record {
+          are_messages = messages-from_start;
+          records_are = all_is;
+          before = records;
+          bytes = bytes;
+          after = after;
+          front = new.messages;
+          own = aborts.messages;
+          to_rejected = subst (λ word. To word (next_place (last_place 0 records))) (word_is ∙ adds.word_is)
+              (subst (To old.word) (place_is ∙ ap (λ place. next_place place) adds.place_is) aborts.to_rejected);
+          messages_are = messages_are;
+        },
+      )

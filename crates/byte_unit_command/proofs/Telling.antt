@@ -1,8 +1,10 @@
 -- Lemmas: what is told, one list of messages after the other.
-use Rattle.std.proofs.Common.{◌≡◌, ℕ, Bool, true, false, List, [], ◌++◌, refl, sym, ap, subst, ◌∙◌, append-nil}
+use Rattle.std.proofs.Common.{◌≡◌, ℕ, Bool, true, false, List, [], ◌++◌, Option, refl, sym, ap, subst, ◌∙◌, append-nil}
 use Rattle.byte_unit_stream.specs.Prefix.{IsPrefix}
-use Rattle.byte_unit_command.specs.RunState.{Tells}
+use Rattle.byte_unit_command.specs.RunState.{Tells, WritesAndTells}
 use Rattle.byte_unit_command.specs.Told.{IsTold}
+use Rattle.byte_unit_stream.specs.Streams.{HasWritten, writing_failed}
+use Rattle.byte_unit_stream.specs.declared.writer.FusedWriter.{FusedWriter}
 use Rattle.byte_unit_stream.proofs.Prefixes.{IsPrefix-longer, IsPrefix-after}
 
 -- of no messages, nothing was told
@@ -29,3 +31,20 @@ IsTold-more false after messages more told rest so_far tells =
           (IsPrefix-after messages rest more tells.begins);
       all = λ is. ap (λ told. told ++ rest) same ∙ ap (λ rest. messages ++ rest) (tells.all is);
     }
+
+-- what was written, and what a call tells of these messages
+pub WritesAndTells-by : {W E : Type 0} {contents : W → Option (List ℕ)} {tells : E → Option (List ℕ)}
+    {old_writer writer : FusedWriter W} {old_errors errors : FusedWriter E} {Holds : List ℕ → List ℕ → Type 0}
+    {messages : List ℕ} (written : List ℕ) → HasWritten contents old_writer writer written
+    → (told : List ℕ) × HasWritten tells old_errors errors told
+    × Tells (writing_failed old_errors) (writing_failed errors) messages told
+    → Holds written messages → WritesAndTells contents tells old_writer writer old_errors errors Holds
+WritesAndTells-by {messages = messages} written has_written told holds = record {
+  written = written;
+  messages = messages;
+  told = told.0;
+  has_written = has_written;
+  has_told = told.1;
+  are_told = told.2;
+  holds = holds;
+}

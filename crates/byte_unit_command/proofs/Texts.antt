@@ -7,14 +7,12 @@ use Rattle.byte_unit.specs.Written.{WritesForm}
 use Rattle.byte_unit_command.specs.Shown.{padded}
 
 -- the bytes that were written are the text
-pub written_bytes : {IsForm : List ℕ → Type 0} (old new : List ℕ) (needed : ℕ)
-    (writes : WritesForm IsForm old new needed)
-    → needed ≤ length old → take needed new ≡ writes.form
-written_bytes old new needed writes room =
+pub written_bytes : {IsForm : List ℕ → Type 0} {old new : List ℕ} {needed : ℕ}
+    (writes : WritesForm IsForm old new needed) → needed ≤ length old → take needed new ≡ writes.form
+written_bytes {old = old} {new = new} writes room =
     let text = writes.form in
     let fits : length text ≤ length old = omega (arith, writes.needed_is, room) in
-    ap (λ count. take count new) writes.needed_is
-    ∙ ap (take (length text)) (writes.fits fits)
+    ap (λ count. take count new) writes.needed_is ∙ ap (take (length text)) (writes.fits fits)
     ∙ take-append_seam text (drop (length text) old)
 
 -- no spaces are added to a text if there is no width
@@ -33,7 +31,5 @@ first_bytes old bytes all len all_is long short =
     ap length all_is ∙ length-append {A = ℕ} old (take 64 bytes)
     ∙ ap (λ more. length old + more) (length-take-le {A = ℕ} 64 bytes long) in
     let count_is : length all - (64 - len) ≡ length old + len = omega (arith, whole, short) in
-    ap (λ count. take count all) count_is
-    ∙ ap (take (length old + len)) all_is
-    ∙ take-append-add old (take 64 bytes) len
-    ∙ ap (λ more. old ++ more) (take-take len 64 bytes short)
+    ap (λ count. take count all) count_is ∙ ap (take (length old + len)) all_is
+    ∙ take-append-add old (take 64 bytes) len ∙ ap (λ more. old ++ more) (take-take len 64 bytes short)

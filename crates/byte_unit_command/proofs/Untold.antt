@@ -4,9 +4,8 @@ use Rattle.std.proofs.Common.{refl, sym, ap, subst, ◌∙◌, arith}
 use Rattle.byte_unit.specs.SizeLaws.{TextsAreAcceptedOrRejected}
 use Rattle.byte_unit_command.specs.Field.{IsSize, IsNoSize, ignores_case}
 use Rattle.byte_unit_command.specs.Fields.{IsChosen}
-use Rattle.byte_unit_command.specs.Messages.{AreFieldMessages, AreLimitMessages, AreMessagesOfFields}
-use Rattle.byte_unit_command.specs.Messages.{AreRecordMessages, AreMessages}
-use Rattle.byte_unit_command.specs.Messages.{IsMessage, IsMessageIf, other, size, rejected, ignored}
+use Rattle.byte_unit_command.specs.Messages.{AreFieldMessages, AreLimitMessages, AreMessagesOfFields, AreRecordMessages}
+use Rattle.byte_unit_command.specs.Messages.{AreMessages, IsMessage, IsMessageIf, other, size, rejected, ignored}
 use Rattle.byte_unit_command.specs.Messages.{last_place, next_place, tells_rejected}
 use Rattle.byte_unit_command.specs.RunState.{AddsRecords, RecordsHaveNoMessage, State}
 use Rattle.byte_unit_command.specs.Sums.{is_above, is_below, is_beyond}
@@ -42,16 +41,14 @@ module _ (options : Options) (word : List ℕ) (place number : ℕ) (field : Lis
   limits-none n (above, below, above_told, below_told, none) =
       let empty = append-empty above below none in
       ap (λ yes. yes || is_below options.min n) (IsMessageIf-none (is_above options.max n) Above above empty.0
-      above_told)
-      ∙ IsMessageIf-none (is_below options.min n) Below below empty.1 below_told
+      above_told) ∙ IsMessageIf-none (is_below options.min n) Below below empty.1 below_told
 
   pub within-untold : TextsAreAcceptedOrRejected → (n : ℕ) (is_rejected : Bool) → IsChosen options.fields.now number
       → IsSize options field n → AreFieldMessages options word place number field is_rejected [] → is_beyond options n
       ≡ false
   within-untold law n is_rejected chosen is (other not _ _) = absurd (not chosen)
   within-untold law n is_rejected chosen is (size same _ also _ messages) =
-      let one = (law options.kind (ignores_case options.kind options.ignore_case) field).one_meaning same n also.1
-      is.1 in
+      let one = (law options.kind (ignores_case options.kind options.ignore_case) field).one_meaning same n also.1 is.1 in
       subst (λ n. is_beyond options n ≡ false) one (limits-none same messages)
   within-untold law n is_rejected chosen is (rejected reason _ _ _ _ message) = absurd (IsMessage-some reason message)
   within-untold law n is_rejected chosen is (ignored _ none _ _ _) =
@@ -74,8 +71,7 @@ module _ (options : Options) (word : List ℕ) where
       → (is_rejected : Bool) × AreFieldMessages options word place number field is_rejected []
   first-untold place number field others (own, rest, is_rejected, are, _, none) = (
     is_rejected,
-    subst (AreFieldMessages options word place number field is_rejected)
-        (append-empty own rest none).0 are,
+    subst (AreFieldMessages options word place number field is_rejected) (append-empty own rest none).0 are,
   )
 
   pub others-untold : (place number : ℕ) (field : List ℕ) (others : List (List ℕ))

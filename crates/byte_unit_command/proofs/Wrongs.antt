@@ -1,6 +1,5 @@
 -- Lemmas: the first option that is wrong.
-use Rattle.std.proofs.Common.{◌≡◌, ◌⊎◌, ℕ, Bool, Option, Result, Ok, Err, IfErr, codes, inl, inr, sym, subst}
-use Rattle.std.specs.Result.{IsErr, IsErrAnd}
+use Rattle.std.proofs.Common.{◌≡◌, ◌⊎◌, ℕ, Bool, Option, codes, inl, inr, subst}
 use Rattle.byte_unit.specs.declared.Kind.{Kind}
 use Rattle.byte_unit_command.specs.CallOptions.{IsWrongOf, IsFirstWrong, kind_of}
 use Rattle.byte_unit_command.specs.Meaning.{IsForm, IsNoForm, IsDelimiter, IsNoDelimiter, IsPadding, IsNoPadding}
@@ -8,17 +7,10 @@ use Rattle.byte_unit_command.specs.Meaning.{IsMode, IsNoMode, IsLimit, IsNoLimit
 use Rattle.byte_unit_command.specs.Values.{text_of}
 use Rattle.byte_unit_command.specs.declared.options.Form.{Form}
 use Rattle.byte_unit_command.specs.declared.options.Invalid.{Invalid}
-use Rattle.byte_unit_command.specs.declared.options.Options.{Options}
 use Rattle.byte_unit_command.specs.declared.values.Values.{Values}
 use Rattle.byte_unit_command.specs.declared.wrong.Wrong.{Wrong}
 
--- an error that is handed on
-pub handed_on : (P : Wrong → Type 0) (result : Result Options Wrong) (wrong : Wrong)
-    → IsErr result × IsErrAnd result (λ given. given ≡ wrong) → P wrong → IfErr result P
-handed_on P (Ok options) wrong is holds = tt
-handed_on P (Err given) wrong is holds = subst P (sym is.1) holds
-
-module _ (values : Values) (wrong : Wrong) (kind : Kind) (kind_is : kind ≡ kind_of values.bits) where
+module _ (values : Values) (wrong : Wrong) {kind : Kind} (kind_is : kind ≡ kind_of values.bits) where
   pub wrong_form : IsWrongOf (codes "--to") values.to (IsNoForm kind values.ignore_case) wrong
       → IsFirstWrong values wrong
   wrong_form is = inl (subst (λ kind. IsWrongOf (codes "--to") values.to (IsNoForm kind values.ignore_case) wrong)
@@ -39,16 +31,8 @@ module _ (values : Values) (wrong : Wrong) (kind : Kind) (kind_is : kind ≡ kin
 
       module _ (width : ℕ) (align_left : Bool) (is_padding : IsPadding (text_of values.padding) width align_left) where
         pub wrong_mode : IsWrongOf (codes "--invalid") values.invalid IsNoMode wrong → IsFirstWrong values wrong
-        wrong_mode is = inr (
-          form,
-          form_here,
-          inr (
-            delimiter,
-            is_delimiter,
-            inr
-                (width, align_left, is_padding, inl is),
-          ),
-        )
+        wrong_mode is =
+            inr (form, form_here, inr (delimiter, is_delimiter, inr (width, align_left, is_padding, inl is)))
 
         module _ (invalid : Invalid) (is_mode : IsMode (text_of values.invalid) invalid) where
           -- the rest, where all before the limits are right
@@ -63,8 +47,7 @@ module _ (values : Values) (wrong : Wrong) (kind : Kind) (kind_is : kind ≡ kin
                 inr (
                   delimiter,
                   is_delimiter,
-                  inr
-                      (width, align_left, is_padding, inr (invalid, is_mode, is)),
+                  inr (width, align_left, is_padding, inr (invalid, is_mode, is)),
                 ),
               )
 

@@ -26,10 +26,8 @@ use Rattle.byte_unit_command.specs.declared.wrong.ValueError.TheVariants.{Paddin
 -- the text is the word for this form
 abbrev pub IsFormWord : List ℕ → Form → Type 0
 IsFormWord text form =
-    (text ≡ codes "exact") × (form ≡ Exact)
-    ⊎ ((text ≡ codes "plain") × (form ≡ Plain)
-    ⊎ ((text ≡ codes "si") × (form ≡ Largest Decimal)
-    ⊎ ((text ≡ codes "iec") × (form ≡ Largest Binary)
+    (text ≡ codes "exact") × (form ≡ Exact) ⊎ ((text ≡ codes "plain") × (form ≡ Plain)
+    ⊎ ((text ≡ codes "si") × (form ≡ Largest Decimal) ⊎ ((text ≡ codes "iec") × (form ≡ Largest Binary)
     ⊎ (text ≡ codes "auto") × (form ≡ Largest Both))))
 
 -- the text spells this unit, as in a size of this kind, and is not white space alone
@@ -82,10 +80,8 @@ IsNoPadding text reason =
 abbrev pub IsMode : Option (List ℕ) → Invalid → Type 0
 IsMode None invalid = invalid ≡ Abort
 IsMode (Some text) invalid =
-    (text ≡ codes "abort") × (invalid ≡ Abort)
-    ⊎ ((text ≡ codes "fail") × (invalid ≡ Fail)
-    ⊎ ((text ≡ codes "warn") × (invalid ≡ Warn)
-    ⊎ (text ≡ codes "ignore") × (invalid ≡ Ignore)))
+    (text ≡ codes "abort") × (invalid ≡ Abort) ⊎ ((text ≡ codes "fail") × (invalid ≡ Fail)
+    ⊎ ((text ≡ codes "warn") × (invalid ≡ Warn) ⊎ (text ≡ codes "ignore") × (invalid ≡ Ignore)))
 
 abbrev pub IsNoMode : List ℕ → ValueError → Type 0
 IsNoMode text reason = ((invalid : Invalid) → ¬ IsMode (Some text) invalid) × (reason ≡ Mode)

@@ -1,8 +1,7 @@
 -- The messages about fields, for standard error.
 use Rattle.std.specs.Prelude.{◌≡◌, ℕ, zero, suc, ◌+◌, ◌-◌, ◌^◌, ◌/◌, ◌%◌, ◌⊎◌, min, Bool, true, false, ◌&&◌, ◌||◌}
-use Rattle.std.specs.Prelude.{nat_lt, nat_le, IfSome}
-use Rattle.std.specs.Prelude.{if◌then◌else◌, MatchBool, List, [], ◌∷◌, ◌++◌, Option, Some, None, length, take}
-use Rattle.std.specs.Prelude.{slice_index, codes}
+use Rattle.std.specs.Prelude.{nat_lt, nat_le, IfSome, if◌then◌else◌, MatchBool, List, [], ◌∷◌, ◌++◌, Option, Some, None}
+use Rattle.std.specs.Prelude.{length, take, slice_index, codes}
 use Rattle.std.specs.Char.{is_control, encode_utf8}
 use Rattle.std.specs.Fmt.{decimal, digits, digit_glyph}
 use Rattle.std.specs.List.{flat_map}
@@ -27,10 +26,8 @@ is_boundary bytes index = nat_lt (slice_index bytes index) 128 || nat_le 192 (sl
 -- end between two characters of a UTF-8 text, which has such a place in any four bytes; and 80 if there is none
 abbrev pub quoted_len : List ℕ → ℕ
 quoted_len field =
-    if nat_le (length field) 80 then length field
-    else (if is_boundary field 80 then 80
-    else (if is_boundary field 79 then 79
-    else (if is_boundary field 78 then 78
+    if nat_le (length field) 80 then length field else (if is_boundary field 80 then 80
+    else (if is_boundary field 79 then 79 else (if is_boundary field 78 then 78
     else (if is_boundary field 77 then 77 else 80))))
 
 -- a character in a message: a control character as `\u{` with its code in hexadecimal and `}`, any other as it is

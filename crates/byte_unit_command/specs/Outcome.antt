@@ -13,6 +13,7 @@ use Rattle.byte_unit_command.specs.declared.error.RunError.{RunError}
 use Rattle.byte_unit_command.specs.declared.error.RunError.TheVariants.{Memory, Read, Write, Rejected, Total}
 use Rattle.byte_unit_command.specs.declared.tally.Tally.{Tally}
 use Rattle.byte_unit_stream.specs.Prefix.{IsPrefix}
+use Rattle.byte_unit_stream.specs.Records.{finished_records, records_of}
 
 -- in the mode `abort`, nothing that was found is rejected
 abbrev pub Passes : Options → List Found → Type 0
@@ -27,10 +28,8 @@ pub record AreConverted (options : Options) (records : List (List ℕ)) (text : 
 -- the line of the total, if it is asked for: the text of the exact sum, which is below 10^30, and the end byte
 abbrev pub IsTotalLine : Options → List Found → List ℕ → Type 0
 IsTotalLine options found line =
-    MatchBool options.total
-    ((shown : List ℕ) × (sum_of found < size_limit) × IsShown options (sum_of found) shown
-    × (line ≡ shown ++ options.output_end ∷ []))
-    (line ≡ [])
+    MatchBool options.total ((shown : List ℕ) × (sum_of found < size_limit) × IsShown options (sum_of found) shown
+    × (line ≡ shown ++ options.output_end ∷ [])) (line ≡ [])
 
 -- the whole output for these records, and what was found in them
 pub record IsOutput (options : Options) (records : List (List ℕ)) (written : List ℕ) (found : List Found) : Type 0 where
@@ -82,20 +81,29 @@ pub record IsTooLarge (options : Options) (records : List (List ℕ)) (written :
   pub large : size_limit ≤ sum_of found
   pub converted : AreConverted options records written found
 
--- what a run has written that ends with this result: the whole output with the tally of what was found; the texts of
--- all finished records if a read failed; those of some first ones of them if it was out of memory; a prefix of the
--- output if a write failed; the texts of the records before the first one with a rejected field; or those of all
--- records, if their total is too large. `finished` are the records that were read with their end bytes, `records` also
--- the last one without. That one is a record, and there is a total, only if `complete`: the input was read to its end
-abbrev pub IsWritten : Options → List (List ℕ) → List (List ℕ) → Type 0 → Result Tally RunError → List ℕ → Type 0
-IsWritten options finished records complete (Ok tally) written =
-    complete × (found : List Found) × IsOutput options records written found × (tally ≡ tally_of options found)
-IsWritten options finished records complete (Err Read) written =
-    (found : List Found) × AreConverted options finished written found
-IsWritten options finished records complete (Err Memory) written = AreFirst options finished written
-IsWritten options finished records complete (Err Write) written =
-    IsBegun options finished written
-    ⊎ complete × (IsBegun options records written ⊎ IsBegunOutput options records written)
-IsWritten options finished records complete (Err Rejected) written =
-    IsAborted options finished written ⊎ complete × IsAborted options records written
-IsWritten options finished records complete (Err Total) written = complete × IsTooLarge options records written
+-- the records that were read with their end bytes
+abbrev pub finished_of : Options → List ℕ → List (List ℕ)
+finished_of options read = finished_records options.record_end read
+
+-- these, and the last one without; that one is a record only if the input was read to its end
+abbrev pub all_of : Options → List ℕ → List (List ℕ)
+all_of options read = records_of options.record_end read
+
+-- what a run has written that has read these bytes and ends with this result: the whole output with the tally of what
+-- was found; the texts of all finished records if a read failed; those of some first ones of them if it was out of
+-- memory; a prefix of the output if a write failed; the texts of the records before the first one with a rejected
+-- field; or those of all records, if their total is too large. A last record without its end byte is converted, and
+-- there is a total, only if `complete`: the input was read to its end
+abbrev pub IsWritten : Options → List ℕ → Type 0 → Result Tally RunError → List ℕ → Type 0
+IsWritten options read complete (Ok tally) written =
+    complete × (found : List Found) × IsOutput options (all_of options read) written found
+    × (tally ≡ tally_of options found)
+IsWritten options read complete (Err Read) written =
+    (found : List Found) × AreConverted options (finished_of options read) written found
+IsWritten options read complete (Err Memory) written = AreFirst options (finished_of options read) written
+IsWritten options read complete (Err Write) written =
+    IsBegun options (finished_of options read) written
+    ⊎ complete × (IsBegun options (all_of options read) written ⊎ IsBegunOutput options (all_of options read) written)
+IsWritten options read complete (Err Rejected) written =
+    IsAborted options (finished_of options read) written ⊎ complete × IsAborted options (all_of options read) written
+IsWritten options read complete (Err Total) written = complete × IsTooLarge options (all_of options read) written

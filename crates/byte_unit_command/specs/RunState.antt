@@ -1,13 +1,12 @@
 -- Private but for `no_tally`, `messages_of`: how far a run has come, step by step.
-use Rattle.std.specs.Prelude.{◌≡◌, ℕ, ◌+◌, ◌-◌, ◌≤◌, min, true, false, ◌||◌, List, [], ◌∷◌, ◌++◌}
-use Rattle.std.specs.Prelude.{Some, None}
-use Rattle.std.specs.Prelude.{length, ◌<◌, ◌⊎◌, Bool, MatchBool, IsTrue, Result, Ok, Err, ⊤}
+use Rattle.std.specs.Prelude.{◌≡◌, ℕ, ◌+◌, ◌-◌, ◌≤◌, min, true, false, ◌||◌, List, [], ◌∷◌, ◌++◌, Option, Some, None}
+use Rattle.std.specs.Prelude.{vec_capacity, vec_len, length, ◌<◌, ◌⊎◌, Bool, MatchBool, IsTrue, Result, Ok, Err, ⊤}
+use Rattle.std.specs.declared.vec.Vec.{Vec}
 use Rattle.byte_unit.specs.Bounds.{size_limit}
 use Rattle.byte_unit_command.specs.Field.{Found, IsField, IsNoSize}
 use Rattle.byte_unit_command.specs.Fields.{IsChosen, fields_of}
 use Rattle.byte_unit_command.specs.Messages.{AreFieldMessages, AreMessagesOfFields, AreMessagesToRejected}
-use Rattle.byte_unit_command.specs.Messages.{AreRecordMessages, AreMessages}
-use Rattle.byte_unit_command.specs.Messages.{next_place, last_place}
+use Rattle.byte_unit_command.specs.Messages.{AreRecordMessages, AreMessages, next_place, last_place}
 use Rattle.byte_unit_command.specs.Outcome.{Passes}
 use Rattle.byte_unit_stream.specs.Prefix.{IsPrefix}
 use Rattle.byte_unit_command.specs.Output.{AreFields, AreRecords, HasRejectedField}
@@ -21,6 +20,8 @@ use Rattle.byte_unit_command.specs.declared.error.RunError.{RunError}
 use Rattle.byte_unit_command.specs.declared.error.RunError.TheVariants.{Memory, Read, Write, Rejected, Total}
 use Rattle.byte_unit_command.specs.declared.tally.Tally.{Tally}
 use Rattle.byte_unit_stream.specs.Chunks.{nonempty_record}
+use Rattle.byte_unit_stream.specs.Streams.{HasWritten, writing_failed}
+use Rattle.byte_unit_stream.specs.declared.writer.FusedWriter.{FusedWriter}
 
 -- the tally of no field
 abbrev pub no_tally : Tally
@@ -186,6 +187,26 @@ pub record Tells (failed_before failed : Bool) (messages told : List ℕ) : Type
   pub begins : IsPrefix told messages
   pub all : failed ≡ false → told ≡ messages
 
+-- from these states of the output and of standard error to those, something was written and told of messages for which
+-- this holds. `contents` and `tells` are those of the two writers
+pub record WritesAndTells {W E : Type 0} (contents : W → Option (List ℕ)) (tells : E → Option (List ℕ))
+    (old_writer writer : FusedWriter W) (old_errors errors : FusedWriter E) (Holds : List ℕ → List ℕ → Type 0) : Type 0 where
+  pub written : List ℕ
+  pub messages : List ℕ
+  pub told : List ℕ
+  pub has_written : HasWritten contents old_writer writer written
+  pub has_told : HasWritten tells old_errors errors told
+  pub are_told : Tells (writing_failed old_errors) (writing_failed errors) messages told
+  pub holds : Holds written messages
+
+-- there is capacity for this many more bytes
+abbrev pub HasRoom : {Z : Type 0} → Vec ℕ Z → ℕ → Type 0
+HasRoom text bytes = vec_len text + bytes ≤ vec_capacity text
+
+-- at most this many bytes were appended
+abbrev pub Grows : {Z : Type 0} → Vec ℕ Z → Vec ℕ Z → ℕ → Type 0
+Grows old new bytes = vec_len new ≤ vec_len old + bytes
+
 -- the line of the total, if it is asked for and is a size
 abbrev pub IsTotalFor : Options → ℕ → List ℕ → Type 0
 IsTotalFor options total line =
@@ -209,12 +230,10 @@ IsFinished options part old (Ok tally) written messages =
     × MatchBool options.total (IsTotalFor options new.tally.total line) (line ≡ []) × (written ≡ new.out ++ line)
     × (messages ≡ new.messages)
 IsFinished options part old (Err Memory) written messages =
-    (written ≡ [])
-    × ((messages ≡ [])
+    (written ≡ []) × ((messages ≡ [])
     ⊎ ((new : State) × AddsRecords options (nonempty_record part) old new × (messages ≡ new.messages)))
 IsFinished options part old (Err Rejected) written messages =
-    (written ≡ []) × (old.header ≡ 0) × Aborts options part (at_next old) messages
-    × (nonempty_record part ≡ part ∷ [])
+    (written ≡ []) × (old.header ≡ 0) × Aborts options part (at_next old) messages × (nonempty_record part ≡ part ∷ [])
 IsFinished options part old (Err Total) written messages =
     (new : State) × AddsRecords options (nonempty_record part) old new × (options.total ≡ true)
     × (size_limit ≤ new.tally.total) × (written ≡ new.out) × (messages ≡ new.messages)

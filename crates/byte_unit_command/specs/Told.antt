@@ -2,6 +2,7 @@
 use Rattle.std.specs.Prelude.{◌≡◌, ◌⊎◌, Bool, false, List, [], ◌∷◌, ◌++◌, ℕ, Result, Ok, Err}
 use Rattle.byte_unit_command.specs.Fields.{fields_of}
 use Rattle.byte_unit_command.specs.Messages.{AreMessages, AreMessagesToRejected, next_place, last_place}
+use Rattle.byte_unit_command.specs.Outcome.{all_of, finished_of}
 use Rattle.byte_unit_stream.specs.Prefix.{IsPrefix}
 use Rattle.byte_unit_command.specs.declared.options.Options.{Options}
 use Rattle.byte_unit_command.specs.declared.error.RunError.{RunError}
@@ -27,21 +28,22 @@ pub record AreAbortMessages (options : Options) (word : List ℕ) (records : Lis
       (fields_of options.delimiter bytes) own
   pub messages_are : messages ≡ front ++ own
 
--- the messages of a run that ends with this result: those about all records; about all finished ones if a read failed;
--- about some first ones if a write failed or it was out of memory; and those up to the first rejected field in the mode
--- `abort`. `finished`, `records` and `complete` are those of `IsWritten`
-abbrev pub AreRunMessages :
-    Options → List ℕ → List (List ℕ) → List (List ℕ) → Type 0 → Result Tally RunError → List ℕ → Type 0
-AreRunMessages options word finished records complete (Ok _) messages =
-    complete × AreMessages options word 0 options.header records messages
-AreRunMessages options word finished records complete (Err Total) messages =
-    complete × AreMessages options word 0 options.header records messages
-AreRunMessages options word finished records complete (Err Read) messages =
-    AreMessages options word 0 options.header finished messages
-AreRunMessages options word finished records complete (Err Rejected) messages =
-    AreAbortMessages options word finished messages ⊎ complete × AreAbortMessages options word records messages
-AreRunMessages options word finished records complete (Err _) messages =
-    AreFirstMessages options word finished messages ⊎ complete × AreFirstMessages options word records messages
+-- the messages of a run that has read these bytes and ends with this result: those about all records; about all
+-- finished ones if a read failed; about some first ones if a write failed or it was out of memory; and those up to the
+-- first rejected field in the mode `abort`. `complete` is that of `IsWritten`
+abbrev pub AreRunMessages : Options → List ℕ → List ℕ → Type 0 → Result Tally RunError → List ℕ → Type 0
+AreRunMessages options word read complete (Ok _) messages =
+    complete × AreMessages options word 0 options.header (all_of options read) messages
+AreRunMessages options word read complete (Err Total) messages =
+    complete × AreMessages options word 0 options.header (all_of options read) messages
+AreRunMessages options word read complete (Err Read) messages =
+    AreMessages options word 0 options.header (finished_of options read) messages
+AreRunMessages options word read complete (Err Rejected) messages =
+    AreAbortMessages options word (finished_of options read) messages
+    ⊎ complete × AreAbortMessages options word (all_of options read) messages
+AreRunMessages options word read complete (Err _) messages =
+    AreFirstMessages options word (finished_of options read) messages
+    ⊎ complete × AreFirstMessages options word (all_of options read) messages
 
 -- of these messages, what was told: all of them, or a prefix if a write to standard error failed
 pub record IsTold (failed : Bool) (messages told : List ℕ) : Type 0 where
@@ -52,8 +54,8 @@ pub record IsTold (failed : Bool) (messages told : List ℕ) : Type 0 where
 abbrev pub HaveMessage : Options → List ℕ → List (List ℕ) → Type 0
 HaveMessage options word records = ¬ AreMessages options word 0 options.header records []
 
--- a message was due: there is one about the finished records, or about all if the input was read to its end. `finished`,
--- `records` and `complete` are those of `IsWritten`
-abbrev pub IsMessageDue : Options → List ℕ → List (List ℕ) → List (List ℕ) → Type 0 → Type 0
-IsMessageDue options word finished records complete =
-    HaveMessage options word finished ⊎ complete × HaveMessage options word records
+-- a message was due: there is one about the finished records, or about all if the input was read to its end.
+-- `complete` is that of `IsWritten`
+abbrev pub IsMessageDue : Options → List ℕ → List ℕ → Type 0 → Type 0
+IsMessageDue options word read complete =
+    HaveMessage options word (finished_of options read) ⊎ complete × HaveMessage options word (all_of options read)

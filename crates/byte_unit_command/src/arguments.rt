@@ -51,6 +51,7 @@ Exit status:
 pub fn command<'a>(alloc: Global) -> Result<Command<'a>, AllocError>
     ensures { IfOk result (λ command. app_of command ≡ line.command_line) }
 {
+    let modes = "what a rejected field does: abort, fail, warn or ignore";
     let command = Command::new(alloc, "byte-unit")
         .version("3.0.0")
         .about("Converts sizes in bytes or bits, exactly: operands, or standard input.")
@@ -65,12 +66,7 @@ pub fn command<'a>(alloc: Global) -> Result<Command<'a>, AllocError>
         .arg(fields(alloc)?)?
         .arg(header(alloc))?
         .arg(padding(alloc))?
-        .arg(value(
-            alloc,
-            "invalid",
-            "MODE",
-            "what a rejected field does: abort, fail, warn or ignore",
-        ))?
+        .arg(value(alloc, "invalid", "MODE", modes))?
         .arg(flag(alloc, "total", "a last line has the sum of all sizes"))?
         .arg(value(alloc, "max", "SIZE", "status 3 if a size is above it"))?
         .arg(value(alloc, "min", "SIZE", "status 3 if a size is below it"))?
@@ -124,13 +120,8 @@ fn precision<'a>(alloc: Global) -> Arg<'a>
 fn delimiter<'a>(alloc: Global) -> Arg<'a>
     ensures { line.IsArg line.delimiter result }
 {
-    value(
-        alloc,
-        "delimiter",
-        "C",
-        "fields are separated by this character",
-    )
-    .short('d')
+    let help = "fields are separated by this character";
+    value(alloc, "delimiter", "C", help).short('d')
 }
 
 /// Returns the option for the fields.
@@ -141,13 +132,16 @@ fn delimiter<'a>(alloc: Global) -> Arg<'a>
 fn fields<'a>(alloc: Global) -> Result<Arg<'a>, AllocError>
     ensures { IfOk result (line.IsArg line.fields) }
 {
-    value(
-        alloc,
-        "field",
-        "FIELDS",
-        "convert these fields [default: 1]",
-    )
-    .requires_arg("delimiter")
+    let help = "convert these fields [default: 1]";
+    value(alloc, "field", "FIELDS", help).requires_arg("delimiter")
+}
+
+/// Returns the option for the width.
+fn padding<'a>(alloc: Global) -> Arg<'a>
+    ensures { line.IsArg line.padding result }
+{
+    let help = "columns of a size; left-aligned if negative";
+    value(alloc, "padding", "N", help).allow_hyphen_values(true)
 }
 
 /// Returns the option for header records.
@@ -161,29 +155,12 @@ fn header<'a>(alloc: Global) -> Arg<'a>
         .value_parser(value_parser!(u64))
 }
 
-/// Returns the option for the width.
-fn padding<'a>(alloc: Global) -> Arg<'a>
-    ensures { line.IsArg line.padding result }
-{
-    value(
-        alloc,
-        "padding",
-        "N",
-        "columns of a size; left-aligned if negative",
-    )
-    .allow_hyphen_values(true)
-}
-
 /// Returns the option for zero bytes in place of line ends.
 fn zero_terminated<'a>(alloc: Global) -> Arg<'a>
     ensures { line.IsArg line.zero_terminated result }
 {
-    flag(
-        alloc,
-        "zero-terminated",
-        "records end with a zero byte, not a line end",
-    )
-    .short('z')
+    let help = "records end with a zero byte, not a line end";
+    flag(alloc, "zero-terminated", help).short('z')
 }
 
 /// Returns the operands.

@@ -1,12 +1,12 @@
 //! Converts records, field by field.
 
-ghost use Rattle.std.specs.Prelude.{◌≡◌, ◌+◌, ◌≤◌, ◌⊎◌, ◌∷◌, ◌++◌, [], Some, None, length};
-ghost use Rattle.std.specs.Prelude.{OnOk, OnErr, IsOk, IfErr, IsErrOf, vec_len, vec_capacity};
+ghost use Rattle.std.specs.Prelude.{◌≡◌, ◌≤◌, ◌⊎◌, ◌∷◌, ◌++◌, [], Some, None, length};
+ghost use Rattle.std.specs.Prelude.{OnOk, OnErr, IsOk, IfErr, IsErrOf, vec_capacity};
 ghost use Rattle.byte_unit.specs.Forms.{text_limit};
 ghost use Rattle.byte_unit_command.specs.Capacity.{field_room, fields_room, record_room};
 ghost use Rattle.byte_unit_command.specs.Field.{IsSize, IsNoSize};
 ghost use Rattle.byte_unit_command.specs.Fields.{IsChosen};
-ghost use Rattle.byte_unit_command.specs.RunState.{AddsField, AddsFields, AddsRecords};
+ghost use Rattle.byte_unit_command.specs.RunState.{AddsField, AddsFields, AddsRecords, Grows, HasRoom};
 ghost use Rattle.byte_unit_command.specs.RunState.{Aborts, IsRejectedField};
 ghost use Rattle.byte_unit_command.specs.RunState.{FieldHasNoMessage, FieldsHaveNoMessage, RecordHasNoMessage};
 ghost use Rattle.byte_unit_command.specs.RunState.{at_next, messages_of, no_tally, state_of, tally_with};
@@ -91,11 +91,10 @@ impl<A: Allocator> Converter<A> {
             (messages_of self.new.notices) }
         ensures error { IfErr result
             (λ error. (error ≡ RunError.Memory) ⊎ (error ≡ RunError.Rejected)) }
-        ensures succeeds { vec_len self.old.waiting + record_room options.now (length bytes.now)
-            ≤ vec_capacity self.old.waiting
+        ensures succeeds { HasRoom self.old.waiting (record_room options.now (length bytes.now))
             → RecordHasNoMessage options.now bytes.now (state_of self.old) → IsOk result }
-        ensures len { vec_len self.new.waiting
-            ≤ vec_len self.old.waiting + record_room options.now (length bytes.now) }
+        ensures len { Grows self.old.waiting self.new.waiting
+            (record_room options.now (length bytes.now)) }
         ensures capacity { vec_capacity self.old.waiting ≤ vec_capacity self.new.waiting }
     {
         let len = self.waiting.len();
@@ -129,11 +128,10 @@ impl<A: Allocator> Converter<A> {
             (messages_of self.new.notices) }
         ensures error { IfErr result
             (λ error. (error ≡ RunError.Memory) ⊎ (error ≡ RunError.Rejected)) }
-        ensures succeeds { vec_len self.old.waiting + record_room options.now (length bytes.now)
-            ≤ vec_capacity self.old.waiting
+        ensures succeeds { HasRoom self.old.waiting (record_room options.now (length bytes.now))
             → RecordHasNoMessage options.now bytes.now (state_of self.old) → IsOk result }
-        ensures len { vec_len self.new.waiting
-            ≤ vec_len self.old.waiting + record_room options.now (length bytes.now) }
+        ensures len { Grows self.old.waiting self.new.waiting
+            (record_room options.now (length bytes.now)) }
         ensures capacity { vec_capacity self.old.waiting ≤ vec_capacity self.new.waiting }
     {
         self.progress.place.number = self.progress.place.number.saturating_add(1);
@@ -172,11 +170,10 @@ impl<A: Allocator> Converter<A> {
             → Aborts options.now bytes.now (state_of self.old) (messages_of self.new.notices) }
         ensures error { IfErr result
             (λ error. (error ≡ RunError.Memory) ⊎ (error ≡ RunError.Rejected)) }
-        ensures succeeds { vec_len self.old.waiting + fields_room options.now (length bytes.now)
-            ≤ vec_capacity self.old.waiting
+        ensures succeeds { HasRoom self.old.waiting (fields_room options.now (length bytes.now))
             → FieldsHaveNoMessage options.now bytes.now (state_of self.old) → IsOk result }
-        ensures len { vec_len self.new.waiting
-            ≤ vec_len self.old.waiting + fields_room options.now (length bytes.now) }
+        ensures len { Grows self.old.waiting self.new.waiting
+            (fields_room options.now (length bytes.now)) }
         ensures capacity { vec_capacity self.old.waiting ≤ vec_capacity self.new.waiting }
     {
         match options.delimiter {
@@ -204,11 +201,10 @@ impl<A: Allocator> Converter<A> {
             → Aborts options.now bytes.now (state_of self.old) (messages_of self.new.notices) }
         ensures error { IfErr result
             (λ error. (error ≡ RunError.Memory) ⊎ (error ≡ RunError.Rejected)) }
-        ensures succeeds { vec_len self.old.waiting + fields_room options.now (length bytes.now)
-            ≤ vec_capacity self.old.waiting
+        ensures succeeds { HasRoom self.old.waiting (fields_room options.now (length bytes.now))
             → FieldsHaveNoMessage options.now bytes.now (state_of self.old) → IsOk result }
-        ensures len { vec_len self.new.waiting
-            ≤ vec_len self.old.waiting + fields_room options.now (length bytes.now) }
+        ensures len { Grows self.old.waiting self.new.waiting
+            (fields_room options.now (length bytes.now)) }
         ensures capacity { vec_capacity self.old.waiting ≤ vec_capacity self.new.waiting }
     {
         // For the proof: there are fewer fields than a `u64` counts.
@@ -254,11 +250,10 @@ impl<A: Allocator> Converter<A> {
             options.now number field.now (state_of self.old) (messages_of self.new.notices) }
         ensures error { IfErr result
             (λ error. (error ≡ RunError.Memory) ⊎ (error ≡ RunError.Rejected)) }
-        ensures succeeds { vec_len self.old.waiting + field_room options.now (length field.now)
-            ≤ vec_capacity self.old.waiting
+        ensures succeeds { HasRoom self.old.waiting (field_room options.now (length field.now))
             → FieldHasNoMessage options.now number field.now (state_of self.old) → IsOk result }
-        ensures len { vec_len self.new.waiting
-            ≤ vec_len self.old.waiting + field_room options.now (length field.now) }
+        ensures len { Grows self.old.waiting self.new.waiting
+            (field_room options.now (length field.now)) }
         ensures capacity { vec_capacity self.old.waiting ≤ vec_capacity self.new.waiting }
     {
         if !is_chosen(options.fields, number) {
@@ -293,11 +288,10 @@ impl<A: Allocator> Converter<A> {
         ensures kept_messages { IsPrefix (messages_of self.old.notices)
             (messages_of self.new.notices) }
         ensures error { IfErr result (λ error. error ≡ RunError.Memory) }
-        ensures succeeds { vec_len self.old.waiting + field_room options.now (length field.now)
-            ≤ vec_capacity self.old.waiting
+        ensures succeeds { HasRoom self.old.waiting (field_room options.now (length field.now))
             → FieldHasNoMessage options.now number field.now (state_of self.old) → IsOk result }
-        ensures len { vec_len self.new.waiting
-            ≤ vec_len self.old.waiting + field_room options.now (length field.now) }
+        ensures len { Grows self.old.waiting self.new.waiting
+            (field_room options.now (length field.now)) }
         ensures capacity { vec_capacity self.old.waiting ≤ vec_capacity self.new.waiting }
     {
         // For the proof: no text has two sizes, or is both a size and rejected.
@@ -327,11 +321,10 @@ impl<A: Allocator> Converter<A> {
             options.now number field.now (state_of self.old) (messages_of self.new.notices) }
         ensures error { IfErr result
             (λ error. (error ≡ RunError.Memory) ⊎ (error ≡ RunError.Rejected)) }
-        ensures succeeds { vec_len self.old.waiting + field_room options.now (length field.now)
-            ≤ vec_capacity self.old.waiting
+        ensures succeeds { HasRoom self.old.waiting (field_room options.now (length field.now))
             → FieldHasNoMessage options.now number field.now (state_of self.old) → IsOk result }
-        ensures len { vec_len self.new.waiting
-            ≤ vec_len self.old.waiting + field_room options.now (length field.now) }
+        ensures len { Grows self.old.waiting self.new.waiting
+            (field_room options.now (length field.now)) }
         ensures capacity { vec_capacity self.old.waiting ≤ vec_capacity self.new.waiting }
     {
         // For the proof: no text is both a size and rejected.
@@ -361,9 +354,9 @@ fn copy_rejected<A: Allocator>(
     ensures rejected { IsErrOf result RunError.Rejected → options.now.invalid ≡ Invalid.Abort }
     ensures error { IfErr result
         (λ error. (error ≡ RunError.Memory) ⊎ (error ≡ RunError.Rejected)) }
-    ensures succeeds { vec_len text.old + length field.now ≤ vec_capacity text.old
+    ensures succeeds { HasRoom text.old (length field.now)
         → ¬ (options.now.invalid ≡ Invalid.Abort) → IsOk result }
-    ensures len { vec_len text.new ≤ vec_len text.old + length field.now }
+    ensures len { Grows text.old text.new (length field.now) }
     ensures capacity { vec_capacity text.old ≤ vec_capacity text.new }
 {
     if options.invalid == Invalid::Abort {

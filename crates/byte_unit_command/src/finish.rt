@@ -1,11 +1,11 @@
 //! The end of a run: the last record, and the total.
 
 ghost use Rattle.std.specs.Prelude.{◌≡◌, ◌+◌, ◌≤◌, ◌⊎◌, ◌∷◌, ℕ, List, [], length, true};
-ghost use Rattle.std.specs.Prelude.{OnOk, OnErr, IfErr, IsOk, IsErrOf, IsTrue, vec_len, vec_capacity};
+ghost use Rattle.std.specs.Prelude.{OnOk, OnErr, IfErr, IsOk, IsErrOf, IsTrue, vec_capacity};
 ghost use Rattle.byte_unit.specs.Forms.{text_limit};
 ghost use Rattle.byte_unit_command.specs.Capacity.{end_room, record_room, text_room};
-ghost use Rattle.byte_unit_command.specs.RunState.{AddsRecords, Aborts, IsFinished, IsTotalWritten, Tells};
-ghost use Rattle.byte_unit_command.specs.RunState.{RecordsHaveNoMessage};
+ghost use Rattle.byte_unit_command.specs.RunState.{AddsRecords, Aborts, IsFinished, IsTotalWritten, WritesAndTells};
+ghost use Rattle.byte_unit_command.specs.RunState.{Grows, HasRoom, RecordsHaveNoMessage};
 ghost use Rattle.byte_unit_command.specs.RunState.{at_next, idle, messages_of, state_of};
 ghost use Rattle.byte_unit_stream.specs.Prefix.{IsPrefix};
 ghost use Rattle.byte_unit_stream.specs.Chunks.{nonempty_record};
@@ -43,14 +43,10 @@ impl<A: Allocator> Converter<A> {
         requires empty { self.old.waiting.items ≡ [] }
         requires untold { messages_of self.old.notices ≡ [] }
         requires capacity { text_limit ≤ length digits.old }
-        ensures written { (written messages told : List ℕ)
-            × HasWritten W.contents writer.old writer.new written
-            × HasWritten E.contents errors.old errors.new told
-            × Tells (writing_failed errors.old) (writing_failed errors.new) messages told
-            × IsFinished options.now part.now (idle (state_of self.old)) result written messages }
+        ensures written { WritesAndTells W.contents E.contents writer.old writer.new errors.old errors.new
+            (IsFinished options.now part.now (idle (state_of self.old)) result) }
         ensures failed { IsErrOf result RunError.Write → IsTrue (writing_failed writer.new) }
-        ensures memory { vec_len self.old.waiting + end_room options.now (length part.now)
-            ≤ vec_capacity self.old.waiting
+        ensures memory { HasRoom self.old.waiting (end_room options.now (length part.now))
             → RecordsHaveNoMessage options.now (nonempty_record part.now) (state_of self.old)
             → ¬ IsErrOf result RunError.Memory }
     {
@@ -92,12 +88,11 @@ impl<A: Allocator> Converter<A> {
             × (nonempty_record part.now ≡ part.now ∷ []) }
         ensures error { IfErr result
             (λ error. (error ≡ RunError.Memory) ⊎ (error ≡ RunError.Rejected)) }
-        ensures succeeds { vec_len self.old.waiting + record_room options.now (length part.now)
-            ≤ vec_capacity self.old.waiting
+        ensures succeeds { HasRoom self.old.waiting (record_room options.now (length part.now))
             → RecordsHaveNoMessage options.now (nonempty_record part.now) (state_of self.old)
             → IsOk result }
-        ensures len { vec_len self.new.waiting
-            ≤ vec_len self.old.waiting + record_room options.now (length part.now) }
+        ensures len { Grows self.old.waiting self.new.waiting
+            (record_room options.now (length part.now)) }
         ensures capacity { vec_capacity self.old.waiting ≤ vec_capacity self.new.waiting }
     {
         match part {
@@ -128,7 +123,7 @@ fn write_with_total<A: Allocator, W: Write>(
         × HasWritten W.contents writer.old writer.new written
         × IsTotalWritten options.now total waiting.old.items result written }
     ensures failed { IsErrOf result RunError.Write → IsTrue (writing_failed writer.new) }
-    ensures memory { vec_len waiting.old + text_room options.now + 1 ≤ vec_capacity waiting.old
+    ensures memory { HasRoom waiting.old (text_room options.now + 1)
         → ¬ IsErrOf result RunError.Memory }
 {
     if total >= TOTAL_LIMIT {

@@ -14,7 +14,7 @@ use crate::options::{FieldRange, Form, Invalid, Kind, Options, Unit, UnitType};
 use crate::positive::positive_of;
 use crate::values::Values;
 use crate::wrong::{ValueError, Wrong};
-use byte_unit::{Bit, Byte, ParseError};
+use byte_unit_base::{ParseError, size};
 
 /// Returns the options of a call. `fields` are those that `field_list::fields_of` returned.
 ///
@@ -57,7 +57,7 @@ pub fn options_of<'a, 'b>(
 }
 
 /// Returns the kind of the sizes.
-fn kind_of(bits: bool) -> Kind
+pub(crate) fn kind_of(bits: bool) -> Kind
     ensures { result ≡ kind_of bits }
 {
     if bits { Kind::Bit } else { Kind::Byte }
@@ -234,8 +234,8 @@ fn size_of(text: &str, kind: Kind, ignore_case: bool) -> Result<u128, ParseError
     ensures { IsSizeReading kind (ignores_case kind ignore_case) text.now result }
 {
     match kind {
-        Kind::Byte => Ok(Byte::parse_str(text, ignore_case)?.as_u128()),
-        Kind::Bit => Ok(Bit::parse_str(text)?.as_u128()),
+        Kind::Byte => size::parse(text, ignore_case, Kind::Byte),
+        Kind::Bit => size::parse(text, false, Kind::Bit),
     }
 }
 

@@ -6,8 +6,7 @@ ghost use Rattle.std.specs.List.{flat_map};
 ghost use Rattle.std.specs.Str.{chars};
 ghost use Rattle.std.specs.String.{string_bytes};
 ghost use Rattle.byte_unit_command.specs.Messages.{escape, escape_byte, escape_char, hex_of_byte, quote};
-ghost use Rattle.byte_unit_command.specs.Messages.{is_printable as is_printable_ascii};
-ghost use Rattle.byte_unit_command.specs.Messages.{quoted_len as len_of_quote};
+ghost use Rattle.byte_unit_command.specs.Messages.{is_printable as is_printable_ascii, quoted_len as len_of_quote};
 
 use std::alloc::{AllocError, Allocator};
 use std::fmt::Write;

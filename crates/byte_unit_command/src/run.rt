@@ -2,19 +2,15 @@
 //!
 //! What a run keeps from one read to the next is in [`Buffers`].
 
-ghost use Rattle.std.specs.Prelude.{◌≡◌, ◌+◌, ◌<◌, ◌≤◌, ◌⊎◌, ℕ, List, [], length, vec_len, vec_capacity};
-ghost use Rattle.std.specs.Prelude.{IsTrue, IsOk, IsErrOf, IfErr, OnOk, OnErr, IfOk, Err};
+ghost use Rattle.std.specs.Prelude.{◌≡◌, ◌+◌, ◌<◌, ◌≤◌, [], length, vec_len, vec_capacity};
+ghost use Rattle.std.specs.Prelude.{IsTrue, IsOk, IsErrOf, IfErr, OnOk, OnErr, IfOk};
 ghost use Rattle.byte_unit.specs.Forms.{text_limit};
 ghost use Rattle.byte_unit_command.specs.Capacity.{AreEmpty, HaveCapacity, SufficeFor};
-ghost use Rattle.byte_unit_command.specs.Outcome.{IsWritten};
-ghost use Rattle.byte_unit_command.specs.RunState.{AddsRecords, IsAnswered, RecordsHaveNoMessage, EndsEarly, Tells};
-ghost use Rattle.byte_unit_command.specs.RunState.{idle, messages_of, state_of};
-ghost use Rattle.byte_unit_command.specs.Told.{AreRunMessages, IsMessageDue, IsTold};
+ghost use Rattle.byte_unit_command.specs.RunState.{AddsRecords, IsAnswered, RecordsHaveNoMessage, EndsEarly};
+ghost use Rattle.byte_unit_command.specs.RunState.{WritesAndTells, idle, messages_of, state_of};
+ghost use Rattle.byte_unit_command.specs.Run.{AreRecordsBelow, IsMemoryDue, IsRunOf};
 ghost use Rattle.byte_unit_stream.specs.Chunks.{ended_records, begun_record};
-ghost use Rattle.byte_unit_stream.specs.Prefix.{IsPrefix};
-ghost use Rattle.byte_unit_stream.specs.Records.{finished_records, records_of, longest_record};
-ghost use Rattle.byte_unit_stream.specs.Streams.{HasRead, HasReadAll, reading_failed};
-ghost use Rattle.byte_unit_stream.specs.Streams.{HasWritten, writing_failed};
+ghost use Rattle.byte_unit_stream.specs.Streams.{reading_failed, writing_failed};
 
 use crate::buffers::Buffers;
 use crate::converter::Progress;
@@ -50,20 +46,7 @@ pub fn run<R: Read, W: Write, E: Write>(
     options: &Options,
     streams: &mut Streams<R, W, E>,
 ) -> Result<Tally, RunError>
-    ensures run { (read written : List ℕ)
-        × HasRead R.remaining streams.old.reader streams.new.reader read
-        × HasWritten W.contents streams.old.writer streams.new.writer written
-        × IsWritten options.now (finished_records options.now.record_end read)
-        (records_of options.now.record_end read)
-        (HasReadAll R.remaining streams.new.reader) result written }
-    ensures told { (read messages told : List ℕ)
-        × HasRead R.remaining streams.old.reader streams.new.reader read
-        × HasWritten E.contents streams.old.errors streams.new.errors told
-        × IsTold (writing_failed streams.new.errors) messages told
-        × AreRunMessages options.now streams.old.word.now
-        (finished_records options.now.record_end read)
-        (records_of options.now.record_end read)
-        (HasReadAll R.remaining streams.new.reader) result messages }
+    ensures run { IsRunOf R.remaining W.contents E.contents options.now streams.old streams.new result }
     ensures read_failed { IsErrOf result RunError.Read
         → IsTrue (reading_failed streams.new.reader) }
     ensures write_failed { IsErrOf result RunError.Write
@@ -88,20 +71,7 @@ pub fn run_in<A: Allocator, R: Read, W: Write, E: Write>(
 ) -> Result<Tally, RunError>
     requires some { 0 < length buffer.old }
     requires capacity { text_limit ≤ length digits.old }
-    ensures run { (read written : List ℕ)
-        × HasRead R.remaining streams.old.reader streams.new.reader read
-        × HasWritten W.contents streams.old.writer streams.new.writer written
-        × IsWritten options.now (finished_records options.now.record_end read)
-        (records_of options.now.record_end read)
-        (HasReadAll R.remaining streams.new.reader) result written }
-    ensures told { (read messages told : List ℕ)
-        × HasRead R.remaining streams.old.reader streams.new.reader read
-        × HasWritten E.contents streams.old.errors streams.new.errors told
-        × IsTold (writing_failed streams.new.errors) messages told
-        × AreRunMessages options.now streams.old.word.now
-        (finished_records options.now.record_end read)
-        (records_of options.now.record_end read)
-        (HasReadAll R.remaining streams.new.reader) result messages }
+    ensures run { IsRunOf R.remaining W.contents E.contents options.now streams.old streams.new result }
     ensures read_failed { IsErrOf result RunError.Read
         → IsTrue (reading_failed streams.new.reader) }
     ensures write_failed { IsErrOf result RunError.Write
@@ -135,29 +105,13 @@ pub fn run_with_capacity<A: Allocator, R: Read, W: Write, E: Write>(
 ) -> Result<Result<Tally, RunError>, AllocError>
     requires some { 0 < length buffer.old }
     requires capacity { text_limit ≤ length digits.old }
-    ensures run { IfOk result (λ ended. (read written : List ℕ)
-        × HasRead R.remaining streams.old.reader streams.new.reader read
-        × HasWritten W.contents streams.old.writer streams.new.writer written
-        × IsWritten options.now (finished_records options.now.record_end read)
-        (records_of options.now.record_end read)
-        (HasReadAll R.remaining streams.new.reader) ended written) }
-    ensures told { IfOk result (λ ended. (read messages told : List ℕ)
-        × HasRead R.remaining streams.old.reader streams.new.reader read
-        × HasWritten E.contents streams.old.errors streams.new.errors told
-        × IsTold (writing_failed streams.new.errors) messages told
-        × AreRunMessages options.now streams.old.word.now
-        (finished_records options.now.record_end read)
-        (records_of options.now.record_end read)
-        (HasReadAll R.remaining streams.new.reader) ended messages) }
-    ensures memory { IfOk result (λ ended. IsErrOf ended RunError.Memory → (read : List ℕ)
-        × HasRead R.remaining streams.old.reader streams.new.reader read
-        × ((longest < longest_record options.now.record_end read)
-        ⊎ IsMessageDue options.now streams.old.word.now
-        (finished_records options.now.record_end read)
-        (records_of options.now.record_end read) (HasReadAll R.remaining streams.new.reader))) }
-    ensures bound { IfOk result (λ ended. OnOk ended ((read : List ℕ)
-        × HasRead R.remaining streams.old.reader streams.new.reader read
-        × (longest_record options.now.record_end read < longest + length buffer.old))) }
+    ensures run { IfOk result
+        (IsRunOf R.remaining W.contents E.contents options.now streams.old streams.new) }
+    ensures memory { IfOk result (λ ended. IsErrOf ended RunError.Memory
+        → IsMemoryDue R.remaining options.now longest streams.old streams.new) }
+    ensures bound { IfOk result (λ ended. OnOk ended
+        (AreRecordsBelow R.remaining options.now
+        (longest + length buffer.old) streams.old streams.new)) }
     ensures read_failed { IfOk result
         (λ ended. IsErrOf ended RunError.Read → IsTrue (reading_failed streams.new.reader)) }
     ensures write_failed { IfOk result
@@ -189,30 +143,13 @@ pub fn run_with_buffers<A: Allocator, R: Read, W: Write, E: Write>(
     requires empty { AreEmpty buffers.old }
     requires some { 0 < length buffer.old }
     requires capacity { text_limit ≤ length digits.old }
-    ensures run { (read written : List ℕ)
-        × HasRead R.remaining streams.old.reader streams.new.reader read
-        × HasWritten W.contents streams.old.writer streams.new.writer written
-        × IsWritten options.now (finished_records options.now.record_end read)
-        (records_of options.now.record_end read)
-        (HasReadAll R.remaining streams.new.reader) result written }
-    ensures told { (read messages told : List ℕ)
-        × HasRead R.remaining streams.old.reader streams.new.reader read
-        × HasWritten E.contents streams.old.errors streams.new.errors told
-        × IsTold (writing_failed streams.new.errors) messages told
-        × AreRunMessages options.now streams.old.word.now
-        (finished_records options.now.record_end read)
-        (records_of options.now.record_end read)
-        (HasReadAll R.remaining streams.new.reader) result messages }
+    ensures run { IsRunOf R.remaining W.contents E.contents options.now streams.old streams.new result }
     ensures memory { HaveCapacity options.now longest (length buffer.old) buffers.old
-        → IsErrOf result RunError.Memory → (read : List ℕ)
-        × HasRead R.remaining streams.old.reader streams.new.reader read
-        × ((longest < longest_record options.now.record_end read)
-        ⊎ IsMessageDue options.now streams.old.word.now
-        (finished_records options.now.record_end read)
-        (records_of options.now.record_end read) (HasReadAll R.remaining streams.new.reader)) }
-    ensures bound { OnOk result ((read : List ℕ)
-        × HasRead R.remaining streams.old.reader streams.new.reader read
-        × (longest_record options.now.record_end read < longest + length buffer.old)) }
+        → IsErrOf result RunError.Memory
+        → IsMemoryDue R.remaining options.now longest streams.old streams.new }
+    ensures bound { OnOk result
+        (AreRecordsBelow R.remaining options.now
+        (longest + length buffer.old) streams.old streams.new) }
     ensures read_failed { IsErrOf result RunError.Read
         → IsTrue (reading_failed streams.new.reader) }
     ensures write_failed { IsErrOf result RunError.Write
@@ -270,22 +207,16 @@ impl<A: Allocator> Buffers<A> {
         requires empty { self.old.converter.waiting.items ≡ [] }
         requires untold { messages_of self.old.converter.notices ≡ [] }
         requires capacity { text_limit ≤ length digits.old }
-        ensures written { (written messages told : List ℕ)
-            × HasWritten W.contents writer.old writer.new written
-            × HasWritten E.contents errors.old errors.new told
-            × Tells (writing_failed errors.old) (writing_failed errors.new) messages told
-            × IsAnswered options.now
+        ensures written { WritesAndTells W.contents E.contents writer.old writer.new errors.old errors.new
+            (IsAnswered options.now
             (ended_records options.now.record_end self.old.part.items bytes.now)
-            (idle (state_of self.old.converter))
-            (state_of self.new.converter) result written messages }
+            (idle (state_of self.old.converter)) (state_of self.new.converter) result) }
         ensures part { OnOk result
             (self.new.part.items
             ≡ begun_record options.now.record_end self.old.part.items bytes.now) }
         ensures waiting { OnOk result (self.new.converter.waiting.items ≡ []) }
         ensures notices { OnOk result (messages_of self.new.converter.notices ≡ []) }
         ensures failed { IsErrOf result RunError.Write → IsTrue (writing_failed writer.new) }
-        ensures no_total { ¬ (result ≡ Err RunError.Total) }
-        ensures no_read { ¬ (result ≡ Err RunError.Read) }
         ensures memory { SufficeFor options.now (vec_len self.old.part)
             (length bytes.now) self.old.part
             self.old.converter.waiting → RecordsHaveNoMessage options.now

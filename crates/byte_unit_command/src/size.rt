@@ -5,13 +5,16 @@ ghost use Rattle.byte_unit.specs.Bounds.{size_limit};
 ghost use Rattle.byte_unit.specs.Forms.{text_limit};
 ghost use Rattle.byte_unit.specs.SizeReading.{IsBytesReading};
 ghost use Rattle.byte_unit.specs.Written.{WritesForm};
-ghost use Rattle.byte_unit.specs.declared.Kind.TheVariants.{Byte as InBytes, Bit as InBits};
+ghost use Rattle.byte_unit_command.specs.CallOptions.{kind_of};
 ghost use Rattle.byte_unit_command.specs.Capacity.{form_max};
 ghost use Rattle.byte_unit_command.specs.Field.{IsSize, IsNoSize, ignores_case};
 ghost use Rattle.byte_unit_command.specs.Shown.{IsFormText};
 
+use crate::meaning::kind_of;
 use crate::options::{Form, Kind, Options};
 use byte_unit::{Bit, Byte, FormatSpec, ParseError};
+use byte_unit_base::appropriate_unit;
+use byte_unit_format::{write_adjusted, write_text};
 
 /// Parses a field as a size of the kind of the options. Returns `None` if it is not UTF-8.
 pub(crate) fn parse(options: &Options, field: &[u8]) -> Option<Result<u128, ParseError>>
@@ -65,18 +68,21 @@ pub(crate) fn write_size(options: &Options, size: u128, out: &mut [u8]) -> usize
     ensures narrow { result ≤ form_max options.now.form options.now.precision }
 {
     match options.kind {
-        Kind::Byte => write_byte(options, Byte::from_u128_unsafe(size), out),
-        Kind::Bit => write_bit(options, Bit::from_u128_unsafe(size), out),
+        Kind::Byte => write_as::<false>(options, size, out),
+        Kind::Bit => write_as::<true>(options, size, out),
     }
 }
 
-/// Writes a size in bytes, as [`write_size`] does.
-fn write_byte(options: &Options, size: Byte, out: &mut [u8]) -> usize
-    ensures written { WritesForm (IsFormText InBytes options.now.form options.now.precision size)
+/// Writes a size in bits, or in bytes, as [`write_size`] does. A constant kind takes fewer instructions than a variable.
+fn write_as<const BITS: bool>(options: &Options, size: u128, out: &mut [u8]) -> usize
+    requires { size < size_limit }
+    ensures written { WritesForm
+        (IsFormText (kind_of BITS) options.now.form options.now.precision size)
         out.old out.new result }
-    ensures bound { result < text_limit }
+    ensures small { result < text_limit }
     ensures narrow { result ≤ form_max options.now.form options.now.precision }
 {
+    let kind = kind_of(BITS);
     let precision = options.precision;
     let rounded = FormatSpec {
         precision,
@@ -88,40 +94,13 @@ fn write_byte(options: &Options, size: Byte, out: &mut [u8]) -> usize
                 precision,
                 ..FormatSpec::ALTERNATE
             };
-            size.write_text(exact, out)
+            write_text(size, kind, exact, out)
         }
-        Form::Plain => size.write_text(FormatSpec::PLAIN, out),
-        Form::InUnit(unit) => size.get_adjusted_unit(unit).write_text(rounded, out),
-        Form::Largest(unit_type) => size
-            .get_appropriate_unit(unit_type)
-            .write_text(rounded, out),
-    }
-}
-
-/// Writes a size in bits, as [`write_size`] does.
-fn write_bit(options: &Options, size: Bit, out: &mut [u8]) -> usize
-    ensures written { WritesForm (IsFormText InBits options.now.form options.now.precision size)
-        out.old out.new result }
-    ensures bound { result < text_limit }
-    ensures narrow { result ≤ form_max options.now.form options.now.precision }
-{
-    let precision = options.precision;
-    let rounded = FormatSpec {
-        precision,
-        ..FormatSpec::PLAIN
-    };
-    match options.form {
-        Form::Exact => {
-            let exact = FormatSpec {
-                precision,
-                ..FormatSpec::ALTERNATE
-            };
-            size.write_text(exact, out)
+        Form::Plain => write_text(size, kind, FormatSpec::PLAIN, out),
+        Form::InUnit(unit) => write_adjusted(size, kind, unit, rounded, out),
+        Form::Largest(unit_type) => {
+            let unit = appropriate_unit(size, kind, unit_type);
+            write_adjusted(size, kind, unit, rounded, out)
         }
-        Form::Plain => size.write_text(FormatSpec::PLAIN, out),
-        Form::InUnit(unit) => size.get_adjusted_unit(unit).write_text(rounded, out),
-        Form::Largest(unit_type) => size
-            .get_appropriate_unit(unit_type)
-            .write_text(rounded, out),
     }
 }

@@ -15,8 +15,8 @@ returns c =
     let text : app_of c.after_help-command.result ≡ record start { top = record start.top { has_version = true } } =
     ap app_of_fields c.after_help-command.ensures ∙ ap app_of_fields c.override_usage.ensures
     ∙ ap app_of_fields c.about.ensures ∙ version in
-    let bits = with_one _ _ _ _ _ text c.flag.ensures c.in_ok-arg.ensures in
-    let ignore_case = with_one _ _ _ _ _ bits c.in_ok-ignore_case.ensures c.in_ok-arg-2.ensures in
+    let ignore_case = with_one _ _ _ _ _ (with_one _ _ _ _ _ text c.flag.ensures c.in_ok-arg.ensures)
+    c.in_ok-ignore_case.ensures c.in_ok-arg-2.ensures in
     let to = with_one _ _ _ _ _ ignore_case c.value.ensures c.in_ok-arg-3.ensures in
     let precision = with_one _ _ _ _ _ to c.precision.ensures c.in_ok-arg-4.ensures in
     let delimiter = with_one _ _ _ _ _ precision c.delimiter.ensures c.in_ok-arg-5.ensures in

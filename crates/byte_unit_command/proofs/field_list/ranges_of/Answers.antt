@@ -21,8 +21,7 @@ with_item items item ranges more range are is more_is =
 pub loop-item-preserved : goal.loop-item-preserved
 loop-item-preserved c =
     with_item c.loop-item.yielded c.in-Some.item c.loop-item.fields.items _ c.in-Some-range_of.range
-    c.loop-item.invariant
-    c.in-Some-range_of.ensures c.in_ok-push-in-Some-range_of.ensures.items
+    c.loop-item.invariant c.in-Some-range_of.ensures c.in_ok-push-in-Some-range_of.ensures.items
 
 pub returns-in-None-range_of : goal.returns-in-None-range_of
 returns-in-None-range_of c =

@@ -3,7 +3,9 @@ use Rattle.std.proofs.Common.{◌≡◌, ◌++◌, ◌∷◌, [], ◌<◌, ap, �
 use Rattle.std.proofs.KnownBytes.{Appends-nil}
 use Rattle.byte_unit.specs.Bounds.{size_limit}
 use Rattle.byte_unit_stream.specs.Streams.{writer_of}
-use Rattle.byte_unit_command.proofs.Finishing.{IsWrittenBy, IsTotalWritten-memory, IsTotalWritten-line}
+use Rattle.byte_unit_stream.proofs.Bytes.{IsWrittenBy}
+use Rattle.byte_unit_command.specs.declared.error.RunError.TheVariants.{Write}
+use Rattle.byte_unit_command.proofs.Finishing.{IsTotalWritten-memory, IsTotalWritten-line}
 use Rattle.byte_unit_command.proofs.finish.write_with_total.Goals as goal
 
 pub returns-in_err-extend_from_slice-clause-written : goal.returns-in_err-extend_from_slice-clause-written
@@ -11,8 +13,7 @@ returns-in_err-extend_from_slice-clause-written g c = (
   [],
   Appends-nil (g.W.Write.contents (writer_of c.args.writer.now)),
   IsTotalWritten-memory c.args.options.now c.args.total c.args.waiting.now.items
-      c.from_residual-in_err-extend_from_slice.result
-      c.from_residual-in_err-extend_from_slice.ensures.1,
+      c.from_residual-in_err-extend_from_slice.result c.from_residual-in_err-extend_from_slice.ensures.1,
 )
 
 pub returns-clause-written : goal.returns-clause-written
@@ -27,12 +28,10 @@ returns-clause-written g c =
     let line = shown.0 ++ mark in
     let small : c.args.total < size_limit = omega (arith, c.if-total-ge-TOTAL_LIMIT.false) in
     let are : bytes ≡ waiting ++ line =
-    c.deref-2.ensures.value
-    ∙ c.in_ok-extend_from_slice.ensures.items
-    ∙ ap (λ text. text ++ mark) shown.2
+    c.deref-2.ensures.value ∙ c.in_ok-extend_from_slice.ensures.items ∙ ap (λ text. text ++ mark) shown.2
     ∙ append_assoc waiting shown.0 mark in
     let write = c.write_whole-2.ensures in
-    let by : IsWrittenBy held holds bytes c.write_whole-2.result =
-    record { whole = write.ok; part = write.err; error = write.write } in
+    let by : IsWrittenBy held holds bytes Write c.write_whole-2.result =
+    record { whole = write.ok; part = write.err; is_error = write.write } in
     IsTotalWritten-line options c.args.total waiting line bytes (shown.0, small, shown.1, refl) are
     c.write_whole-2.result by

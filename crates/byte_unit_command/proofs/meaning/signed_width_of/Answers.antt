@@ -22,8 +22,7 @@ no_padding text found is none =
 pub returns-in_err-width_of-in-None : goal.returns-in_err-width_of-in-None
 returns-in_err-width_of-in-None c =
     let text = c.args.text.now in
-    no_padding text _ c.from_residual-in_err-width_of-in-None.ensures
-    (without_hyphen text
+    no_padding text _ c.from_residual-in_err-width_of-in-None.ensures (without_hyphen text
     (lacks_hyphen text c.strip_prefix.result c.in-None.is
     (strip_prefix_char 45 text c.strip_prefix.result c.strip_prefix.ensures.cases (lit< tt)))
     c.in_err-width_of-in-None.ensures)

@@ -4,7 +4,7 @@ use Rattle.byte_unit_command.specs.Messages.{IsMessageIf}
 use Rattle.byte_unit_command.specs.RunState.{messages_of}
 use Rattle.byte_unit_command.specs.declared.notice.FieldError.TheVariants.{Above, Below}
 use Rattle.byte_unit_stream.proofs.Prefixes.{IsPrefix-trans}
-use Rattle.byte_unit_command.proofs.Results.{OnOk-map}
+use Rattle.std.proofs.lemmas.Result.{on_ok_weaker}
 use Rattle.byte_unit_command.proofs.notice.add_limit_notice.Goals as goal
 
 pub returns-clause-ok : goal.returns-clause-ok
@@ -18,7 +18,7 @@ returns-clause-ok g c =
     let above = c.in_ok-add_message_if.ensures.ok in
     let is_above = subst (λ told. IsMessageIf told options word place number field Above above.0)
     c.is_above-above.ensures above.1 in
-    OnOk-map c.add_message_if-2.result (λ below. (
+    on_ok_weaker c.add_message_if-2.result (λ below. (
       above.0 ++ below.0,
       (
         above.0,

@@ -1,15 +1,14 @@
 -- The message is appended if it is told.
 use Rattle.std.proofs.Common.{Bool, sym, subst}
 use Rattle.byte_unit_command.specs.Messages.{IsMessageIf}
-use Rattle.byte_unit_command.proofs.Results.{OnOk-map}
+use Rattle.std.proofs.lemmas.Result.{on_ok_weaker}
 use Rattle.byte_unit_command.proofs.notice.add_message_if.Goals as goal
 
 pub returns-then-told-clause-ok : goal.returns-then-told-clause-ok
 returns-then-told-clause-ok g c =
-    OnOk-map c.add_message.result (λ added. (
+    on_ok_weaker c.add_message.result (λ added. (
       added.0,
       subst (λ (told : Bool). IsMessageIf told c.args.options.now c.args.place.now.word.now c.args.place.now.number
-          c.args.field.now.number
-          c.args.field.now.bytes.now c.args.reason.now added.0) (sym c.if-told.true) added.1,
+          c.args.field.now.number c.args.field.now.bytes.now c.args.reason.now added.0) (sym c.if-told.true) added.1,
       added.2,
     )) c.add_message.ensures.ok

@@ -3,15 +3,14 @@ use Rattle.std.proofs.Common.{◌++◌, codes, sym, ap, ◌∙◌, append_assoc,
 use Rattle.std.specs.Fmt.{decimal}
 use Rattle.std.specs.String.{string_bytes}
 use Rattle.byte_unit_command.specs.Messages.{record_text, field_text}
-use Rattle.byte_unit_command.proofs.Results.{OnOk-map}
+use Rattle.std.proofs.lemmas.Result.{on_ok_weaker}
 use Rattle.byte_unit_command.proofs.notice.add_place.Goals as goal
 
 pub returns-in-None : goal.returns-in-None
 returns-in-None g c =
     let before = string_bytes c.args.line.now in
     let record_part = record_text c.args.place.now.word.now c.args.place.now.number in
-    c.in_ok-write.ensures.bytes
-    ∙ ap (λ text. before ++ text) (sym (append-nil record_part))
+    c.in_ok-write.ensures.bytes ∙ ap (λ text. before ++ text) (sym (append-nil record_part))
     ∙ ap (λ mark. before ++ (record_part ++ field_text mark c.args.number)) (sym c.in-None.is)
 
 pub returns-in-Some : goal.returns-in-Some
@@ -19,8 +18,7 @@ returns-in-Some g c =
     let before = string_bytes c.args.line.now in
     let record_part = record_text c.args.place.now.word.now c.args.place.now.number in
     let field_part = codes "field " ++ decimal c.args.number ++ codes ": " in
-    OnOk-map c.write-in-Some.result (λ wrote. wrote
-    ∙ ap (λ text. text ++ field_part) c.in_ok-write.ensures.bytes
+    on_ok_weaker c.write-in-Some.result (λ wrote. wrote ∙ ap (λ text. text ++ field_part) c.in_ok-write.ensures.bytes
     ∙ append_assoc before record_part field_part
     ∙ ap (λ mark. before ++ (record_part ++ field_text mark c.args.number)) (sym c.in-Some.is))
     c.write-in-Some.ensures.bytes

@@ -2,12 +2,12 @@
 use Rattle.std.proofs.Common.{[], ◌∙◌, refl, sym, append-nil}
 use Rattle.byte_unit_command.specs.Messages.{rejected, ignored}
 use Rattle.byte_unit_command.specs.RunState.{messages_of}
-use Rattle.byte_unit_command.proofs.Results.{OnOk-map}
+use Rattle.std.proofs.lemmas.Result.{on_ok_weaker}
 use Rattle.byte_unit_command.proofs.notice.add_reject_notice.Goals as goal
 
 pub returns-clause-ok : goal.returns-clause-ok
 returns-clause-ok g c =
-    OnOk-map c.add_message.result (λ added. (
+    on_ok_weaker c.add_message.result (λ added. (
       added.0,
       rejected c.reason_of-reason.result c.requires.chosen c.reason_of-reason.ensures refl
           (sym c.tells_rejected-told.ensures ∙ c.if-not-told.false) added.1,

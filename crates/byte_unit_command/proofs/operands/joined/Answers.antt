@@ -12,12 +12,10 @@ loop-operand-preserved c =
     let more = map_more (λ (operand : Bor (List ℕ)). operand.now) operands at (record { ref_ptr = (0, 0); now = [] })
     c.loop-operand-test.true in
     let begun = map (λ (operand : Bor (List ℕ)). operand.now) (take at operands) in
-    c.in_ok-push.ensures.items
-    ∙ ap (λ front. front ++ 0 ∷ []) (c.in_ok-extend_from_slice.ensures.items
+    c.in_ok-push.ensures.items ∙ ap (λ front. front ++ 0 ∷ []) (c.in_ok-extend_from_slice.ensures.items
     ∙ ap (λ text. c.loop-operand.input.items ++ text) c.as_bytes.ensures.value
     ∙ ap (λ front. front ++ (get_or operands at (record { ref_ptr = (0, 0); now = [] })).now) c.loop-operand.invariant)
-    ∙ sym (joined-append begun (get_or operands at (record { ref_ptr = (0, 0); now = [] })).now)
-    ∙ ap joined (sym more)
+    ∙ sym (joined-append begun (get_or operands at (record { ref_ptr = (0, 0); now = [] })).now) ∙ ap joined (sym more)
 
 pub returns : goal.returns
 returns c =

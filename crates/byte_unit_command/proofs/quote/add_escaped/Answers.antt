@@ -6,7 +6,7 @@ use Rattle.std.specs.String.{string_bytes}
 use Rattle.std.proofs.lemmas.Bool.{false_from_ne_true}
 use Rattle.std.proofs.lemmas.Str.{is_utf8-from_IsUtf8, IsUtf8-from_is_utf8}
 use Rattle.byte_unit_command.specs.Messages.{escape, escape_byte, escape_char}
-use Rattle.byte_unit_command.proofs.Results.{OnOk-map}
+use Rattle.std.proofs.lemmas.Result.{on_ok_weaker}
 use Rattle.byte_unit_command.proofs.quote.add_escaped.Goals as goal
 
 escape-text : (bytes : List ℕ) → IsUtf8 bytes → escape bytes ≡ flat_map escape_char (chars bytes)
@@ -23,13 +23,13 @@ pub returns-in-Ok : goal.returns-in-Ok
 returns-in-Ok g c =
     let before = string_bytes c.args.line.now in
     let cases = c.in-Ok.ensures.cases in
-    OnOk-map c.add_escaped_text.result (λ added. added
+    on_ok_weaker c.add_escaped_text.result (λ added. added
     ∙ ap (λ text. before ++ flat_map escape_char (chars text)) cases.0
     ∙ ap (λ text. before ++ text) (sym (escape-text c.args.bytes.now cases.1))) c.add_escaped_text.ensures
 
 pub returns-in-Err : goal.returns-in-Err
 returns-in-Err g c =
     let before = string_bytes c.args.line.now in
-    OnOk-map c.add_escaped_bytes.result (λ added. added
+    on_ok_weaker c.add_escaped_bytes.result (λ added. added
     ∙ ap (λ text. before ++ text) (sym (escape-bytes c.args.bytes.now c.in-Err.ensures.cases.0)))
     c.add_escaped_bytes.ensures

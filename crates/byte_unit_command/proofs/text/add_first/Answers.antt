@@ -13,8 +13,7 @@ pub returns-clause-ok : goal.returns-clause-ok
 returns-clause-ok g c =
     let after = c.extend_from_slice-2.new.self in
     let short : c.args.len ≤ 64 = omega (arith, c.if-len-gt-AT_ONCE.false) in
-    c.truncate.ensures.items
-    ∙ ap (λ count. take count after.items) (omega (arith, after.ok.0, c.len.ensures))
+    c.truncate.ensures.items ∙ ap (λ count. take count after.items) (omega (arith, after.ok.0, c.len.ensures))
     ∙ first_bytes c.args.text.now.items c.args.bytes.now after.items c.args.len c.in_ok-extend_from_slice.ensures.items
     c.requires.at_once short
 

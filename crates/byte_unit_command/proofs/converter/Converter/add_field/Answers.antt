@@ -9,5 +9,4 @@ returns-then-not-is_chosen-clause-ok g c =
     let old : State = state_of c.args.self.now in
     let With : List ℕ → State = λ out. record old { out = out } in
     AddsField-other c.args.options.now c.args.number c.args.field.now old _
-    (c.is_chosen.ensures.no c.if-not-is_chosen.true)
-    (ap With c.in_ok-extend_from_slice.ensures.items)
+    (c.is_chosen.ensures.no c.if-not-is_chosen.true) (ap With c.in_ok-extend_from_slice.ensures.items)

@@ -4,21 +4,19 @@ use Rattle.byte_unit_command.specs.Fields.{fields_of}
 use Rattle.byte_unit_command.specs.Messages.{AreMessagesOfFields}
 use Rattle.byte_unit_command.specs.RunState.{State, messages_of, state_of}
 use Rattle.byte_unit_command.proofs.Converting.{AddsFields-whole, Aborts-whole}
-use Rattle.byte_unit_command.proofs.Results.{OnOk-map}
+use Rattle.std.proofs.lemmas.Result.{on_ok_weaker}
 use Rattle.byte_unit_command.proofs.Rooms.{fields_room-whole}
 use Rattle.byte_unit_command.proofs.Untold.{first-untold}
 use Rattle.byte_unit_command.proofs.converter.Converter.add_fields.Goals as goal
 
 pub returns-in-None-clause-ok : goal.returns-in-None-clause-ok
 returns-in-None-clause-ok g c =
-    OnOk-map c.add_field.result (AddsFields-whole c.args.options.now c.args.bytes.now (state_of c.args.self.now)
+    on_ok_weaker c.add_field.result (AddsFields-whole c.args.options.now c.args.bytes.now (state_of c.args.self.now)
     (state_of c.add_field.new.self) c.in-None.is) c.add_field.ensures.ok
 
 pub returns-in-None-clause-rejected : goal.returns-in-None-clause-rejected
-returns-in-None-clause-rejected g c = λ is.
-    Aborts-whole c.args.options.now c.args.bytes.now (state_of c.args.self.now)
-    (messages_of c.add_field.new.self.notices)
-    c.in-None.is (c.add_field.ensures.rejected is)
+returns-in-None-clause-rejected g c = λ is. Aborts-whole c.args.options.now c.args.bytes.now (state_of c.args.self.now)
+    (messages_of c.add_field.new.self.notices) c.in-None.is (c.add_field.ensures.rejected is)
 
 pub returns-in-None-clause-succeeds : goal.returns-in-None-clause-succeeds
 returns-in-None-clause-succeeds g c = λ room untold.

@@ -3,8 +3,8 @@ use Rattle.std.proofs.Common.{◌≡◌, ◌∷◌, ℕ, Bool, false, true≢fal
 use Rattle.std.proofs.Common.{append-nil}
 use Rattle.byte_unit_command.specs.Messages.{AreLimitMessages}
 use Rattle.byte_unit_command.specs.RunState.{State, messages_of, state_of}
-use Rattle.byte_unit_command.proofs.Converting.{messages_in, AddsField-size, AreLimitMessages-none, after-is}
-use Rattle.byte_unit_stream.proofs.Prefixes.{IsPrefix-self, IsPrefix-same}
+use Rattle.byte_unit_command.proofs.Converting.{AddsField-size, AreLimitMessages-none, after-is, kept_messages-same}
+use Rattle.byte_unit_stream.proofs.Prefixes.{IsPrefix-self}
 use Rattle.byte_unit_command.proofs.Untold.{within-untold}
 use Rattle.byte_unit_command.proofs.converter.Converter.add_found.Goals.{then-add+in_ok-add_limit_notice, else-add}
 use Rattle.byte_unit_command.proofs.converter.Converter.add_found.Goals as goal
@@ -16,8 +16,7 @@ returns-clause-ok g c =
     let field = c.args.field.now in
     let between : State = state_of c.if-add.self in
     let Told : Type 0 = (text : List ℕ) × AreLimitMessages options old.word old.place c.args.number field
-    c.args.size text
-    × (between ≡ record old { tally = c.add.new.self; messages = old.messages ++ text }) in
+    c.args.size text × (between ≡ record old { tally = c.add.new.self; messages = old.messages ++ text }) in
     let told : Told = elim c.if-add.branch [
       | then-add+in_ok-add_limit_notice w ↦
           let own = w.in_ok-add_limit_notice.ensures.ok in (
@@ -34,30 +33,26 @@ returns-clause-ok g c =
       )
     ] in
     let added = c.in_ok-add_size.ensures.ok in
-    AddsField-size options c.args.number field old _ c.args.size added.0 told.0
-    c.requires.chosen
+    AddsField-size options c.args.number field old _ c.args.size added.0 told.0 c.requires.chosen
     c.requires.size added.1 told.1
     (after-is options old between added.0 told.0 (Some c.args.size ∷ []) c.add.new.self told.2 c.add.ensures.tally
     c.add_size.new.text.items (added.2 ∙ ap (λ (state : State). state.out ++ added.0) told.2))
 
 pub returns-clause-kept_messages : goal.returns-clause-kept_messages
-returns-clause-kept_messages g c =
-    let before = messages_of c.args.self.now.notices in
-    elim c.if-add.branch [
-      | then-add+in_ok-add_limit_notice w ↦
-          IsPrefix-same before (ap messages_in w.self-is)
-          w.in_ok-add_limit_notice.ensures.kept
-      | else-add w ↦ IsPrefix-same before (ap messages_in w.self-is)
-          (IsPrefix-self before)
-    ]
+returns-clause-kept_messages g c = elim c.if-add.branch [
+  | then-add+in_ok-add_limit_notice w ↦
+      kept_messages-same c.args.self.now _ _ w.self-is w.in_ok-add_limit_notice.ensures.kept
+  | else-add w ↦
+      kept_messages-same c.args.self.now _ _ w.self-is (IsPrefix-self (messages_of c.args.self.now.notices))
+]
 
 pub returns-in_err-add_size-clause-kept_messages : goal.returns-in_err-add_size-clause-kept_messages
 returns-in_err-add_size-clause-kept_messages g c =
-    let before = messages_of c.args.self.now.notices in
+    let none = IsPrefix-self (messages_of c.args.self.now.notices) in
     elim c.if-add.branch [
       | then-add+in_ok-add_limit_notice w ↦
-          IsPrefix-same before (ap messages_in w.self-is) w.in_ok-add_limit_notice.ensures.kept
-      | else-add w ↦ IsPrefix-same before (ap messages_in w.self-is) (IsPrefix-self before)
+          kept_messages-same c.args.self.now _ _ w.self-is w.in_ok-add_limit_notice.ensures.kept
+      | else-add w ↦ kept_messages-same c.args.self.now _ _ w.self-is none
     ]
 
 -- a size about which there is no message is beyond no limit
@@ -65,6 +60,5 @@ pub returns-in_err-add_limit_notice-clause-succeeds : goal.returns-in_err-add_li
 returns-in_err-add_limit_notice-clause-succeeds g c = λ _ untold.
     let old : State = state_of c.args.self.now in
     let within = within-untold c.args.options.now old.word old.place c.args.number c.args.field.now
-    c.texts_are_accepted_or_refused.ensures c.args.size untold.0 c.requires.chosen
-    c.requires.size untold.1 in
+    c.texts_are_accepted_or_refused.ensures c.args.size untold.0 c.requires.chosen c.requires.size untold.1 in
     absurd (true≢false (sym c.if-add.true ∙ c.add.ensures.beyond ∙ within))

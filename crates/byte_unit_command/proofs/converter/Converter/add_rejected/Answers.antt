@@ -12,8 +12,7 @@ returns-clause-ok g c =
     let told = c.in_ok-add_reject_notice.ensures.ok in
     AddsField-rejected c.args.options.now c.args.number c.args.field.now (state_of c.args.self.now) copied.result told.0
     (messages_of c.add_reject_notice.new.notices) copied.new.text.items copied.new.tally c.requires.chosen
-    c.requires.none
-    told.1 told.2 copied.ensures.mode copied.ensures.text copied.ensures.tally
+    c.requires.none told.1 told.2 copied.ensures.mode copied.ensures.text copied.ensures.tally
 
 pub returns-clause-rejected : goal.returns-clause-rejected
 returns-clause-rejected g c = λ is.

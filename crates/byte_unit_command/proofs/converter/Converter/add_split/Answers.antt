@@ -1,19 +1,19 @@
 -- Each iteration adds one field with its delimiter; the last field follows the loop, or a rest without a chosen field. A
 -- field that is rejected in the mode `abort` is one of the record.
 use Rattle.std.proofs.Common.{true≢false, ◌≡◌, ◌+◌, ◌-◌, ◌∙◌, ◌++◌, ◌∷◌, [], List, ℕ, take, drop, length, ap, sym}
-use Rattle.std.proofs.Common.{subst, Err, arith}
-use Rattle.std.proofs.Common.{length-drop, vec_len}
+use Rattle.std.proofs.Common.{subst, Err, arith, length-drop, vec_len}
 use Rattle.std.proofs.lemmas.List.{take_rest, length-take-le}
 use Rattle.byte_unit_command.specs.Capacity.{text_room}
-use Rattle.byte_unit_command.specs.Fields.{fields_of}
 use Rattle.byte_unit_command.specs.Messages.{AreMessagesOfFields}
 use Rattle.byte_unit_command.specs.RunState.{AddsFields, State, messages_of, state_of}
 use Rattle.byte_unit_command.specs.declared.error.RunError.TheVariants.{Rejected}
-use Rattle.byte_unit_command.proofs.Results.{OnOk-map, error-passed}
+use Rattle.std.proofs.lemmas.Result.{on_ok_weaker}
+use Rattle.byte_unit_command.proofs.Results.{error-passed}
 use Rattle.byte_unit_stream.specs.Records.{parts}
 use Rattle.byte_unit_stream.proofs.Ends.{parts-EndsAt, parts-IsUnbroken}
-use Rattle.byte_unit_command.proofs.Rooms.{IsSplitWithin-fits, split_len-step, split_room-step, split_room-last}
-use Rattle.byte_unit_command.proofs.Untold.{first-untold, others-untold}
+use Rattle.byte_unit_command.proofs.Rooms.{IsSplitWithin-first, IsSplitWithin-fits, split_len-step, split_room-step}
+use Rattle.byte_unit_command.proofs.Rooms.{split_room-last}
+use Rattle.byte_unit_command.proofs.Untold.{others-untold}
 use Rattle.byte_unit_command.proofs.Splitting.{IsSplitting, IsSplitting-start, IsSplitting-step, Aborts-step}
 use Rattle.byte_unit_command.proofs.Splitting.{AddsFields-last, AddsFields-copied, Aborts-last, FieldHasNoMessage-now}
 use Rattle.byte_unit_command.proofs.converter.Converter.add_split.Goals as goal
@@ -22,9 +22,7 @@ pub returns-in_err-add_field-clause-rejected : goal.returns-in_err-add_field-cla
 returns-in_err-add_field-clause-rejected g c = λ is.
     let error = c.in_err-add_field.field-0.0 in
     let same = error-passed c.from_residual.result error Rejected c.from_residual.ensures.1 is in
-    Aborts-step c.args.options.now c.args.delimiter c.args.bytes.now (state_of c.args.self.now) c.loop-n.number
-    c.loop-n.rest.now
-    (state_of c.loop-n.self) c.loop-n.invariant.0 c.requires.delimiter c.in-Some.n c.in-Some.ensures.some
+    Aborts-step c.loop-n.invariant.0 c.requires.delimiter c.in-Some.n c.in-Some.ensures.some
     (messages_of c.add_field.new.self.notices) (c.in_err-add_field.ensures.rejected (ap Err same))
 
 pub loop-n-init : goal.loop-n-init
@@ -42,8 +40,8 @@ loop-n-preserved g c =
     let place = c.in-Some.n in
     let number = c.loop-n.number in
     let behind = drop (place + 1) rest in
-    let stepped = IsSplitting-step options c.args.delimiter c.args.bytes.now old number rest (state_of c.loop-n.self)
-    c.loop-n.invariant.0 c.requires.delimiter place c.in-Some.ensures.some next c.in_ok-add_field.ensures.ok in
+    let stepped = IsSplitting-step c.loop-n.invariant.0 c.requires.delimiter place c.in-Some.ensures.some next
+    c.in_ok-add_field.ensures.ok in
     let rest_is = take_rest rest (place + 1) in
     let ends = c.in-Some.ensures.some in
     let within = c.loop-n.invariant.1 in
@@ -79,77 +77,49 @@ loop-n-preserved g c =
 
 pub returns-then-is_past-clause-ok : goal.returns-then-is_past-clause-ok
 returns-then-is_past-clause-ok g c =
-    let options = c.args.options.now in
-    let old : State = state_of c.args.self.now in
     let next : State = state_of c.add_field.new.self in
     let rest = c.loop-n.rest.now in
     let place = c.in-Some.n in
     let behind = drop (place + 1) rest in
-    let ended = next.out ++ c.args.delimiter ∷ [] in
-    let stepped = IsSplitting-step options c.args.delimiter c.args.bytes.now old c.loop-n.number rest
-    (state_of c.loop-n.self)
-    c.loop-n.invariant.0 c.requires.delimiter place c.in-Some.ensures.some next c.in_ok-add_field.ensures.ok in
-    let copied = AddsFields-copied options c.args.delimiter c.args.bytes.now old (c.loop-n.number + 1) behind
-    (record next { out = ended }) stepped c.requires.delimiter (c.is_past.ensures c.if-is_past.true) in
-    let out : c.extend_from_slice-then-is_past.new.self.items ≡ ended ++ behind =
+    let stepped = IsSplitting-step c.loop-n.invariant.0 c.requires.delimiter place c.in-Some.ensures.some next
+    c.in_ok-add_field.ensures.ok in
+    let copied = AddsFields-copied stepped c.requires.delimiter (c.is_past.ensures c.if-is_past.true) in
+    let out : c.extend_from_slice-then-is_past.new.self.items ≡ (next.out ++ c.args.delimiter ∷ []) ++ behind =
     c.in_ok-extend_from_slice-2.ensures.items
     ∙ ap (λ text. text ++ take (length rest - (place + 1)) behind) c.in_ok-extend_from_slice.ensures.items
-    ∙ ap (λ more. ended ++ more) (take_rest rest (place + 1)) in
-    subst (λ (out : List ℕ). AddsFields options c.args.bytes.now old (record next { out = out })) (sym out) copied
+    ∙ ap (λ more. (next.out ++ c.args.delimiter ∷ []) ++ more) (take_rest rest (place + 1)) in
+    subst (λ (out : List ℕ). AddsFields c.args.options.now c.args.bytes.now (state_of c.args.self.now)
+    (record next { out = out })) (sym out) copied
 
 pub returns-clause-ok : goal.returns-clause-ok
 returns-clause-ok g c =
-    OnOk-map c.add_field-2.result (AddsFields-last c.args.options.now c.args.delimiter c.args.bytes.now
-    (state_of c.args.self.now)
-    c.loop-n.number c.loop-n.rest.now (state_of c.loop-n.self) c.loop-n.invariant.0 c.requires.delimiter
+    on_ok_weaker c.add_field-2.result (AddsFields-last c.loop-n.invariant.0 c.requires.delimiter
     c.in_default.ensures.none (state_of c.add_field-2.new.self)) c.add_field-2.ensures.ok
 
 pub returns-clause-rejected : goal.returns-clause-rejected
-returns-clause-rejected g c = λ is.
-    Aborts-last c.args.options.now c.args.delimiter c.args.bytes.now (state_of c.args.self.now) c.loop-n.number
-    c.loop-n.rest.now
-    (state_of c.loop-n.self) c.loop-n.invariant.0 c.requires.delimiter c.in_default.ensures.none
+returns-clause-rejected g c = λ is. Aborts-last c.loop-n.invariant.0 c.requires.delimiter c.in_default.ensures.none
     (messages_of c.add_field-2.new.self.notices) (c.add_field-2.ensures.rejected is)
 
 pub returns-in_err-add_field-clause-succeeds : goal.returns-in_err-add_field-clause-succeeds
 returns-in_err-add_field-clause-succeeds g c = λ room untold.
-    let options = c.args.options.now in
-    let old : State = state_of c.args.self.now in
-    let now : State = state_of c.loop-n.self in
-    let bytes = c.args.bytes.now in
     let rest = c.loop-n.rest.now in
     let place = c.in-Some.n in
-    let number = c.loop-n.number in
+    let field = take place rest in
     let ends = c.in-Some.ensures.some in
     let within = c.loop-n.invariant.1 in
-    let all = subst (λ mark. AreMessagesOfFields options old.word old.place 1 (fields_of mark bytes) [])
-    c.requires.delimiter untold in
-    let fields = subst (λ fields. AreMessagesOfFields options old.word old.place number fields [])
-    (parts-EndsAt c.args.delimiter rest place ends) (within.untold all) in
-    let first = first-untold options old.word old.place number (take place rest)
-    (parts c.args.delimiter (drop (place + 1) rest)) fields in
+    let first = IsSplitWithin-first within c.requires.delimiter field (parts c.args.delimiter (drop (place + 1) rest))
+    (parts-EndsAt c.args.delimiter rest place ends) untold in
     let fits = IsSplitWithin-fits within c.requires.delimiter room in
-    let taken : length (take place rest) ≡ place = length-take-le place rest (omega (arith, ends.0)) in
-    let step = split_room-step (text_room options) (length rest) place ends.0 in
-    let here = FieldHasNoMessage-now options c.args.delimiter bytes old number rest now c.loop-n.invariant.0
-    (take place rest) first in
+    let taken : length field ≡ place = length-take-le place rest (omega (arith, ends.0)) in
+    let step = split_room-step (text_room c.args.options.now) (length rest) place ends.0 in
+    let here = FieldHasNoMessage-now c.loop-n.invariant.0 field first in
     absurd (true≢false (sym (c.in_err-add_field.ensures.succeeds (omega (arith, fits, step, taken)) here)))
 
 pub returns-clause-succeeds : goal.returns-clause-succeeds
 returns-clause-succeeds g c = λ room untold.
-    let options = c.args.options.now in
-    let old : State = state_of c.args.self.now in
-    let now : State = state_of c.loop-n.self in
-    let bytes = c.args.bytes.now in
     let rest = c.loop-n.rest.now in
-    let number = c.loop-n.number in
-    let within = c.loop-n.invariant.1 in
-    let all = subst (λ mark. AreMessagesOfFields options old.word old.place 1 (fields_of mark bytes) [])
-    c.requires.delimiter untold in
-    let fields = subst (λ fields. AreMessagesOfFields options old.word old.place number fields [])
-    (parts-IsUnbroken c.args.delimiter rest c.in_default.ensures.none) (within.untold all) in
-    let first = first-untold options old.word old.place number rest [] fields in
-    let fits = IsSplitWithin-fits within c.requires.delimiter room in
-    let here = FieldHasNoMessage-now options c.args.delimiter bytes old number rest now c.loop-n.invariant.0 rest
-    first in
-    c.add_field-2.ensures.succeeds (omega (arith, fits, split_room-last (text_room options) (length rest))) here
+    let first = IsSplitWithin-first c.loop-n.invariant.1 c.requires.delimiter rest []
+    (parts-IsUnbroken c.args.delimiter rest c.in_default.ensures.none) untold in
+    let fits = IsSplitWithin-fits c.loop-n.invariant.1 c.requires.delimiter room in
+    c.add_field-2.ensures.succeeds (omega (arith, fits, split_room-last (text_room c.args.options.now) (length rest)))
+    (FieldHasNoMessage-now c.loop-n.invariant.0 rest first)

@@ -1,8 +1,8 @@
 -- A header record is copied, and the fields of any other are added; the end byte follows.
 use Rattle.std.proofs.Common.{◌≡◌, ◌-◌, ◌++◌, ◌∷◌, [], List, ℕ, suc, ap, subst, ◌∙◌, arith}
 use Rattle.byte_unit_command.specs.RunState.{AddsFields, State, messages_of, state_of}
-use Rattle.byte_unit_command.proofs.Converting.{messages_in, AddsRecords-header, AddsRecords-fields}
-use Rattle.byte_unit_stream.proofs.Prefixes.{IsPrefix-self, IsPrefix-same}
+use Rattle.byte_unit_command.proofs.Converting.{AddsRecords-header, AddsRecords-fields, kept_messages-same}
+use Rattle.byte_unit_stream.proofs.Prefixes.{IsPrefix-self}
 use Rattle.byte_unit_command.proofs.converter.Converter.append_record.Goals.{then-self-gt0+in_ok-extend_from_slice}
 use Rattle.byte_unit_command.proofs.converter.Converter.append_record.Goals.{else-self-gt0+in_ok-add_fields}
 use Rattle.byte_unit_command.proofs.converter.Converter.append_record.Goals as goal
@@ -31,31 +31,25 @@ returns-clause-ok g c =
       | else-self-gt0+in_ok-add_fields w ↦
           let none : old.header ≡ 0 = omega (arith, w.if-self-gt0.false) in
           let own = subst (λ (place : ℕ). AddsFields options bytes (record old { place = place })
-          (state_of w.add_fields.new.self))
-          c.saturating_add-self.ensures w.in_ok-add_fields.ensures.ok in
+          (state_of w.add_fields.new.self)) c.saturating_add-self.ensures w.in_ok-add_fields.ensures.ok in
           AddsRecords-fields options bytes old new (state_of w.add_fields.new.self) none own
           (ended ∙ ap (λ (state : State). record state { out = state.out ++ mark }) (ap state_of w.self-is))
     ]
 
 pub returns-clause-kept_messages : goal.returns-clause-kept_messages
-returns-clause-kept_messages g c =
-    let before = messages_of c.args.self.now.notices in
-    elim c.if-self-gt0.branch [
-      | then-self-gt0+in_ok-extend_from_slice w ↦
-          IsPrefix-same before (ap messages_in w.self-is) (IsPrefix-self before)
-      | else-self-gt0+in_ok-add_fields w ↦
-          IsPrefix-same before (ap messages_in w.self-is)
-          w.in_ok-add_fields.ensures.kept_messages
-    ]
+returns-clause-kept_messages g c = elim c.if-self-gt0.branch [
+  | then-self-gt0+in_ok-extend_from_slice w ↦
+      kept_messages-same c.args.self.now _ _ w.self-is (IsPrefix-self (messages_of c.args.self.now.notices))
+  | else-self-gt0+in_ok-add_fields w ↦
+      kept_messages-same c.args.self.now _ _ w.self-is w.in_ok-add_fields.ensures.kept_messages
+]
 
 pub returns-in_err-extend_from_slice-2-clause-kept_messages :
     goal.returns-in_err-extend_from_slice-2-clause-kept_messages
 returns-in_err-extend_from_slice-2-clause-kept_messages g c =
-    let before = messages_of c.args.self.now.notices in
+    let none = IsPrefix-self (messages_of c.args.self.now.notices) in
     elim c.if-self-gt0.branch [
-      | then-self-gt0+in_ok-extend_from_slice w ↦
-          IsPrefix-same before (ap messages_in w.self-is) (IsPrefix-self before)
+      | then-self-gt0+in_ok-extend_from_slice w ↦ kept_messages-same c.args.self.now _ _ w.self-is none
       | else-self-gt0+in_ok-add_fields w ↦
-          IsPrefix-same before (ap messages_in w.self-is)
-          w.in_ok-add_fields.ensures.kept_messages
+          kept_messages-same c.args.self.now _ _ w.self-is w.in_ok-add_fields.ensures.kept_messages
     ]
