@@ -11,6 +11,7 @@ use Rattle.byte_unit.specs.Spelling.{flags_of}
 use Rattle.byte_unit.specs.Forms.{IsText}
 use Rattle.byte_unit.specs.NamedSpecs.{alternate_spec}
 use Rattle.byte_unit.specs.declared.Kind.{Kind}
+use Rattle.byte_unit.specs.declared.ParseError.{ParseError}
 use Rattle.byte_unit.specs.declared.Unit.{Unit as UnitName}
 use Rattle.byte_unit_serde.specs.Messages.{message_of}
 use Rattle.byte_unit_serde.specs.Serialized.{ReadsString, ReadsEach}
@@ -47,11 +48,17 @@ Parsing {D} {E} {A} {Rejection} Reads message rejects bytes from result =
     (λ value. result ≡ Ok value)
     (λ rejection. (error : E) × rejects from (message rejection) error × (result ≡ Err error))
 
--- The string that the format gives is parsed as a size.
+-- The string that the format gives is parsed as a size, in this way.
+abbrev pub ReadingSizeBy :
+    {D E : Type 0} → (List ℕ → Result ℕ ParseError → Type 0) → Returns D (List ℕ) E → (D → List ℕ → E → Type 0)
+    → Returns D ℕ E
+ReadingSizeBy Reads string_returns rejects =
+    Converting string_returns (Parsing Reads (λ error. message_of (size_fault error)) rejects)
+
+-- The string that the format gives is parsed as a size, with case.
 abbrev pub ReadingSize :
     {D E : Type 0} → Kind → Returns D (List ℕ) E → (D → List ℕ → E → Type 0) → Returns D ℕ E
-ReadingSize kind string_returns rejects =
-    Converting string_returns (Parsing (IsSizeReading kind false) (λ error. message_of (size_fault error)) rejects)
+ReadingSize kind = ReadingSizeBy (IsSizeReading kind false)
 
 -- The string that the format gives is parsed as a unit.
 abbrev pub ReadingUnit :

@@ -8,6 +8,7 @@ ghost use Rattle.byte_unit_serde.specs.Outcomes.{ReadingSize, WritingSize};
 ghost use Rattle.byte_unit_serde.specs.Serialized.{ReadsString, WritesSize};
 
 use crate::messages::size_message;
+use crate::strings::{DeserializeString, SerializeString};
 use crate::{Sink, Source};
 use byte_unit::{Bit, FormatSpec};
 use serde::Deserializer;
@@ -48,4 +49,29 @@ pub fn deserialize<'de, F: Source>(
     let text = F::read_string(alloc, from)?;
     text.parse::<Bit>()
         .map_err(|error| F::rejection(from, size_message(&error)))
+}
+
+impl SerializeString for Bit {
+    ghost writes = { WritesSize InBits };
+
+    ghost writing = { WritingSize InBits };
+
+    fn serialize_string<S: Sink>(&self, out: &mut S) -> Result<(), S::Error> {
+        serialize(self, out)
+    }
+}
+
+impl DeserializeString for Bit {
+    type Value = Bit;
+
+    ghost means = { IsAccepted InBits false };
+
+    ghost reading = { ReadingSize InBits };
+
+    fn deserialize_string<F: Source>(
+        alloc: Global,
+        from: &mut Deserializer<'_, '_, F>,
+    ) -> Result<Bit, F::Error> {
+        deserialize(alloc, from)
+    }
 }

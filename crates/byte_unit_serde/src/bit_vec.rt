@@ -8,12 +8,12 @@ ghost use Rattle.byte_unit.specs.declared.Kind.TheVariants.{Bit as InBits};
 ghost use Rattle.byte_unit_serde.specs.Outcomes.{IsListError, ReadingSize, WritingList, WritingSize};
 ghost use Rattle.byte_unit_serde.specs.Serialized.{ReadsSeq, WritesSize};
 
-use crate::{Sink, Source, bit};
+use crate::{Sink, Source, lists};
 use byte_unit::Bit;
 use serde::Deserializer;
 use std::alloc::Global;
 
-/// Writes a sequence of the strings of the sizes, each as [`bit::serialize`] does. Does not allocate.
+/// Writes a sequence of the strings of the sizes, each as [`crate::bit::serialize`] does. Does not allocate.
 ///
 /// # Errors
 ///
@@ -24,14 +24,10 @@ pub fn serialize<S: Sink>(sizes: &Vec<Bit>, out: &mut S) -> Result<(), S::Error>
     ensures exact { WritingList S.begin_returns S.end_returns (WritingSize InBits S.str_returns)
         sizes.now.items out.old result out.new }
 {
-    out.begin_list(sizes.len())?;
-    for item in sizes {
-        bit::serialize(item, out)?;
-    }
-    out.end_list()
+    lists::serialize(sizes, out)
 }
 
-/// Reads a sequence of strings, each as [`bit::deserialize`] does.
+/// Reads a sequence of strings, each as [`crate::bit::deserialize`] does.
 ///
 /// # Errors
 ///
@@ -46,14 +42,5 @@ pub fn deserialize<'de, F: Source>(
         (IsListError (IsAccepted InBits false) F.gives F.stays F.begin_returns
         F.next_returns Reading F.refuses from.old from.new) }
 {
-    F::begin_list(from)?;
-    let mut items = Vec::new(alloc);
-    while items.len() < usize::MAX {
-        if !F::next_in_list(from)? {
-            return Ok(items);
-        }
-        let item = bit::deserialize(alloc, from)?;
-        F::append(from, &mut items, item)?;
-    }
-    Err(from.wrong_len())
+    lists::deserialize::<Bit, F>(alloc, from)
 }

@@ -7,6 +7,7 @@ ghost use Rattle.byte_unit_serde.specs.Outcomes.{ReadingSize, WritingSize};
 ghost use Rattle.byte_unit_serde.specs.Serialized.{ReadsString, WritesSize};
 
 use crate::messages::size_message;
+use crate::strings::{DeserializeString, SerializeString};
 use crate::{Sink, Source};
 use byte_unit::{Byte, FormatSpec};
 use serde::Deserializer;
@@ -47,4 +48,29 @@ pub fn deserialize<'de, F: Source>(
     let text = F::read_string(alloc, from)?;
     text.parse::<Byte>()
         .map_err(|error| F::rejection(from, size_message(&error)))
+}
+
+impl SerializeString for Byte {
+    ghost writes = { WritesSize InBytes };
+
+    ghost writing = { WritingSize InBytes };
+
+    fn serialize_string<S: Sink>(&self, out: &mut S) -> Result<(), S::Error> {
+        serialize(self, out)
+    }
+}
+
+impl DeserializeString for Byte {
+    type Value = Byte;
+
+    ghost means = { IsAccepted InBytes false };
+
+    ghost reading = { ReadingSize InBytes };
+
+    fn deserialize_string<F: Source>(
+        alloc: Global,
+        from: &mut Deserializer<'_, '_, F>,
+    ) -> Result<Byte, F::Error> {
+        deserialize(alloc, from)
+    }
 }

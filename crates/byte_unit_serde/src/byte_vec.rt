@@ -7,12 +7,12 @@ ghost use Rattle.byte_unit.specs.declared.Kind.TheVariants.{Byte as InBytes};
 ghost use Rattle.byte_unit_serde.specs.Outcomes.{IsListError, ReadingSize, WritingList, WritingSize};
 ghost use Rattle.byte_unit_serde.specs.Serialized.{ReadsSeq, WritesSize};
 
-use crate::{Sink, Source, byte};
+use crate::{Sink, Source, lists};
 use byte_unit::Byte;
 use serde::Deserializer;
 use std::alloc::Global;
 
-/// Writes a sequence of the strings of the sizes, each as [`byte::serialize`] does. Does not allocate.
+/// Writes a sequence of the strings of the sizes, each as [`crate::byte::serialize`] does. Does not allocate.
 ///
 /// # Errors
 ///
@@ -23,14 +23,10 @@ pub fn serialize<S: Sink>(sizes: &Vec<Byte>, out: &mut S) -> Result<(), S::Error
     ensures exact { WritingList S.begin_returns S.end_returns (WritingSize InBytes S.str_returns)
         sizes.now.items out.old result out.new }
 {
-    out.begin_list(sizes.len())?;
-    for item in sizes {
-        byte::serialize(item, out)?;
-    }
-    out.end_list()
+    lists::serialize(sizes, out)
 }
 
-/// Reads a sequence of strings, each as [`byte::deserialize`] does.
+/// Reads a sequence of strings, each as [`crate::byte::deserialize`] does.
 ///
 /// # Errors
 ///
@@ -45,14 +41,5 @@ pub fn deserialize<'de, F: Source>(
         (IsListError (IsAccepted InBytes false) F.gives F.stays F.begin_returns
         F.next_returns Reading F.refuses from.old from.new) }
 {
-    F::begin_list(from)?;
-    let mut items = Vec::new(alloc);
-    while items.len() < usize::MAX {
-        if !F::next_in_list(from)? {
-            return Ok(items);
-        }
-        let item = byte::deserialize(alloc, from)?;
-        F::append(from, &mut items, item)?;
-    }
-    Err(from.wrong_len())
+    lists::deserialize::<Byte, F>(alloc, from)
 }

@@ -8,12 +8,12 @@ ghost use Rattle.byte_unit.specs.declared.Kind.TheVariants.{Bit as InBits};
 ghost use Rattle.byte_unit_serde.specs.Outcomes.{ReadingOption, ReadingSize, WritingOption, WritingSize};
 ghost use Rattle.byte_unit_serde.specs.Serialized.{ReadsOption, WritesSize};
 
-use crate::{Sink, Source, bit};
+use crate::{Sink, Source, options};
 use byte_unit::Bit;
 use serde::Deserializer;
 use std::alloc::Global;
 
-/// Writes the string of the size, as [`bit::serialize`] does, or nothing. Does not allocate.
+/// Writes the string of the size, as [`crate::bit::serialize`] does, or nothing. Does not allocate.
 ///
 /// # Errors
 ///
@@ -24,13 +24,10 @@ pub fn serialize<S: Sink>(size: &Option<Bit>, out: &mut S) -> Result<(), S::Erro
     ensures exact { WritingOption S.none_returns (WritingSize InBits S.str_returns)
         size.now out.old result out.new }
 {
-    match size {
-        Some(size) => bit::serialize(size, out),
-        None => out.write_none(),
-    }
+    options::serialize(size, out)
 }
 
-/// Reads nothing, or a string as [`bit::deserialize`] does.
+/// Reads nothing, or a string as [`crate::bit::deserialize`] does.
 ///
 /// # Errors
 ///
@@ -44,8 +41,5 @@ pub fn deserialize<'de, F: Source>(
     ensures exact { ReadingOption F.none_returns (ReadingSize InBits F.string_returns F.rejects)
         from.old result from.new }
 {
-    if F::read_none(from)? {
-        return Ok(None);
-    }
-    Ok(Some(bit::deserialize(alloc, from)?))
+    options::deserialize::<Bit, F>(alloc, from)
 }

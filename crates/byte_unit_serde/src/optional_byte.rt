@@ -7,12 +7,12 @@ ghost use Rattle.byte_unit.specs.declared.Kind.TheVariants.{Byte as InBytes};
 ghost use Rattle.byte_unit_serde.specs.Outcomes.{ReadingOption, ReadingSize, WritingOption, WritingSize};
 ghost use Rattle.byte_unit_serde.specs.Serialized.{ReadsOption, WritesSize};
 
-use crate::{Sink, Source, byte};
+use crate::{Sink, Source, options};
 use byte_unit::Byte;
 use serde::Deserializer;
 use std::alloc::Global;
 
-/// Writes the string of the size, as [`byte::serialize`] does, or nothing. Does not allocate.
+/// Writes the string of the size, as [`crate::byte::serialize`] does, or nothing. Does not allocate.
 ///
 /// # Errors
 ///
@@ -23,13 +23,10 @@ pub fn serialize<S: Sink>(size: &Option<Byte>, out: &mut S) -> Result<(), S::Err
     ensures exact { WritingOption S.none_returns (WritingSize InBytes S.str_returns)
         size.now out.old result out.new }
 {
-    match size {
-        Some(size) => byte::serialize(size, out),
-        None => out.write_none(),
-    }
+    options::serialize(size, out)
 }
 
-/// Reads nothing, or a string as [`byte::deserialize`] does.
+/// Reads nothing, or a string as [`crate::byte::deserialize`] does.
 ///
 /// # Errors
 ///
@@ -43,8 +40,5 @@ pub fn deserialize<'de, F: Source>(
     ensures exact { ReadingOption F.none_returns (ReadingSize InBytes F.string_returns F.rejects)
         from.old result from.new }
 {
-    if F::read_none(from)? {
-        return Ok(None);
-    }
-    Ok(Some(byte::deserialize(alloc, from)?))
+    options::deserialize::<Byte, F>(alloc, from)
 }

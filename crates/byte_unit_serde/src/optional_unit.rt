@@ -6,12 +6,12 @@ ghost use Rattle.byte_unit.specs.Version.{unit_name};
 ghost use Rattle.byte_unit_serde.specs.Outcomes.{ReadingOption, ReadingUnit, WritingOption};
 ghost use Rattle.byte_unit_serde.specs.Serialized.{ReadsOption, SpellsUnit, WritesUnit};
 
-use crate::{Sink, Source, unit};
+use crate::{Sink, Source, options};
 use byte_unit::Unit;
 use serde::Deserializer;
 use std::alloc::Global;
 
-/// Writes the string of the unit, as [`unit::serialize`] does, or nothing. Does not allocate.
+/// Writes the string of the unit, as [`crate::unit::serialize`] does, or nothing. Does not allocate.
 ///
 /// # Errors
 ///
@@ -22,13 +22,10 @@ pub fn serialize<S: Sink>(value: &Option<Unit>, out: &mut S) -> Result<(), S::Er
     ensures exact { WritingOption S.none_returns (λ unit. S.str_returns (unit_name unit))
         value.now out.old result out.new }
 {
-    match value {
-        Some(value) => unit::serialize(value, out),
-        None => out.write_none(),
-    }
+    options::serialize(value, out)
 }
 
-/// Reads nothing, or a string as [`unit::deserialize`] does.
+/// Reads nothing, or a string as [`crate::unit::deserialize`] does.
 ///
 /// # Errors
 ///
@@ -42,8 +39,5 @@ pub fn deserialize<'de, F: Source>(
     ensures exact { ReadingOption F.none_returns (ReadingUnit F.string_returns F.rejects)
         from.old result from.new }
 {
-    if F::read_none(from)? {
-        return Ok(None);
-    }
-    Ok(Some(unit::deserialize(alloc, from)?))
+    options::deserialize::<Unit, F>(alloc, from)
 }

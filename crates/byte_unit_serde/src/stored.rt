@@ -1,12 +1,9 @@
 //! Sizes and units that are stored as strings, as items of collections.
 
-ghost use Rattle.std.specs.Prelude.{false, IfOk};
-ghost use Rattle.byte_unit.specs.Accepted.{IsAccepted};
-ghost use Rattle.byte_unit.specs.declared.Kind.TheVariants.{Bit as InBits, Byte as InBytes};
-ghost use Rattle.byte_unit_serde.specs.Serialized.{ReadsString, SpellsUnit};
+ghost use Rattle.std.specs.Prelude.{IfOk};
+ghost use Rattle.byte_unit_serde.specs.Serialized.{ReadsString};
 
-use crate::{bit, byte, unit};
-use byte_unit::{Bit, Byte, Unit};
+use crate::strings::{DeserializeString, SerializeString};
 use serde::{
     Described, Deserialize, DeserializeOwned, Deserializer, Format, Serialize, Serializer,
 };
@@ -26,111 +23,35 @@ use std::alloc::Global;
 #[derive(Clone, Copy, Debug, PartialEq, Eq)]
 pub struct Stored<T>(pub T);
 
-impl Described for Stored<Byte> {
-    ghost use Rattle.byte_unit.specs.declared.Kind.TheVariants.{Byte as InBytes};
-    ghost use Rattle.byte_unit_serde.specs.Serialized.{WritesSize};
-
-    ghost writes = { λ stored. WritesSize InBytes stored.0 };
+impl<T: SerializeString> Described for Stored<T> {
+    ghost writes = { λ stored. T.writes stored.0 };
 }
 
-impl Serialize for Stored<Byte> {
+impl<T: SerializeString> Serialize for Stored<T> {
     fn serialize<S: Serializer>(&self, out: &mut S) -> Result<(), S::Error> {
-        byte::serialize(&self.0, out)
+        self.0.serialize_string(out)
     }
 }
 
-impl DeserializeOwned for Stored<Byte> {
+impl<T: DeserializeString<Value = T> + Drop> DeserializeOwned for Stored<T> {
     fn deserialize_owned<F: Format>(
         alloc: Global,
         from: &mut Deserializer<'_, '_, F>,
-    ) -> Result<Stored<Byte>, F::Error>
+    ) -> Result<Stored<T>, F::Error>
         ensures { IfOk result (λ stored.
-            ReadsString (IsAccepted InBytes false) F.gives from.old from.new stored.0) }
+            ReadsString T.means F.gives from.old from.new stored.0) }
     {
-        Ok(Stored(byte::deserialize(alloc, from)?))
+        Ok(Stored(T::deserialize_string(alloc, from)?))
     }
 }
 
-impl<'de> Deserialize<'de> for Stored<Byte> {
+impl<'de, T: DeserializeString<Value = T> + Drop> Deserialize<'de> for Stored<T> {
     fn deserialize<F: Format>(
         alloc: Global,
         from: &mut Deserializer<'de, '_, F>,
-    ) -> Result<Stored<Byte>, F::Error>
+    ) -> Result<Stored<T>, F::Error>
         ensures { IfOk result (λ stored.
-            ReadsString (IsAccepted InBytes false) F.gives from.old from.new stored.0) }
-    {
-        DeserializeOwned::deserialize_owned(alloc, from)
-    }
-}
-
-impl Described for Stored<Bit> {
-    ghost use Rattle.byte_unit.specs.declared.Kind.TheVariants.{Bit as InBits};
-    ghost use Rattle.byte_unit_serde.specs.Serialized.{WritesSize};
-
-    ghost writes = { λ stored. WritesSize InBits stored.0 };
-}
-
-impl Serialize for Stored<Bit> {
-    fn serialize<S: Serializer>(&self, out: &mut S) -> Result<(), S::Error> {
-        bit::serialize(&self.0, out)
-    }
-}
-
-impl DeserializeOwned for Stored<Bit> {
-    fn deserialize_owned<F: Format>(
-        alloc: Global,
-        from: &mut Deserializer<'_, '_, F>,
-    ) -> Result<Stored<Bit>, F::Error>
-        ensures { IfOk result (λ stored.
-            ReadsString (IsAccepted InBits false) F.gives from.old from.new stored.0) }
-    {
-        Ok(Stored(bit::deserialize(alloc, from)?))
-    }
-}
-
-impl<'de> Deserialize<'de> for Stored<Bit> {
-    fn deserialize<F: Format>(
-        alloc: Global,
-        from: &mut Deserializer<'de, '_, F>,
-    ) -> Result<Stored<Bit>, F::Error>
-        ensures { IfOk result (λ stored.
-            ReadsString (IsAccepted InBits false) F.gives from.old from.new stored.0) }
-    {
-        DeserializeOwned::deserialize_owned(alloc, from)
-    }
-}
-
-impl Described for Stored<Unit> {
-    ghost use Rattle.byte_unit_serde.specs.Serialized.{WritesUnit};
-
-    ghost writes = { λ stored. WritesUnit stored.0 };
-}
-
-impl Serialize for Stored<Unit> {
-    fn serialize<S: Serializer>(&self, out: &mut S) -> Result<(), S::Error> {
-        unit::serialize(&self.0, out)
-    }
-}
-
-impl DeserializeOwned for Stored<Unit> {
-    fn deserialize_owned<F: Format>(
-        alloc: Global,
-        from: &mut Deserializer<'_, '_, F>,
-    ) -> Result<Stored<Unit>, F::Error>
-        ensures { IfOk result (λ stored.
-            ReadsString SpellsUnit F.gives from.old from.new stored.0) }
-    {
-        Ok(Stored(unit::deserialize(alloc, from)?))
-    }
-}
-
-impl<'de> Deserialize<'de> for Stored<Unit> {
-    fn deserialize<F: Format>(
-        alloc: Global,
-        from: &mut Deserializer<'de, '_, F>,
-    ) -> Result<Stored<Unit>, F::Error>
-        ensures { IfOk result (λ stored.
-            ReadsString SpellsUnit F.gives from.old from.new stored.0) }
+            ReadsString T.means F.gives from.old from.new stored.0) }
     {
         DeserializeOwned::deserialize_owned(alloc, from)
     }

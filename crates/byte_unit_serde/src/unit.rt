@@ -6,6 +6,7 @@ ghost use Rattle.byte_unit_serde.specs.Outcomes.{ReadingUnit};
 ghost use Rattle.byte_unit_serde.specs.Serialized.{ReadsString, SpellsUnit, WritesUnit};
 
 use crate::messages::BAD_UNIT;
+use crate::strings::{DeserializeString, SerializeString};
 use crate::{Sink, Source};
 use byte_unit::Unit;
 use serde::Deserializer;
@@ -38,4 +39,29 @@ pub fn deserialize<'de, F: Source>(
     let text = F::read_string(alloc, from)?;
     text.parse::<Unit>()
         .map_err(|_| F::rejection(from, BAD_UNIT))
+}
+
+impl SerializeString for Unit {
+    ghost writes = { WritesUnit };
+
+    ghost writing = { λ str_returns unit. str_returns (unit_name unit) };
+
+    fn serialize_string<S: Sink>(&self, out: &mut S) -> Result<(), S::Error> {
+        serialize(self, out)
+    }
+}
+
+impl DeserializeString for Unit {
+    type Value = Unit;
+
+    ghost means = { SpellsUnit };
+
+    ghost reading = { ReadingUnit };
+
+    fn deserialize_string<F: Source>(
+        alloc: Global,
+        from: &mut Deserializer<'_, '_, F>,
+    ) -> Result<Unit, F::Error> {
+        deserialize(alloc, from)
+    }
 }

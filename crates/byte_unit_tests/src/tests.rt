@@ -88,6 +88,7 @@ mod quoted;
 mod readings;
 mod refused;
 mod ronna;
+mod serde_ignore_case;
 mod serde_strings;
 mod shown;
 mod spellings;

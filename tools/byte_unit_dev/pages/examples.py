@@ -1,8 +1,9 @@
 """The examples of the doc comments, which are run as tests by `rt try --test` on copies of the crates.
 
 A block ```rust becomes the body of a test with `rt`, `alloc` and `?`, and a `use` line for each name in it that the
-root of its crate or of `byte_unit` exports. The tests are a crate, which uses all crates of the library. `rt try`
-proves nothing, and stops at only some of the calls that break a `requires`.
+root of its crate or of `byte_unit` exports. What is in it up to the last type with `#[derive(..)]` is put before the
+test, in a module, since no function may hold such a type. The tests are a crate, which uses all crates of the library.
+`rt try` proves nothing, and stops at only some of the calls that break a `requires`.
 """
 
 import os
@@ -17,6 +18,8 @@ from .text import blocks, line_at
 
 # The generated crate, and its module.
 EXAMPLES = "doc_examples"
+# The part of an example that is put before its test.
+ITEMS = re.compile(r"\A.*^#\[derive\(.*?^}\n", re.M | re.S)
 PUBLIC = re.compile(r"^[ \t]*pub (?:const )?(?:unsafe )?fn (\w+)", re.M)
 # An example, by its file and the line at which its block begins; and its test.
 Example = namedtuple("Example", "file line text crate test")
@@ -69,14 +72,17 @@ def module_of(examples):
     """Returns the text of a module of tests, and the file and line that each of its lines comes from."""
     made, places = [], []
     for example in examples:
-        lines = example.text.splitlines()
-        head = ["", "#[test]", f"fn {example.test}(rt: HostRuntime) -> anyhow::Result<()> {{"]
-        head += imports_of(example)
+        lines = list(enumerate(example.text.splitlines(), 1))
+        items = ITEMS.match(example.text)
+        split, end = items[0].count("\n") if items else 0, len(lines) + 1
+        test = ["#[test]", "fn example(rt: HostRuntime) -> anyhow::Result<()> {"]
         if re.search(r"\balloc\b", example.text):
-            head.append("    let alloc = rt.alloc();")
-        made += head + [f"    {line}".rstrip() for line in lines] + ["    Ok(())", "}"]
-        numbers = [0] * len(head) + list(range(1, len(lines) + 1)) + [len(lines) + 1] * 2
-        places += [f"{example.file}:{example.line + number}" for number in numbers]
+            test.append("    let alloc = rt.alloc();")
+        head = ["", f"mod {example.test} {{", *imports_of(example)]
+        rows = [*((0, line) for line in head), *lines[:split], *((split, line) for line in test), *lines[split:],
+                *((end, line) for line in ("    Ok(())", "}", "}"))]
+        made += [line for _, line in rows]
+        places += [f"{example.file}:{example.line + number}" for number, _ in rows]
     return "\n".join(made) + "\n", places
 
 
@@ -103,13 +109,13 @@ def failures(examples):
         return places[int(found[1]) - 1] if int(found[1]) <= len(places) else found[0]
 
     told = re.sub(rf"(?:[\w./-]*/)?src/{EXAMPLES}\.rt:(\d+)(?::\d+)?", place_of, got.stdout + got.stderr)
-    ends = dict(re.findall(rf"^test {EXAMPLES}::(\w+) \.\.\. (\w+)$", told, re.M))
+    ends = dict(re.findall(rf"^test {EXAMPLES}::(\w+)::example \.\.\. (\w+)$", told, re.M))
     if not ends:
         return [told.strip() or "rt try --test printed nothing"]
     wrong = []
     for example in examples:
         if ends.get(example.test) != "ok":
-            why = re.search(rf"^test {EXAMPLES}::{example.test} \.\.\. \w+\n((?:    .*\n)*)", told, re.M)
+            why = re.search(rf"^test {EXAMPLES}::{example.test}::example \.\.\. \w+\n((?:    .*\n)*)", told, re.M)
             wrong.append(f"{example.file}:{example.line}: the example fails\n{why[1] if why else ''}".rstrip())
     return wrong or [told.strip()] * (got.returncode != 0)
 

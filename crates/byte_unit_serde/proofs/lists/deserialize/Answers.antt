@@ -1,20 +1,16 @@
--- Rendered from crates/byte_unit_serde/proofs/byte_vec/deserialize/Answers.antt. Do not edit.
--- Each iteration reads one more item as a size; the sequence ends after the last, or with an error.
-use Rattle.std.proofs.Common.{rules, false, ◌≡◌, [], ◌∷◌, ◌++◌, subst, sym, Err}
+-- Each iteration reads one more item; the sequence ends after the last, or with an error.
+use Rattle.std.proofs.Common.{rules, ◌≡◌, [], ◌∷◌, ◌++◌, subst, sym, Err}
 use Rattle.serde.specs.Steps.{Stays}
-use Rattle.byte_unit.specs.Accepted.{IsAccepted}
-use Rattle.byte_unit.specs.declared.Kind.TheVariants.{Bit as InBits}
-use Rattle.byte_unit_serde.specs.Outcomes.{ReadingSize}
 use Rattle.byte_unit_serde.specs.Serialized.{ReadsEach}
 use Rattle.byte_unit_serde.proofs.Reading.{reads_each_snoc, next_error, item_error, append_error, holds_of_error}
-use Rattle.byte_unit_serde.proofs.bit_vec.deserialize.Goals as goal
+use Rattle.byte_unit_serde.proofs.lists.deserialize.Goals as goal
 
 pub returns-in_err-next_in_list-clause-error : goal.returns-in_err-next_in_list-clause-error
 returns-in_err-next_in_list-clause-error g c =
     let returned : g.F.Source.next_returns c.loop-alloc.from (Err c.in_err-next_in_list.field-0.0)
     c.next_in_list.new.from = search rules in
-    let error = next_error (IsAccepted InBits false) g.F.Format.gives g.F.Format.stays g.F.Source.begin_returns
-    g.F.Source.next_returns (ReadingSize InBits g.F.Source.string_returns g.F.Source.rejects) g.F.Source.refuses
+    let error = next_error g.R.DeserializeString.means g.F.Format.gives g.F.Format.stays g.F.Source.begin_returns
+    g.F.Source.next_returns (g.R.DeserializeString.reading g.F.Source.string_returns g.F.Source.rejects) g.F.Source.refuses
     c.loop-alloc.items.items c.args.from.now c.begin_list.new.from c.loop-alloc.from c.next_in_list.new.from
     c.in_err-next_in_list.field-0.0 c.in_ok-begin_list.ensures.given c.loop-alloc.invariant returned in
     holds_of_error _ c.from_residual-in_err-next_in_list.result c.in_err-next_in_list.field-0.0 (search rules) error
@@ -26,12 +22,12 @@ returns-then-not-branch-clause-list g c =
 pub returns-in_err-item-clause-error : goal.returns-in_err-item-clause-error
 returns-in_err-item-clause-error g c =
     let looks : Stays g.F.Format.stays c.loop-alloc.from c.next_in_list.new.from = search rules in
-    let failed : ReadingSize InBits g.F.Source.string_returns g.F.Source.rejects c.next_in_list.new.from
-    (Err c.in_err-item.field-0.0) c.deserialize.new.from = search rules in
-    let error = item_error (IsAccepted InBits false) g.F.Format.gives g.F.Format.stays g.F.Source.begin_returns
-    g.F.Source.next_returns (ReadingSize InBits g.F.Source.string_returns g.F.Source.rejects) g.F.Source.refuses
+    let failed : g.R.DeserializeString.reading g.F.Source.string_returns g.F.Source.rejects c.next_in_list.new.from
+    (Err c.in_err-item.field-0.0) c.deserialize_string.new.from = search rules in
+    let error = item_error g.R.DeserializeString.means g.F.Format.gives g.F.Format.stays g.F.Source.begin_returns
+    g.F.Source.next_returns (g.R.DeserializeString.reading g.F.Source.string_returns g.F.Source.rejects) g.F.Source.refuses
     c.loop-alloc.items.items c.args.from.now c.begin_list.new.from c.loop-alloc.from c.next_in_list.new.from
-    c.deserialize.new.from c.in_err-item.field-0.0 c.in_ok-begin_list.ensures.given c.loop-alloc.invariant looks
+    c.deserialize_string.new.from c.in_err-item.field-0.0 c.in_ok-begin_list.ensures.given c.loop-alloc.invariant looks
     failed in
     holds_of_error _ c.from_residual-in_err-item.result c.in_err-item.field-0.0 (search rules) error
 
@@ -39,19 +35,19 @@ pub loop-alloc-preserved : goal.loop-alloc-preserved
 loop-alloc-preserved g c =
     let pushed : c.append.new.items.items ≡ c.loop-alloc.items.items ++ c.in_ok-item.item ∷ [] = search rules in
     let looks : Stays g.F.Format.stays c.loop-alloc.from c.next_in_list.new.from = search rules in
-    let more = reads_each_snoc (IsAccepted InBits false) g.F.Format.gives g.F.Format.stays c.loop-alloc.items.items
-    c.in_ok-item.item _ c.loop-alloc.from c.next_in_list.new.from c.deserialize.new.from c.loop-alloc.invariant looks
+    let more = reads_each_snoc g.R.DeserializeString.means g.F.Format.gives g.F.Format.stays c.loop-alloc.items.items
+    c.in_ok-item.item _ c.loop-alloc.from c.next_in_list.new.from c.deserialize_string.new.from c.loop-alloc.invariant looks
     c.in_ok-item.ensures.string in
-    subst (λ items. ReadsEach (IsAccepted InBits false) g.F.Format.gives g.F.Format.stays c.begin_list.new.from
-    c.deserialize.new.from items) (sym pushed) more
+    subst (λ items. ReadsEach g.R.DeserializeString.means g.F.Format.gives g.F.Format.stays c.begin_list.new.from
+    c.deserialize_string.new.from items) (sym pushed) more
 
 pub returns-in_err-append-clause-error : goal.returns-in_err-append-clause-error
 returns-in_err-append-clause-error g c =
     let looks : Stays g.F.Format.stays c.loop-alloc.from c.next_in_list.new.from = search rules in
-    let failed : g.F.Source.refuses c.deserialize.new.from c.in_err-append.field-0.0 = search rules in
-    let error = append_error (IsAccepted InBits false) g.F.Format.gives g.F.Format.stays g.F.Source.begin_returns
-    g.F.Source.next_returns (ReadingSize InBits g.F.Source.string_returns g.F.Source.rejects) g.F.Source.refuses
+    let failed : g.F.Source.refuses c.deserialize_string.new.from c.in_err-append.field-0.0 = search rules in
+    let error = append_error g.R.DeserializeString.means g.F.Format.gives g.F.Format.stays g.F.Source.begin_returns
+    g.F.Source.next_returns (g.R.DeserializeString.reading g.F.Source.string_returns g.F.Source.rejects) g.F.Source.refuses
     c.loop-alloc.items.items c.in_ok-item.item c.args.from.now c.begin_list.new.from c.loop-alloc.from
-    c.next_in_list.new.from c.deserialize.new.from c.in_err-append.field-0.0 c.in_ok-begin_list.ensures.given
+    c.next_in_list.new.from c.deserialize_string.new.from c.in_err-append.field-0.0 c.in_ok-begin_list.ensures.given
     c.loop-alloc.invariant looks c.in_ok-item.ensures.string failed in
     holds_of_error _ c.from_residual-in_err-append.result c.in_err-append.field-0.0 (search rules) error

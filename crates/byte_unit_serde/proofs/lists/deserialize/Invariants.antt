@@ -1,0 +1,11 @@
+-- The items so far are the values that were read since the sequence began.
+use Rattle.std.proofs.Common.{◌-◌, ◌^◌, length}
+use Rattle.byte_unit_serde.specs.Serialized.{ReadsEach}
+use Rattle.byte_unit_serde.proofs.lists.deserialize.Given as goal
+
+abbrev pub invariant-loop-alloc : goal.invariant-loop-alloc
+invariant-loop-alloc g l =
+    ReadsEach g.R.DeserializeString.means g.F.Format.gives g.F.Format.stays l.initial.from l.from l.items.items
+
+abbrev pub decreases-loop-alloc : goal.decreases-loop-alloc
+decreases-loop-alloc g l = 2 ^ 64 - length l.items.items

@@ -1,0 +1,50 @@
+//! Options of what is stored as strings.
+
+ghost use Rattle.std.specs.Prelude.{IfOk, OnOk};
+ghost use Rattle.serde.specs.Event.{WritesOption};
+ghost use Rattle.byte_unit_serde.specs.Outcomes.{ReadingOption, WritingOption};
+ghost use Rattle.byte_unit_serde.specs.Serialized.{ReadsOption};
+
+use crate::strings::{DeserializeString, SerializeString};
+use crate::{Sink, Source};
+use serde::Deserializer;
+use std::alloc::Global;
+
+/// Writes the string of the value, or nothing. Does not allocate.
+///
+/// # Errors
+///
+/// Returns the format's error if the format cannot write it.
+pub(crate) fn serialize<T: SerializeString, S: Sink>(
+    value: &Option<T>,
+    out: &mut S,
+) -> Result<(), S::Error>
+    ensures written { OnOk result
+        (WritesOption T.writes value.now (S.written out.old) (S.written out.new)) }
+    ensures exact { WritingOption S.none_returns (T.writing S.str_returns)
+        value.now out.old result out.new }
+{
+    match value {
+        Some(value) => value.serialize_string(out),
+        None => out.write_none(),
+    }
+}
+
+/// Reads nothing, or a string as `R` does.
+///
+/// # Errors
+///
+/// Returns the format's error if the value is neither nothing nor a string, or the string is rejected.
+pub(crate) fn deserialize<'de, R: DeserializeString, F: Source>(
+    alloc: Global,
+    from: &mut Deserializer<'de, '_, F>,
+) -> Result<Option<R::Value>, F::Error>
+    ensures option { IfOk result (ReadsOption R.means F.gives F.stays from.old from.new) }
+    ensures exact { ReadingOption F.none_returns (R.reading F.string_returns F.rejects)
+        from.old result from.new }
+{
+    if F::read_none(from)? {
+        return Ok(None);
+    }
+    Ok(Some(R::deserialize_string(alloc, from)?))
+}

@@ -1,0 +1,42 @@
+//! What is stored as a string: how it is written, and the ways to read it.
+
+ghost use Rattle.std.specs.Prelude.{ℕ, List, IfOk, OnOk};
+ghost use Rattle.serde.specs.Event.{Log};
+ghost use Rattle.byte_unit_serde.specs.Outcomes.{Returns};
+ghost use Rattle.byte_unit_serde.specs.Serialized.{ReadsString};
+
+use crate::{Sink, Source};
+use serde::Deserializer;
+use std::alloc::Global;
+
+/// A value that is written as a string.
+pub trait SerializeString {
+    // What is written for the value.
+    ghost writes: { Self → Log → Log → Type 0 };
+    // What is returned, by what the call that writes a string returned.
+    ghost writing: { {D E : Type 0} → (List ℕ → Returns D Unit E) → Self → Returns D Unit E };
+
+    /// Writes the string of the value.
+    fn serialize_string<S: Sink>(&self, out: &mut S) -> Result<(), S::Error>
+        ensures written { OnOk result (writes self.now (S.written out.old) (S.written out.new)) }
+        ensures exact { writing S.str_returns self.now out.old result out.new };
+}
+
+/// A way to read a value from a string.
+pub trait DeserializeString {
+    /// The type of the value.
+    type Value: Drop;
+
+    // The string has this meaning.
+    ghost means: { List ℕ → Self.Value → Type 0 };
+    // What is returned, by what the call that reads a string returned, and by the errors of rejected strings.
+    ghost reading: { {D E : Type 0} → Returns D (List ℕ) E → (D → List ℕ → E → Type 0) → Returns D Self.Value E };
+
+    /// Reads a string, and parses it.
+    fn deserialize_string<F: Source>(
+        alloc: Global,
+        from: &mut Deserializer<'_, '_, F>,
+    ) -> Result<Self::Value, F::Error>
+        ensures string { IfOk result (ReadsString means F.gives from.old from.new) }
+        ensures exact { reading F.string_returns F.rejects from.old result from.new };
+}

@@ -1,0 +1,113 @@
+//! Tests of sizes that `serde` reads with case ignored, from JSON and from TOML.
+use super::asserting::assert_is;
+use super::error_texts::assert_error;
+use byte_unit::Byte;
+use serde::{Deserialize, Serialize};
+use std::alloc::{AllocError, Global};
+use std::process::Abort;
+
+/// A struct with a size, an optional size and a list, each read with case ignored.
+#[derive(Drop, Serialize, Deserialize)]
+pub struct Settings {
+    #[serde(with = "byte_unit_serde::byte_ignore_case")]
+    pub size: Byte,
+    #[serde(with = "byte_unit_serde::optional_byte_ignore_case", default)]
+    pub limit: Option<Byte>,
+    #[serde(with = "byte_unit_serde::byte_vec_ignore_case")]
+    pub parts: Vec<Byte>,
+}
+
+/// Strings, the numbers of bytes as which they are read, and the strings as which those are written.
+const SIZES: &[(&str, u64, &str)] = &rows! {
+    ("100 mb", 100_000_000, "100 MB"),
+    ("100 MB", 100_000_000, "100 MB"),
+    ("1.5 kib", 1536, "1.5 KiB"),
+    ("12", 12, "12 B"),
+    ("12b", 12, "12 B"),
+    ("12 bits", 2, "2 B"),
+    (" 2g ", 2_000_000_000, "2 GB"),
+};
+
+/// Returns the JSON text of settings in which each size is this string.
+fn json_of(alloc: Global, text: &str) -> Result<String, AllocError> {
+    format!(in alloc;
+        "{{\"size\":\"{text}\",\"limit\":\"{text}\",\"parts\":[\"{text}\",\"{text}\"]}}"
+    )
+}
+
+/// Returns the TOML document of settings in which each size is this string.
+fn document_of(alloc: Global, text: &str) -> Result<String, AllocError> {
+    format!(in alloc; "size = \"{text}\"\nlimit = \"{text}\"\nparts = [\"{text}\", \"{text}\"]\n")
+}
+
+/// Asserts that each size of settings is of this number of bytes.
+fn assert_sizes(rt: &impl Abort, read: &Settings, number: u64) {
+    let size = Byte::from_u64(number);
+    assert_is(rt, (read.size, read.limit), (size, Some(size)));
+    assert_is(rt, read.parts.as_slice(), [size, size].as_slice());
+}
+
+#[test]
+fn case_is_ignored(rt: HostRuntime) {
+    let alloc = rt.alloc();
+    for (text, number, shown) in SIZES {
+        let json = json_of(alloc, text).expect(&rt, "memory");
+        let read: Settings = serde_json::from_str(alloc, json.as_str()).expect(&rt, text);
+        assert_sizes(&rt, &read, *number);
+        let written = serde_json::to_string(alloc, &read).expect(&rt, "JSON");
+        let wanted = json_of(alloc, shown).expect(&rt, "memory");
+        assert_is(&rt, written.as_str(), wanted.as_str());
+        let document = document_of(alloc, text).expect(&rt, "memory");
+        let read: Settings = toml::from_str(alloc, document.as_str()).expect(&rt, text);
+        assert_sizes(&rt, &read, *number);
+        let written = toml::to_string(alloc, &read).expect(&rt, "TOML");
+        let wanted = document_of(alloc, shown).expect(&rt, "memory");
+        assert_is(&rt, written.as_str(), wanted.as_str());
+    }
+}
+
+#[test]
+fn nothing_with_case_ignored(rt: HostRuntime) {
+    let alloc = rt.alloc();
+    let json = "{\"size\":\"1 kb\",\"limit\":null,\"parts\":[]}";
+    let from_json: Settings = serde_json::from_str(alloc, json).expect(&rt, "JSON");
+    let from_toml: Settings = toml::from_str(alloc, "size = \"1 kb\"\nparts = []\n").expect(
+        &rt, "TOML",
+    );
+    for read in [&from_json, &from_toml] {
+        assert_is(&rt, (read.size, read.limit), (Byte::KILOBYTE, None));
+        assert_is(&rt, read.parts.len(), 0);
+    }
+}
+
+/// JSON texts with a string that is rejected, or a value that is not a string, and their errors.
+const REJECTED_JSON: &[(&str, &str)] = &rows! {
+    ("{\"size\":\"x\",\"parts\":[]}", "not a number at line 1 column 9"),
+    ("{\"size\":\"1 kb\",\"limit\":\"1 xb\",\"parts\":[]}", "bad unit at line 1 column 24"),
+    ("{\"size\":\"1 kb\",\"parts\":[\"1 kb\",\"1000 rb\"]}", "out of range at line 1 column 32"),
+    ("{\"size\":4096,\"parts\":[]}", "invalid type at line 1 column 9"),
+    ("{\"size\":\"1 kb\",\"parts\":\"1 kb\"}", "invalid type at line 1 column 24"),
+};
+
+/// TOML documents with a string that is rejected, and their errors.
+const REJECTED_TOML: &[(&str, &str)] = &rows! {
+    ("size = \"x\"\nparts = []\n", "not a number\nin `size`\n"),
+    ("size = \"1 kb\"\nlimit = \"1 xb\"\nparts = []\n", "bad unit\nin `limit`\n"),
+    ("size = \"1 kb\"\nparts = [\"1 kb\", \"1000 rb\"]\n", "out of range\nin `parts`\n"),
+};
+
+#[test]
+fn rejected_with_case_ignored(rt: HostRuntime) {
+    let alloc = rt.alloc();
+    for (text, wanted) in REJECTED_JSON {
+        assert_error(
+            &rt,
+            alloc,
+            serde_json::from_str::<Settings>(alloc, text),
+            wanted,
+        );
+    }
+    for (text, wanted) in REJECTED_TOML {
+        assert_error(&rt, alloc, toml::from_str::<Settings>(alloc, text), wanted);
+    }
+}
