@@ -1,6 +1,5 @@
 """What all commands share: the repository's files, calls of other programs, and the way to report."""
 
-import argparse
 import contextlib
 import os
 import resource
@@ -86,15 +85,6 @@ def files():
     """Returns the names of the files that git has or does not ignore, in order, without those that are deleted."""
     listed = output("git", "ls-files", "--cached", "--others", "--exclude-standard", cwd=ROOT).splitlines()
     return sorted(name for name in set(listed) if os.path.isfile(path(name)))
-
-
-def one_of(names):
-    """Returns the `type` of a command's argument that has to be one of these names."""
-    def checked(word):
-        if word not in names:
-            raise argparse.ArgumentTypeError(f"'{word}' is none of: {' '.join(names)}")
-        return word
-    return checked
 
 
 def on_signals(handler):

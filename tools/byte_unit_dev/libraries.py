@@ -1,12 +1,14 @@
 """Builds the C library in an existing folder.
 
-DIR then has libbyte_unit.a and byte_unit.h. If there is a C compiler ($CC, or cc) it also has libbyte_unit.so, a link
-to libbyte_unit.so.VERSION, and sqlite3/byte_unit.so, the extension for SQLite, if sqlite3ext.h is installed. First
-`rt lib` proves the crate byte_unit_c; meanwhile this prints a line every 20 seconds. What `rt check`, `rt lib`, `rt
-run` or `rt all check` has proved is not proved again, unless it has changed since. What `rt ci` has proved is: it
-leaves nothing that other commands of `rt` read. So the first call after it takes minutes, and the second seconds.
+FOLDER then has libbyte_unit.a and byte_unit.h. If there is a C compiler ($CC, or cc) it also has libbyte_unit.so, a
+link to libbyte_unit.so.VERSION, and sqlite3/byte_unit.so, the extension for SQLite, if sqlite3ext.h is installed. First
+`rt lib` proves the crate byte_unit_c, and a line every 20 seconds says how far it is. What `rt ci` alone has proved is
+proved again, which takes minutes: it leaves nothing that other commands of `rt` read. With --after-ci, as in the gate,
+uses the libraries that `rt ci` has built, and does not see what has changed since. With --link proves nothing, and
+links what is in FOLDER: libbyte_unit.a, with byte_unit.h beside it.
 """
 
+import argparse
 import os
 import re
 import shutil
@@ -21,23 +23,16 @@ ARCHIVE, HEADER, EXTENSION = "libbyte_unit.a", "byte_unit.h", "sqlite3/byte_unit
 CPU = "x86-64"
 
 
-def arguments(parser):
-    parser.prog, mode = "tools/make-libraries", parser.add_mutually_exclusive_group()
-    mode.add_argument("--after-ci", action="store_true", help="use the libraries that `rt ci` has built, as the gate"
-                      " does; this does not detect sources that have changed since")
-    mode.add_argument("--link", action="store_true", help="prove nothing, and link what is in DIR already:"
-                      f" {ARCHIVE}, with {HEADER} beside it")
-    parser.add_argument("folder", metavar="DIR")
-    parser.set_defaults(reject=parser.error)
+def existing(folder):
+    if not os.path.isdir(folder):
+        raise argparse.ArgumentTypeError(f"{folder!r} is no folder")
+    return Path(folder).resolve()
 
 
-def run(given):
-    if not os.path.isdir(given.folder):
-        given.reject(f"{given.folder!r} is no folder")
-    folder = Path(given.folder).resolve()
-    if not given.link:
-        build(folder, given.after_ci)
-    link(folder)
+def run(folder: existing, *, after_ci=False, link=False):
+    if not link:
+        build(folder, after_ci)
+    link_in(folder)
 
 
 def build(folder, after_ci=False):
@@ -100,7 +95,7 @@ def shared_names(folder):
     return f"libbyte_unit.so.{found[1]}", f"libbyte_unit.so.{found[2]}", "libbyte_unit.so"
 
 
-def link(folder):
+def link_in(folder):
     """Links the shared library, and the extension for SQLite with the archive inside, if there is a C compiler."""
     archive, cc = folder / ARCHIVE, os.environ.get("CC") or "cc"
     if not archive.is_file() or not (folder / HEADER).is_file():

@@ -1,9 +1,9 @@
 """Lists, tries and places mutants: wrong edits of functions, which the prover has to reject.
 
-    tools/dev mutants [list [CRATE..]]              the public functions that no mutant names
-    tools/dev mutants try [--part K/N] [CRATE..]    tries the catalogues' mutants on a copy of the crates
-    tools/dev mutants put K/N                       copies a part of them to must-fail/, where `rt ci` tries them
-    tools/dev mutants remove                        deletes these copies, which git ignores
+    tools/dev mutants [list [CRATE..]]        the public functions that no mutant names
+    tools/dev mutants try [K/N] [CRATE..]     tries the catalogues' mutants, or a part of them, on a copy of the crates
+    tools/dev mutants put K/N                 copies a part of them to must-fail/, where `rt ci` tries them
+    tools/dev mutants remove                  deletes these copies, which git ignores
 
 A mutant is a file crates/CRATE/must-fail/TITLE.edit, or a line `== TITLE` of the catalogue crates/CRATE/mutants.edits,
 which begins with comments, and the lines of an edit for `rt must-fail` after it. Those of byte_unit_bit are rendered
@@ -25,7 +25,7 @@ import re
 import tempfile
 import zlib
 
-from .common import copy_to, one_of, path, report, session, write
+from .common import copy_to, path, report, session, write
 from .render import bits
 from .source import EXAMPLES, catalogue, files, public_names, source
 
@@ -117,43 +117,29 @@ def remove():
             os.rmdir(folder)
 
 
-def part(text):
-    found = re.fullmatch(r"([1-9][0-9]{0,3})/([1-9][0-9]{0,3})", text)
-    if not found or int(found[1]) > int(found[2]):
-        raise argparse.ArgumentTypeError(f"'{text}' is not a part, such as 1/8 to 8/8")
-    return int(found[1]), int(found[2])
+def with_mutants():
+    found = [name for form in ("mutants.edits", "must-fail/*.edit") for name in glob.glob(path(f"crates/*/{form}"))]
+    return sorted({os.path.relpath(name, path("crates")).split("/")[0] for name in found} | {bits.CRATE})
 
 
-def crates_with(*forms):
-    """Returns the crates with a file of one of these forms."""
-    return sorted({name.split("/")[0] for form in forms for name in glob.glob(f"*/{form}", root_dir=path("crates"))})
+def part_or_crate(word):
+    """Returns the two numbers of a part K/N, or the name of a crate with mutants."""
+    found = re.fullmatch(r"([1-9][0-9]{0,3})/([1-9][0-9]{0,3})", word)
+    if found and int(found[1]) <= int(found[2]):
+        return int(found[1]), int(found[2])
+    if word not in with_mutants():
+        raise argparse.ArgumentTypeError(f"'{word}' is no crate with mutants, and no part, such as 1/8 to 8/8")
+    return word
 
 
-def catalogued():
-    """Returns the crates with a catalogue."""
-    return sorted([*crates_with("mutants.edits"), bits.CRATE])
-
-
-def arguments(parser):
-    actions = parser.add_subparsers(dest="action", metavar="ACTION", prog=parser.prog)
-    shown = [name for name in crates_with("mutants.edits", "must-fail/*.edit") if not EXAMPLES.fullmatch(name)]
-    parser.set_defaults(action="list", crates=[], shown=shown)
-    actions.add_parser("list").add_argument("crates", nargs="*", type=one_of(shown), metavar="CRATE")
-    trying = actions.add_parser("try")
-    trying.add_argument("--part", type=part, default=(1, 1), metavar="K/N")
-    trying.add_argument("crates", nargs="*", type=one_of(catalogued()), metavar="CRATE")
-    actions.add_parser("put").add_argument("part", type=part, metavar="K/N")
-    actions.add_parser("remove")
-
-
-def run(given):
-    if given.action == "remove":
-        return remove()
-    if given.action == "list":
-        return listed(given.crates or given.shown)
-    crates = catalogued()
-    if given.action == "try":
-        return tried(sorted(set(given.crates or crates)), given.part)
+def run(action: ("list", "try", "put", "remove") = "list", *words: part_or_crate):
+    crates, parts = ([word for word in words if isinstance(word, kind)] for kind in (str, tuple))
+    crates, part = crates or with_mutants(), [*parts, (1, 1)][0]
+    if action == "list":
+        return listed([name for name in crates if not EXAMPLES.fullmatch(name)])
+    if action == "try":
+        return tried(crates, part)
     remove()
-    count = sum(len(put(crate, given.part, path("crates", crate, "must-fail"), BY_TURN)) for crate in crates)
-    print(f"{count} mutants of the catalogues for rt ci")
+    if action == "put":
+        count = sum(len(put(crate, part, path("crates", crate, "must-fail"), BY_TURN)) for crate in crates)
+        print(f"{count} mutants of the catalogues for rt ci")

@@ -1,6 +1,7 @@
 """Installs the Debian packages that the tests need, as root, and prints which could not be installed.
 
-The exit status is 0 all the same: a test whose program or file is still missing then is skipped, and says so.
+The exit status is 0 all the same: a test whose program or file is still missing then is skipped, and says so. With
+--compared, installs also what only measurements need.
 """
 
 import functools
@@ -78,12 +79,8 @@ def installed(packages):
     return [package for package in packages if fails(package)]
 
 
-def arguments(parser):
-    parser.add_argument("--compared", action="store_true", help="also what only measurements need")
-
-
-def run(given):
-    wanted = {**PACKAGES, **(COMPARED if given.compared else {})}
+def run(*, compared=False):
+    wanted = {**PACKAGES, **(COMPARED if compared else {})}
     left = installed(sorted({package for need, package in wanted.items() if not is_there(need)}))
     if left:
         print(f"these packages could not be installed: {' '.join(left)}", file=sys.stderr)

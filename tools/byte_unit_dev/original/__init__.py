@@ -1,8 +1,8 @@
 """Compares the library with the Rust crate byte-unit 5.2.6, and explains differences by rules of docs/DIFFERENCES.md.
 
-DIR has the sources of the crate: `src/lib.rs` and so on, or files whose names have `--` in place of `/` and end in
+FOLDER has the sources of the crate: `src/lib.rs` and so on, or files whose names have `--` in place of `/` and end in
 `.txt`, as `src--lib.rs.txt`. They are built offline, over crates that `tools/dev setup --compared` installs. The crate,
-the Rust package, which calls the C library, and an exact model take N random requests: texts and spellings of units to
+the Rust package, which calls the C library, and an exact model take random requests: texts and spellings of units to
 parse, sizes to format, numbers of units. Prints how many results each rule explains.
 
 The status is 1 if a result of the library is not that of the model, if no rule explains a difference, if one of 20,000
@@ -19,13 +19,6 @@ from . import rules
 from .requests import requests
 
 PROGRAM, KINDS, CHANGED = "bindings/rust/checks/compare.rs", ("byte", "bit"), 20_000
-
-
-def arguments(parser):
-    parser.add_argument("--count", type=int, default=300_000, metavar="N")
-    parser.add_argument("--seed", type=int, default=1)
-    parser.add_argument("--library", metavar="LIBRARY", help="a folder that tools/make-libraries has filled")
-    parser.add_argument("original", metavar="DIR")
 
 
 def calls_of(words):
@@ -80,20 +73,19 @@ def compared(lines, original, ours, seed):
     return found, findings
 
 
-def run(given):
+def run(folder, *, count=300_000, seed=1):
     with tempfile.TemporaryDirectory() as work:
-        original = builds.original(given.original, work)
-        library = builds.library_of(given.library, work)
-        lines = list(requests(random.Random(given.seed), given.count))
+        original, library = builds.original(folder, work), builds.library(work)
+        lines = list(requests(random.Random(seed), count))
         theirs, ours = (by_program(builds.program(PROGRAM, *crate), lines)
                         for crate in ([original], [builds.copied("rust", work), library]))
-    found, findings = compared(lines, theirs, ours, given.seed)
+    found, findings = compared(lines, theirs, ours, seed)
     print("What was compared | What differs | Results | An example: the call, the crate; the library\n---|---|---|---")
     for (what, rule), (count, example) in sorted(found.items(), key=str):
         shown = f"{rules.RULES[rule][0]} | {count:,} | {ascii(example)[1:-1]}" if rule else f"nothing | {count:,}"
         print(f"{what} | {shown}")
     total, different = (sum(count for (_, rule), (count, _) in found.items() if rule or both) for both in (True, False))
-    print(f"\n{total:,} results of seed {given.seed}, of which {different:,} differ")
+    print(f"\n{total:,} results of seed {seed}, of which {different:,} differ")
     page = read("docs/DIFFERENCES.md")
     findings += [f"docs/DIFFERENCES.md does not say: {words}" for _, words in rules.RULES.values() if words not in page]
     return report(findings[:40], "each result of the library is that of the model, and a rule explains each other")

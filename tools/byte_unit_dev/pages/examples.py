@@ -114,9 +114,9 @@ def failures(examples):
     return wrong or [told.strip()] * (got.returncode != 0)
 
 
-def examples(chosen):
+def examples():
     found, wrong = [], []
-    for crate in chosen or crates():
+    for crate in crates():
         for source in map(Source, files(f"crates/{crate}/src", ".rt")):
             more, faults = examples_of(source)
             found += more
