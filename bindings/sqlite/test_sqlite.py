@@ -8,8 +8,7 @@ from itertools import islice
 import pytest
 from byte_unit_dev.common import call, output, path, read
 from byte_unit_dev.fixtures import compiled
-from byte_unit_dev.model.exact import UNITS, Rejected, form, size_of, value_of
-from byte_unit_dev.model.lines import some_line
+from byte_unit_dev.model.exact import UNITS, Rejected, form, size_of, some_line, value_of
 from byte_unit_dev.needs import need
 
 WARNINGS = ["-Wall", "-Wextra", "-Wpedantic", "-Wconversion", "-Wshadow", "-Werror"]

@@ -6,8 +6,7 @@ What is drawn shrinks: zeros make a call of few words on a short input.
 import random
 from collections import namedtuple
 
-from byte_unit_dev.model.exact import LETTERS, SIZE_LIMIT, Rejected, size_of
-from byte_unit_dev.model.lines import some_line
+from byte_unit_dev.model.exact import LETTERS, SIZE_LIMIT, Rejected, size_of, some_line
 from model import BITS_64, BY_LETTER, FORMS, OPTIONS, Wrong, options_of
 from program import Call
 

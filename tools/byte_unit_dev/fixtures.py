@@ -15,8 +15,7 @@ from hypothesis import strategies
 
 from .builds import CONFIG, copied, environment
 from .common import call, output, path, read, write
-from .model.exact import output_for
-from .model.lines import some_line
+from .model.exact import output_for, some_line
 from .needs import DEBIAN_PYTHON, DEBIAN_RUST, PYTHON_PACKAGE, is_there, need
 
 # The first cargo of the path, and Debian's.

@@ -12,7 +12,7 @@ from itertools import chain, repeat
 import pytest
 
 from byte_unit_dev.fixtures import ended, redirected
-from byte_unit_dev.model.lines import some_line
+from byte_unit_dev.model.exact import some_line
 from byte_unit_dev.needs import need
 
 CRATE = "byte_unit_lines"

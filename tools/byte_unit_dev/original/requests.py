@@ -1,7 +1,6 @@
 """Random requests, in the form of bindings/rust/checks/compare.rs, many of them near a limit or a rounding."""
 
-from ..model.exact import BITS, LETTERS, UNITS
-from ..model.lines import some_line
+from ..model.exact import BITS, LETTERS, UNITS, some_line
 
 LIMITS = [2**96, 2**112, 10**27, 10**28, 10**30, 2**64, 8 * 10**27, 2**93]
 PRECISIONS = [0, 1, 2, 3, 3, 3, 4, 6, 9, 12, 15, 16, 20, 25, 26, 27, 28, 29, 300]

@@ -13,9 +13,9 @@ begins with a line `skipped: ` for each program that it runs and that is not bui
 """
 
 from ..common import Failure, report
-from . import commands, examples, text, version
+from . import commands, examples, text
 
-CHECKS = {"words": text.words, "names": text.names, "version": version.version, "readme": commands.readme,
+CHECKS = {"words": text.words, "names": text.names, "version": text.version, "readme": commands.readme,
           "guide": commands.guide, "command": commands.command, "examples": examples.examples}  # fmt: skip
 QUICK = ["words", "names", "version"]
 

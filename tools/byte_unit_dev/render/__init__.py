@@ -17,11 +17,11 @@ import os
 from itertools import zip_longest
 
 from ..common import Failure, path, read, report, write
-from . import bindings, bits, calling, definitions, pages, vectors
+from . import bindings, bits, contracts, pages, vectors
 
 # Each yields the name and the text of each file that it renders, or no text for one that has to go, and may end by a
 # failure for what else is wrong.
-PARTS = {"bits": bits.made, "bindings": bindings.made, "calling": calling.made, "definitions": definitions.made,
+PARTS = {"bits": bits.made, "bindings": bindings.made, "calling": contracts.calling, "definitions": contracts.definitions,
          "laws": pages.laws, "guide": pages.guide, "tools": pages.tools, "vectors": vectors.made}
 
 

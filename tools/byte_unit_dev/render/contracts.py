@@ -1,18 +1,22 @@
-"""The contracts of what `byte_unit` exports, and the parts of CALLING.md that show them."""
+"""The contracts of what `byte_unit` exports, and the definitions that they lead to: the parts of CALLING.md and
+docs/DEFINITIONS.md that show them."""
 
 import functools
 import re
 
 from ..common import Failure, read
-from ..source import WORD, crates, exports, line_of, resolved, sources, specs
+from ..source import (EXAMPLES, WORD, closure, crates, exports, library, line_of, resolved, sentence_of, sources,
+                      specs)
 from .bits import WORDS
 from .pages import section, with_parts
 
-PAGE, FACADE = "CALLING.md", "byte_unit"
+FACADE = "byte_unit"
 PROOF = "crates/byte_unit_uses/proofs/message/parse_argument/Answers.antt"
 # The order of the types; what is not here comes after them, in the order in which the crate exports it.
 FIRST = ["Byte", "AdjustedByte", "Bit", "AdjustedBit", "Unit", "UnitType", "FormatSpec", "Align", "Sign"]
 SMALL, BELOW = FIRST[5:], ["Kind", "Family", "Decimal", "Expansion", "Steps", "Ties"]
+# The types whose contracts docs/DEFINITIONS.md begins with, and fields that follow from others.
+SAID, FOLLOWS = ["Byte", "AdjustedByte", "Unit"], ["computed"]
 MIRRORED = {"Byte": "Bit", "AdjustedByte": "AdjustedBit"}
 # Members of a trait that prove its rules and say nothing of a result.
 PROOFS = {"laws", "total", "matches_partial_cmp", "matches_eq", "coded", "inverse", "inverse_ok"}
@@ -182,11 +186,122 @@ def below():
     return "\n".join(f"- [{path.removeprefix('crates/')}]({path}): {', '.join(names)}" for path, names in rows.items())
 
 
-def made():
+def calling(page="CALLING.md"):
     """The row of calls that have a `requires`; the proof PROOF; the definitions that contracts on the page use; the
     contracts of the types but BELOW, to the letter but for line breaks, of traits what implementations say, calls of a
     type with the same clauses once, those of bits that are those of bytes counted; the names of what is left out."""
-    yield PAGE, with_parts(
-        PAGE, (r"^\| preconditions \| ", r" \|$", preconditions()), (r"^```antt\n", r"^```$", read(PROOF)),
+    yield page, with_parts(
+        page, (r"^\| preconditions \| ", r" \|$", preconditions()), (r"^```antt\n", r"^```$", read(PROOF)),
         section("Words of the contracts", words()), section("Contracts", contracts()),
         section("Laws, and calls below the types", below()))
+
+
+@functools.lru_cache(maxsize=None)
+def groups():
+    """Returns the definitions that contracts of SAID cite, those to read, and those that laws and FOLLOWS add."""
+    types, functions, laws = items()
+    calls = cited_by([entry for entries in types.values() for entry in entries] + list(functions.values()))
+    reached = closure(calls, FOLLOWS)
+    added = closure(calls | cited_by(laws.values())) - reached
+    return cited_by(entry for name in SAID for entry in types[name]) & reached, reached, added
+
+
+def link(spec):
+    return f"[{spec.module}](../{spec.name})"
+
+
+def said(spec, name=None):
+    """Returns the first sentence of a file, without the mark of a private one, or the comment of a definition."""
+    words = spec.definitions[name].comment if name else sentence_of(spec.head.removeprefix("Private: "))
+    if not words:
+        raise Failure(f"{spec.name}: {name or 'the file'} has no comment")
+    return words
+
+
+def bullets(found):
+    return "\n".join(f"- {link(spec)}: {said(spec)}" for spec in found)
+
+
+def names_in(spec, places):
+    """Returns the names of the definitions of a file that are among these."""
+    return [name for name in spec.definitions if (spec.crate, spec.module, name) in places]
+
+
+def files_of(crates, places):
+    return [spec for crate in crates for spec in specs(crate).values() if names_in(spec, places)]
+
+
+def to_read():
+    quoted, reached, _ = groups()
+    parts = []
+    for spec in files_of(library(), reached):
+        parts += [f"### `{spec.crate}`"] * (f"### `{spec.crate}`" not in parts)
+        names = [name for name in names_in(spec, quoted) if name[0].isupper()]
+        parts += [f"#### {link(spec)}", said(spec)]
+        parts += ["\n".join(f"- `{name}`: {said(spec, name)}" for name in names)] * bool(names)
+    return "\n\n".join(parts)
+
+
+def private():
+    """Returns a list of what is private: whole files, and definitions in files to read."""
+    _, reached, added = groups()
+    used = reached | added | set().union(*map(public_of, other_crates()))
+    lines = []
+    for crate in library():
+        whole, some = [], []
+        for spec in specs(crate).values():
+            names = [name for name in spec.definitions if name not in names_in(spec, used)]
+            if len(names) == len(spec.definitions):
+                whole.append(link(spec))
+            elif names and names_in(spec, reached):
+                some.append(f"{listed(names)} in {spec.module}")
+        lines += [f"- `{crate}`: " + "; ".join([", ".join(whole)] * bool(whole) + some)] * bool(whole + some)
+    return "\n".join(lines)
+
+
+def other_crates():
+    return [crate for crate in crates() if crate not in library() and not EXAMPLES.fullmatch(crate) and specs(crate)]
+
+
+def public_of(crate):
+    """Returns the definitions that contracts of public functions and of implementations of traits lead to."""
+    found = set()
+    for file in sources(crate):
+        clauses = []
+        for match in re.finditer(r'\bpub (?:extern "C" )?fn \w+', file.plain):
+            clauses += file.function(match.start())[1]
+        for header, start, end in file.impls():
+            clauses += list(file.ghosts(start, end).values()) if " for " in header else []
+        found |= set(resolved(WORD.findall(" ".join(clauses)), file.imports))
+    return closure(found)
+
+
+def others():
+    _, reached, added = groups()
+    parts = []
+    by_crate = {crate: public_of(crate) for crate in other_crates()}
+    public = set().union(*by_crate.values())
+    for crate, own in by_crate.items():
+        shown = [spec for spec in files_of([crate], public) if not spec.head.startswith("Private:")]
+        below = ", ".join(map(link, files_of(library(), own - reached - added)))
+        hidden = ", ".join(link(spec) + f" (but for {listed(names)})" * bool(names) for spec in specs(crate).values()
+                           if spec not in shown for names in [names_in(spec, public)])
+        lines = [bullets(shown), below and f"- Also of the library: {below}", hidden and f"- Private: {hidden}"]
+        parts += [f"### `{crate}`", "\n".join(filter(None, lines))]
+    return "\n\n".join(parts)
+
+
+def definitions(page="docs/DEFINITIONS.md"):
+    """The files that the contracts of what `byte_unit` exports lead to, with the first sentence of each and comments of
+    its properties (their names begin with a capital) that contracts of SAID cite; those that only laws lead to, and
+    fields that follow from others (FOLLOWS); those, and definitions in files to read, that no public contract leads to;
+    those of other crates but EXAMPLES. A definition leads to those that it uses. A file of the library that says it is
+    private, although a public contract leads to it, is a failure."""
+    _, reached, added = groups()
+    of_laws = [spec for spec in files_of(library(), added) if not names_in(spec, reached)]
+    yield page, with_parts(page, section("To read", to_read()), section("Laws", bullets(of_laws)),
+                           section("Private", private()), section("Other crates", others()))
+    wrong = [f"{spec.name}:1: says that it is private, but a public contract leads to it"
+             for spec in files_of(library(), reached | added) if spec.head.startswith("Private:")]
+    if wrong:
+        raise Failure("\n".join(wrong))
