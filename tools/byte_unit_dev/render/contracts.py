@@ -3,6 +3,7 @@ docs/DEFINITIONS.md that show them."""
 
 import functools
 import re
+from itertools import chain
 
 from ..common import Failure, read
 from ..source import (EXAMPLES, WORD, closure, crates, exports, library, line_of, resolved, sentence_of, sources,
@@ -23,14 +24,12 @@ PROOFS = {"laws", "total", "matches_partial_cmp", "matches_eq", "coded", "invers
 
 
 class Entry:
-    """What a page says of an item: its first line, its clauses, and the definitions that these cite in the file that it
-    is from, as crate, module and name; but for `hidden`, clauses of a type's private fields, which no caller sees."""
+    """What a page says of an item: its first line and those of its clauses; and the definitions that these cite, but
+    for `hidden`, clauses of a type's private fields, which no caller sees."""
 
     def __init__(self, line, clauses, file, hidden=()):
-        self.line, self.clauses = line, list(clauses)
-        self.lines = (line, *("  " + clause for clause in self.clauses))
-        seen = " ".join(clause for clause in self.clauses if clause not in hidden)
-        self.cited = set(resolved(WORD.findall(seen), file.imports))
+        self.line, self.lines = line, (line, *(f"  {clause}" for clause in clauses))
+        self.cited = {*resolved(WORD.findall(" ".join({*clauses} - {*hidden})), file.imports)}
 
 
 def declaration(file, name):
@@ -63,32 +62,21 @@ def type_entries(name, file):
                     hidden = [] if shown else [members[key] for key in ("view", "invariant") if key in members]
                     first = Entry(line, [*derives, *members.values()], part, hidden)
                 elif members:
-                    traits.append(Entry(header, with_styled(members).values(), part))
+                    traits.append(Entry(header, members.values(), part))
     return [first, *calls, *traits]
-
-
-def with_styled(members):
-    """Returns the members with one `output, styled_output` if the second is the first under every spec."""
-    output, styled = (members.get(key, "").partition(" = ")[2] for key in ("output", "styled_output"))
-    parts = re.fullmatch(r"\{ λ (\w+) \w+\. (.*) \}", styled)
-    if not parts or output not in (f"{{ λ {parts[1]}. {parts[2]} }}", f"{{ {parts[2].removesuffix(' ' + parts[1])} }}"):
-        return members
-    others = {key: text for key, text in members.items() if key not in ("output", "styled_output")}
-    return {"output": f"ghost output, styled_output = {output}", **others}
 
 
 @functools.lru_cache(maxsize=None)
 def items():
     """Returns the entries of each type that the crate exports, those of its functions, and those of its laws."""
     def functions(found):
-        starts = [(name, file, re.search(rf"^pub fn {name}\b", file.code, re.M)) for name, file in found.items()]
+        starts = ((name, file, re.search(rf"^pub fn {name}\b", file.code, re.M)) for name, file in found.items())
         return {name: Entry(*file.function(start.start()), file) for name, file, start in starts if start}
 
     found, types, seen = exports(FACADE), {}, set()
-    for name in [name for name in FIRST if name in found] + [name for name in found if name not in FIRST]:
-        if name[0].isupper():
-            types[name] = [entry for entry in type_entries(name, found[name]) if entry.lines not in seen]
-            seen.update(entry.lines for entry in types[name])
+    for name in dict.fromkeys([*FIRST, *filter(lambda name: name[0].isupper(), found)]):
+        types[name] = [entry for entry in type_entries(name, found[name]) if entry.lines not in seen]
+        seen.update(entry.lines for entry in types[name])
     return types, functions(found), functions(exports(FACADE, "laws"))
 
 
@@ -130,9 +118,9 @@ def joined(entries):
 def shown_types():
     """Returns the entries that the page has, by heading: the small types, and the errors, are one heading each."""
     types, functions, _ = items()
-    headings = {f"`{name}`": types[name] for name in types if name in FIRST and name not in SMALL}
-    headings["Specs and types of units"] = [entry for name in SMALL for entry in types[name]]
-    headings["Errors"] = [entry for name in types if name not in FIRST + BELOW for entry in types[name]]
+    headings = {f"`{name}`": types[name] for name in FIRST[:5]}
+    headings["Specs and types of units"] = [*chain(*(types[name] for name in SMALL))]
+    headings["Errors"] = [*chain(*(types[name] for name in types if name not in FIRST + BELOW))]
     headings["`Unit`"] = headings["`Unit`"] + [functions["unit_to_json"], functions["unit_from_json"]]
     return headings
 
@@ -151,7 +139,7 @@ def cited_by(entries):
 
 def words():
     """Returns a link to each file of definitions that the page's contracts cite, with the words that they use."""
-    cited, found = cited_by(entry for entries in shown_types().values() for entry in entries), []
+    cited, found = cited_by(chain(*shown_types().values())), []
     for module, spec in ((module, spec) for crate in crates() for module, spec in specs(crate).items()):
         names = [f"`{name}`" for name in spec.definitions if (spec.crate, module, name) in cited]
         found += [f"[{module}](docs/DEFINITIONS.md#{module.lower()}): {', '.join(names)}"] * bool(names)
@@ -167,9 +155,9 @@ def preconditions():
     """Returns a list of the calls with a `requires`: those of `Byte`, which `Bit` has too, and the others."""
     types, functions, laws = items()
     shared, others = {}, {}
-    for entry in [*(entry for found in types.values() for entry in found), *functions.values(), *laws.values()]:
+    for entry in [*chain(*types.values()), *functions.values(), *laws.values()]:
         found = re.match(r"fn ((?:(\w+)::)?(\w+))", entry.line)
-        if found and any(clause.startswith("requires") for clause in entry.clauses):
+        if found and any(line.startswith("  requires") for line in entry.lines):
             is_shared = found[2] in ("Byte", "Bit")
             (shared if is_shared else others)[found[3] if is_shared else found[1]] = entry
     return (f"{listed(shared)} of `Byte` and `Bit`, and {listed(others)}, have a `requires`, proved at each call. "
@@ -179,7 +167,7 @@ def preconditions():
 def below():
     """Returns a list of the items that the page leaves out, by file."""
     _, functions, laws = items()
-    shown = {entry.line for entries in shown_types().values() for entry in entries}
+    shown = {entry.line for entry in chain(*shown_types().values())}
     homes, rows = {**exports(FACADE), **exports(FACADE, "laws")}, {}
     for name in [*BELOW, *(name for name, entry in functions.items() if entry.line not in shown), *laws]:
         rows.setdefault(homes[name].name, []).append(f"`{name}`")
@@ -200,10 +188,10 @@ def calling(page="CALLING.md"):
 def groups():
     """Returns the definitions that contracts of SAID cite, those to read, and those that laws and FOLLOWS add."""
     types, functions, laws = items()
-    calls = cited_by([entry for entries in types.values() for entry in entries] + list(functions.values()))
+    calls = cited_by([*chain(*types.values()), *functions.values()])
     reached = closure(calls, FOLLOWS)
     added = closure(calls | cited_by(laws.values())) - reached
-    return cited_by(entry for name in SAID for entry in types[name]) & reached, reached, added
+    return cited_by(chain(*(types[name] for name in SAID))) & reached, reached, added
 
 
 def link(spec):
