@@ -1,6 +1,5 @@
 """What all commands share: the repository's files, calls of other programs, and the way to report."""
 
-import contextlib
 import os
 import resource
 import shutil
@@ -52,13 +51,16 @@ def call(*words, **more):
     return subprocess.run([str(word) for word in words], check=False, **{**how, **more})
 
 
-@contextlib.contextmanager
-def session(*words, cwd):
-    """Starts a program, which ends with this one, and whose output and errors are to be read."""
-    how = {"stdin": subprocess.DEVNULL, "stdout": subprocess.PIPE, "stderr": subprocess.STDOUT}
-    with subprocess.Popen(words, cwd=cwd, start_new_session=True, **how) as process:
+def shown(*words, cwd):
+    """Runs a program, which ends with this one, and prints what it prints. Returns its status, and that as text."""
+    how = {"stdin": subprocess.DEVNULL, "stdout": subprocess.PIPE, "stderr": subprocess.STDOUT, "errors": "replace"}
+    with subprocess.Popen(words, cwd=cwd, encoding="utf-8", start_new_session=True, **how) as process:
+        said = ""
         try:
-            yield process
+            for line in process.stdout:
+                print(line, end="", flush=True)
+                said += line
+            return process.wait(), said
         finally:
             if process.poll() is None:
                 os.killpg(process.pid, signal.SIGTERM)

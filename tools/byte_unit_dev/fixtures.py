@@ -28,7 +28,6 @@ def pytest_addoption(parser):
     parser.addoption("--lines", type=int, default=4000, help="the number of generated lines")
     parser.addoption("--seed", type=int, default=1, help="chooses what is generated")
     parser.addoption("--calls", type=int, default=20_000, help="the number of random calls of byte-unit")
-    parser.addoption("--program", metavar="FILE", help="the program under test, in place of the one that is built here")
     parser.addoption("--whole", action="store_true", help="also tests of long runs and of inputs of 1 GB")
 
 
@@ -82,10 +81,9 @@ def closed():
 
 @pytest.fixture(scope="session")
 def program_of(request):
-    """Returns the program of a crate, which `rt run` or `rt ci` builds; without it the test is skipped, or fails after
-    `rt ci`."""
+    """Returns the program of a crate. Without it the test is skipped, or fails after `rt ci`, which builds it."""
     def found(crate):
-        name = os.path.abspath(request.config.getoption("program") or path("crates", crate, "out", crate))
+        name = path("crates", crate, "out", crate)
         if not os.access(name, os.X_OK):
             missing = f"{name} is missing (`rt run` in crates/{crate} builds it)"
             (pytest.fail if request.config.getoption("after_ci") else pytest.skip)(missing)
@@ -113,26 +111,24 @@ def seed(request):
 
 
 @pytest.fixture(scope="session")
-def check_drawn(request):
-    """Checks that `wrong`, which returns what is wrong with a list, returns nothing for random values: `--lines` of
-    them, or another count, each made by `make` from a `random.Random`. Else calls it with lists of the length
-    `together`, one after another, so that hypothesis finds the simplest."""
-    seed = request.config.getoption("seed")
-
+def check_drawn(request, seed):
+    """Checks that `wrong`, which returns what is wrong with a list, returns nothing for `count` values that `make` draws
+    from a `random.Random`. Else hypothesis finds a simplest list of `together` values that it returns something for."""
     def check(make, wrong, count=request.config.getoption("lines"), together=1):
         found = wrong([make(random.Random(f"{seed} {at}")) for at in range(count)])
-        if found:
-            values = strategies.randoms(use_true_random=False).map(make)
-            given = hypothesis.given(strategies.lists(values, min_size=together, max_size=together))
-            how = hypothesis.settings(max_examples=count, deadline=None, database=None, report_multiple_bugs=False,
-                                      suppress_health_check=list(hypothesis.HealthCheck))
+        if not found:
+            return
+        values = strategies.randoms(use_true_random=False).map(make)
 
-            def is_right(values):
-                found = wrong(values)
-                assert not found, found
+        @hypothesis.seed(seed)
+        @hypothesis.settings(max_examples=count, deadline=None, database=None, report_multiple_bugs=False,
+                             suppress_health_check=list(hypothesis.HealthCheck))  # fmt: skip
+        @hypothesis.given(strategies.lists(values, min_size=together, max_size=together))
+        def is_right(values):
+            assert not wrong(values), wrong(values)
 
-            hypothesis.seed(seed)(how(given(is_right)))()
-            pytest.fail(str(found))
+        is_right()
+        pytest.fail(str(found))
 
     return check
 
@@ -146,7 +142,6 @@ def printed(command, lines):
 @pytest.fixture(scope="session")
 def check_lines(check_drawn):
     """Checks that a program prints, for drawn lines, what the exact model, or another program, does."""
-
     def check(command, kind, other=None, **count):
         def wrong(lines):
             got = printed([*command, kind], lines)

@@ -31,7 +31,7 @@ import time
 from pathlib import Path
 
 from . import libraries
-from .common import Failure, path, read, reason
+from .common import Failure, path, read, reason, shown
 from .libraries import ARCHIVE, EXTENSION, HEADER
 from .replace import missing_folders, remove, remove_folders, replace
 
@@ -76,7 +76,8 @@ def build(folder, source, with_command):
     libraries.link_in(folder)
     if with_command and not source:
         print("proving byte_unit_cli, which takes minutes if it is not proved yet", flush=True)
-        libraries.watched("rt", "run", "--", "--version", cwd=path("crates/byte_unit_cli"))
+        if shown("rt", "run", "--", "--version", cwd=path("crates/byte_unit_cli"))[0]:
+            raise Failure("rt run in crates/byte_unit_cli failed: see above")
         shutil.copy(path("crates/byte_unit_cli/out/byte_unit_cli"), folder / COMMAND)
 
 

@@ -2,21 +2,20 @@
 
 FOLDER then has libbyte_unit.a and byte_unit.h. If there is a C compiler ($CC, or cc) it also has libbyte_unit.so, a
 link to libbyte_unit.so.VERSION, and sqlite3/byte_unit.so, the extension for SQLite, if sqlite3ext.h is installed. First
-`rt lib` proves the crate byte_unit_c, and a line every 20 seconds says how far it is. What `rt ci` alone has proved is
-proved again, which takes minutes: it leaves nothing that other commands of `rt` read. With --after-ci, as in the gate,
-uses the libraries that `rt ci` has built, and does not see what has changed since. With --link proves nothing, and
-links what is in FOLDER: libbyte_unit.a, with byte_unit.h beside it.
+`rt lib` proves the crate byte_unit_c. What `rt ci` alone has proved is proved again, which takes minutes: it leaves
+nothing that other commands of `rt` read. With --after-ci, as in the gate, uses the libraries that `rt ci` has built,
+and does not see what has changed since. With --link proves nothing, and links what is in FOLDER: libbyte_unit.a, with
+byte_unit.h beside it.
 """
 
 import argparse
 import os
 import re
 import shutil
-import subprocess
 import time
 from pathlib import Path
 
-from .common import Failure, call, has_program, output, path, read, session
+from .common import Failure, call, has_program, output, path, read, shown
 
 ARCHIVE, HEADER, EXTENSION = "libbyte_unit.a", "byte_unit.h", "sqlite3/byte_unit.so"
 # Every x86-64 processor. The default of rt, x86-64-v2, ends a program on the processors qemu64 and kvm64 by SIGILL.
@@ -40,17 +39,15 @@ def build(folder, after_ci=False):
     if not has_program("rt"):
         raise Failure("needs the Rattle toolchain (rt): see README.md")
     began, crate = time.monotonic(), path("crates/byte_unit_c")
-    if after_ci:
-        said = watched(*words_after_ci(folder / ARCHIVE), cwd=crate)
-    else:
-        what = "byte_unit_c and the crates that it needs, which takes minutes if only rt ci has proved them"
-        print(f"proving {what}", flush=True)
-        said = watched("rt", "lib", f"--cpu={CPU}", cwd=crate)
+    if not after_ci:
+        print("proving byte_unit_c, which takes minutes if only rt ci has proved it and what it needs", flush=True)
+    words = words_after_ci(folder / ARCHIVE) if after_ci else ["rt", "lib", f"--cpu={CPU}"]
+    status, said = shown(*words, cwd=crate)
+    if status or not re.search("^logic=proved ", said, re.M):
+        raise Failure(f"status {status}, or no line that begins with logic=proved: see above")
+    if not after_ci:
         shutil.copy(f"{crate}/out/libbyte_unit_c.a", folder / ARCHIVE)
-    proved = re.findall(r"^logic=proved .*$", said, re.M)
-    if not proved:
-        raise Failure("no line of rt begins with logic=proved")
-    print(*proved, f"built {ARCHIVE} in {duration(began)}", sep="\n", flush=True)
+    print(f"built {ARCHIVE} in {duration(began)}", flush=True)
     shutil.copy(path("bindings/c", HEADER), folder)
 
 
@@ -64,22 +61,6 @@ def words_after_ci(archive):
     for name, at in [("std", f"{kit}/rlibs"), *((name, path("crates", name, "out/rlib")) for name in needed)]:
         words += ["--extern", f"{name}={at}/{name}.rlib", "-L", f"dependency={at}"]
     return words
-
-
-def watched(*words, cwd):
-    """Runs a program, which ends with this one, and returns what it prints. Says every 20 seconds how far it is."""
-    began, said = time.monotonic(), None
-    with session(*words, cwd=cwd) as process:
-        while said is None:
-            try:
-                said = process.communicate(timeout=20)[0].decode(errors="replace")
-            except subprocess.TimeoutExpired as waited:
-                last = (waited.output or b"").decode(errors="replace").rstrip().rpartition("\n")[2]
-                print(f"{duration(began)} so far; rt prints: {last}", flush=True)
-    if process.returncode:
-        print(said, end="", flush=True)
-        raise Failure(f"{words[0]} {words[1]} in {cwd} failed: see above")
-    return said
 
 
 def duration(began):

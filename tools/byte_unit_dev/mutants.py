@@ -25,7 +25,7 @@ import re
 import tempfile
 import zlib
 
-from .common import copy_to, path, report, session, write
+from .common import copy_to, path, report, shown, write
 from .render import bits
 from .source import EXAMPLES, catalogue, files, public_names, source
 
@@ -95,18 +95,14 @@ def tried(crates, part):
     with tempfile.TemporaryDirectory() as copy:
         copy_to(copy, "crates", "HANDLES", "crates.txt", without=["must-fail"])
         names = [f"{crate}/{name}" for crate in crates for name in put(crate, part, f"{copy}/crates/{crate}/must-fail")]
-        said = ""
-        with session("rt", "must-fail", *crates, cwd=copy) as process:
-            for line in process.stdout:
-                print(line.decode(errors="replace"), end="", flush=True)
-                said += line.decode(errors="replace")
+        status, said = shown("rt", "must-fail", *crates, cwd=copy)
     survived = [name for name in names if f"must-fail {name}: NOT REFUSED" in said]
     rejected = [name for name in names if f"must-fail {name}: refused, as it must be" in said]
     untried = sorted({*names} - {*survived, *rejected})
     print(f"mutants: {len(names) - len(untried)} tried, {len(survived)} survived", *survived)
     if untried:
         print(f"mutants: {len(untried)} could not be tried:", *untried)
-    return 1 if survived or untried or process.returncode else 0
+    return 1 if survived or untried or status else 0
 
 
 def remove():
