@@ -5,6 +5,7 @@ import resource
 import shutil
 import signal
 import subprocess
+from pathlib import Path
 
 ROOT = os.path.dirname(os.path.dirname(os.path.dirname(os.path.realpath(__file__))))
 
@@ -20,18 +21,13 @@ def path(*parts):
 
 def read(name):
     """Returns the text of a file, named from the top of the repository or by its absolute path."""
-    try:
-        with open(path(name), encoding="utf-8") as file:
-            return file.read()
-    except OSError as error:
-        raise Failure(f"{name}: {error.strerror}") from None
+    return Path(path(name)).read_text(encoding="utf-8")
 
 
 def write(name, text):
     """Writes a file, named in the same way, and makes its folder if need be."""
-    os.makedirs(os.path.dirname(path(name)), exist_ok=True)
-    with open(path(name), "w", encoding="utf-8") as file:
-        file.write(text)
+    Path(path(name)).parent.mkdir(parents=True, exist_ok=True)
+    Path(path(name)).write_text(text, encoding="utf-8")
 
 
 def copy_to(folder, *names, without=("out",)):
@@ -101,10 +97,6 @@ def reason(error):
     if isinstance(error, OSError) and error.filename:
         return f"{error.filename}: {error.strerror}"
     return str(error) or "interrupted"
-
-
-def has_program(name):
-    return shutil.which(name) is not None
 
 
 def report(findings, fine):

@@ -27,7 +27,6 @@ import re
 import shlex
 import shutil
 import tempfile
-import time
 from pathlib import Path
 
 from . import libraries
@@ -44,7 +43,7 @@ def run(prefix, *, from_=None, without_sqlite=False, without_command=False, unin
     if re.search(r'[\x00-\x1f"\\$#]', prefix):
         why = 'a prefix with a control character or one of " \\ $ # cannot be written in byte_unit.pc'
         raise Failure(f"{prefix!r}: {why}")
-    root, began = Path(os.path.normpath(os.environ.get("DESTDIR", "") + prefix)), time.monotonic()
+    root = Path(os.path.normpath(os.environ.get("DESTDIR", "") + prefix))
     if uninstall:
         return remove_installed(root)
     with tempfile.TemporaryDirectory() as folder:
@@ -56,8 +55,8 @@ def run(prefix, *, from_=None, without_sqlite=False, without_command=False, unin
         except (Failure, OSError, KeyboardInterrupt) as error:
             raise Failure(f"nothing is installed: {reason(error)}") from error
     folder = shlex.quote(os.path.join(prefix, "lib"))
-    print(f"installed {len(files) + 1} files in {libraries.duration(began)}\nto compile: cc program.c "
-          f"$(PKG_CONFIG_PATH={folder}/pkgconfig pkg-config --cflags --libs byte_unit)")  # fmt: skip
+    print(f"installed {len(files) + 1} files")
+    print(f"to compile: cc program.c $(PKG_CONFIG_PATH={folder}/pkgconfig pkg-config --cflags --libs byte_unit)")
     if "lib/libbyte_unit.so" in files:
         print(f"to run: `ldconfig` as root if the loader reads {folder}, else LD_LIBRARY_PATH={folder}")
     if f"lib/{EXTENSION}" in files:

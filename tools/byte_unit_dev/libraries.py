@@ -12,10 +12,9 @@ import argparse
 import os
 import re
 import shutil
-import time
 from pathlib import Path
 
-from .common import Failure, call, has_program, output, path, read, shown
+from .common import Failure, call, output, path, read, shown
 
 ARCHIVE, HEADER, EXTENSION = "libbyte_unit.a", "byte_unit.h", "sqlite3/byte_unit.so"
 # Every x86-64 processor. The default of rt, x86-64-v2, ends a program on the processors qemu64 and kvm64 by SIGILL.
@@ -36,9 +35,9 @@ def run(folder: existing, *, after_ci=False, link=False):
 
 def build(folder, after_ci=False):
     """Proves byte_unit_c and what it needs, and builds the archive."""
-    if not has_program("rt"):
+    if not shutil.which("rt"):
         raise Failure("needs the Rattle toolchain (rt): see README.md")
-    began, crate = time.monotonic(), path("crates/byte_unit_c")
+    crate = path("crates/byte_unit_c")
     if not after_ci:
         print("proving byte_unit_c, which takes minutes if only rt ci has proved it and what it needs", flush=True)
     words = words_after_ci(folder / ARCHIVE) if after_ci else ["rt", "lib", f"--cpu={CPU}"]
@@ -47,7 +46,6 @@ def build(folder, after_ci=False):
         raise Failure(f"status {status}, or no line that begins with logic=proved: see above")
     if not after_ci:
         shutil.copy(f"{crate}/out/libbyte_unit_c.a", folder / ARCHIVE)
-    print(f"built {ARCHIVE} in {duration(began)}", flush=True)
     shutil.copy(path("bindings/c", HEADER), folder)
 
 
@@ -63,11 +61,6 @@ def words_after_ci(archive):
     return words
 
 
-def duration(began):
-    minutes, seconds = divmod(round(time.monotonic() - began), 60)
-    return f"{minutes} min {seconds} s"
-
-
 def shared_names(folder):
     """Returns the name of the shared library, by the version in the header, its soname, and its name for linkers."""
     found = re.search(r'^#define BYTE_UNIT_VERSION_STRING "((\d+)[0-9.]*)"', read(folder / HEADER), re.M)
@@ -81,7 +74,7 @@ def link_in(folder):
     archive, cc = folder / ARCHIVE, os.environ.get("CC") or "cc"
     if not archive.is_file() or not (folder / HEADER).is_file():
         raise Failure(f"{folder}: there is no {ARCHIVE} or no {HEADER} to link")
-    if not has_program(cc):
+    if not shutil.which(cc):
         print(f"skipped: libbyte_unit.so and {EXTENSION}: there is no C compiler {cc}")
         return
     shared, soname, short = shared_names(folder)

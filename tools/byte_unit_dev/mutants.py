@@ -24,9 +24,11 @@ import os
 import re
 import tempfile
 import zlib
+from pathlib import Path
 
 from .common import copy_to, path, report, shown, write
 from .render import bits
+from .replace import remove_folders
 from .source import EXAMPLES, catalogue, files, public_names, source
 
 # What the names of the mutants begin with that `put` copies.
@@ -38,12 +40,6 @@ IMPL = re.compile(r"^impl(?:<[^>]*>)? (\w+)", re.M)
 def catalogue_of(crate):
     """Returns the mutants of a crate's catalogue by title, in order."""
     return bits.mutants() if crate == bits.CRATE else catalogue(crate)
-
-
-def titles_of(crate):
-    edits = glob.glob("*.edit", root_dir=path("crates", crate, "must-fail"))
-    own = [name.removesuffix(".edit") for name in edits if not name.startswith(BY_TURN)]
-    return sorted([*own, *catalogue_of(crate)])
 
 
 def public_functions(crate):
@@ -74,7 +70,9 @@ def named_by(title, functions):
 def listed(crates):
     wrong, total = [], 0
     for crate in crates:
-        titles, functions = titles_of(crate), public_functions(crate)
+        edits = [Path(name).stem for name in glob.glob(path("crates", crate, "must-fail/*.edit"))]
+        titles = sorted([*catalogue_of(crate), *(name for name in edits if not name.startswith(BY_TURN))])
+        functions = public_functions(crate)
         wrong += [f"{crate}: {title}: not module.function.what" for title in titles if title.count(".") != 2]
         named = [named_by(title, functions) for title in titles if title.count(".") == 2]
         wrong += [f"{crate}: {'.'.join(entry[0])}: {entry[1]}: no mutant" for entry in functions if entry not in named]
@@ -108,9 +106,7 @@ def tried(crates, part):
 def remove():
     for name in glob.glob(path(f"crates/*/must-fail/{BY_TURN}*")):
         os.remove(name)
-    for folder in glob.glob(path("crates/*/must-fail")):
-        if not os.listdir(folder):
-            os.rmdir(folder)
+    remove_folders(map(Path, glob.glob(path("crates/*/must-fail"))))
 
 
 def with_mutants():

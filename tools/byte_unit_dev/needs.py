@@ -66,16 +66,14 @@ def need(*needs):
 
 
 def installed(packages):
-    """Installs packages, if need be with new lists of packages, then one by one. Returns those that fail."""
-    if not shutil.which("apt-get"):
-        return packages
-    words = ["apt-get", "install", "--yes", "--quiet", "--no-install-recommends"]
-
+    """Installs packages: if not all can be, by new lists of packages one by one. Returns those that fail."""
     def fails(*names):
-        return call(*words, *names, stdin=subprocess.DEVNULL).returncode != 0
+        words = ["apt-get", "install", "--yes", "--quiet", "--no-install-recommends", *names]
+        return call(*words, stdin=subprocess.DEVNULL).returncode != 0
 
-    if not fails(*packages) or call("apt-get", "update", "--quiet").returncode == 0 and not fails(*packages):
-        return []
+    if not shutil.which("apt-get") or not packages or not fails(*packages):
+        return packages if not shutil.which("apt-get") else []
+    call("apt-get", "update", "--quiet")
     return [package for package in packages if fails(package)]
 
 

@@ -311,16 +311,12 @@ def public_names(crate):
 
 def catalogue(crate):
     """Returns the mutants that the catalogue of a crate has, by title, in order."""
-    name, found, title = f"crates/{crate}/mutants.edits", {}, None
-    text = read(name) if os.path.exists(path(name)) else ""
-    for number, line in enumerate(text.splitlines(), 1):
-        if line.startswith("== "):
-            title = line[3:]
-            if title in found or not title or "/" in title:
-                raise Failure(f"{name}:{number}: this title is a duplicate or not a file name: {title}")
-            found[title] = ""
-        elif title is not None and line:
-            found[title] += line + "\n"
-        elif line and not line.startswith("#"):
-            raise Failure(f"{name}:{number}: only comments may come before the first title: {line}")
-    return found
+    name = f"crates/{crate}/mutants.edits"
+    head, *edits = re.split("^== ", read(name) if os.path.exists(path(name)) else "", flags=re.M)
+    pairs = [re.sub(r"\n{2,}", "\n", edit).split("\n", 1) for edit in edits]
+    titles = [title for title, _ in pairs]
+    wrong = [line for line in head.splitlines() if line and not line.startswith("#")]
+    wrong += [title for title in titles if titles.count(title) > 1 or not re.fullmatch("[^/]+", title)]
+    if wrong:
+        raise Failure(f"{name}: a second title, or no file name, or no comment before the first title: {wrong[0]}")
+    return dict(pairs)

@@ -10,10 +10,11 @@ any was edited, added or removed. Either form changes everything or nothing.
 import hashlib
 import os
 import re
+import shutil
 import subprocess
 from pathlib import Path
 
-from .common import ROOT, Failure, call, has_program, reason
+from .common import ROOT, Failure, call, reason
 from .replace import remove_folders, replace
 from .source import library
 
@@ -126,7 +127,7 @@ def first_line(*words):
     """Returns the first line that a command prints, or None if it is not there or fails."""
     own = {name: value for name, value in os.environ.items() if not name.startswith("GIT_")}
     how = {"cwd": HERE, "env": own, "stdin": subprocess.DEVNULL, "stderr": subprocess.DEVNULL}
-    ran = call(*words, **how) if has_program(words[0]) else None
+    ran = call(*words, **how) if shutil.which(words[0]) else None
     return ran.stdout.partition("\n")[0] if ran and ran.returncode == 0 else None
 
 

@@ -10,9 +10,10 @@ the number of random calls of `command`.
 """
 
 import os
+import shutil
 import sys
 
-from .common import Failure, ROOT, call, has_program, path
+from .common import Failure, ROOT, call, path
 from .needs import DEBIAN_PYTHON
 
 PARTS = {
@@ -30,7 +31,7 @@ def run(*words, after_ci=False, lines=4000, seed=1):
     if wrong:
         raise Failure(f"'{wrong[0]}' is no part; these are: {' '.join(PARTS)}")
     os.chdir(ROOT)
-    for python in filter(has_program, (sys.executable, DEBIAN_PYTHON)):
+    for python in filter(shutil.which, (sys.executable, DEBIAN_PYTHON)):
         if call(python, "-c", "import pytest, hypothesis").returncode == 0:
             chosen = [path(PARTS[part]) for part in parts or PARTS]
             return call(python, "-B", "-m", "pytest", *words, *chosen, stdout=None, stderr=None).returncode

@@ -10,7 +10,7 @@ import tempfile
 import time
 
 from .. import builds
-from ..common import Failure, call, has_program, output, path, spent, write
+from ..common import Failure, call, output, path, spent, write
 from ..source import copy_crates
 
 COUNTED, NUMFMT = 20_000, ["numfmt", "--from=auto"]
@@ -112,7 +112,7 @@ def one_processor():
 
 def user_time(command, file):
     """Returns the user time of a command with this input, in seconds."""
-    if not has_program(command[0]):
+    if not shutil.which(command[0]):
         raise Failure(f"{command[0]} is missing: `rt run` in a folder of crates/ builds its program")
     with open(file, "rb") as lines:
         return spent(*command, stdin=lines, stdout=subprocess.DEVNULL)[0]
@@ -131,7 +131,7 @@ def instructions(command, file):
 
 def measured(head, rows, given):
     """Returns a table of rows; each has a title, a maker of lines, and a command or None for each column."""
-    made = [[*head, "Instructions"] if has_program("valgrind") else head]
+    made = [[*head, "Instructions"] if shutil.which("valgrind") else head]
     with one_processor(), tempfile.TemporaryDirectory() as folder:
         file = os.path.join(folder, "lines")
         for title, line, commands in rows:

@@ -12,7 +12,7 @@ Without WHAT, checks the first three, which take a second. Prints each finding; 
 begins with a line `skipped: ` for each program that it runs and that is not built.
 """
 
-from ..common import Failure, report
+from ..common import Failure, reason, report
 from . import commands, examples, text
 
 CHECKS = {"words": text.words, "names": text.names, "version": text.version, "readme": commands.readme,
@@ -25,7 +25,7 @@ def run(*what: CHECKS):
     for check in what or QUICK:
         try:
             findings, fine = CHECKS[check]()
-        except Failure as failure:
-            findings, fine = [str(failure)], ""
+        except (Failure, OSError) as failure:
+            findings, fine = [reason(failure)], ""
         status |= report(findings, f"check-pages {check}: {fine}")
     return status

@@ -1,11 +1,10 @@
 """The examples of the doc comments, which are run as tests by `rt try --test` on copies of the crates.
 
 A block ```rust becomes the body of a test with `rt`, `alloc` and `?`, and a `use` line for each name in it that the
-root of its crate or of `byte_unit` exports. The tests are a crate, which uses all crates of the library. `rt try`
-proves nothing, and stops at only some of the calls that break a `requires`.
+root of its crate or of `byte_unit` exports. Each is a module of a crate that uses all crates of the library, named
+after its file and line. `rt try` proves nothing, and stops at only some of the calls that break a `requires`.
 """
 
-import os
 import re
 import subprocess
 import tempfile
@@ -15,10 +14,8 @@ from ..common import call, write
 from ..source import Source, below, copy_crates, crates, files, library, public_names
 from .text import blocks, line_at
 
-# The generated crate, and its module.
-EXAMPLES = "doc_examples"
 PUBLIC = re.compile(r"^[ \t]*pub (?:const )?(?:unsafe )?fn (\w+)", re.M)
-# An example, by its file and the line at which its block begins; and its test.
+# An example, by its file and the line at which its block begins; and the module with its test.
 Example = namedtuple("Example", "file line text crate test")
 
 
@@ -65,53 +62,35 @@ def imports_of(example):
     return made
 
 
-def module_of(examples):
-    """Returns the text of a module of tests, and the file and line that each of its lines comes from."""
-    made, places = [], []
-    for example in examples:
-        lines = example.text.splitlines()
-        head = ["", "#[test]", f"fn {example.test}(rt: HostRuntime) -> anyhow::Result<()> {{"]
-        head += imports_of(example)
-        if re.search(r"\balloc\b", example.text):
-            head.append("    let alloc = rt.alloc();")
-        made += head + [f"    {line}".rstrip() for line in lines] + ["    Ok(())", "}"]
-        numbers = [0] * len(head) + list(range(1, len(lines) + 1)) + [len(lines) + 1] * 2
-        places += [f"{example.file}:{example.line + number}" for number in numbers]
-    return "\n".join(made) + "\n", places
-
-
-def set_up(top, examples):
-    """Copies the crates that the examples need, and adds that of the tests. Returns where its lines come from."""
-    copied = below([*library(), *(example.crate for example in examples)])
-    used = sorted({"anyhow", *copied, *(name for crate in copied for name in crates()[crate])})
-    copy_crates(top, copied, {EXAMPLES: used}, ["out", "must-fail", "mutants.edits"])
-    text, places = module_of(examples)
-    source = os.path.join(top, "crates", EXAMPLES, "src")
-    write(f"{source}/lib.rt", f"//! The examples.\n#![tactic(auto)]\n\n#[cfg(test)]\nmod {EXAMPLES};\n")
-    write(f"{source}/{EXAMPLES}.rt", text)
-    return places
+def test_of(example):
+    """Returns a module with an example as a test."""
+    alloc = ["    let alloc = rt.alloc();"] * bool(re.search(r"\balloc\b", example.text))
+    lines = [f"    {line}".rstrip() for line in example.text.splitlines()]
+    head = ["", "#[test]", "fn holds(rt: HostRuntime) -> anyhow::Result<()> {", *imports_of(example)]
+    return "\n".join([*head, *alloc, *lines, "    Ok(())", "}", ""])
 
 
 def failures(examples):
-    """Runs the examples. Returns a line for each failure."""
+    """Runs the examples in a copy of the crates that they need. Returns a line for each failure."""
     with tempfile.TemporaryDirectory() as top:
-        places = set_up(top, examples)
-        got = call("rt", "try", "--test", cwd=os.path.join(top, "crates", EXAMPLES), stdin=subprocess.DEVNULL,
-                   stderr=subprocess.PIPE)
-
-    def place_of(found):
-        return places[int(found[1]) - 1] if int(found[1]) <= len(places) else found[0]
-
-    told = re.sub(rf"(?:[\w./-]*/)?src/{EXAMPLES}\.rt:(\d+)(?::\d+)?", place_of, got.stdout + got.stderr)
-    ends = dict(re.findall(rf"^test {EXAMPLES}::(\w+) \.\.\. (\w+)$", told, re.M))
+        copied = below([*library(), *(example.crate for example in examples)])
+        used = sorted({"anyhow", *copied, *(name for crate in copied for name in crates()[crate])})
+        copy_crates(top, copied, {"doc_examples": used}, ["out", "must-fail", "mutants.edits"])
+        modules = "".join(f"\n#[cfg(test)]\nmod {example.test};\n" for example in examples)
+        write(f"{top}/crates/doc_examples/src/lib.rt", f"//! The examples.\n#![tactic(auto)]\n{modules}")
+        for example in examples:
+            write(f"{top}/crates/doc_examples/src/{example.test}.rt", test_of(example))
+        got = call("rt", "try", "--test", cwd=f"{top}/crates/doc_examples", stdin=subprocess.DEVNULL,
+                   stderr=subprocess.PIPE)  # fmt: skip
+    ends = dict(re.findall(r"^test (\w+)::holds \.\.\. (\w+)$", got.stdout, re.M))
     if not ends:
-        return [told.strip() or "rt try --test printed nothing"]
+        return [f"status {got.returncode} of rt try --test\n{got.stdout}{got.stderr}".rstrip()]
     wrong = []
     for example in examples:
         if ends.get(example.test) != "ok":
-            why = re.search(rf"^test {EXAMPLES}::{example.test} \.\.\. \w+\n((?:    .*\n)*)", told, re.M)
+            why = re.search(rf"^test {example.test}::holds \.\.\. \w+\n((?:    .*\n)*)", got.stdout, re.M)
             wrong.append(f"{example.file}:{example.line}: the example fails\n{why[1] if why else ''}".rstrip())
-    return wrong or [told.strip()] * (got.returncode != 0)
+    return wrong or [got.stdout + got.stderr] * (got.returncode != 0)
 
 
 def examples():

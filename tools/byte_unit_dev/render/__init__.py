@@ -16,13 +16,14 @@ Without WHAT, renders all, in this order. In a page, what is rendered follows th
 import os
 from itertools import zip_longest
 
-from ..common import Failure, path, read, report, write
+from ..common import Failure, path, read, reason, report, write
 from . import bindings, bits, contracts, pages, vectors
 
 # Each yields the name and the text of each file that it renders, or no text for one that has to go, and may end by a
 # failure for what else is wrong.
-PARTS = {"bits": bits.made, "bindings": bindings.made, "calling": contracts.calling, "definitions": contracts.definitions,
-         "laws": pages.laws, "guide": pages.guide, "tools": pages.tools, "vectors": vectors.made}
+PARTS = {"bits": bits.made, "bindings": bindings.made, "calling": contracts.calling,
+         "definitions": contracts.definitions, "laws": pages.laws, "guide": pages.guide, "tools": pages.tools,
+         "vectors": vectors.made}  # fmt: skip
 
 
 def wrong(part, check):
@@ -42,8 +43,8 @@ def wrong(part, check):
                 write(name, text) if text else os.remove(path(name))
             else:
                 yield f"{name}:1: nothing renders this file, and its first line does not say that it is rendered"
-    except Failure as failure:
-        yield str(failure)
+    except (Failure, OSError) as failure:
+        yield reason(failure)
 
 
 def run(*what: PARTS, check=False):

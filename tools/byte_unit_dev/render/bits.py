@@ -4,6 +4,7 @@ import functools
 import os
 import re
 import tomllib
+from pathlib import Path
 
 from ..common import Failure, files, read
 from ..source import catalogue
@@ -82,8 +83,7 @@ def in_bits(name, text, is_whole=True):
 def constants(text):
     """Replaces the numbers of the constants that are named after units of bits, by those of units of bytes.
 
-    In bytes 1 Kbit is 1000 / 8, and in bits 1 KB is 1000 * 8, so the number is 64 times as large. The constants that
-    are named after units of bytes have the numbers of those that are named after units of bits in the other crate.
+    In bytes 1 Kbit is 1000 / 8, and in bits 1 KB is 1000 * 8, so the number is 64 times as large.
     """
     def row(found):
         value = found[3]
@@ -103,11 +103,9 @@ def constants(text):
 
 def crate(name):
     """Returns the sources of a crate by their names, and its mutants by their titles, those of must-fail/ first."""
-    texts = {found.removeprefix(f"{name}/"): read(found) for found in files() if found.startswith(f"{name}/")}
-    mutants = {os.path.basename(found)[:-len(".edit")]: texts.pop(found) for found in [*texts]
-               if re.fullmatch(r"must-fail/[^/]*\.edit", found)}
-    for other in ("mutants.edits", os.path.basename(ROWS)):
-        texts.pop(other, None)
+    texts = {found.removeprefix(f"{name}/"): read(found) for found in files() if found.startswith(f"{name}/")
+             and not found.endswith(("/mutants.edits", ROWS))}  # fmt: skip
+    mutants = {Path(found).stem: texts.pop(found) for found in [*texts] if re.match(r"must-fail/[^/]*\.edit$", found)}
     more = catalogue(os.path.basename(name))
     wrong = [found for found in texts if not found.endswith(".rt")] + [title for title in mutants if title in more]
     if wrong:
@@ -116,8 +114,7 @@ def crate(name):
 
 
 def mutants():
-    """Returns the mutants of byte_unit_bit by their titles: those of byte_unit_byte, of must-fail/ too, but for those
-    that turn `ignore_case`."""
+    """Returns the mutants of byte_unit_bit by their titles: those of byte_unit_byte, but for those of `without`."""
     found = {}
     for title, text in crate(SOURCE)[1].items():
         edited = re.match(r"file: (\S+)\n", text)
@@ -130,19 +127,13 @@ def mutants():
 
 
 def misfits(name, texts, mutants):
-    """Yields a line for each mutant of a crate that cannot be applied. Reads it as `rt must-fail` does."""
+    """Yields a line for each mutant of a crate that cannot be applied."""
     for title, text in mutants.items():
-        edited = old = None
-        for key, value in re.findall(r"^(file|old|new): ?(.*)$", text, re.M):
-            if key == "file":
-                edited = texts.get(value.strip())
-            elif key == "old":
-                old = value
-            elif edited is None or not old or edited.count(old) != 1:
+        edited = texts.get(text.partition("\n")[0].removeprefix("file: "), "")
+        for old, new in re.findall(r"^old: (.*)\nnew: ?(.*)$", text, re.M) or [(text, "")]:
+            if edited.count(old) != 1:
                 yield f"{name}: the mutant {title} cannot be applied, for this is not in its file exactly once: {old}"
-                break
-            else:
-                edited, old = edited.replace(old, value), None
+            edited = edited.replace(old, new)
 
 
 def made():

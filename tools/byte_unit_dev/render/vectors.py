@@ -170,19 +170,13 @@ def strange_in_a_unit(table, strange):
                 "parse byte cased {} = {}", "parse bit cased {} = {}") + rows(errors, "unit cased bytes {} = {}")
 
 
-def unit_errors(table):
-    ways = [f"{case} {kind}" for case in ("cased", "uncased") for kind in ("bits", "bytes")]
-    return [row for way in ways for row in rows(table, f"unit {way} {{}} = {{}}")]
-
-
 def widest(table):
     return [row for of, size, unit, spec, _, parts in table for row in rows(
         [(of, size, unit, spec, "".join(part * count for part, count in parts))],
         "text {0:lower} {1} " + "in {2} " * bool(unit.arguments) + "{3} = {4}")]
 
 
-BY = {"long_texts": long_texts, "strange": strange, "strange_in_a_unit": strange_in_a_unit, "unit_errors": unit_errors,
-      "widest": widest}
+BY = {"long_texts": long_texts, "strange": strange, "strange_in_a_unit": strange_in_a_unit, "widest": widest}
 
 
 def rows_of(file, table, forms):
