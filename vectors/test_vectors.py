@@ -4,9 +4,7 @@ import os
 import re
 
 import pytest
-from byte_unit_dev.builds import environment
-from byte_unit_dev.common import output, path, read
-from byte_unit_dev.fixtures import compiled, ended
+from byte_unit_dev.fixtures import compiled, ended, environment, output, path, read
 from byte_unit_dev.model.exact import Rejected, form, size_of
 
 # How many rows each runner has, so that no call is left out unseen.

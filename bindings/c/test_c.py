@@ -3,10 +3,8 @@
 import re
 
 import pytest
-from byte_unit_dev.common import output, path, read, write
-from byte_unit_dev.fixtures import compiled
+from byte_unit_dev.fixtures import compiled, need, output, path, read, write
 from byte_unit_dev.install import functions
-from byte_unit_dev.needs import need
 
 WARNINGS = ["-Wall", "-Wextra", "-Wpedantic", "-Wconversion", "-Werror"]
 IN_C, IN_CPP = ["c99", "c11", "c17", "c2x"], ["c++17", "c++20"]
@@ -21,7 +19,6 @@ BUILDS = [(name, compiler, standard) for name, left_out in LEFT_OUT.items()
 @pytest.fixture
 def program_in_c(library, tmp_path):
     """Compiles a program of this folder, and returns its path."""
-
     def build(source, compiler="cc", standard="c11"):
         # In C++, unlike in C, -Wextra warns of a field that an initializer leaves out.
         language = ["-x", "c++", "-Wno-missing-field-initializers"] if standard.startswith("c++") else []

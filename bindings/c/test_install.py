@@ -5,10 +5,8 @@ import re
 import shutil
 
 import pytest
-from byte_unit_dev.common import call, output, path, read
-from byte_unit_dev.fixtures import compiled
+from byte_unit_dev.fixtures import call, compiled, is_there, need, output, path, read
 from byte_unit_dev.install import calls_of, functions
-from byte_unit_dev.needs import is_there, need
 
 INSTALL = [path("tools/dev"), "install"]
 HEADER, PAGE = "include/byte_unit.h", "share/man/man3/byte_unit.3"

@@ -5,9 +5,7 @@ import re
 import shutil
 
 import pytest
-from byte_unit_dev.common import read, write
-from byte_unit_dev.fixtures import CARGOS, SERDE
-from byte_unit_dev.needs import is_there, need
+from byte_unit_dev.fixtures import CARGOS, SERDE, is_there, need, read, write
 
 FEATURES = ["--features", "serde"] if all(map(is_there, SERDE)) else []
 AS_WRITTEN, CHANGED = 91, 9

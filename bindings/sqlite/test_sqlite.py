@@ -6,10 +6,8 @@ import sys
 from itertools import islice
 
 import pytest
-from byte_unit_dev.common import call, output, path, read
-from byte_unit_dev.fixtures import compiled
+from byte_unit_dev.fixtures import call, compiled, need, output, path, read
 from byte_unit_dev.model.exact import UNITS, Rejected, form, size_of, some_line, value_of
-from byte_unit_dev.needs import need
 
 WARNINGS = ["-Wall", "-Wextra", "-Wpedantic", "-Wconversion", "-Wshadow", "-Werror"]
 SANITIZED = ["-g", "-fsanitize=address,undefined", "-fno-sanitize-recover=all"]
@@ -86,7 +84,6 @@ def wrong_of(sql, rows):
 @pytest.mark.parametrize("kind, flags", [("byte", ""), ("bit", ", 'bits'")])
 def test_lines(sql, check_drawn, kind, flags):
     """Compares size_parse, size_text and size_explain with the exact model."""
-
     def row(line):
         size = size_of(line, kind)
         if isinstance(size, Rejected):
@@ -103,7 +100,6 @@ def test_lines(sql, check_drawn, kind, flags):
 
 def test_explanations(sql, check_drawn):
     """Sees that size_explain is NULL for sizes, and else the model's message."""
-
     def row(line):
         return f"SELECT size_explain({quoted(line)});", [re.escape(getattr(size_of(line, "byte"), "message", ""))]
 

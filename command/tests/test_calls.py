@@ -8,9 +8,7 @@ import re
 
 import pytest
 
-from byte_unit_dev.common import output, path, read
-from byte_unit_dev.fixtures import ended
-from byte_unit_dev.needs import need
+from byte_unit_dev.fixtures import ended, need, output, path, read
 from calls import some_call
 from model import OPTIONS, result_of
 from program import run

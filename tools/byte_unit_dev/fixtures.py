@@ -1,4 +1,7 @@
-"""What tests share: options, fixtures of what is built once, comparisons with the model, runs of programs, reports."""
+"""What tests share: options, fixtures of what is built once, comparisons with the model, runs of programs, reports.
+
+They import from here what they share with the tools, too.
+"""
 
 import contextlib
 import functools
@@ -14,9 +17,9 @@ import pytest
 from hypothesis import strategies
 
 from .builds import CONFIG, copied, environment
-from .common import call, output, path, read, write
+from .common import ROOT, call, copy_to, output, path, read, write
 from .model.exact import output_for, some_line
-from .needs import DEBIAN_PYTHON, DEBIAN_RUST, PYTHON_PACKAGE, is_there, need
+from .needs import DEBIAN_PYTHON, DEBIAN_RUST, PACKAGES, PYTHON_PACKAGE, is_there
 
 # The first cargo of the path, and Debian's.
 CARGOS = list(dict.fromkeys([shutil.which("cargo") or "cargo", "/usr/bin/cargo"]))
@@ -35,6 +38,15 @@ def pytest_collection_modifyitems(config, items):
     """Leaves out the tests that are marked `whole`, unless they are asked for."""
     if not config.getoption("whole"):
         items[:] = [item for item in items if not item.get_closest_marker("whole")]
+
+
+def need(*needs):
+    """Skips the test that calls this if something that it needs is missing."""
+    for name in needs:
+        if not is_there(name):
+            tried = "BYTE_UNIT_SETUP" in os.environ
+            why = "could not be installed" if tried else f"is missing (Debian: {PACKAGES[name]})"
+            pytest.skip(f"{name.removeprefix('import ')} {why}")
 
 
 def compiled(compiler, out, *words, **more):

@@ -60,13 +60,6 @@ def public_functions(crate):
     return found
 
 
-def named_by(title, functions):
-    """Returns the public function that a title names, or `None`."""
-    module, function = title.split(".")[:2]
-    same = [entry for entry in functions if entry[1] == function and module in entry[0]]
-    return min(same, key=lambda entry: (entry[0][-1] != module, len(entry[0])), default=None)
-
-
 def listed(crates):
     wrong, total = [], 0
     for crate in crates:
@@ -74,7 +67,10 @@ def listed(crates):
         titles = sorted([*catalogue_of(crate), *(name for name in edits if not name.startswith(BY_TURN))])
         functions = public_functions(crate)
         wrong += [f"{crate}: {title}: not module.function.what" for title in titles if title.count(".") != 2]
-        named = [named_by(title, functions) for title in titles if title.count(".") == 2]
+        named = []
+        for module, function in (title.split(".")[:2] for title in titles if "." in title):
+            same = [entry for entry in functions if entry[1] == function and module in entry[0]]
+            named += sorted(same, key=lambda entry: (entry[0][-1] != module, len(entry[0])))[:1]
         wrong += [f"{crate}: {'.'.join(entry[0])}: {entry[1]}: no mutant" for entry in functions if entry not in named]
         total += len(functions)
     return report(wrong, f"mutants: {total} public functions, each with a mutant")

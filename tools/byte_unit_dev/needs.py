@@ -54,17 +54,6 @@ def is_there(need):
     return shutil.which(need) is not None
 
 
-def need(*needs):
-    """Skips the test that calls this if something that it needs is missing."""
-    import pytest
-
-    for name in needs:
-        if not is_there(name):
-            tried = "BYTE_UNIT_SETUP" in os.environ
-            why = "could not be installed" if tried else f"is missing (Debian: {({**PACKAGES, **COMPARED})[name]})"
-            pytest.skip(f"{name.removeprefix('import ')} {why}")
-
-
 def installed(packages):
     """Installs packages: if not all can be, by new lists of packages one by one. Returns those that fail."""
     def fails(*names):

@@ -8,8 +8,7 @@ from itertools import count
 
 import pytest
 
-from byte_unit_dev.common import ROOT, call, copy_to, path, read, write
-from byte_unit_dev.fixtures import compiled, ended
+from byte_unit_dev.fixtures import ROOT, call, compiled, copy_to, ended, path, read, write
 
 LANES = int(os.environ.get("RT_JOBS") or min(4, os.cpu_count()))
 # What a test may end with: the error itself, or the message of an `expect` with the error.
@@ -30,8 +29,8 @@ CALLS = [
     ("--total --to=auto -p 65535", b"1 KiB\n7 MB\n"),
     *((words, b"") for words in ("--help", "--version", "--nothing", "--field=2", "-d , --field=1,3-2", "-p x")),
 ]
-PROGRAMS = [*(("byte_unit_cli", *row) for row in CALLS), ("byte_unit_lines", "", MANY),
-            ("byte_unit_lines", "bit", b"1.5 KiB\n\n1Kbi\nx\n1YB")]  # fmt: skip
+PROGRAMS = [*(("byte_unit_cli", *row) for row in CALLS), *(("byte_unit_lines", *row) for row in [
+    ("", MANY), ("bit", b"1.5 KiB\n\n1Kbi\nx\n1YB"), ("byte", b"1 KB\n2 KB\n" + b"1" * 1_000_000), ("x y", b"")])]
 
 
 def wrong_endings(root, last):

@@ -46,11 +46,6 @@ def calls_of(words):
         yield "formatted adjusted sizes", rules.adjusted, (size, kind, unit, spec)
 
 
-def by_program(program, lines):
-    """Returns the results of a program for each request."""
-    return [line.split("\t") for line in output(program, input="\n".join([*lines, ""]), stderr=None).split("\n")[:-1]]
-
-
 def changed(result, rng):
     """Returns the result with another digit, or with one more if it has none."""
     at = rng.choice([found.start() for found in re.finditer("[0-9]", result)] or [len(result)])
@@ -77,8 +72,9 @@ def run(folder, *, count=300_000, seed=1):
     with tempfile.TemporaryDirectory() as work:
         original, library = builds.original(folder, work), builds.library(work)
         lines = list(requests(random.Random(seed), count))
-        theirs, ours = (by_program(builds.program(PROGRAM, *crate), lines)
-                        for crate in ([original], [builds.copied("rust", work), library]))
+        programs = [builds.program(PROGRAM, *crate) for crate in ([original], [builds.copied("rust", work), library])]
+        printed = [output(program, input="\n".join([*lines, ""]), stderr=None) for program in programs]
+    theirs, ours = ([line.split("\t") for line in text.split("\n")[:-1]] for text in printed)
     found, findings = compared(lines, theirs, ours, seed)
     print("What was compared | What differs | Results | An example: the call, the crate; the library\n---|---|---|---")
     for (what, rule), (count, example) in sorted(found.items(), key=str):

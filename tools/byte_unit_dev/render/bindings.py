@@ -24,10 +24,6 @@ def in_lines(form, indent, end):
     return ",\n".join(indent + ", ".join(map(form, row)) for row in rows) + end
 
 
-def name_of(unit):
-    return unit.lower()[0] if unit == "Bit" else unit.replace("bit", "b")
-
-
 def expected():
     """Returns the lists of expected characters, in the order of the variants."""
     body = source(SCAN).part("body fn Expected::characters").replace("&BEGINNING", str(["B", *prefixes()]))
@@ -59,7 +55,7 @@ def made():
         (r"^pub enum Unit \{\n", r"\n\}", in_lines(str, "    ", ",")),
         (r"^pub\(crate\) const UNITS: ", r"\n\];",
          f"[Unit; {2 + 4 * len(prefixes())}] = [\n" + in_lines(lambda unit: f"Unit::{unit}", "    ", ",")),
-        (r"^const NAMES: .*?\[\n", r"\n\];", in_lines(lambda unit: f'"{name_of(unit)}"', "    ", ",")))
+        (r"^const NAMES: .*?\[\n", r"\n\];", in_lines(lambda unit: f'"{unit.replace("Bit", "b").replace("bit", "b")}"', "    ", ",")))
     yield f"{RUST}/constants.rs", with_parts(
         f"{RUST}/constants.rs", (r"constants! \{ @units \$Size \$kind,\n", r"\n        \}", ",\n".join(constants())))
     arms = "".join(f"        {pattern(row)} => &[{', '.join(map(repr, row))}],\n" for row in expected())
