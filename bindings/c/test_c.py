@@ -63,7 +63,6 @@ TEXTS = {
 
 
 def comments_of(header):
-    """Returns the comments, each in one line."""
     return "\n".join(re.sub(r"\s*\n \*\s*", " ", part) for part in re.findall(r"/\*(.*?)\*/", header, re.S))
 
 

@@ -75,7 +75,6 @@ def test_shared_library(prefix):
 
 
 def test_version(prefix, tmp_path):
-    """The version is one in the library, the header and byte_unit.pc."""
     wrong = "byte_unit_version() != BYTE_UNIT_VERSION || strcmp(BYTE_UNIT_VERSION_STRING, argv[1])"
     head = "#include <byte_unit.h>\n#include <string.h>\nint main(int argc, char **argv)"
     (tmp_path / "version.c").write_text(f"{head} {{ return argc != 2 || {wrong}; }}\n")
@@ -194,7 +193,6 @@ def test_without_compiler(library, tmp_path):
 
 
 def test_command(library, tmp_path, program_of):
-    """The command is installed with its manual page and its completions."""
     source, prefix = shutil.copytree(library, tmp_path / "with-command"), tmp_path / "prefix"
     shutil.copy(program_of("byte_unit_cli"), source / "byte-unit")
     output(*INSTALL, "--from", source, prefix)

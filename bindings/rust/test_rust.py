@@ -27,7 +27,6 @@ def test_its_own_tests(each_cargo, rust_package, words, needs):
 
 @pytest.mark.parametrize("module, count", [("as_written", AS_WRITTEN), ("changed", CHANGED)])
 def test_examples_of_the_original(each_cargo, rust_package, module, count):
-    """Runs the examples of the original crate's documentation."""
     assert each_cargo.passed(rust_package, "--test", "upstream_examples", *FEATURES, module) == count
 
 
@@ -63,7 +62,6 @@ def test_examples_of_its_documentation(cargo, rust_package):
 
 @pytest.mark.parametrize("words", [["doc", "--no-deps"], ["build", "--no-default-features"]], ids=["doc", "no std"])
 def test_build(cargo, rust_package, words):
-    """Builds the documentation, without a warning, and the package without std."""
     cargo.output(rust_package, *words, *FEATURES, RUSTDOCFLAGS="-D warnings")
 
 

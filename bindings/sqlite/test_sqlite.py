@@ -15,7 +15,6 @@ GREATEST = 2**63 - 1
 
 
 def extension(compiler, library, folder, *flags):
-    """Compiles the extension in C99."""
     need("sqlite3ext.h")
     words = ["-std=c99", "-shared", "-fPIC", "-fvisibility=hidden", *WARNINGS, *flags, "-I", library]
     links = [f"{library}/libbyte_unit.a", "-Wl,--exclude-libs,ALL", "-Wl,-z,defs"]
@@ -83,7 +82,6 @@ def wrong_of(sql, rows):
 
 @pytest.mark.parametrize("kind, flags", [("byte", ""), ("bit", ", 'bits'")])
 def test_lines(sql, check_drawn, kind, flags):
-    """Compares size_parse, size_text and size_explain with the exact model."""
     def row(line):
         size = size_of(line, kind)
         if isinstance(size, Rejected):
@@ -99,7 +97,6 @@ def test_lines(sql, check_drawn, kind, flags):
 
 
 def test_explanations(sql, check_drawn):
-    """Sees that size_explain is NULL for sizes, and else the model's message."""
     def row(line):
         return f"SELECT size_explain({quoted(line)});", [re.escape(getattr(size_of(line, "byte"), "message", ""))]
 
@@ -116,7 +113,6 @@ def some_conversion(rng):
 
 
 def test_sizes_in_units(sql, check_drawn):
-    """Compares size_in with the exact model."""
     check_drawn(some_conversion, lambda rows: wrong_of(sql, rows))
 
 

@@ -1,7 +1,5 @@
 """A reference model of byte-unit: all that a call writes, and its exit status, by the exact model of sizes.
 
-An option is a row of OPTIONS.
-
 Follows command/byte-unit.1 and docs/DEFINITIONS.md, and shares no code with the crates.
 """
 
@@ -29,10 +27,7 @@ class Wrong(Exception):
 
 
 def quoted(data):
-    """Returns bytes in quotes: all, or 77 to 80 of them, so that no character is cut, with two points after them.
-
-    If those in quotes are not UTF-8, each byte that is not printable ASCII is escaped, and else each control character.
-    """
+    """Returns bytes in quotes: all, or 77 to 80 of them, so that no character is cut, with two points after them."""
     ends = range(QUOTED, QUOTED - 4, -1)
     end = len(data) if len(data) <= QUOTED else next((at for at in ends if data[at] & 0xC0 != 0x80), QUOTED)
     try:

@@ -1,7 +1,4 @@
-"""Fixed calls of byte-unit: with their results, written by hand, and on large inputs.
-
-Each row has the words, standard input, standard output, the exit status if it is not 0, and standard error.
-"""
+"""Fixed calls of byte-unit: words, standard input and output, exit status and standard error; and large inputs."""
 
 import unicodedata
 

@@ -65,7 +65,6 @@ def copied_header(text, case):
 
 
 def is_cut_twice(case):
-    """Whether a record comes in more than two reads."""
     inner = case.call.pieces()[1:-1] if case.options and not case.operands else []
     return any(case.options.end not in piece for piece in inner)
 
@@ -90,7 +89,6 @@ def unit_and(end, when):
 
 
 def in_bits(size, case):
-    """Takes `b` in a limit for bits."""
     text = case.options.texts["max"]
     return limit(text + "it", case.options) if text[-1:] == "b" else size
 

@@ -1,8 +1,4 @@
-"""Reads the sources of the crates.
-
-`Source` is a file of Rattle: its items with their comments, signatures and clauses. `Spec` is a file of definitions
-(`.antt`): its head comment, its imports, and its definitions, each with its comment and the words that it uses.
-"""
+"""Reads the sources of the crates: `Source` is a file of Rattle, and `Spec` a file of definitions (`.antt`)."""
 
 import functools
 import glob
@@ -150,9 +146,8 @@ class Source:
         raise self.wrong(start, "an item does not end")
 
     def item(self, words):
-        """Returns where the doc comment of an item starts, where its attributes start, and where it ends.
-
-        An item is named by its kind and name, as `fn cell`, or `fn Log::write` in an `impl` of a type."""
+        """Returns where the doc comment of an item, such as `fn cell`, or `fn Log::write` in an `impl`, starts, where
+        its attributes start, and where it ends."""
         kind, _, name = words.partition(" ")
         owner, _, name = name.rpartition("::")
         heads = re.finditer(rf"^impl\b[^{{;]*\b{owner}\b[^{{;]*(?={{)", self.code, re.M)

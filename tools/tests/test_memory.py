@@ -34,10 +34,8 @@ PROGRAMS = [*(("byte_unit_cli", *row) for row in CALLS), *(("byte_unit_lines", *
 
 
 def wrong_endings(root, last):
-    """Returns the tests of byte_unit_tests that end in a wrong way as one of the first allocations fails.
-
-    Those in refused.rt use the global allocator, and have to pass. Others may end with the error itself.
-    """
+    """Yields the tests of byte_unit_tests that end in a wrong way as one of the first allocations fails: those in
+    refused.rt, which use the global allocator, have to pass, and others may end with the error itself."""
     how = {"cwd": f"{root}/crates/byte_unit_tests", "stderr": subprocess.PIPE}
     with ThreadPoolExecutor(LANES) as pool:
         numbers = range(1, last + 1)

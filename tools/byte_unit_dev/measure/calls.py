@@ -1,7 +1,6 @@
-"""Calls from C, Rust, Python and SQLite, beside other libraries.
+"""Calls from C, Rust, Python and SQLite, beside other libraries: each program prints a line for each figure.
 
-Each program prints a line for each figure: its column and a colon, if that is not the program's, and its row. Rows that
-differ in what is after the last ` of ` are one, with a figure for each.
+It has the column and a colon, if that is not the program's, and the row. Rows that differ after ` of ` are one.
 """
 
 import os

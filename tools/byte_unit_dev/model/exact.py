@@ -136,6 +136,12 @@ def output_for(line, kind):
     return size.name if isinstance(size, Rejected) else f"{size} = {form(size, kind)}"
 
 
+def some_unit(rng, ends):
+    """Returns a spelling of a unit with one of these ends."""
+    letter = rng.choice(["", *LETTERS, *LETTERS.lower()])
+    return letter + (rng.choice(["", "", "i", "I"]) if letter else "") + rng.choice(ends)
+
+
 def some_line(rng):
     """Returns a random line, as bytes without a line ending."""
     make = rng.random()
@@ -149,9 +155,7 @@ def some_line(rng):
         number += "." + "".join(rng.choices("0123456789", k=places))
     if rng.random() < 0.03:
         number = "0" * rng.randrange(40) + number
-    unit = rng.choice(["", *LETTERS, *LETTERS.lower()])
-    unit += rng.choice(["", "", "i", "I"] if unit else [""]) + rng.choice(WORDS)
-    text = number + " " * rng.choice([0, 0, 1, 1, 1, 2, 9]) + unit
+    text = number + " " * rng.choice([0, 0, 1, 1, 1, 2, 9]) + some_unit(rng, WORDS)
     if rng.random() < 0.05:
         at = rng.randrange(len(text) + 1)
         text = text[:at] + rng.choice("bikKx. \t0é\u3000\u212a") + text[at:]

@@ -1,8 +1,7 @@
 """The exact results of calls, and the rules of docs/DIFFERENCES.md that explain where the original's results differ.
 
 A call is a generator of the original's result, ours and the arguments. It yields the exact result, which ours has to
-be, and then each rule that could explain the original's result, and whether it does. A result `-` is none: the size or
-the unit is beyond the limits of the original.
+be, and then each rule that could explain the original's, and whether it does. A result `-` is beyond its limits.
 """
 
 import math

@@ -176,8 +176,7 @@ def below():
 
 def calling(page="CALLING.md"):
     """The row of calls that have a `requires`; the proof PROOF; the definitions that contracts on the page use; the
-    contracts of the types but BELOW, to the letter but for line breaks, of traits what implementations say, calls of a
-    type with the same clauses once, those of bits that are those of bytes counted; the names of what is left out."""
+    contracts of the types but BELOW, those of bits that are those of bytes counted; the names of what is left out."""
     yield page, with_parts(
         page, (r"^\| preconditions \| ", r" \|$", preconditions()), (r"^```antt\n", r"^```$", read(PROOF)),
         section("Words of the contracts", words()), section("Contracts", contracts()),
@@ -280,11 +279,9 @@ def others():
 
 
 def definitions(page="docs/DEFINITIONS.md"):
-    """The files that the contracts of what `byte_unit` exports lead to, with the first sentence of each and comments of
-    its properties (their names begin with a capital) that contracts of SAID cite; those that only laws lead to, and
-    fields that follow from others (FOLLOWS); those, and definitions in files to read, that no public contract leads to;
-    those of other crates but EXAMPLES. A definition leads to those that it uses. A file of the library that says it is
-    private, although a public contract leads to it, is a failure."""
+    """The files that the contracts of what `byte_unit` exports lead to, with the properties (their names begin with a
+    capital) that contracts of SAID cite; those that only laws and FOLLOWS lead to; those, and definitions in files to
+    read, that no public contract leads to; those of other crates. A definition leads to those that it uses."""
     _, reached, added = groups()
     of_laws = [spec for spec in files_of(library(), added) if not names_in(spec, reached)]
     yield page, with_parts(page, section("To read", to_read()), section("Laws", bullets(of_laws)),

@@ -35,9 +35,8 @@ def statement(comment):
 
 
 def laws(page="docs/PROVED.md"):
-    """The public functions in `laws` of each crate but that of bits, with the first sentence of each comment.
-
-    The first law of a file has the file in its row. What a file says after its first paragraph is below the table."""
+    """The public functions in `laws` of each crate but that of bits, with the first sentence of each comment; below
+    the table, what a file says after its first paragraph."""
     rows, notes = ["Law | Statement | File, also of the rows below", "---|---|---"], []
     for found in filter(None, map(LAWS.fullmatch, files())):
         file, link = source(found[0]), f"[{found[0].removeprefix('crates/')}](../{found[0]})"

@@ -61,9 +61,8 @@ KNOWN = {"u128::MAX": 2**128 - 1, "u64::MAX": 2**64 - 1, "true": True, "false": 
 
 
 def evaluated(file, start, end, local):
-    """Evaluates the expression between two places of a file, as one of Python, which has its operators and precedence.
-
-    Only literals, brackets, operators and calls of `value` come from the file; any other token is a failure."""
+    """Evaluates the expression between two places of a file, as one of Python, which has its operators and precedence:
+    literals, brackets, operators and calls of `value`. Any other token is a failure."""
     def value(path):
         is_constant = path not in local and re.search(rf"^(?:pub )?const {path}:", file.code, re.M)
         return constant(file.name, path) if is_constant else {**KNOWN, **local}.get(path, Name(path))
