@@ -34,9 +34,6 @@ def near(rng, values, most, least=0):
     return min(most, max(least, value + rng.choice([0, 0, 0, -1, 1])))
 
 
-# The values of options, each for the texts of the options before it.
-
-
 def some_to(rng, texts):
     if happens(rng, 40):
         return rng.choice(FORMS)
@@ -118,9 +115,6 @@ def some_wrong_value(rng, texts):
             return name, text
 
 
-# Words of the command line.
-
-
 def words_of(rng, name, text):
     """Returns the words of an option in one of its spellings."""
     option = OPTIONS[name]
@@ -156,9 +150,6 @@ def with_operands(rng, groups, operands):
     for at, group in enumerate([*groups, []]):
         words += [operand for slot, operand in zip(slots, operands) if slot == at] + group
     return words
-
-
-# Inputs.
 
 
 def long_field(rng):

@@ -23,9 +23,6 @@ class Wrong(Exception):
     """Why the value of an option is wrong."""
 
 
-# Texts.
-
-
 def quoted(data):
     """Returns bytes in quotes: all, or 77 to 80 of them, so that no character is cut, with two points after them."""
     ends = range(QUOTED, QUOTED - 4, -1)
@@ -56,9 +53,6 @@ def text_of(size, kind, ignore_case, to, precision):
         unit = unit_of(to.strip(WHITE_SPACE), kind, ignore_case)
     places = "" if precision is None or to == "exact" or unit in BASE.values() else f".{precision}"
     return f"{value_of(size, kind, unit):{places}f} {unit}"
-
-
-# Options.
 
 
 def checked(value, holds, why):
@@ -141,9 +135,6 @@ def options_of(texts):
         options.kind = "bit" if options.bits else "byte"
     options.end = b"\0" if options.zero_terminated else b"\n"
     return options
-
-
-# Runs.
 
 
 class Aborted(Exception):

@@ -212,9 +212,6 @@ WRONG_WORDS = [
 ]
 
 
-PRINTED = [("--version", b"", b"byte-unit 3.0.0\n"), ("-V", b"", b"byte-unit 3.0.0\n")]
-
-
 def row(words, data=b"", written=b"", status=0, messages=""):
     words = words.split() if isinstance(words, str) else words
     return Call(words, data), Result(written, messages.encode(), status)
@@ -223,10 +220,8 @@ def row(words, data=b"", written=b"", status=0, messages=""):
 # Each call with its result: those that the model has too, and the others.
 MODELLED = [row(*each) for each in [*SIZES, *HEADERS_AND_TOTALS, *LIMITS, *FORMS, *FIELDS, *QUOTED]]
 MODELLED += [row(words, b"", b"", 2, message) for words, message in WRONG_VALUES]
-OTHERS = [row(words, b"", b"", 2, message) for words, message in WRONG_WORDS] + [row(*each) for each in PRINTED]
-
-# Inputs of many reads, records, fields, operands or bytes.
-
+OTHERS = [row(words, b"", b"", 2, message) for words, message in WRONG_WORDS]
+OTHERS += [row(word, b"", b"byte-unit 3.0.0\n") for word in ("--version", "-V")]
 LINES = b"1.5 KB\n" * 15_000
 LONG = b"0" * 17_000_000
 

@@ -25,7 +25,7 @@ def wrong_of(program, calls):
 
 
 def test_random_calls(program, pytestconfig, check_drawn):
-    check_drawn(some_call, lambda calls: wrong_of(program, calls), pytestconfig.getoption("calls"))
+    check_drawn(some_call, lambda calls: wrong_of(program, calls), 5 * pytestconfig.getoption("lines"))
 
 
 @pytest.mark.parametrize("call, wanted", MODELLED + OTHERS)

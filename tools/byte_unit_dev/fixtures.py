@@ -28,16 +28,8 @@ SERDE = [f"{DEBIAN_RUST}/{name}-*" for name in ("serde", "serde_json", "toml")]
 
 def pytest_addoption(parser):
     parser.addoption("--after-ci", action="store_true", help="use the libraries and programs that rt ci has built")
-    parser.addoption("--lines", type=int, default=4000, help="the number of generated lines")
+    parser.addoption("--lines", type=int, default=4000, help="the number of generated lines; of calls, a fifth")
     parser.addoption("--seed", type=int, default=1, help="chooses what is generated")
-    parser.addoption("--calls", type=int, default=20_000, help="the number of random calls of byte-unit")
-    parser.addoption("--whole", action="store_true", help="also tests of long runs and of inputs of 1 GB")
-
-
-def pytest_collection_modifyitems(config, items):
-    """Leaves out the tests that are marked `whole`, unless they are asked for."""
-    if not config.getoption("whole"):
-        items[:] = [item for item in items if not item.get_closest_marker("whole")]
 
 
 def need(*needs):

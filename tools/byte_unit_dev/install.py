@@ -1,9 +1,9 @@
 """Installs the C library where compilers, pkg-config, man and SQLite look for it, and the command byte-unit.
 
-Proves and builds the library by `tools/make-libraries`, and the command by `rt run` in crates/byte_unit_cli; both print
-their progress. What `rt check`, `rt lib` or `rt run` has proved is not proved again; what `rt ci` alone has proved is.
-With --from FOLDER proves nothing, and takes libbyte_unit.a, byte_unit.h and, if it is there, byte-unit from the folder.
-Then puts into the folder PREFIX, such as /usr/local, but for what --without-sqlite and --without-command leave out:
+Proves and builds the library by `tools/make-libraries`, and the command by `rt run` in crates/byte_unit_cli. What
+`rt check`, `rt lib` or `rt run` has proved is not proved again; what `rt ci` alone has proved is. With --from FOLDER
+proves nothing, and takes libbyte_unit.a, byte_unit.h and, if it is there, byte-unit from the folder. Then puts into the
+folder PREFIX, such as /usr/local, but for what --without-sqlite and --without-command leave out:
 
     bin/byte-unit                   the command, with share/man/man1/byte-unit.1 and its completions for bash in
                                     share/bash-completion/completions
@@ -14,12 +14,10 @@ Then puts into the folder PREFIX, such as /usr/local, but for what --without-sql
     share/man/man3/byte_unit.3      the manual page, also by the name of each call
     share/byte_unit/LICENSE, installed    the license, and the list of these files, which --uninstall reads
 
-With the variable DESTDIR the files go to $DESTDIR/PREFIX, and name PREFIX: for packages.
-
-All files are written beside their places first, and then renamed. If this fails, or a signal comes before the end,
-nothing is installed; one line says so and why, and the status is 1. --uninstall removes the files of the list, and the
-folders that the installation made if they are empty. Without a C compiler ($CC, or cc) the shared library and the
-extension are left out, and a line says so.
+With the variable DESTDIR the files go to $DESTDIR/PREFIX, and name PREFIX: for packages. Without a C compiler ($CC, or
+cc) the shared library and the extension are left out, and a line says so. If something fails, or a signal comes before
+the end, nothing is installed, and one line says why. --uninstall removes the files of the list, and the folders that
+the installation made if they are empty.
 """
 
 import os

@@ -7,15 +7,12 @@
 
 A mutant is a file crates/CRATE/must-fail/TITLE.edit, or a line `== TITLE` of the catalogue crates/CRATE/mutants.edits,
 which begins with comments, and the lines of an edit for `rt must-fail` after it. Those of byte_unit_bit are rendered
-from all of byte_unit_byte when they are tried. The title of a mutant is
-`module.function.what`: the function whose contract rejects it, and what it does wrong. `module` is the file of the
-function or a folder that this file is in; of several such functions the one whose file has the shortest path is meant.
-A function is public if it has `pub` and a contract and the crate exports it: it is `extern "C"`, or in a `pub mod`, or
-it or the type of its `impl` is in a `pub use`; in a program each one with `pub` is. Laws, rendered files and crates of
-examples and tests are left out.
-
-The part of a mutant, from 1/N to N/N, depends on its crate and title alone. `try` reuses what `rt check` has proved.
-The exit status is 0 if nothing is found and each mutant is rejected, 1 if not, and 2 for wrong arguments.
+from all of byte_unit_byte when they are tried. A title is `module.function.what`: the function whose contract rejects
+it, and what it does wrong. `module` is the file of the function or a folder that this file is in; of several the one
+with the shortest path is meant. A function is public if it has `pub` and a contract and the crate exports it: it is
+`extern "C"`, or in a `pub mod`, or it or the type of its `impl` is in a `pub use`; in a program each one with `pub` is.
+Laws, rendered files and crates of examples and tests are left out. The part of a mutant, from 1/N to N/N, depends on
+its crate and title alone. The exit status is 0 if nothing is found and each mutant is rejected.
 """
 
 import argparse

@@ -4,8 +4,7 @@
 
 Without a part, runs all. A test is skipped only if a program or file that it needs is missing; a line that begins with
 `skipped: ` names it. The last line is `N passed, N failed`, with `, N skipped` after it if some were. Of pytest's
-arguments, `-k WORD` chooses tests, `--whole` also runs long tests and inputs of 1 GB, and `--calls=N` is the number of
-random calls of `command`.
+arguments, `-k WORD` chooses tests, and `-m whole` runs those that take long, or inputs of 1 GB.
 """
 
 import os

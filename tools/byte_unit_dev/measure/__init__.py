@@ -7,9 +7,9 @@
   literals  `rt check` of functions in a caller's crate, each with a literal
   gate      what .ci/run takes
 
-Programs take turns on one processor; a figure is the minimum of the rounds. Inputs are made from the seed. The programs
-are in crates/NAME/out, where `rt run` builds them. For `literals` the library is built first, which takes some 20
-minutes if out/ has none. `tools/dev setup --compared` installs what is compared.
+Programs take turns on one processor; a figure is the minimum of the rounds. The programs are in crates/NAME/out, where
+`rt run` builds them. For `literals` the library is built first, which takes some 20 minutes if out/ has none.
+`tools/dev setup --compared` installs what is compared.
 """
 
 import datetime
@@ -27,14 +27,6 @@ WHATS = {"program": speed.program, "command": speed.command, "calls": calls.call
 PAGE, OF_PAGE = "docs/SPEED.md", ["program", "command", "calls"]
 
 
-def head_of(rounds):
-    """Returns the line about all tables: the machine, the day and the commit."""
-    commit = output("git", "log", "-1", "--format=%h", "--", "crates", "bindings", cwd=path()).strip()
-    found = re.search(r"^model name\s*: (.*)$", read("/proc/cpuinfo"), re.M)
-    return (f"Measured on {datetime.date.today()} on {os.cpu_count()} processors ({found[1] if found else 'unknown'}), "
-            f"of commit {commit}; minimum of {rounds} round{'s' * (rounds > 1)}.")
-
-
 def table(rows):
     """Returns a table in Markdown, whose first row is the head, without spaces that count as words of a page."""
     lines = ["|".join(row).rstrip("|") for row in rows]
@@ -43,7 +35,10 @@ def table(rows):
 
 def run(*what: WHATS, write=False, rounds=5, lines=1_000_000, seed=1, before=None, original=None):
     given = SimpleNamespace(rounds=rounds, lines=lines, seed=seed, before=before, original=original)
-    head, tables = head_of(rounds), {}
+    commit = output("git", "log", "-1", "--format=%h", "--", "crates", "bindings", cwd=path()).strip()
+    model = re.search(r"^model name\s*: (.*)$|\Z", read("/proc/cpuinfo"), re.M)[1] or "unknown"
+    head = f"Measured on {datetime.date.today()} on {os.cpu_count()} processors ({model}), of commit {commit}; minimum "
+    head, tables = head + f"of {rounds} round{'s' * (rounds > 1)}.", {}
     if write and head not in read(PAGE) and not set(OF_PAGE) <= set(what):
         raise Failure(f"{PAGE} has figures of another run: measure {' '.join(OF_PAGE)} together")
     if write and output("git", "status", "--porcelain", "--", "crates", "bindings", cwd=path()):

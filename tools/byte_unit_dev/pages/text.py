@@ -27,11 +27,8 @@ C_HEADER, C_EXAMPLE = "bindings/c/byte_unit.h", "bindings/c/examples/example.c"
 DEFINITION, RATTLE = "crates/byte_unit_c/specs/Version.antt", "crates/byte_unit_c/src/version.rt"
 # Each place that says the version: a file, and a text with `{..}` for what has to be there, once.
 VERSIONS = [
-    (C_HEADER, '#define BYTE_UNIT_VERSION_STRING "{version}"\n'),
-    (C_HEADER, "#define BYTE_UNIT_VERSION {number}\n"),
-    (C_HEADER, "#define BYTE_UNIT_VERSION_MAJOR {major}\n"),
-    (C_HEADER, "#define BYTE_UNIT_VERSION_MINOR {minor}\n"),
-    (C_HEADER, "#define BYTE_UNIT_VERSION_PATCH {patch}\n"),
+    *((C_HEADER, f"#define BYTE_UNIT_VERSION{end}\n") for end in (
+        '_STRING "{version}"', " {number}", "_MAJOR {major}", "_MINOR {minor}", "_PATCH {patch}")),
     (DEFINITION, "-- the version {version}: "),
     (DEFINITION, "\nversion = {number}\n"),
     (RATTLE, "the version of the library, {version}, as the number {number:,}.\n"),

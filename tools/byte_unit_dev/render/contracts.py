@@ -232,7 +232,7 @@ def to_read():
 def private():
     """Returns a list of what is private: whole files, and definitions in files to read."""
     _, reached, added = groups()
-    used = reached | added | set().union(*map(public_of, other_crates()))
+    used = (reached | added).union(*public_elsewhere().values())
     lines = []
     for crate in library():
         whole, some = [], []
@@ -246,12 +246,14 @@ def private():
     return "\n".join(lines)
 
 
-def other_crates():
-    return [crate for crate in crates() if crate not in library() and not EXAMPLES.fullmatch(crate) and specs(crate)]
+@functools.lru_cache(maxsize=None)
+def public_elsewhere():
+    """Returns the definitions that public contracts and traits lead to, by crate but those of the library."""
+    return {crate: public_of(crate) for crate in crates()
+            if crate not in library() and not EXAMPLES.fullmatch(crate) and specs(crate)}  # fmt: skip
 
 
 def public_of(crate):
-    """Returns the definitions that contracts of public functions and of implementations of traits lead to."""
     found = set()
     for file in sources(crate):
         clauses = []
@@ -265,10 +267,8 @@ def public_of(crate):
 
 def others():
     _, reached, added = groups()
-    parts = []
-    by_crate = {crate: public_of(crate) for crate in other_crates()}
-    public = set().union(*by_crate.values())
-    for crate, own in by_crate.items():
+    parts, public = [], set().union(*public_elsewhere().values())
+    for crate, own in public_elsewhere().items():
         shown = [spec for spec in files_of([crate], public) if not spec.head.startswith("Private:")]
         below = ", ".join(map(link, files_of(library(), own - reached - added)))
         hidden = ", ".join(link(spec) + f" (but for {listed(names)})" * bool(names) for spec in specs(crate).values()

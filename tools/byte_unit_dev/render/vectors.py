@@ -144,6 +144,8 @@ class Form(string.Formatter):
     def format_field(self, value, how):
         if "|" in how:
             return how.split("|")[not value]
+        if how.startswith("after "):
+            return quoted(how.removeprefix("after ") + value)
         return {"lower": lambda: value.last.lower(), "bare": lambda: value, "json": lambda: quoted(f'"{value}"'),
                 "": lambda: shown(value)}[how]()
 
@@ -155,11 +157,6 @@ def rows(table, *forms):
 def long_texts(table):
     return rows([(before + part * 10_000 + after, *sizes) for before, part, after, *sizes in table],
                 "parse byte cased {0} = {1}", "parse bit cased {0} = {2}")  # fmt: skip
-
-
-def strange(table):
-    return rows([(before + text, c) for c, text in table for before in ("", "1.")],
-                "parse byte cased {} = NotNumber {}", "parse bit cased {} = NotNumber {}")  # fmt: skip
 
 
 def strange_in_a_unit(table, strange):
@@ -175,7 +172,7 @@ def widest(table):
         "text {0:lower} {1} " + "in {2} " * bool(unit.arguments) + "{3} = {4}")]
 
 
-BY = {"long_texts": long_texts, "strange": strange, "strange_in_a_unit": strange_in_a_unit, "widest": widest}
+BY = {"long_texts": long_texts, "strange_in_a_unit": strange_in_a_unit, "widest": widest}
 
 
 def rows_of(file, table, forms):
