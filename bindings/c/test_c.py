@@ -32,7 +32,6 @@ def program_in_c(library, tmp_path):
 @pytest.mark.usefixtures("comments")
 @pytest.mark.parametrize("name, compiler, standard", BUILDS)
 def test_program(program_in_c, name, compiler, standard):
-    """Each program compares its results with what is written in it."""
     output(program_in_c(SOURCES[name], compiler, standard))
 
 

@@ -8,7 +8,6 @@ import functools
 import re
 
 import pytest
-
 from byte_unit_dev.common import read
 from byte_unit_dev.source import line_of, source, sources
 

@@ -99,7 +99,6 @@ def test_manual_page(prefix):
 
 
 def test_extension(prefix):
-    """The extension exports its entry point alone, and loads from there."""
     need("sqlite3", "sqlite3ext.h")
     file = prefix / "lib/sqlite3/byte_unit"
     assert output("nm", "-D", "--defined-only", f"{file}.so").split()[2::3] == ["sqlite3_byteunit_init"]

@@ -138,7 +138,6 @@ def test_order(sql, check_drawn, encoding):
 
 @pytest.mark.parametrize("name", ["README.md", "checks/calls.sql", "checks/tables.sql", "checks/million.sql"])
 def test_statements(sql, name):
-    """Compares what each statement of the page and of the scripts prints with the comments after it."""
     text = read(f"bindings/sqlite/{name}")
     if name == "README.md":
         text = "".join(re.findall(r"^```sql\n\.load [^\n]*\n(.*?)^```$", text, re.M | re.S))

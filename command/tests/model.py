@@ -35,10 +35,6 @@ def quoted(data):
     return f"'{text}{'..' if end < len(data) else ''}'"
 
 
-def message_of(rejected):
-    return "not UTF-8" if rejected.name == "not text" else rejected.message
-
-
 @functools.lru_cache(maxsize=1 << 10)
 def text_of(size, kind, ignore_case, to, precision):
     """Returns the text of a size: of a unit without a prefix, and for `exact`, with all digits after the point."""
@@ -71,7 +67,7 @@ def form(text, options):
 def limit(text, options):
     size = size_of(text.encode(), options.kind, options.ignore_case)
     if isinstance(size, Rejected):
-        raise Wrong(message_of(size))
+        raise Wrong(size.message)
     return size
 
 
@@ -152,18 +148,16 @@ class Run:
         self.statuses.add(status)
 
     def shown(self, size):
-        """Returns what is written for a size."""
         options = self.options
         text = text_of(size, options.kind, options.ignore_case, options.to, options.precision)
         return (text.ljust(-options.padding) if options.padding < 0 else text.rjust(options.padding)).encode()
 
     def convert(self, place, data):
-        """Returns what is written for a field that is to be converted."""
         options, named = self.options, f"{place}: {quoted(data)}"
         size = size_of(data, options.kind, options.ignore_case)
         if isinstance(size, Rejected):
             if options.invalid != "ignore":
-                self.tell(f"{named}: {message_of(size)}", 0 if options.invalid == "warn" else 2)
+                self.tell(f"{named}: {size.message.removeprefix('the text is ')}", 0 if options.invalid == "warn" else 2)
             if options.invalid == "abort":
                 raise Aborted
             return data

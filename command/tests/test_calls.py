@@ -7,7 +7,6 @@ import random
 import re
 
 import pytest
-
 from byte_unit_dev.fixtures import ended, need, output, path, read
 from calls import some_call
 from model import OPTIONS, result_of

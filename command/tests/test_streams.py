@@ -7,7 +7,6 @@ import socket
 import subprocess
 
 import pytest
-
 from byte_unit_dev.fixtures import ended, redirected
 from program import Call, run
 
@@ -29,7 +28,6 @@ TOO_LARGE = b"byte-unit: the total is 10^30 or more\n"
     ("0<&-", [], b"", (1, b"", READ_FAILED)), ("0< /", [], b"", (1, b"", READ_FAILED)),
     ("1>&-", [], b"1 KB\n", (1, b"", WRITE_FAILED))])
 def test_stream_that_fails(program, how, words, data, wanted):
-    """On a full disk, closed, or a folder."""
     assert redirected(how, program, *words, data=data) == wanted
 
 

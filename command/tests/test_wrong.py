@@ -8,7 +8,6 @@ from random import Random
 from types import SimpleNamespace
 
 import pytest
-
 from byte_unit_dev.model.exact import LETTERS, SIZE_LIMIT, WHITE_SPACE
 from calls import some_call
 from model import BITS_64, Wrong, converted, limit, options_of, parsed, result_of

@@ -160,7 +160,6 @@ def check_lines(check_drawn):
 
 @pytest.fixture(scope="session")
 def python_package(tmp_path_factory):
-    """A copy of the Python package."""
     need(*PYTHON_PACKAGE)
     return copied("python", tmp_path_factory.mktemp("python"))
 

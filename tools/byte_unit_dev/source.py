@@ -25,11 +25,6 @@ def line_of(text):
     return " ".join(text.split())
 
 
-def sentence_of(text):
-    """Returns the first sentence of a comment."""
-    return re.split(r"(?<=\.)\s+(?=[A-Z`0-9])", text.strip())[0]
-
-
 def files(folder, ending):
     """Returns the names of the files with this ending below a folder, in order."""
     return sorted(f"{folder}/{name}" for name in glob.glob(f"**/*{ending}", root_dir=path(folder), recursive=True))

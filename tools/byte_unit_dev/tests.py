@@ -33,7 +33,6 @@ def run(*words, after_ci=False, lines=4000, seed=1):
         if call(python, "-c", "import pytest, hypothesis").returncode == 0:
             chosen = [path(PARTS[part]) for part in parts or PARTS]
             return call(python, "-B", "-m", "pytest", *words, *chosen, stdout=None, stderr=None).returncode
-    # `tools/dev setup` could not install what is missing, or was not called.
     missing = "no Python has pytest and hypothesis (Debian: python3-pytest, python3-hypothesis)"
     if "BYTE_UNIT_SETUP" not in os.environ:
         raise Failure(missing)

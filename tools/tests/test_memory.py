@@ -7,7 +7,6 @@ from concurrent.futures import ThreadPoolExecutor
 from itertools import count
 
 import pytest
-
 from byte_unit_dev.fixtures import ROOT, call, compiled, copy_to, ended, path, read, write
 
 LANES = int(os.environ.get("RT_JOBS") or min(4, os.cpu_count()))
@@ -18,7 +17,6 @@ MANY = b"".join(b"%d.5 KiB\n" % number for number in range(12_000))
 # Calls of the command: their words, and standard input. A run reads 65,536 bytes at once.
 CALLS = [
     ("", MANY),
-    ("1.5KiB 100MB", b""),
     ("--total --to=MiB --padding=-30", MANY),
     ("--to=exact", b"1 KB\n" + b"0" * 200_000 + b"1 KB\n2 KB"),
     ("-d , --field=2,4- --header --invalid=warn", b"name,size\n" + b"a,1 KB,x,2 KB\nb,1 x,y,\xff\n" * 3_000),
@@ -27,7 +25,8 @@ CALLS = [
     ("--invalid=abort", b"1 KB\n" * 20_000 + b"1 x\n2 KB\n"),
     ("--bits --max=1kbit --min=1", b"1 kbit\n0\n2 kbit\n"),
     ("--total --to=auto -p 65535", b"1 KiB\n7 MB\n"),
-    *((words, b"") for words in ("--help", "--version", "--nothing", "--field=2", "-d , --field=1,3-2", "-p x")),
+    *((words, b"") for words in ("1.5KiB 100MB", "--help", "--version", "--nothing", "--field=2", "-p x",
+                                 "-d , --field=1,3-2")),
 ]
 PROGRAMS = [*(("byte_unit_cli", *row) for row in CALLS), *(("byte_unit_lines", *row) for row in [
     ("", MANY), ("bit", b"1.5 KiB\n\n1Kbi\nx\n1YB"), ("byte", b"1 KB\n2 KB\n" + b"1" * 1_000_000), ("x y", b"")])]

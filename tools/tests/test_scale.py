@@ -8,27 +8,22 @@ import subprocess
 from itertools import chain, repeat
 
 import pytest
-
 from byte_unit_dev.fixtures import ended, need, redirected, some_line
 
 CRATE = "byte_unit_lines"
 # Lines that differ as bytes and as bits, and two that are not UTF-8.
 INPUT = b"1KiB\n\xff\n1\xff\n9 b\n"
-IN_BYTES = b"1024 = 1 KiB\nnot text\nnot text\n2 = 2 B\n"
-IN_BITS = b"8192 = 8 Kib\nnot text\nnot text\n9 = 9 b\n"
+IN_BYTES = (0, b"1024 = 1 KiB\nnot text\nnot text\n2 = 2 B\n", b"")
+IN_BITS = (0, b"8192 = 8 Kib\nnot text\nnot text\n9 = 9 b\n", b"")
 USAGE = (2, b"", b"usage: byte_unit_lines [byte|bit]\n")
 READ_FAILED, WRITE_FAILED = b"read failed\n", b"write failed\n"
 
 
-@pytest.mark.parametrize("words, wanted", [([], IN_BYTES), (["byte"], IN_BYTES), (["bit"], IN_BITS)])
+@pytest.mark.parametrize("words, wanted", [
+    ([], IN_BYTES), (["byte"], IN_BYTES), (["bit"], IN_BITS), *((words, USAGE) for words in (
+        ["bits"], [""], ["--help"], ["bit", "bit"], ["byte", "bits"], [b"bit\xff"], ["bit", b"\xff"]))])
 def test_words(program, words, wanted):
-    assert ended(program, *words, input=INPUT) == (0, wanted, b"")
-
-
-@pytest.mark.parametrize("words", [
-    ["bits"], [""], ["--help"], ["bit", "bit"], ["byte", "bits"], [b"bit\xff"], ["bit", b"\xff"]])
-def test_wrong_words(program, words):
-    assert ended(program, *words, input=INPUT) == USAGE
+    assert ended(program, *words, input=INPUT) == wanted
 
 
 @pytest.mark.parametrize("words, how, wanted", [

@@ -1,6 +1,5 @@
 """The programs byte_unit_lines and byte-unit, on generated lines; and the processor time of proofs."""
 
-import contextlib
 import os
 import random
 import re
@@ -14,6 +13,7 @@ from ..common import Failure, call, output, path, spent, write
 from ..source import copy_crates
 
 COUNTED, NUMFMT = 20_000, ["numfmt", "--from=auto"]
+ONE_PROCESSOR = ["taskset", "--cpu-list", str(max(os.sched_getaffinity(0)))]
 MULTIPLES = ["", *(letter + infix for letter in "KMGTPEZY" for infix in ("", "i"))]
 UNITS = [multiple + own for multiple in MULTIPLES for own in ("B", "bit")]
 LETTERS = MULTIPLES[: MULTIPLES.index("P")]  # `numfmt` prints only numbers below 10^18
@@ -100,20 +100,10 @@ BODIES = {"from_u64": "Byte::from_u64({0})", "parse_str": 'Byte::parse_str("{1} 
           "FromStr": '"{1} KiB".parse().unwrap()'}
 
 
-@contextlib.contextmanager
-def one_processor():
-    before = os.sched_getaffinity(0)
-    os.sched_setaffinity(0, {max(before)})
-    try:
-        yield
-    finally:
-        os.sched_setaffinity(0, before)
-
-
 def user_time(command, file):
     """Returns the user time of a command with this input, in seconds."""
     with open(file, "rb") as lines:
-        return spent(*command, stdin=lines, stdout=subprocess.DEVNULL)[0]
+        return spent(*ONE_PROCESSOR, *command, stdin=lines, stdout=subprocess.DEVNULL)[0]
 
 
 def instructions(command, file):
@@ -130,7 +120,7 @@ def instructions(command, file):
 def measured(head, rows, given):
     """Returns a table of rows; each has a title, a maker of lines, and a command or None for each column."""
     made = [[*head, "Instructions"] if shutil.which("valgrind") else head]
-    with one_processor(), tempfile.TemporaryDirectory() as folder:
+    with tempfile.TemporaryDirectory() as folder:
         file = os.path.join(folder, "lines")
         for title, line, commands in rows:
             write_lines(file, line, given.lines, given.seed)

@@ -20,10 +20,8 @@ BITS = {"b": 1, "B": 8, **{
     letter + infix + end: base**power * scale for power, letter in enumerate(LETTERS, 1)
     for end, scale in (("b", 1), ("B", 8)) for infix, base in (("", 1000), ("i", 1024))}}  # fmt: skip
 UNITS = list(BITS)
-# The characters with the Unicode property White_Space.
-WHITE_SPACE = (
-    "\t\n\v\f\r \x85\xa0\u1680" + "".join(map(chr, range(0x2000, 0x200B))) + "\u2028\u2029\u202f\u205f\u3000"
-)
+# The characters with the Unicode property White_Space: of Python's, all but four separators.
+WHITE_SPACE = "".join(c for c in map(chr, range(0x3001)) if c.isspace() and c not in "\x1c\x1d\x1e\x1f")
 NUMBER = re.compile(r"([0-9]*)(\.([0-9]*))?")
 SPELLING = re.compile(r"(?ai:([KMGTPEZYR])(i?))?(B|b|(?ai:bits?))?")
 SHORT_ESCAPES = {"\0": "\\0", "\t": "\\t", "\n": "\\n", "\r": "\\r", "'": "\\'", "\\": "\\\\"}

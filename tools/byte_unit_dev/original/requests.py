@@ -35,15 +35,9 @@ def text_with_odd_character(rng):
 
 
 def some_text(rng):
-    choice = rng.random()
-    for limit, make in ((0.2, text_near_a_limit), (0.4, text_with_long_digits), (0.5, text_with_odd_character)):
-        if choice < limit:
-            return make(rng)
-    while True:
-        try:
-            return some_line(rng).decode()
-        except UnicodeDecodeError:
-            pass
+    ways = [text_near_a_limit, text_near_a_limit, text_with_long_digits, text_with_long_digits, text_with_odd_character]
+    make = rng.choice([*ways, *[None] * 5])
+    return make(rng) if make else some_line(rng).decode(errors="replace")
 
 
 def some_unit_text(rng):

@@ -5,6 +5,7 @@ import functools
 import os
 import re
 from collections import namedtuple
+from pathlib import Path
 
 from ..common import Failure, files, path, read
 
@@ -118,8 +119,7 @@ def known_words():
     for name in files():
         known.update(re.findall(r"\w+", name))
         if not name.endswith((".md", "byte_unit_dev/pages/text.py")):
-            with open(path(name), encoding="utf-8", errors="replace") as file:
-                known.update(re.findall(r"\w+", file.read()))
+            known.update(re.findall(r"\w+", Path(path(name)).read_text(encoding="utf-8", errors="replace")))
     return known
 
 
@@ -136,11 +136,12 @@ def missing(page, known, ends):
     for found in re.finditer(r"`([^`\n]+)`", text):
         name, line = found[1].split(" ")[0], line_at(text, found.start())
         if PATH.fullmatch(name):
-            if name not in OTHERS and not leads_somewhere(name, page, ends):
-                yield f"{page}:{line}: {name}"
-        elif NAME.fullmatch(found[1]) and not set(re.findall(r"\w+", found[1].split("(")[0])) <= known:
-            if found[1] not in OTHERS:
-                yield f"{page}:{line}: {found[1]}"
+            is_known = leads_somewhere(name, page, ends)
+        else:
+            name, is_known = found[1], set(re.findall(r"\w+", found[1].split("(")[0])) <= known
+            is_known |= not NAME.fullmatch(name)
+        if name not in OTHERS and not is_known:
+            yield f"{page}:{line}: {name}"
 
 
 def names():

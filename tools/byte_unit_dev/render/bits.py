@@ -11,6 +11,7 @@ from ..source import catalogue
 
 CRATE = "byte_unit_bit"
 SOURCE, TARGET, MOST_COLUMNS = "crates/byte_unit_byte", f"crates/{CRATE}", 120
+HEAD = "{} Rendered from {}. Do not edit.\n".format
 # The differences beside words: the file says what it has.
 ROWS = f"{SOURCE}/bits.toml"
 SERDE = re.compile(r"crates/byte_unit_serde/(?:src|proofs)/(byte|optional_byte|byte_vec)[/.].*")
@@ -46,10 +47,6 @@ CONSTANTS = "src/byte/constants.rt"
 WORDS_OF_CONSTANTS = {**WORDS_OF_COMMENTS, **both_ways({f"{prefix}B": f"{prefix}bit" for prefix in PREFIXES})}
 # Words of the names of files and of mutants.
 WORDS_OF_NAMES = {**WORDS, **both_ways({f"{name}byte".lower(): f"{name}bit".lower() for name in PREFIXES.values()})}
-
-
-def head(mark, source):
-    return f"{mark} Rendered from {source}. Do not edit.\n"
 
 
 def named(name):
@@ -140,7 +137,7 @@ def made():
     """Each file of src/; modules of byte_unit_serde and their proofs. A mutant of either crate that cannot be applied,
     because its old text is not in its file exactly once, is a failure."""
     texts, edits = crate(SOURCE)
-    made_texts = {named(name): head("//", f"{SOURCE}/{name}") + in_bits(
+    made_texts = {named(name): HEAD("//", f"{SOURCE}/{name}") + in_bits(
         name, constants(text) if name == CONSTANTS else text) for name, text in texts.items()}
     without = differences()["without"]
     made_edits = mutants()
@@ -153,7 +150,7 @@ def made():
     for found in filter(None, map(SERDE.fullmatch, files())):
         name, mark = found[0], "//" if found[0].endswith(".rt") else "--"
         target = name[:found.start(1)] + WORDS[found[1]] + name[found.end(1):]
-        yield target, head(mark, name) + in_bits(name, read(name))
+        yield target, HEAD(mark, name) + in_bits(name, read(name))
     wrong = [f"{TARGET}/{name}:{number}: more than {MOST_COLUMNS} columns: {line}" for name, text in made_texts.items()
              for number, line in enumerate(text.splitlines(), 1) if len(line) > MOST_COLUMNS]
     wrong += [*misfits(SOURCE, texts, edits), *misfits(TARGET, made_texts, made_edits)]

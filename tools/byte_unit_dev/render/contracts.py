@@ -1,13 +1,11 @@
-"""The contracts of what `byte_unit` exports, and the definitions that they lead to: the parts of CALLING.md and
-docs/DEFINITIONS.md that show them."""
+"""The contracts of what `byte_unit` exports, for CALLING.md, and the definitions behind them, for docs/DEFINITIONS.md."""
 
 import functools
 import re
 from itertools import chain
 
 from ..common import Failure, read
-from ..source import (EXAMPLES, WORD, closure, crates, exports, library, line_of, resolved, sentence_of, sources,
-                      specs)
+from ..source import EXAMPLES, WORD, closure, crates, exports, library, line_of, resolved, sources, specs
 from .bits import WORDS
 from .pages import section, with_parts
 
@@ -199,7 +197,8 @@ def link(spec):
 
 def said(spec, name=None):
     """Returns the first sentence of a file, without the mark of a private one, or the comment of a definition."""
-    words = spec.definitions[name].comment if name else sentence_of(spec.head.removeprefix("Private: "))
+    head = re.split(r"(?<=\.)\s+(?=[A-Z`0-9])", spec.head.removeprefix("Private: "))[0]
+    words = spec.definitions[name].comment if name else head
     if not words:
         raise Failure(f"{spec.name}: {name or 'the file'} has no comment")
     return words

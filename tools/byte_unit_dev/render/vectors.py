@@ -114,10 +114,6 @@ def decimal(whole, fraction):
     return Shown(f"{whole}.{fraction:028}".rstrip("0").rstrip("."))
 
 
-def scaled(mantissa, scale):
-    return decimal(mantissa // 10**scale, mantissa % 10**scale * 10 ** (28 - scale))
-
-
 def shown(value):
     """Returns a value as the rows have it."""
     if isinstance(value, Name):
@@ -139,7 +135,10 @@ class Form(string.Formatter):
         pair = re.fullmatch(r"(\d+)([./])(\d+)", name)
         if not pair:
             return super().get_field(name, arguments, more)
-        return {".": decimal, "/": scaled}[pair[2]](arguments[int(pair[1])], arguments[int(pair[3])]), name
+        whole, fraction = arguments[int(pair[1])], arguments[int(pair[3])]
+        if pair[2] == "/":  # a mantissa and a scale
+            whole, fraction = whole // 10**fraction, whole % 10**fraction * 10 ** (28 - fraction)
+        return decimal(whole, fraction), name
 
     def format_field(self, value, how):
         if "|" in how:
