@@ -60,8 +60,10 @@ def installed(packages):
         words = ["apt-get", "install", "--yes", "--quiet", "--no-install-recommends", *names]
         return call(*words, stdin=subprocess.DEVNULL).returncode != 0
 
-    if not shutil.which("apt-get") or not packages or not fails(*packages):
-        return packages if not shutil.which("apt-get") else []
+    if not shutil.which("apt-get") or not packages:
+        return packages
+    if not fails(*packages):
+        return []
     call("apt-get", "update", "--quiet")
     return [package for package in packages if fails(package)]
 

@@ -1,4 +1,4 @@
-"""The contracts of what `byte_unit` exports, for CALLING.md, and the definitions behind them, for docs/DEFINITIONS.md."""
+"""The contracts that `byte_unit` exports, and the definitions that they use, in CALLING.md and docs/DEFINITIONS.md."""
 
 import functools
 import re
