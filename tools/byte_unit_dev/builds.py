@@ -38,11 +38,13 @@ def copied(binding, folder):
     return str(shutil.copytree(path("bindings", binding), Path(folder).resolve() / "bindings" / binding, ignore=built))
 
 
-def library(work):
-    """Makes the C library in a new folder, and returns its path."""
-    os.mkdir(os.path.join(work, "library"))
-    output(path("tools/make-libraries"), os.path.join(work, "library"))
-    return os.path.join(work, "library")
+def library(given, work):
+    """Returns the folder of the C library, which is made if none is given."""
+    library = os.path.realpath(given or os.path.join(work, "library"))
+    if not given:
+        os.mkdir(library)
+        output(path("tools/make-libraries"), library)
+    return library
 
 
 def original(given, work):

@@ -8,8 +8,8 @@
   gate      what .ci/run takes
 
 Programs take turns on one processor; a figure is the minimum of the rounds. The programs are in crates/NAME/out, where
-`rt run` builds them. For `literals` the library is built first, which takes some 20 minutes if out/ has none.
-`tools/dev setup --compared` installs what is compared.
+`rt run` builds them. For `literals` the library is built first, which takes some 20 minutes if out/ has none, and for
+`calls` if --library gives no folder with it. `tools/dev setup --compared` installs what is compared.
 """
 
 import datetime
@@ -33,8 +33,8 @@ def table(rows):
     return "\n".join([lines[0], "|".join(["---"] * len(rows[0])), *lines[1:]])
 
 
-def run(*what: WHATS, write=False, rounds=5, lines=1_000_000, seed=1, before=None, original=None):
-    given = SimpleNamespace(rounds=rounds, lines=lines, seed=seed, before=before, original=original)
+def run(*what: WHATS, write=False, rounds=5, lines=1_000_000, seed=1, before=None, original=None, library=None):
+    given = SimpleNamespace(rounds=rounds, lines=lines, seed=seed, before=before, original=original, library=library)
     commit = output("git", "log", "-1", "--format=%h", "--", "crates", "bindings", cwd=path()).strip()
     model = re.search(r"^model name\s*: (.*)$|\Z", read("/proc/cpuinfo"), re.M)[1] or "unknown"
     head = f"Measured on {datetime.date.today()} on {os.cpu_count()} processors ({model}), of commit {commit}; minimum "

@@ -84,7 +84,7 @@ def rows(title, columns, form, least):
 def calls(given):
     least = {}
     with tempfile.TemporaryDirectory() as work:
-        library = builds.library(work)
+        library = builds.library(given.library, work)
         print(f"libbyte_unit.a has {os.path.getsize(os.path.join(library, 'libbyte_unit.a')):,} bytes")
         made = list(programs(given, library, work))
         for name, run in made * given.rounds:

@@ -61,9 +61,9 @@ def compared(lines, original, ours):
     return found, findings
 
 
-def run(folder, *, count=300_000, seed=1):
+def run(folder, *, count=300_000, seed=1, library=None):
     with tempfile.TemporaryDirectory() as work:
-        original, library = builds.original(folder, work), builds.library(work)
+        original, library = builds.original(folder, work), builds.library(library, work)
         lines = list(requests(random.Random(seed), count))
         programs = [builds.program(PROGRAM, *crate) for crate in ([original], [builds.copied("rust", work), library])]
         printed = [output(program, input="\n".join([*lines, ""]), stderr=None) for program in programs]
