@@ -87,8 +87,7 @@ def uses_of(header):
 
 @pytest.fixture
 def comments(library, tmp_path):
-    """Writes what checks/comments.c includes: the code in the comments of byte_unit.h, and the initializers of specs
-    there and in README.md."""
+    """Writes what checks/comments.c includes: code in comments of byte_unit.h, and initializers there and in README."""
     header, page = read(f"{library}/byte_unit.h"), read("bindings/c/README.md")
     uses, specs = uses_of(header), [("{ 0 }", "{}"), *specs_of(comments_of(header)), *specs_of(page)]
     assert uses, "the comments have code beside initializers of specs"

@@ -1,7 +1,4 @@
-"""What tests share: options, fixtures of what is built once, comparisons with the model, runs of programs, reports.
-
-They import from here what they share with the tools, too.
-"""
+"""What tests share, with the tools too: options, fixtures of what is built once, comparisons, runs, reports."""
 
 import contextlib
 import functools

@@ -47,8 +47,7 @@ def below(names):
 
 
 def copy_crates(folder, names, more, without):
-    """Copies crates and those that they need, but for what has one of the names of `without`, and writes a crates.txt
-    with more crates."""
+    """Copies crates and those that they need, without what has one of these names, and adds more to their crates.txt."""
     rows = {name: crates()[name] for name in below(names)}
     copy_to(folder, *(f"crates/{name}" for name in rows), without=without)
     lines = "".join(f"{name}: {' '.join(needed)}\n" for name, needed in {**rows, **more}.items())

@@ -151,8 +151,7 @@ def row_of(crate):
 
 
 def with_rows(text):
-    """Returns the text of crates.txt in which each of our lines takes the place of that of its crate, or is added. Also
-    returns a sentence for each change."""
+    """Returns a crates.txt with our lines, each in place of that of its crate, and a sentence for each change."""
     changes = []
     for crate in CRATES:
         ours = row_of(crate).search(bytes_of(HERE / "crates.txt"))[2]

@@ -78,10 +78,8 @@ def in_bits(name, text, is_whole=True):
 
 
 def constants(text):
-    """Replaces the numbers of the constants that are named after units of bits, by those of units of bytes.
-
-    In bytes 1 Kbit is 1000 / 8, and in bits 1 KB is 1000 * 8, so the number is 64 times as large.
-    """
+    """Replaces the numbers of the constants that are named after units of bits, by those of units of bytes: in bytes
+    1 Kbit is 1000 / 8, and in bits 1 KB is 1000 * 8, so the number is 64 times as large."""
     def row(found):
         value = found[3]
         number = 64 * int(re.search(r"\d[\d_]*", value)[0])
