@@ -26,7 +26,7 @@ TOO_LARGE = b"byte-unit: the total is 10^30 or more\n"
     ("2> /dev/full", ["--invalid=fail", "x"], b"", (2, b"x\n", b"")),
     ("2> /dev/full", ["--nothing"], b"", (2, b"", b"")),
     ("0<&-", [], b"", (1, b"", READ_FAILED)), ("0< /", [], b"", (1, b"", READ_FAILED)),
-    ("1>&-", [], b"1 KB\n", (1, b"", WRITE_FAILED))])
+    ("1>&-", [], b"1 KB\n", (1, b"", WRITE_FAILED))], ids=lambda value: str(value)[:20])
 def test_stream_that_fails(program, how, words, data, wanted):
     assert redirected(how, program, *words, data=data) == wanted
 
