@@ -1,12 +1,10 @@
-"""Compares the test vectors with the tables of the proved tests, and the results of each runner with the rows."""
+"""Compares the results of each runner with the rows of the test vectors, which `render` makes of proved tests."""
 
 import os
 import re
 
 import pytest
-from byte_unit_dev.builds import environment
-from byte_unit_dev.common import output, path, read
-from byte_unit_dev.fixtures import compiled, ended
+from byte_unit_dev.fixtures import compiled, ended, environment, path, read
 from byte_unit_dev.model.exact import Rejected, form, size_of
 
 # How many rows each runner has, so that no call is left out unseen.
@@ -49,10 +47,6 @@ def compare_program(rows, command, **variables):
     status, written, _ = ended(*command, input=given, stderr=None, **variables)
     assert status == 0
     compare(rows, written.decode().split("\n")[:-1], BY_BINDING)
-
-
-def test_file_is_as_the_tables_give_it():
-    output(path("tools/dev"), "render", "--check", "vectors")
 
 
 def result_of_model(row):

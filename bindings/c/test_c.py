@@ -3,10 +3,8 @@
 import re
 
 import pytest
-from byte_unit_dev.common import output, path, read, write
-from byte_unit_dev.fixtures import compiled
+from byte_unit_dev.fixtures import compiled, need, output, path, read, write
 from byte_unit_dev.install import functions
-from byte_unit_dev.needs import need
 
 WARNINGS = ["-Wall", "-Wextra", "-Wpedantic", "-Wconversion", "-Werror"]
 IN_C, IN_CPP = ["c99", "c11", "c17", "c2x"], ["c++17", "c++20"]
@@ -21,7 +19,6 @@ BUILDS = [(name, compiler, standard) for name, left_out in LEFT_OUT.items()
 @pytest.fixture
 def program_in_c(library, tmp_path):
     """Compiles a program of this folder, and returns its path."""
-
     def build(source, compiler="cc", standard="c11"):
         # In C++, unlike in C, -Wextra warns of a field that an initializer leaves out.
         language = ["-x", "c++", "-Wno-missing-field-initializers"] if standard.startswith("c++") else []
@@ -35,7 +32,6 @@ def program_in_c(library, tmp_path):
 @pytest.mark.usefixtures("comments")
 @pytest.mark.parametrize("name, compiler, standard", BUILDS)
 def test_program(program_in_c, name, compiler, standard):
-    """Each program compares its results with what is written in it."""
     output(program_in_c(SOURCES[name], compiler, standard))
 
 
@@ -66,7 +62,6 @@ TEXTS = {
 
 
 def comments_of(header):
-    """Returns the comments, each in one line."""
     return "\n".join(re.sub(r"\s*\n \*\s*", " ", part) for part in re.findall(r"/\*(.*?)\*/", header, re.S))
 
 
@@ -92,8 +87,7 @@ def uses_of(header):
 
 @pytest.fixture
 def comments(library, tmp_path):
-    """Writes what checks/comments.c includes: the code in the comments of byte_unit.h, and the initializers of specs
-    there and in README.md."""
+    """Writes what checks/comments.c includes: code in comments of byte_unit.h, and initializers there and in README."""
     header, page = read(f"{library}/byte_unit.h"), read("bindings/c/README.md")
     uses, specs = uses_of(header), [("{ 0 }", "{}"), *specs_of(comments_of(header)), *specs_of(page)]
     assert uses, "the comments have code beside initializers of specs"

@@ -1,14 +1,13 @@
 """Compares byte_unit.h, and what the Rust package declares in sys.rs, with the Rattle code of byte_unit_c.
 
-The calls (types, order and names of parameters), the structs (types and order of fields), the enumerators, the macros
-with a value and the bodies of the inline calls have to be the same. No exported function has a precondition in Rattle.
+The calls with names of parameters, structs, enumerators, macros with a value and the bodies of inline calls have to be
+the same. No exported function has a precondition in Rattle.
 """
 
 import functools
 import re
 
 import pytest
-
 from byte_unit_dev.common import read
 from byte_unit_dev.source import line_of, source, sources
 

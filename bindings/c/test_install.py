@@ -5,10 +5,8 @@ import re
 import shutil
 
 import pytest
-from byte_unit_dev.common import call, output, path, read
-from byte_unit_dev.fixtures import compiled
+from byte_unit_dev.fixtures import call, compiled, is_there, need, output, path, read
 from byte_unit_dev.install import calls_of, functions
-from byte_unit_dev.needs import is_there, need
 
 INSTALL = [path("tools/dev"), "install"]
 HEADER, PAGE = "include/byte_unit.h", "share/man/man3/byte_unit.3"
@@ -77,7 +75,6 @@ def test_shared_library(prefix):
 
 
 def test_version(prefix, tmp_path):
-    """The version is one in the library, the header and byte_unit.pc."""
     wrong = "byte_unit_version() != BYTE_UNIT_VERSION || strcmp(BYTE_UNIT_VERSION_STRING, argv[1])"
     head = "#include <byte_unit.h>\n#include <string.h>\nint main(int argc, char **argv)"
     (tmp_path / "version.c").write_text(f"{head} {{ return argc != 2 || {wrong}; }}\n")
@@ -102,7 +99,6 @@ def test_manual_page(prefix):
 
 
 def test_extension(prefix):
-    """The extension exports its entry point alone, and loads from there."""
     need("sqlite3", "sqlite3ext.h")
     file = prefix / "lib/sqlite3/byte_unit"
     assert output("nm", "-D", "--defined-only", f"{file}.so").split()[2::3] == ["sqlite3_byteunit_init"]
@@ -196,7 +192,6 @@ def test_without_compiler(library, tmp_path):
 
 
 def test_command(library, tmp_path, program_of):
-    """The command is installed with its manual page and its completions."""
     source, prefix = shutil.copytree(library, tmp_path / "with-command"), tmp_path / "prefix"
     shutil.copy(program_of("byte_unit_cli"), source / "byte-unit")
     output(*INSTALL, "--from", source, prefix)

@@ -5,9 +5,7 @@ import re
 import shutil
 
 import pytest
-from byte_unit_dev.builds import environment
-from byte_unit_dev.common import call, output, path, write
-from byte_unit_dev.needs import DEBIAN_PYTHON, is_there, need
+from byte_unit_dev.fixtures import DEBIAN_PYTHON, call, environment, is_there, need, output, path, write
 
 PACKAGE_CONFIG = "Name: byte_unit\nDescription: -\nVersion: 0\nincludedir={0}\nlibdir={0}\n"
 EXAMPLE = path("bindings/python/examples/example.py")

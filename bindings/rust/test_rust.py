@@ -5,9 +5,7 @@ import re
 import shutil
 
 import pytest
-from byte_unit_dev.common import read, write
-from byte_unit_dev.fixtures import CARGOS, SERDE
-from byte_unit_dev.needs import is_there, need
+from byte_unit_dev.fixtures import CARGOS, SERDE, is_there, need, read, write
 
 FEATURES = ["--features", "serde"] if all(map(is_there, SERDE)) else []
 AS_WRITTEN, CHANGED = 91, 9
@@ -29,7 +27,6 @@ def test_its_own_tests(each_cargo, rust_package, words, needs):
 
 @pytest.mark.parametrize("module, count", [("as_written", AS_WRITTEN), ("changed", CHANGED)])
 def test_examples_of_the_original(each_cargo, rust_package, module, count):
-    """Runs the examples of the original crate's documentation."""
     assert each_cargo.passed(rust_package, "--test", "upstream_examples", *FEATURES, module) == count
 
 
@@ -65,7 +62,6 @@ def test_examples_of_its_documentation(cargo, rust_package):
 
 @pytest.mark.parametrize("words", [["doc", "--no-deps"], ["build", "--no-default-features"]], ids=["doc", "no std"])
 def test_build(cargo, rust_package, words):
-    """Builds the documentation, without a warning, and the package without std."""
     cargo.output(rust_package, *words, *FEATURES, RUSTDOCFLAGS="-D warnings")
 
 

@@ -6,11 +6,8 @@ import sys
 from itertools import islice
 
 import pytest
-from byte_unit_dev.common import call, output, path, read
-from byte_unit_dev.fixtures import compiled
-from byte_unit_dev.model.exact import UNITS, Rejected, form, size_of, value_of
-from byte_unit_dev.model.lines import some_line
-from byte_unit_dev.needs import need
+from byte_unit_dev.fixtures import call, compiled, need, output, path, read
+from byte_unit_dev.model.exact import UNITS, Rejected, form, size_of, some_line, value_of
 
 WARNINGS = ["-Wall", "-Wextra", "-Wpedantic", "-Wconversion", "-Wshadow", "-Werror"]
 SANITIZED = ["-g", "-fsanitize=address,undefined", "-fno-sanitize-recover=all"]
@@ -18,7 +15,6 @@ GREATEST = 2**63 - 1
 
 
 def extension(compiler, library, folder, *flags):
-    """Compiles the extension in C99."""
     need("sqlite3ext.h")
     words = ["-std=c99", "-shared", "-fPIC", "-fvisibility=hidden", *WARNINGS, *flags, "-I", library]
     links = [f"{library}/libbyte_unit.a", "-Wl,--exclude-libs,ALL", "-Wl,-z,defs"]
@@ -86,8 +82,6 @@ def wrong_of(sql, rows):
 
 @pytest.mark.parametrize("kind, flags", [("byte", ""), ("bit", ", 'bits'")])
 def test_lines(sql, check_drawn, kind, flags):
-    """Compares size_parse, size_text and size_explain with the exact model."""
-
     def row(line):
         size = size_of(line, kind)
         if isinstance(size, Rejected):
@@ -103,8 +97,6 @@ def test_lines(sql, check_drawn, kind, flags):
 
 
 def test_explanations(sql, check_drawn):
-    """Sees that size_explain is NULL for sizes, and else the model's message."""
-
     def row(line):
         return f"SELECT size_explain({quoted(line)});", [re.escape(getattr(size_of(line, "byte"), "message", ""))]
 
@@ -121,7 +113,6 @@ def some_conversion(rng):
 
 
 def test_sizes_in_units(sql, check_drawn):
-    """Compares size_in with the exact model."""
     check_drawn(some_conversion, lambda rows: wrong_of(sql, rows))
 
 
@@ -147,7 +138,6 @@ def test_order(sql, check_drawn, encoding):
 
 @pytest.mark.parametrize("name", ["README.md", "checks/calls.sql", "checks/tables.sql", "checks/million.sql"])
 def test_statements(sql, name):
-    """Compares what each statement of the page and of the scripts prints with the comments after it."""
     text = read(f"bindings/sqlite/{name}")
     if name == "README.md":
         text = "".join(re.findall(r"^```sql\n\.load [^\n]*\n(.*?)^```$", text, re.M | re.S))

@@ -1,13 +1,9 @@
-"""Draws random calls of byte-unit: each option with each other, with values at and beside every limit.
-
-What is drawn shrinks: zeros make a call of few words on a short input.
-"""
+"""Draws random calls of byte-unit. What is drawn shrinks: zeros make a call of few words on a short input."""
 
 import random
 from collections import namedtuple
 
-from byte_unit_dev.model.exact import LETTERS, SIZE_LIMIT, Rejected, size_of
-from byte_unit_dev.model.lines import some_line
+from byte_unit_dev.model.exact import SIZE_LIMIT, Rejected, size_of, some_line, some_unit
 from model import BITS_64, BY_LETTER, FORMS, OPTIONS, Wrong, options_of
 from program import Call
 
@@ -38,23 +34,14 @@ def near(rng, values, most, least=0):
     return min(most, max(least, value + rng.choice([0, 0, 0, -1, 1])))
 
 
-def some_unit(rng):
-    """Returns a spelling of a unit."""
-    letter = rng.choice(["", *LETTERS, *LETTERS.lower()])
-    return letter + (rng.choice(["", "i", "I"]) if letter else "") + rng.choice(SUFFIXES)
-
-
-# The values of options, each for the texts of the options before it.
-
-
 def some_to(rng, texts):
     if happens(rng, 40):
         return rng.choice(FORMS)
-    return rng.choice(["", "", "", " ", "\t", "\u3000"]) + (some_unit(rng) or "B") + rng.choice(["", "", "", " "])
+    unit = some_unit(rng, SUFFIXES) or "B"
+    return rng.choice(["", "", "", " ", "\t", "\u3000"]) + unit + rng.choice(["", "", "", " "])
 
 
 def some_number(rng, number):
-    """Returns a spelling of a number."""
     return rng.choice(["", "", "", "", "+", "0", "00"]) + str(number)
 
 
@@ -85,7 +72,7 @@ def some_limit(rng, texts):
         if happens(rng, 50):
             text = f"{near(rng, LIMITS, SIZE_LIMIT - 1)}{rng.choice(['', 'b', 'B', 'bit'])}"
         else:
-            text = f"{rng.choice([1, 1, 0.125, 0.5, 1.5, 8, 12, 999])}{' ' * rng.randrange(2)}{some_unit(rng)}"
+            text = f"{rng.choice([1, 1, 0.125, 0.5, 1.5, 8, 12, 999])}{' ' * rng.randrange(2)}{some_unit(rng, SUFFIXES)}"
         text = rng.choice(["", "", "", " "]) + text + rng.choice(["", "", "", "\t"])
         size = size_of(text.encode(), "bit" if "bits" in texts else "byte", "ignore-case" in texts)
         if not isinstance(size, Rejected):
@@ -116,15 +103,6 @@ DRAWN = {
 }
 
 
-def some_texts(rng):
-    """Returns the texts of random options, by name."""
-    texts = {}
-    for name, drawn in DRAWN.items():
-        if drawn.without not in texts and drawn.needs in ("", *texts) and happens(rng, drawn.percent):
-            texts[name] = drawn.text(rng, texts)
-    return texts
-
-
 def some_wrong_value(rng, texts):
     """Returns the name of an option, and a text that is wrong as its value."""
     while True:
@@ -135,9 +113,6 @@ def some_wrong_value(rng, texts):
             options_of({**texts, name: text})
         except Wrong:
             return name, text
-
-
-# Words of the command line.
 
 
 def words_of(rng, name, text):
@@ -177,9 +152,6 @@ def with_operands(rng, groups, operands):
     return words
 
 
-# Inputs.
-
-
 def long_field(rng):
     """Returns a field around 80 bytes and past them, with a character of one to four bytes at each place of the cut."""
     head = (rng.choice(CUT) * 40).encode()[: rng.randrange(70, 84)].decode(errors="ignore")
@@ -212,14 +184,11 @@ def good_field(rng, options):
     if happens(rng, 3):
         return (" " * rng.choice([0, 1, 40, 90]) + "0" * rng.choice([0, 1, 70, 300]) + "1.5 KB").encode()
     number = str(rng.randrange(10 ** rng.choice([1, 3, 5, 9]))) + rng.choice(["", ".5", ".25", ".125"])
-    return (number + " " * rng.randrange(2) + some_unit(rng)).encode()
+    return (number + " " * rng.randrange(2) + some_unit(rng, SUFFIXES)).encode()
 
 
 def some_records(rng, options, number, odd):
-    """Returns at most this number of records for the options, made of a few fields; `odd` percent of these are odd.
-
-    Of wide columns or many places the output of one read is more than 1 MB, but not more than 8 MB.
-    """
+    """Returns at most this number of records, whose output is at most 8 MB; `odd` percent of their fields are odd."""
     most = 1 if options.delimiter is None else rng.choice([2, 3, 6, 32])
     number = min(number, 15_000 // most, 8_000_000 // (most * max(16, abs(options.padding), options.precision or 0)))
     size = min(rng.choice([2, 10, 60, 60]), most * max(1, number))
@@ -251,23 +220,22 @@ def some_cuts(rng, data):
     return sorted(rng.choice([65_535, 65_536, 65_537, 131_072]) if happens(rng, 20) else place for place in places)
 
 
-def some_operands(rng, options):
-    """Returns operands; one may have line feeds."""
-    fields = some_records(rng, options, rng.choice([1, 1, 2, 5, 12]), rng.choice([0, 5, 30]))
-    operands = [field.decode(errors="replace").replace("\0", "") for field in fields]
-    return [rng.choice(["1KB\n", "\n", "1\n2"]) + operand if happens(rng, 10) else operand for operand in operands]
-
-
 def some_call(rng):
     """Returns a random call: of twenty one has a wrong value, and four have operands."""
-    make, texts = rng.randrange(20), some_texts(rng)
-    options, wrong = options_of(texts), []
+    make, texts, wrong = rng.randrange(20), {}, []
+    for name, drawn in DRAWN.items():
+        if drawn.without not in texts and drawn.needs in ("", *texts) and happens(rng, drawn.percent):
+            texts[name] = drawn.text(rng, texts)
+    options = options_of(texts)
     if make == 19:
         name, text = some_wrong_value(rng, texts)
         wrong = [[f"--{name}={text}"]]
         texts.pop(name, None)
     groups = in_some_order(rng, [words_of(rng, name, text) for name, text in texts.items()] + wrong)
     if make > 14:
-        return Call(with_operands(rng, groups, some_operands(rng, options)), b"1 KB\nx\n")
+        fields = some_records(rng, options, rng.choice([1, 1, 2, 5, 12]), rng.choice([0, 5, 30]))
+        operands = [rng.choice(["1KB\n", "\n", "1\n2"]) * happens(rng, 10) + field.decode(errors="replace")
+                    for field in fields]  # fmt: skip
+        return Call(with_operands(rng, groups, [word.replace("\0", "") for word in operands]), b"1 KB\nx\n")
     data = some_input(rng, options)
     return Call(with_operands(rng, groups, []), data, some_cuts(rng, data))

@@ -1,7 +1,5 @@
 """A reference model of byte-unit: all that a call writes, and its exit status, by the exact model of sizes.
 
-An option is a row of OPTIONS.
-
 Follows command/byte-unit.1 and docs/DEFINITIONS.md, and shares no code with the crates.
 """
 
@@ -25,14 +23,8 @@ class Wrong(Exception):
     """Why the value of an option is wrong."""
 
 
-# Texts.
-
-
 def quoted(data):
-    """Returns bytes in quotes: all, or 77 to 80 of them, so that no character is cut, with two points after them.
-
-    If those in quotes are not UTF-8, each byte that is not printable ASCII is escaped, and else each control character.
-    """
+    """Returns bytes in quotes: all, or 77 to 80 of them, so that no character is cut, with two points after them."""
     ends = range(QUOTED, QUOTED - 4, -1)
     end = len(data) if len(data) <= QUOTED else next((at for at in ends if data[at] & 0xC0 != 0x80), QUOTED)
     try:
@@ -41,10 +33,6 @@ def quoted(data):
     except UnicodeDecodeError:
         text = "".join(chr(byte) if 0x20 <= byte < 0x7F else f"\\x{byte:02x}" for byte in data[:end])
     return f"'{text}{'..' if end < len(data) else ''}'"
-
-
-def message_of(rejected):
-    return "not UTF-8" if rejected.name == "not text" else rejected.message
 
 
 @functools.lru_cache(maxsize=1 << 10)
@@ -63,9 +51,6 @@ def text_of(size, kind, ignore_case, to, precision):
     return f"{value_of(size, kind, unit):{places}f} {unit}"
 
 
-# Options.
-
-
 def checked(value, holds, why):
     if not holds:
         raise Wrong(why)
@@ -82,7 +67,7 @@ def form(text, options):
 def limit(text, options):
     size = size_of(text.encode(), options.kind, options.ignore_case)
     if isinstance(size, Rejected):
-        raise Wrong(message_of(size))
+        raise Wrong(size.message)
     return size
 
 
@@ -148,9 +133,6 @@ def options_of(texts):
     return options
 
 
-# Runs.
-
-
 class Aborted(Exception):
     """A field is not a size, and the run ends before its record."""
 
@@ -166,18 +148,16 @@ class Run:
         self.statuses.add(status)
 
     def shown(self, size):
-        """Returns what is written for a size."""
         options = self.options
         text = text_of(size, options.kind, options.ignore_case, options.to, options.precision)
         return (text.ljust(-options.padding) if options.padding < 0 else text.rjust(options.padding)).encode()
 
     def convert(self, place, data):
-        """Returns what is written for a field that is to be converted."""
         options, named = self.options, f"{place}: {quoted(data)}"
         size = size_of(data, options.kind, options.ignore_case)
         if isinstance(size, Rejected):
             if options.invalid != "ignore":
-                self.tell(f"{named}: {message_of(size)}", 0 if options.invalid == "warn" else 2)
+                self.tell(f"{named}: {size.message.removeprefix('the text is ')}", 0 if options.invalid == "warn" else 2)
             if options.invalid == "abort":
                 raise Aborted
             return data

@@ -62,11 +62,6 @@ def memory(data=b""):
     return file
 
 
-def contents(file):
-    file.seek(0)
-    return file.read()
-
-
 def run(program, call, joined=False):
     """Returns what the program does in a call; with `joined`, its messages are in its standard output."""
     with memory(call.data) as file, memory() as written, memory() as messages:
@@ -83,4 +78,6 @@ def run(program, call, joined=False):
             status = child.wait(SECONDS)
         finally:
             child.kill()
-        return Result(contents(written), contents(messages), status, not ours and call.data != b"" and file.tell() == 0)
+        written.seek(0)
+        messages.seek(0)
+        return Result(written.read(), messages.read(), status, not ours and call.data != b"" and file.tell() == 0)

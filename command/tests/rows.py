@@ -1,7 +1,4 @@
-"""Fixed calls of byte-unit: with their results, written by hand, and on large inputs.
-
-Each row has the words, standard input, standard output, the exit status if it is not 0, and standard error.
-"""
+"""Fixed calls of byte-unit: words, standard input and output, exit status and standard error; and large inputs."""
 
 import unicodedata
 
@@ -70,8 +67,7 @@ SIZES = [
     (["-d", "\n", "--field=-", "1000\n1024"], b"", b"1 KB\n1 KiB\n"),
     ("--header 4096K", b"", b"4.096 MB\n"),
     ("--header=2 1KB x", b"", b"1 KB\n", 2, told("operand 2: 'x'", digit("x"))),
-    ("", b"", b""),
-    ("", b"1 KB", b"1 KB\n"),
+    ("", b"", b""), ("", b"1 KB", b"1 KB\n"),
     ("", b"\n", b"", 2, told("line 1: ''", BLANK)),
     ("--invalid=ignore", b"\n\n", b"\n\n"),
     ("-z", b"1 KB", b"1 KB\0"),
@@ -79,11 +75,9 @@ SIZES = [
 ]
 
 HEADERS_AND_TOTALS = [
-    ("--total", b"", b"0 B\n"),
-    ("--total --bits", b"", b"0 b\n"),
+    ("--total", b"", b"0 B\n"), ("--total --bits", b"", b"0 b\n"),
     ("--total", b"900 RB\n100 RB\n", b"900 RB\n100 RB\n", 2, TOTAL),
-    ("--header", b"", b""),
-    ("--header", b"name", b"name\n"),
+    ("--header", b"", b""), ("--header", b"name", b"name\n"),
     ("--header", b"name\nx\n", b"name\n", 2, told("line 2: 'x'", digit("x"))),
     ("--header=0", b"1 KB\n", b"1 KB\n"),
     ("--header=5 --total", b"x\ny\n", b"x\ny\n0 B\n"),
@@ -115,13 +109,9 @@ LIMITS = [
 ]
 
 FORMS = [
-    ("--bits --to=plain", b"1 B\n", b"8\n"),
-    ("-i --to=plain", b"8 b\n", b"8\n"),
-    ("--to=plain", b"8 b\n", b"1\n"),
-    (["-i", "--to=kb", "8 kb"], b"", b"8 KB\n"),
-    (["--to=kb", "8 kb"], b"", b"8 Kb\n"),
-    (["-i", "--to=kbit", "8 kb"], b"", b"64 Kb\n"),
-    (["-i", "--to=b", "8 kb"], b"", b"8000 B\n"),
+    ("--bits --to=plain", b"1 B\n", b"8\n"), ("-i --to=plain", b"8 b\n", b"8\n"), ("--to=plain", b"8 b\n", b"1\n"),
+    (["-i", "--to=kb", "8 kb"], b"", b"8 KB\n"), (["--to=kb", "8 kb"], b"", b"8 Kb\n"),
+    (["-i", "--to=kbit", "8 kb"], b"", b"64 Kb\n"), (["-i", "--to=b", "8 kb"], b"", b"8000 B\n"),
     (["--bits", "--to=K", "1 KB"], b"", b"8 Kb\n"),
     ("-p 0 --to=KB", b"1500\n2500\n2501\n", b"2 KB\n2 KB\n3 KB\n"),
     ("-p 30 1073741825", b"", b"1.073741825 GB\n"),
@@ -129,20 +119,16 @@ FORMS = [
     ("--to=Ki", b"1024\n", b"1 KiB\n"),
     (["--to= GiB "], b"1024\n", b"0.00000095367431640625 GiB\n"),
     ("-zip2 --to=kb 1234567", b"", b"1234.57 KB\0"),
-    ("--padding=1", b"1 KB\n", b"1 KB\n"),
-    ("--padding=6", b"1 KB\n", b"  1 KB\n"),
-    ("--padding=-6", b"1 KB\n", b"1 KB  \n"),
-    ("--padding -6", b"1 KB\n", b"1 KB  \n"),
+    ("--padding=1", b"1 KB\n", b"1 KB\n"), ("--padding=6", b"1 KB\n", b"  1 KB\n"),
+    ("--padding=-6", b"1 KB\n", b"1 KB  \n"), ("--padding -6", b"1 KB\n", b"1 KB  \n"),
     ("--padding=65535", b"1 KB\n", b" " * 65531 + b"1 KB\n"),
     ("--padding=-65535", b"1 KB\n", b"1 KB" + b" " * 65531 + b"\n"),
     ("--padding=6 --invalid=ignore", b"x\n", b"x\n"),
 ]
 
 FIELDS = [
-    ("-d , --field=3", b"x,y\n1,2\n", b"x,y\n1,2\n"),
-    ("-d , --field=18446744073709551615", b"x,y\n", b"x,y\n"),
-    ("-d , --field=1-1", b"1024,1024\n", b"1 KiB,1024\n"),
-    ("-d , --field=-", b"1024,1024\n", b"1 KiB,1 KiB\n"),
+    ("-d , --field=3", b"x,y\n1,2\n", b"x,y\n1,2\n"), ("-d , --field=18446744073709551615", b"x,y\n", b"x,y\n"),
+    ("-d , --field=1-1", b"1024,1024\n", b"1 KiB,1024\n"), ("-d , --field=-", b"1024,1024\n", b"1 KiB,1 KiB\n"),
     ("-d , --field=3,1,1-2", b"1024,1024,1024,1024\n", b"1 KiB,1 KiB,1 KiB,1024\n"),
     ("-d , --field=1,2,3,4,5,6,7,8,9", b"1K," * 10 + b"1K\n", b"1 KB," * 9 + b"1K,1K\n"),
     ("-d ,", b",1024\n", b"", 2, told("line 1: field 1: ''", BLANK)),
@@ -215,9 +201,6 @@ WRONG_WORDS = [
 ]
 
 
-PRINTED = [("--version", b"", b"byte-unit 3.0.0\n"), ("-V", b"", b"byte-unit 3.0.0\n")]
-
-
 def row(words, data=b"", written=b"", status=0, messages=""):
     words = words.split() if isinstance(words, str) else words
     return Call(words, data), Result(written, messages.encode(), status)
@@ -226,10 +209,8 @@ def row(words, data=b"", written=b"", status=0, messages=""):
 # Each call with its result: those that the model has too, and the others.
 MODELLED = [row(*each) for each in [*SIZES, *HEADERS_AND_TOTALS, *LIMITS, *FORMS, *FIELDS, *QUOTED]]
 MODELLED += [row(words, b"", b"", 2, message) for words, message in WRONG_VALUES]
-OTHERS = [row(words, b"", b"", 2, message) for words, message in WRONG_WORDS] + [row(*each) for each in PRINTED]
-
-# Inputs of many reads, records, fields, operands or bytes.
-
+OTHERS = [row(words, b"", b"", 2, message) for words, message in WRONG_WORDS]
+OTHERS += [row(word, b"", b"byte-unit 3.0.0\n") for word in ("--version", "-V")]
 LINES = b"1.5 KB\n" * 15_000
 LONG = b"0" * 17_000_000
 

@@ -1,12 +1,13 @@
-"""Whole calls of byte-unit: what each writes, byte for byte, and its exit status; and the files beside the program."""
+"""Whole calls of byte-unit: what each writes, byte for byte, and its exit status; and the files beside the program.
 
+They are compared with a model, and with `numfmt` of GNU coreutils, by options that both have, where both are exact.
+"""
+
+import random
 import re
 
 import pytest
-
-from byte_unit_dev.common import output, path, read
-from byte_unit_dev.fixtures import ended
-from byte_unit_dev.needs import need
+from byte_unit_dev.fixtures import ended, need, output, path, read
 from calls import some_call
 from model import OPTIONS, result_of
 from program import run
@@ -23,7 +24,7 @@ def wrong_of(program, calls):
 
 
 def test_random_calls(program, pytestconfig, check_drawn):
-    check_drawn(some_call, lambda calls: wrong_of(program, calls), pytestconfig.getoption("calls"))
+    check_drawn(some_call, lambda calls: wrong_of(program, calls), 5 * pytestconfig.getoption("lines"))
 
 
 @pytest.mark.parametrize("call, wanted", MODELLED + OTHERS)
@@ -69,3 +70,28 @@ def test_option_is_documented(program, name):
     assert f"{f'-{letter}, ' if letter else ''}--{name}" in output(program, "--help")
     assert re.search(rf"^\.It .*{f'Fl {letter} .*' if letter else ''} -{name}\b", read("command/byte-unit.1"), re.M)
     assert re.search(rf"--{name}\b", read("command/byte-unit.bash"))
+
+
+def exact(rng):
+    """Returns a size that is a whole number of bytes below 10^15, which long doubles hold."""
+    return f"{rng.randrange(1, 999)}{rng.choice(['', '', 'K', 'Ki', 'M', 'Mi', 'G', 'Gi'])}"
+
+
+# The words of both, those of `numfmt` and of byte-unit alone, and a function that makes a line.
+@pytest.mark.parametrize("both, theirs, ours, line", [
+    *[("-d," + field, "--from=auto", "--to=plain", lambda rng: ",".join(exact(rng) for _ in range(4)))
+      for field in ("", " --field=2", " --field=1,3", " --field=2-", " --field=-2", " --field=-")],
+    *[(words, "--from=auto", "--to=plain", exact)
+      for words in ("", "--header", "--header=5", "--padding=20", "--padding=-20", "-z")],
+    *[(f"--invalid={way}", "--from=auto", "--to=plain", lambda rng: rng.choice(["x", "y", "1K", "2K"]))
+      for way in ("fail", "warn", "ignore", "abort")],
+    # Sizes that both write as a whole number of one unit.
+    ("", "--to=si", "--to=si", lambda rng: str(rng.randrange(10, 999) * 1000 ** rng.randrange(1, 4))),
+    ("", "--to=iec-i", "--to=iec", lambda rng: str(rng.randrange(10, 1000) * 1024 ** rng.randrange(1, 4)))])
+def test_same_output_as_numfmt(program, seed, both, theirs, ours, line):
+    rng = random.Random(seed)
+    data = "".join(line(rng) + ("\0" if both == "-z" else "\n") for _ in range(1000)).encode()
+    status, wanted, _ = ended("numfmt", theirs, *both.split(), input=data)
+    if "--to" in theirs:
+        wanted = re.sub(rb"(\d+)(?:\.0)?([KMGTPE]i?)", rb"\1 \2B", wanted)
+    assert ended(program, ours, *both.split(), input=data)[:2] == (status, wanted)

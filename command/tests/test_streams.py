@@ -7,7 +7,6 @@ import socket
 import subprocess
 
 import pytest
-
 from byte_unit_dev.fixtures import ended, redirected
 from program import Call, run
 
@@ -20,22 +19,16 @@ NO_NUMBER = b"byte-unit: line 2: 'x': the character 'x' is not a number\n"
 TOO_LARGE = b"byte-unit: the total is 10^30 or more\n"
 
 
-@pytest.mark.parametrize("word, data", [
-    ("--help", b""), ("--version", b""), ("--to=exact", b"1 KB\n"), ("--total", b""), ("1 KB", b""),
-    ("--header", b"x\n"), ("--bits", LINES)], ids=["help", "version", "line", "total", "operand", "header", "lines"])
-def test_full_disk(program, word, data):
-    assert redirected("> /dev/full", program, word, data=data) == (1, b"", WRITE_FAILED)
-
-
-@pytest.mark.parametrize("words, written", [(["--invalid=fail", "x"], b"x\n"), (["--nothing"], b"")])
-def test_standard_error_on_full_disk(program, words, written):
-    assert redirected("2> /dev/full", program, *words) == (2, written, b"")
-
-
-@pytest.mark.parametrize("how, message", [
-    ("0<&-", READ_FAILED), ("0< /", READ_FAILED), ("1>&-", WRITE_FAILED)], ids=["input", "folder", "output"])
-def test_closed_descriptor_or_unreadable_input(program, how, message):
-    assert redirected(how, program) == (1, b"", message)
+@pytest.mark.parametrize("how, words, data, wanted", [
+    *(("> /dev/full", [word], data, (1, b"", WRITE_FAILED)) for word, data in [
+        ("--help", b""), ("--version", b""), ("--to=exact", b"1 KB\n"), ("--total", b""), ("1 KB", b""),
+        ("--header", b"x\n"), ("--bits", LINES)]),
+    ("2> /dev/full", ["--invalid=fail", "x"], b"", (2, b"x\n", b"")),
+    ("2> /dev/full", ["--nothing"], b"", (2, b"", b"")),
+    ("0<&-", [], b"", (1, b"", READ_FAILED)), ("0< /", [], b"", (1, b"", READ_FAILED)),
+    ("1>&-", [], b"1 KB\n", (1, b"", WRITE_FAILED))], ids=lambda value: str(value)[:20])
+def test_stream_that_fails(program, how, words, data, wanted):
+    assert redirected(how, program, *words, data=data) == wanted
 
 
 @pytest.mark.parametrize("word", ["--help", "--version", "1 KB"])

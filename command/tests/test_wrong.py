@@ -8,7 +8,6 @@ from random import Random
 from types import SimpleNamespace
 
 import pytest
-
 from byte_unit_dev.model.exact import LETTERS, SIZE_LIMIT, WHITE_SPACE
 from calls import some_call
 from model import BITS_64, Wrong, converted, limit, options_of, parsed, result_of
@@ -65,7 +64,6 @@ def copied_header(text, case):
 
 
 def is_cut_twice(case):
-    """Whether a record comes in more than two reads."""
     inner = case.call.pieces()[1:-1] if case.options and not case.operands else []
     return any(case.options.end not in piece for piece in inner)
 
@@ -90,7 +88,6 @@ def unit_and(end, when):
 
 
 def in_bits(size, case):
-    """Takes `b` in a limit for bits."""
     text = case.options.texts["max"]
     return limit(text + "it", case.options) if text[-1:] == "b" else size
 
@@ -120,13 +117,11 @@ WRONG = {
     "what a unit may continue with, in another order": ("messages", replaced(b"'B' or 'b'", b"'b' or 'B'")),
     "what -i expects": ("messages", replaced(rb"\('B' or no character", b"('B' or 'b' or no character")),
     "status 3 before 2": ("status", lambda status, case: 3 if b"the m" in case.wanted.messages and status else status),
-    "status 0 for a total too large": (
-        "status", lambda status, case: 0 if b"the total" in case.wanted.messages else status),
+    "status 0 for a total too large": ("status", lambda got, case: 0 if b"the total" in case.wanted.messages else got),
     "out of memory for 1 MB of text": ("all", lambda got, case: NO_MEMORY if len(got.written) > 1_000_000 else got),
     "out of memory for more than two reads": ("all", lambda got, case: NO_MEMORY if is_cut_twice(case) else got),
     "out of memory for 16 MB": ("all", lambda got, case: NO_MEMORY if len(case.call.data) > 1 << 24 else got),
-    "read failed after 100,000 reads": (
-        "all", lambda got, case: READ_FAILED if len(case.call.cuts or []) > 100_000 else got),
+    "many reads fail": ("all", lambda got, case: READ_FAILED if len(case.call.cuts or []) > 99_999 else got),
     "a part of a record is rejected": ("all", rejected_part),
     "--bits --to=K in bytes": ("to", unit_and(
         "B", lambda unit, options: options.bits and unit[-1] in LETTERS and unit[-3:] != "BIT")),
@@ -148,12 +143,10 @@ WRONG = {
     "the greatest --header ignored": ("header", lambda count, case: 0 if count == BITS_64 else count),
     "the ninth range lost": ("field", lambda ranges, case: ranges[:8] + ranges[9:]),
     "ranges after the sixteenth lost": ("field", lambda ranges, case: ranges[:16]),
-    "a list of fields must ascend": (
-        "field", lambda ranges, case: ranges[:1] + [some for some in ranges[1:] if some[0] > 1]),
-    "-z loses an operand": (
-        "operands", lambda operands, case: operands[:-1] if case.options.zero_terminated else operands),
+    "a list of fields must ascend": ("field", lambda got, case: got[:1] + [some for some in got[1:] if some[0] > 1]),
+    "-z loses an operand": ("operands", lambda got, case: got[:-1] if case.options.zero_terminated else got),
     "a line feed splits an operand": (
-        "operands", lambda operands, case: [part for operand in operands for part in operand.split("\n")]),
+        "operands", lambda got, case: [part for operand in got for part in operand.split("\n")]),
     "--header copies an operand": ("written", copied_header),
     "--total as the last word ignored": ("total", lambda total, case: case.call.words[-1] != "--total"),
     "standard input read for operands": ("unread", lambda unread, case: False),

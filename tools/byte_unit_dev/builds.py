@@ -38,7 +38,7 @@ def copied(binding, folder):
     return str(shutil.copytree(path("bindings", binding), Path(folder).resolve() / "bindings" / binding, ignore=built))
 
 
-def library_of(given, work):
+def library(given, work):
     """Returns the folder of the C library, which is made if none is given."""
     library = os.path.realpath(given or os.path.join(work, "library"))
     if not given:

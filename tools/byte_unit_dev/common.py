@@ -1,12 +1,11 @@
 """What all commands share: the repository's files, calls of other programs, and the way to report."""
 
-import argparse
-import contextlib
 import os
 import resource
 import shutil
 import signal
 import subprocess
+from pathlib import Path
 
 ROOT = os.path.dirname(os.path.dirname(os.path.dirname(os.path.realpath(__file__))))
 
@@ -22,18 +21,13 @@ def path(*parts):
 
 def read(name):
     """Returns the text of a file, named from the top of the repository or by its absolute path."""
-    try:
-        with open(path(name), encoding="utf-8") as file:
-            return file.read()
-    except OSError as error:
-        raise Failure(f"{name}: {error.strerror}") from None
+    return Path(path(name)).read_text(encoding="utf-8")
 
 
 def write(name, text):
     """Writes a file, named in the same way, and makes its folder if need be."""
-    os.makedirs(os.path.dirname(path(name)), exist_ok=True)
-    with open(path(name), "w", encoding="utf-8") as file:
-        file.write(text)
+    Path(path(name)).parent.mkdir(parents=True, exist_ok=True)
+    Path(path(name)).write_text(text, encoding="utf-8")
 
 
 def copy_to(folder, *names, without=("out",)):
@@ -53,13 +47,16 @@ def call(*words, **more):
     return subprocess.run([str(word) for word in words], check=False, **{**how, **more})
 
 
-@contextlib.contextmanager
-def session(*words, cwd):
-    """Starts a program, which ends with this one, and whose output and errors are to be read."""
-    how = {"stdin": subprocess.DEVNULL, "stdout": subprocess.PIPE, "stderr": subprocess.STDOUT}
-    with subprocess.Popen(words, cwd=cwd, start_new_session=True, **how) as process:
+def shown(*words, cwd):
+    """Runs a program, which ends with this one, and prints what it prints. Returns its status, and that as text."""
+    how = {"stdin": subprocess.DEVNULL, "stdout": subprocess.PIPE, "stderr": subprocess.STDOUT, "errors": "replace"}
+    with subprocess.Popen(words, cwd=cwd, encoding="utf-8", start_new_session=True, **how) as process:
+        said = ""
         try:
-            yield process
+            for line in process.stdout:
+                print(line, end="", flush=True)
+                said += line
+            return process.wait(), said
         finally:
             if process.poll() is None:
                 os.killpg(process.pid, signal.SIGTERM)
@@ -88,15 +85,6 @@ def files():
     return sorted(name for name in set(listed) if os.path.isfile(path(name)))
 
 
-def one_of(names):
-    """Returns the `type` of a command's argument that has to be one of these names."""
-    def checked(word):
-        if word not in names:
-            raise argparse.ArgumentTypeError(f"'{word}' is none of: {' '.join(names)}")
-        return word
-    return checked
-
-
 def on_signals(handler):
     """Sets what happens at a signal that stops a command, unless it was started to ignore the signal."""
     for number in (signal.SIGINT, signal.SIGTERM, signal.SIGHUP):
@@ -109,10 +97,6 @@ def reason(error):
     if isinstance(error, OSError) and error.filename:
         return f"{error.filename}: {error.strerror}"
     return str(error) or "interrupted"
-
-
-def has_program(name):
-    return shutil.which(name) is not None
 
 
 def report(findings, fine):

@@ -1,4 +1,4 @@
-"""What tests share: options, fixtures of what is built once, comparisons with the model, runs of programs, reports."""
+"""What tests share, with the tools too: options, fixtures of what is built once, comparisons, runs, reports."""
 
 import contextlib
 import functools
@@ -14,10 +14,9 @@ import pytest
 from hypothesis import strategies
 
 from .builds import CONFIG, copied, environment
-from .common import call, output, path, read, write
-from .model.exact import output_for
-from .model.lines import some_line
-from .needs import DEBIAN_PYTHON, DEBIAN_RUST, PYTHON_PACKAGE, is_there, need
+from .common import ROOT, call, copy_to, output, path, read, write
+from .model.exact import output_for, some_line
+from .needs import DEBIAN_PYTHON, DEBIAN_RUST, PACKAGES, PYTHON_PACKAGE, is_there
 
 # The first cargo of the path, and Debian's.
 CARGOS = list(dict.fromkeys([shutil.which("cargo") or "cargo", "/usr/bin/cargo"]))
@@ -26,17 +25,17 @@ SERDE = [f"{DEBIAN_RUST}/{name}-*" for name in ("serde", "serde_json", "toml")]
 
 def pytest_addoption(parser):
     parser.addoption("--after-ci", action="store_true", help="use the libraries and programs that rt ci has built")
-    parser.addoption("--lines", type=int, default=4000, help="the number of generated lines")
+    parser.addoption("--lines", type=int, default=4000, help="the number of generated lines; of calls, a fifth")
     parser.addoption("--seed", type=int, default=1, help="chooses what is generated")
-    parser.addoption("--calls", type=int, default=20_000, help="the number of random calls of byte-unit")
-    parser.addoption("--program", metavar="FILE", help="the program under test, in place of the one that is built here")
-    parser.addoption("--whole", action="store_true", help="also tests of long runs and of inputs of 1 GB")
 
 
-def pytest_collection_modifyitems(config, items):
-    """Leaves out the tests that are marked `whole`, unless they are asked for."""
-    if not config.getoption("whole"):
-        items[:] = [item for item in items if not item.get_closest_marker("whole")]
+def need(*needs):
+    """Skips the test that calls this if something that it needs is missing."""
+    for name in needs:
+        if not is_there(name):
+            tried = "BYTE_UNIT_SETUP" in os.environ
+            why = "could not be installed" if tried else f"is missing (Debian: {PACKAGES[name]})"
+            pytest.skip(f"{name.removeprefix('import ')} {why}")
 
 
 def compiled(compiler, out, *words, **more):
@@ -83,10 +82,9 @@ def closed():
 
 @pytest.fixture(scope="session")
 def program_of(request):
-    """Returns the program of a crate, which `rt run` or `rt ci` builds; without it the test is skipped, or fails after
-    `rt ci`."""
+    """Returns the program of a crate. Without it the test is skipped, or fails after `rt ci`, which builds it."""
     def found(crate):
-        name = os.path.abspath(request.config.getoption("program") or path("crates", crate, "out", crate))
+        name = path("crates", crate, "out", crate)
         if not os.access(name, os.X_OK):
             missing = f"{name} is missing (`rt run` in crates/{crate} builds it)"
             (pytest.fail if request.config.getoption("after_ci") else pytest.skip)(missing)
@@ -114,26 +112,24 @@ def seed(request):
 
 
 @pytest.fixture(scope="session")
-def check_drawn(request):
-    """Checks that `wrong`, which returns what is wrong with a list, returns nothing for random values: `--lines` of
-    them, or another count, each made by `make` from a `random.Random`. Else calls it with lists of the length
-    `together`, one after another, so that hypothesis finds the simplest."""
-    seed = request.config.getoption("seed")
-
+def check_drawn(request, seed):
+    """Checks that `wrong`, which returns what is wrong with a list, returns nothing for `count` values that `make` draws
+    from a `random.Random`. Else hypothesis finds a simplest list of `together` values that it returns something for."""
     def check(make, wrong, count=request.config.getoption("lines"), together=1):
         found = wrong([make(random.Random(f"{seed} {at}")) for at in range(count)])
-        if found:
-            values = strategies.randoms(use_true_random=False).map(make)
-            given = hypothesis.given(strategies.lists(values, min_size=together, max_size=together))
-            how = hypothesis.settings(max_examples=count, deadline=None, database=None, report_multiple_bugs=False,
-                                      suppress_health_check=list(hypothesis.HealthCheck))
+        if not found:
+            return
+        values = strategies.randoms(use_true_random=False).map(make)
 
-            def is_right(values):
-                found = wrong(values)
-                assert not found, found
+        @hypothesis.seed(seed)
+        @hypothesis.settings(max_examples=count, deadline=None, database=None, report_multiple_bugs=False,
+                             suppress_health_check=list(hypothesis.HealthCheck))  # fmt: skip
+        @hypothesis.given(strategies.lists(values, min_size=together, max_size=together))
+        def is_right(values):
+            assert not wrong(values), wrong(values)
 
-            hypothesis.seed(seed)(how(given(is_right)))()
-            pytest.fail(str(found))
+        is_right()
+        pytest.fail(str(found))
 
     return check
 
@@ -147,7 +143,6 @@ def printed(command, lines):
 @pytest.fixture(scope="session")
 def check_lines(check_drawn):
     """Checks that a program prints, for drawn lines, what the exact model, or another program, does."""
-
     def check(command, kind, other=None, **count):
         def wrong(lines):
             got = printed([*command, kind], lines)
@@ -162,7 +157,6 @@ def check_lines(check_drawn):
 
 @pytest.fixture(scope="session")
 def python_package(tmp_path_factory):
-    """A copy of the Python package."""
     need(*PYTHON_PACKAGE)
     return copied("python", tmp_path_factory.mktemp("python"))
 

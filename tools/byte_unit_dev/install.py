@@ -1,8 +1,9 @@
 """Installs the C library where compilers, pkg-config, man and SQLite look for it, and the command byte-unit.
 
-Proves and builds the library by `tools/make-libraries`, and the command by `rt run` in crates/byte_unit_cli; both print
-their progress. What `rt check`, `rt lib` or `rt run` has proved is not proved again; what `rt ci` alone has proved is.
-Then puts into the folder PREFIX, such as /usr/local:
+Proves and builds the library by `tools/make-libraries`, and the command by `rt run` in crates/byte_unit_cli. What
+`rt check`, `rt lib` or `rt run` has proved is not proved again; what `rt ci` alone has proved is. With --from FOLDER
+proves nothing, and takes libbyte_unit.a, byte_unit.h and, if it is there, byte-unit from the folder. Then puts into the
+folder PREFIX, such as /usr/local, but for what --without-sqlite and --without-command leave out:
 
     bin/byte-unit                   the command, with share/man/man1/byte-unit.1 and its completions for bash in
                                     share/bash-completion/completions
@@ -13,12 +14,10 @@ Then puts into the folder PREFIX, such as /usr/local:
     share/man/man3/byte_unit.3      the manual page, also by the name of each call
     share/byte_unit/LICENSE, installed    the license, and the list of these files, which --uninstall reads
 
-With the variable DESTDIR the files go to $DESTDIR/PREFIX, and name PREFIX: for packages.
-
-All files are written beside their places first, and then renamed. If this fails, or a signal comes before the end,
-nothing is installed; one line says so and why, and the status is 1. --uninstall removes the files of the list, and the
-folders that the installation made if they are empty. Without a C compiler ($CC, or cc) the shared library and the
-extension are left out, and a line says so.
+With the variable DESTDIR the files go to $DESTDIR/PREFIX, and name PREFIX: for packages. Without a C compiler ($CC, or
+cc) the shared library and the extension are left out, and a line says so. If something fails, or a signal comes before
+the end, nothing is installed, and one line says why. --uninstall removes the files of the list, and the folders that
+the installation made if they are empty.
 """
 
 import os
@@ -26,11 +25,10 @@ import re
 import shlex
 import shutil
 import tempfile
-import time
 from pathlib import Path
 
 from . import libraries
-from .common import Failure, path, read, reason
+from .common import Failure, path, read, reason, shown
 from .libraries import ARCHIVE, EXTENSION, HEADER
 from .replace import missing_folders, remove, remove_folders, replace
 
@@ -38,50 +36,24 @@ LIST = "share/byte_unit/installed"
 COMMAND = "byte-unit"
 
 
-def arguments(parser):
-    parser.add_argument("--from", dest="source", metavar="DIR",
-                        help="prove nothing; take libbyte_unit.a, byte_unit.h and, if it is there, byte-unit from DIR")
-    parser.add_argument("--without-sqlite", action="store_true", help="leave the extension for SQLite out")
-    parser.add_argument("--without-command", action="store_true", help="leave the command out")
-    parser.add_argument("--uninstall", action="store_true", help="remove what was installed in PREFIX")
-    parser.add_argument("prefix", metavar="PREFIX")
-
-
-def run(given):
-    prefix = os.path.abspath(given.prefix)
+def run(prefix, *, from_=None, without_sqlite=False, without_command=False, uninstall=False):
+    prefix = os.path.abspath(prefix)
     if re.search(r'[\x00-\x1f"\\$#]', prefix):
         why = 'a prefix with a control character or one of " \\ $ # cannot be written in byte_unit.pc'
         raise Failure(f"{prefix!r}: {why}")
     root = Path(os.path.normpath(os.environ.get("DESTDIR", "") + prefix))
-    if given.uninstall:
-        uninstall(root)
-    else:
-        install(given, prefix, root)
-
-
-def install(given, prefix, root):
-    began = time.monotonic()
+    if uninstall:
+        return remove_installed(root)
     with tempfile.TemporaryDirectory() as folder:
         try:
-            build(Path(folder), given)
+            build(Path(folder), from_, not without_command)
             print(f"installing in {root}", flush=True)
-            files, lines = files_of(Path(folder), prefix, given), listed(root)
-            made = [folder for folder in missing_folders([root / name for name in [*files, LIST]])
-                    if folder.is_relative_to(root)]
-            folders = {line for line in lines if line.endswith("/")} | {f"{at.relative_to(root)}/" for at in made}
-            text = "".join(f"{line}\n" for line in [*sorted(files), LIST, *sorted(folders)])
-            files = {LIST: text.encode(), **files}
-            modes = {root / name: 0o755 for name in files if ".so" in name or name.startswith("bin/")}
-            gone = [line for line in lines if line not in {*files, *folders} and os.path.lexists(root / line)]
-            replace({root / name: content for name, content in {**files, **dict.fromkeys(gone)}.items()}, modes)
+            files = files_of(Path(folder), prefix, [EXTENSION] * without_sqlite)
+            put(root, files)
         except (Failure, OSError, KeyboardInterrupt) as error:
             raise Failure(f"nothing is installed: {reason(error)}") from error
-    print(f"installed {len(files)} files in {libraries.duration(began)}")
-    print_hints(prefix, files)
-
-
-def print_hints(prefix, files):
     folder = shlex.quote(os.path.join(prefix, "lib"))
+    print(f"installed {len(files) + 1} files")
     print(f"to compile: cc program.c $(PKG_CONFIG_PATH={folder}/pkgconfig pkg-config --cflags --libs byte_unit)")
     if "lib/libbyte_unit.so" in files:
         print(f"to run: `ldconfig` as root if the loader reads {folder}, else LD_LIBRARY_PATH={folder}")
@@ -89,22 +61,21 @@ def print_hints(prefix, files):
         print(f"in sqlite3: .load {folder}/sqlite3/byte_unit")
 
 
-def build(folder, given):
-    """Makes the libraries and the command in the folder."""
-    crate = path("crates/byte_unit_cli")
-    if given.source:
-        has_command = os.path.exists(os.path.join(given.source, COMMAND))
-        for name in (ARCHIVE, HEADER, *[COMMAND] * has_command):
-            shutil.copy(os.path.join(given.source, name), folder)
-        if not has_command and not given.without_command:
-            print(f"skipped: bin/{COMMAND}: {given.source} has no {COMMAND}")
-    else:
+def build(folder, source, with_command):
+    """Makes the libraries and the command in the folder, or copies them there from another."""
+    if source and with_command and not os.path.exists(os.path.join(source, COMMAND)):
+        print(f"skipped: bin/{COMMAND}: {source} has no {COMMAND}")
+        with_command = False
+    for name in (ARCHIVE, HEADER, *[COMMAND] * with_command) if source else ():
+        shutil.copy(os.path.join(source, name), folder)
+    if not source:
         libraries.build(folder)
-    libraries.link(folder)
-    if not given.source and not given.without_command:
+    libraries.link_in(folder)
+    if with_command and not source:
         print("proving byte_unit_cli, which takes minutes if it is not proved yet", flush=True)
-        libraries.watched("rt", "run", "--", "--version", cwd=crate)
-        shutil.copy(f"{crate}/out/byte_unit_cli", folder / COMMAND)
+        if shown("rt", "run", "--", "--version", cwd=path("crates/byte_unit_cli"))[0]:
+            raise Failure("rt run in crates/byte_unit_cli failed: see above")
+        shutil.copy(path("crates/byte_unit_cli/out/byte_unit_cli"), folder / COMMAND)
 
 
 def functions(header):
@@ -120,12 +91,11 @@ def calls_of(header):
     return sorted(name for name in names if name.removesuffix("_to") == name or name.removesuffix("_to") not in names)
 
 
-def files_of(folder, prefix, given):
+def files_of(folder, prefix, without):
     """Returns what to install: paths below PREFIX, each with its contents as bytes, or the path that it links to."""
     shared, soname, short = libraries.shared_names(folder)
-    built = {f"include/{HEADER}": HEADER, **{f"lib/{name}": name for name in (ARCHIVE, shared)}}
-    built.update({} if given.without_sqlite else {f"lib/{EXTENSION}": EXTENSION})
-    built.update({} if given.without_command else {f"bin/{COMMAND}": COMMAND})
+    built = {f"include/{HEADER}": HEADER, f"bin/{COMMAND}": COMMAND,
+             **{f"lib/{name}": name for name in (ARCHIVE, shared, EXTENSION) if name not in without}}  # fmt: skip
     files = {place: (folder / name).read_bytes() for place, name in built.items() if (folder / name).exists()}
     others = {"share/byte_unit/LICENSE": "LICENSE", "share/man/man3/byte_unit.3": "bindings/c/byte_unit.3"}
     if f"bin/{COMMAND}" in files:
@@ -140,6 +110,18 @@ def files_of(folder, prefix, given):
     return files
 
 
+def put(root, files):
+    """Puts the files and their list below a folder, in place of those of an earlier list."""
+    lines, made = listed(root), missing_folders([root / name for name in [*files, LIST]])
+    folders = {line for line in lines if line.endswith("/")}
+    folders |= {f"{folder.relative_to(root)}/" for folder in made if folder.is_relative_to(root)}
+    text = "".join(f"{line}\n" for line in [*sorted(files), LIST, *sorted(folders)])
+    modes = {root / name: 0o755 for name in files if ".so" in name or name.startswith("bin/")}
+    gone = [line for line in lines if line not in {LIST, *files, *folders} and os.path.lexists(root / line)]
+    contents = {LIST: text.encode(), **files, **dict.fromkeys(gone)}
+    replace({root / name: content for name, content in contents.items()}, modes)
+
+
 def listed(root):
     """Returns the paths in the list of an earlier installation; those of folders end in a slash."""
     lines = read(root / LIST).splitlines() if (root / LIST).exists() else []
@@ -149,7 +131,7 @@ def listed(root):
     return lines
 
 
-def uninstall(root):
+def remove_installed(root):
     lines = listed(root)
     if not lines:
         raise Failure(f"{root / LIST} is missing: nothing was installed there by tools/dev install")

@@ -1,61 +1,51 @@
 """Builds the C library in an existing folder.
 
-DIR then has libbyte_unit.a and byte_unit.h. If there is a C compiler ($CC, or cc) it also has libbyte_unit.so, a link
-to libbyte_unit.so.VERSION, and sqlite3/byte_unit.so, the extension for SQLite, if sqlite3ext.h is installed. First
-`rt lib` proves the crate byte_unit_c; meanwhile this prints a line every 20 seconds. What `rt check`, `rt lib`, `rt
-run` or `rt all check` has proved is not proved again, unless it has changed since. What `rt ci` has proved is: it
-leaves nothing that other commands of `rt` read. So the first call after it takes minutes, and the second seconds.
+FOLDER then has libbyte_unit.a and byte_unit.h. If there is a C compiler ($CC, or cc) it also has libbyte_unit.so, a
+link to libbyte_unit.so.VERSION, and sqlite3/byte_unit.so, the extension for SQLite, if sqlite3ext.h is installed. First
+`rt lib` proves the crate byte_unit_c. What `rt ci` alone has proved is proved again, which takes minutes: it leaves
+nothing that other commands of `rt` read. With --after-ci, as in the gate, uses the libraries that `rt ci` has built,
+and does not see what has changed since. With --link proves nothing, and links what is in FOLDER: libbyte_unit.a, with
+byte_unit.h beside it.
 """
 
+import argparse
 import os
 import re
 import shutil
-import subprocess
-import time
 from pathlib import Path
 
-from .common import Failure, call, has_program, output, path, read, session
+from .common import Failure, call, output, path, read, shown
 
 ARCHIVE, HEADER, EXTENSION = "libbyte_unit.a", "byte_unit.h", "sqlite3/byte_unit.so"
 # Every x86-64 processor. The default of rt, x86-64-v2, ends a program on the processors qemu64 and kvm64 by SIGILL.
 CPU = "x86-64"
 
 
-def arguments(parser):
-    parser.prog, mode = "tools/make-libraries", parser.add_mutually_exclusive_group()
-    mode.add_argument("--after-ci", action="store_true", help="use the libraries that `rt ci` has built, as the gate"
-                      " does; this does not detect sources that have changed since")
-    mode.add_argument("--link", action="store_true", help="prove nothing, and link what is in DIR already:"
-                      f" {ARCHIVE}, with {HEADER} beside it")
-    parser.add_argument("folder", metavar="DIR")
-    parser.set_defaults(reject=parser.error)
+def existing(folder):
+    if not os.path.isdir(folder):
+        raise argparse.ArgumentTypeError(f"{folder!r} is no folder")
+    return Path(folder).resolve()
 
 
-def run(given):
-    if not os.path.isdir(given.folder):
-        given.reject(f"{given.folder!r} is no folder")
-    folder = Path(given.folder).resolve()
-    if not given.link:
-        build(folder, given.after_ci)
-    link(folder)
+def run(folder: existing, *, after_ci=False, link=False):
+    if not link:
+        build(folder, after_ci)
+    link_in(folder)
 
 
 def build(folder, after_ci=False):
     """Proves byte_unit_c and what it needs, and builds the archive."""
-    if not has_program("rt"):
+    if not shutil.which("rt"):
         raise Failure("needs the Rattle toolchain (rt): see README.md")
-    began, crate = time.monotonic(), path("crates/byte_unit_c")
-    if after_ci:
-        said = watched(*words_after_ci(folder / ARCHIVE), cwd=crate)
-    else:
-        what = "byte_unit_c and the crates that it needs, which takes minutes if only rt ci has proved them"
-        print(f"proving {what}", flush=True)
-        said = watched("rt", "lib", f"--cpu={CPU}", cwd=crate)
+    crate = path("crates/byte_unit_c")
+    if not after_ci:
+        print("proving byte_unit_c, which takes minutes if only rt ci has proved it and what it needs", flush=True)
+    words = words_after_ci(folder / ARCHIVE) if after_ci else ["rt", "lib", f"--cpu={CPU}"]
+    status, said = shown(*words, cwd=crate)
+    if status or not re.search("^logic=proved ", said, re.M):
+        raise Failure(f"status {status}, or no line that begins with logic=proved: see above")
+    if not after_ci:
         shutil.copy(f"{crate}/out/libbyte_unit_c.a", folder / ARCHIVE)
-    proved = re.findall(r"^logic=proved .*$", said, re.M)
-    if not proved:
-        raise Failure("no line of rt begins with logic=proved")
-    print(*proved, f"built {ARCHIVE} in {duration(began)}", sep="\n", flush=True)
     shutil.copy(path("bindings/c", HEADER), folder)
 
 
@@ -71,27 +61,6 @@ def words_after_ci(archive):
     return words
 
 
-def watched(*words, cwd):
-    """Runs a program, which ends with this one, and returns what it prints. Says every 20 seconds how far it is."""
-    began, said = time.monotonic(), None
-    with session(*words, cwd=cwd) as process:
-        while said is None:
-            try:
-                said = process.communicate(timeout=20)[0].decode(errors="replace")
-            except subprocess.TimeoutExpired as waited:
-                last = (waited.output or b"").decode(errors="replace").rstrip().rpartition("\n")[2]
-                print(f"{duration(began)} so far; rt prints: {last}", flush=True)
-    if process.returncode:
-        print(said, end="", flush=True)
-        raise Failure(f"{words[0]} {words[1]} in {cwd} failed: see above")
-    return said
-
-
-def duration(began):
-    minutes, seconds = divmod(round(time.monotonic() - began), 60)
-    return f"{minutes} min {seconds} s"
-
-
 def shared_names(folder):
     """Returns the name of the shared library, by the version in the header, its soname, and its name for linkers."""
     found = re.search(r'^#define BYTE_UNIT_VERSION_STRING "((\d+)[0-9.]*)"', read(folder / HEADER), re.M)
@@ -100,12 +69,12 @@ def shared_names(folder):
     return f"libbyte_unit.so.{found[1]}", f"libbyte_unit.so.{found[2]}", "libbyte_unit.so"
 
 
-def link(folder):
+def link_in(folder):
     """Links the shared library, and the extension for SQLite with the archive inside, if there is a C compiler."""
     archive, cc = folder / ARCHIVE, os.environ.get("CC") or "cc"
     if not archive.is_file() or not (folder / HEADER).is_file():
         raise Failure(f"{folder}: there is no {ARCHIVE} or no {HEADER} to link")
-    if not has_program(cc):
+    if not shutil.which(cc):
         print(f"skipped: libbyte_unit.so and {EXTENSION}: there is no C compiler {cc}")
         return
     shared, soname, short = shared_names(folder)

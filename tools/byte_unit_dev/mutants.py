@@ -1,21 +1,18 @@
 """Lists, tries and places mutants: wrong edits of functions, which the prover has to reject.
 
-    tools/dev mutants [list [CRATE..]]              the public functions that no mutant names
-    tools/dev mutants try [--part K/N] [CRATE..]    tries the catalogues' mutants on a copy of the crates
-    tools/dev mutants put K/N                       copies a part of them to must-fail/, where `rt ci` tries them
-    tools/dev mutants remove                        deletes these copies, which git ignores
+    tools/dev mutants [list [CRATE..]]        the public functions that no mutant names
+    tools/dev mutants try [K/N] [CRATE..]     tries the catalogues' mutants, or a part of them, on a copy of the crates
+    tools/dev mutants put K/N                 copies a part of them to must-fail/, where `rt ci` tries them
+    tools/dev mutants remove                  deletes these copies, which git ignores
 
 A mutant is a file crates/CRATE/must-fail/TITLE.edit, or a line `== TITLE` of the catalogue crates/CRATE/mutants.edits,
 which begins with comments, and the lines of an edit for `rt must-fail` after it. Those of byte_unit_bit are rendered
-from all of byte_unit_byte when they are tried. The title of a mutant is
-`module.function.what`: the function whose contract rejects it, and what it does wrong. `module` is the file of the
-function or a folder that this file is in; of several such functions the one whose file has the shortest path is meant.
-A function is public if it has `pub` and a contract and the crate exports it: it is `extern "C"`, or in a `pub mod`, or
-it or the type of its `impl` is in a `pub use`; in a program each one with `pub` is. Laws, rendered files and crates of
-examples and tests are left out.
-
-The part of a mutant, from 1/N to N/N, depends on its crate and title alone. `try` reuses what `rt check` has proved.
-The exit status is 0 if nothing is found and each mutant is rejected, 1 if not, and 2 for wrong arguments.
+from all of byte_unit_byte when they are tried. A title is `module.function.what`: the function whose contract rejects
+it, and what it does wrong. `module` is the file of the function or a folder that this file is in; of several the one
+with the shortest path is meant. A function is public if it has `pub` and a contract and the crate exports it: it is
+`extern "C"`, or in a `pub mod`, or it or the type of its `impl` is in a `pub use`; in a program each one with `pub` is.
+Laws, rendered files and crates of examples and tests are left out. The part of a mutant, from 1/N to N/N, depends on
+its crate and title alone. The exit status is 0 if nothing is found and each mutant is rejected.
 """
 
 import argparse
@@ -24,9 +21,11 @@ import os
 import re
 import tempfile
 import zlib
+from pathlib import Path
 
-from .common import copy_to, one_of, path, report, session, write
+from .common import copy_to, path, report, shown, write
 from .render import bits
+from .replace import remove_folders
 from .source import EXAMPLES, catalogue, files, public_names, source
 
 # What the names of the mutants begin with that `put` copies.
@@ -38,12 +37,6 @@ IMPL = re.compile(r"^impl(?:<[^>]*>)? (\w+)", re.M)
 def catalogue_of(crate):
     """Returns the mutants of a crate's catalogue by title, in order."""
     return bits.mutants() if crate == bits.CRATE else catalogue(crate)
-
-
-def titles_of(crate):
-    edits = glob.glob("*.edit", root_dir=path("crates", crate, "must-fail"))
-    own = [name.removesuffix(".edit") for name in edits if not name.startswith(BY_TURN)]
-    return sorted([*own, *catalogue_of(crate)])
 
 
 def public_functions(crate):
@@ -64,19 +57,17 @@ def public_functions(crate):
     return found
 
 
-def named_by(title, functions):
-    """Returns the public function that a title names, or `None`."""
-    module, function = title.split(".")[:2]
-    same = [entry for entry in functions if entry[1] == function and module in entry[0]]
-    return min(same, key=lambda entry: (entry[0][-1] != module, len(entry[0])), default=None)
-
-
 def listed(crates):
     wrong, total = [], 0
     for crate in crates:
-        titles, functions = titles_of(crate), public_functions(crate)
+        edits = [Path(name).stem for name in glob.glob(path("crates", crate, "must-fail/*.edit"))]
+        titles = sorted([*catalogue_of(crate), *(name for name in edits if not name.startswith(BY_TURN))])
+        functions = public_functions(crate)
         wrong += [f"{crate}: {title}: not module.function.what" for title in titles if title.count(".") != 2]
-        named = [named_by(title, functions) for title in titles if title.count(".") == 2]
+        named = []
+        for module, function in (title.split(".")[:2] for title in titles if "." in title):
+            same = [entry for entry in functions if entry[1] == function and module in entry[0]]
+            named += sorted(same, key=lambda entry: (entry[0][-1] != module, len(entry[0])))[:1]
         wrong += [f"{crate}: {'.'.join(entry[0])}: {entry[1]}: no mutant" for entry in functions if entry not in named]
         total += len(functions)
     return report(wrong, f"mutants: {total} public functions, each with a mutant")
@@ -95,65 +86,45 @@ def tried(crates, part):
     with tempfile.TemporaryDirectory() as copy:
         copy_to(copy, "crates", "HANDLES", "crates.txt", without=["must-fail"])
         names = [f"{crate}/{name}" for crate in crates for name in put(crate, part, f"{copy}/crates/{crate}/must-fail")]
-        said = ""
-        with session("rt", "must-fail", *crates, cwd=copy) as process:
-            for line in process.stdout:
-                print(line.decode(errors="replace"), end="", flush=True)
-                said += line.decode(errors="replace")
+        status, said = shown("rt", "must-fail", *crates, cwd=copy)
     survived = [name for name in names if f"must-fail {name}: NOT REFUSED" in said]
     rejected = [name for name in names if f"must-fail {name}: refused, as it must be" in said]
     untried = sorted({*names} - {*survived, *rejected})
     print(f"mutants: {len(names) - len(untried)} tried, {len(survived)} survived", *survived)
     if untried:
         print(f"mutants: {len(untried)} could not be tried:", *untried)
-    return 1 if survived or untried or process.returncode else 0
+    return 1 if survived or untried or status else 0
 
 
 def remove():
     for name in glob.glob(path(f"crates/*/must-fail/{BY_TURN}*")):
         os.remove(name)
-    for folder in glob.glob(path("crates/*/must-fail")):
-        if not os.listdir(folder):
-            os.rmdir(folder)
+    remove_folders(map(Path, glob.glob(path("crates/*/must-fail"))))
 
 
-def part(text):
-    found = re.fullmatch(r"([1-9][0-9]{0,3})/([1-9][0-9]{0,3})", text)
-    if not found or int(found[1]) > int(found[2]):
-        raise argparse.ArgumentTypeError(f"'{text}' is not a part, such as 1/8 to 8/8")
-    return int(found[1]), int(found[2])
+def with_mutants():
+    found = [name for form in ("mutants.edits", "must-fail/*.edit") for name in glob.glob(path(f"crates/*/{form}"))]
+    return sorted({os.path.relpath(name, path("crates")).split("/")[0] for name in found} | {bits.CRATE})
 
 
-def crates_with(*forms):
-    """Returns the crates with a file of one of these forms."""
-    return sorted({name.split("/")[0] for form in forms for name in glob.glob(f"*/{form}", root_dir=path("crates"))})
+def part_or_crate(word):
+    """Returns the two numbers of a part K/N, or the name of a crate with mutants."""
+    found = re.fullmatch(r"([1-9][0-9]{0,3})/([1-9][0-9]{0,3})", word)
+    if found and int(found[1]) <= int(found[2]):
+        return int(found[1]), int(found[2])
+    if word not in with_mutants():
+        raise argparse.ArgumentTypeError(f"'{word}' is no crate with mutants, and no part, such as 1/8 to 8/8")
+    return word
 
 
-def catalogued():
-    """Returns the crates with a catalogue."""
-    return sorted([*crates_with("mutants.edits"), bits.CRATE])
-
-
-def arguments(parser):
-    actions = parser.add_subparsers(dest="action", metavar="ACTION", prog=parser.prog)
-    shown = [name for name in crates_with("mutants.edits", "must-fail/*.edit") if not EXAMPLES.fullmatch(name)]
-    parser.set_defaults(action="list", crates=[], shown=shown)
-    actions.add_parser("list").add_argument("crates", nargs="*", type=one_of(shown), metavar="CRATE")
-    trying = actions.add_parser("try")
-    trying.add_argument("--part", type=part, default=(1, 1), metavar="K/N")
-    trying.add_argument("crates", nargs="*", type=one_of(catalogued()), metavar="CRATE")
-    actions.add_parser("put").add_argument("part", type=part, metavar="K/N")
-    actions.add_parser("remove")
-
-
-def run(given):
-    if given.action == "remove":
-        return remove()
-    if given.action == "list":
-        return listed(given.crates or given.shown)
-    crates = catalogued()
-    if given.action == "try":
-        return tried(sorted(set(given.crates or crates)), given.part)
+def run(action: ("list", "try", "put", "remove") = "list", *words: part_or_crate):
+    crates, parts = ([word for word in words if isinstance(word, kind)] for kind in (str, tuple))
+    crates, part = crates or with_mutants(), [*parts, (1, 1)][0]
+    if action == "list":
+        return listed([name for name in crates if not EXAMPLES.fullmatch(name)])
+    if action == "try":
+        return tried(crates, part)
     remove()
-    count = sum(len(put(crate, given.part, path("crates", crate, "must-fail"), BY_TURN)) for crate in crates)
-    print(f"{count} mutants of the catalogues for rt ci")
+    if action == "put":
+        count = sum(len(put(crate, part, path("crates", crate, "must-fail"), BY_TURN)) for crate in crates)
+        print(f"{count} mutants of the catalogues for rt ci")

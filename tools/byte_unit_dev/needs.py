@@ -1,6 +1,7 @@
 """Installs the Debian packages that the tests need, as root, and prints which could not be installed.
 
-The exit status is 0 all the same: a test whose program or file is still missing then is skipped, and says so.
+The exit status is 0 all the same: a test whose program or file is still missing then is skipped, and says so. With
+--compared, installs also what only measurements need.
 """
 
 import functools
@@ -53,37 +54,22 @@ def is_there(need):
     return shutil.which(need) is not None
 
 
-def need(*needs):
-    """Skips the test that calls this if something that it needs is missing."""
-    import pytest
-
-    for name in needs:
-        if not is_there(name):
-            tried = "BYTE_UNIT_SETUP" in os.environ
-            why = "could not be installed" if tried else f"is missing (Debian: {({**PACKAGES, **COMPARED})[name]})"
-            pytest.skip(f"{name.removeprefix('import ')} {why}")
-
-
 def installed(packages):
-    """Installs packages, if need be with new lists of packages, then one by one. Returns those that fail."""
-    if not shutil.which("apt-get"):
-        return packages
-    words = ["apt-get", "install", "--yes", "--quiet", "--no-install-recommends"]
-
+    """Installs packages: if not all can be, by new lists of packages one by one. Returns those that fail."""
     def fails(*names):
-        return call(*words, *names, stdin=subprocess.DEVNULL).returncode != 0
+        words = ["apt-get", "install", "--yes", "--quiet", "--no-install-recommends", *names]
+        return call(*words, stdin=subprocess.DEVNULL).returncode != 0
 
-    if not fails(*packages) or call("apt-get", "update", "--quiet").returncode == 0 and not fails(*packages):
+    if not shutil.which("apt-get") or not packages:
+        return packages
+    if not fails(*packages):
         return []
+    call("apt-get", "update", "--quiet")
     return [package for package in packages if fails(package)]
 
 
-def arguments(parser):
-    parser.add_argument("--compared", action="store_true", help="also what only measurements need")
-
-
-def run(given):
-    wanted = {**PACKAGES, **(COMPARED if given.compared else {})}
+def run(*, compared=False):
+    wanted = {**PACKAGES, **(COMPARED if compared else {})}
     left = installed(sorted({package for need, package in wanted.items() if not is_there(need)}))
     if left:
         print(f"these packages could not be installed: {' '.join(left)}", file=sys.stderr)

@@ -49,8 +49,7 @@ def write(place, content, mode):
 def replace(files, modes):
     """Writes files, each a path with its bytes or the path that it links to, and removes those that have None.
 
-    Writes all, and saves what is there, beside the places first. After the last rename no signal stops this program.
-    """
+    Writes all, and saves what is there, beside the places first. After the last rename no signal stops this program."""
     made, done = missing_folders(files), []
     hidden = [beside(place, ending) for place in files for ending in ("new", "old")]
     try:

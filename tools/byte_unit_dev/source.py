@@ -1,8 +1,4 @@
-"""Reads the sources of the crates.
-
-`Source` is a file of Rattle: its items with their comments, signatures and clauses. `Spec` is a file of definitions
-(`.antt`): its head comment, its imports, and its definitions, each with its comment and the words that it uses.
-"""
+"""Reads the sources of the crates: `Source` is a file of Rattle, and `Spec` a file of definitions (`.antt`)."""
 
 import functools
 import glob
@@ -29,11 +25,6 @@ def line_of(text):
     return " ".join(text.split())
 
 
-def sentence_of(text):
-    """Returns the first sentence of a comment."""
-    return re.split(r"(?<=\.)\s+(?=[A-Z`0-9])", text.strip())[0]
-
-
 def files(folder, ending):
     """Returns the names of the files with this ending below a folder, in order."""
     return sorted(f"{folder}/{name}" for name in glob.glob(f"**/*{ending}", root_dir=path(folder), recursive=True))
@@ -56,8 +47,7 @@ def below(names):
 
 
 def copy_crates(folder, names, more, without):
-    """Copies crates and those that they need, but for what has one of the names of `without`, and writes a crates.txt
-    with more crates."""
+    """Copies crates and those that they need, without what has one of these names, and adds more to their crates.txt."""
     rows = {name: crates()[name] for name in below(names)}
     copy_to(folder, *(f"crates/{name}" for name in rows), without=without)
     lines = "".join(f"{name}: {' '.join(needed)}\n" for name, needed in {**rows, **more}.items())
@@ -150,9 +140,8 @@ class Source:
         raise self.wrong(start, "an item does not end")
 
     def item(self, words):
-        """Returns where the doc comment of an item starts, where its attributes start, and where it ends.
-
-        An item is named by its kind and name, as `fn cell`, or `fn Log::write` in an `impl` of a type."""
+        """Returns where the doc comment of an item, such as `fn cell`, or `fn Log::write` in an `impl`, starts, where
+        its attributes start, and where it ends."""
         kind, _, name = words.partition(" ")
         owner, _, name = name.rpartition("::")
         heads = re.finditer(rf"^impl\b[^{{;]*\b{owner}\b[^{{;]*(?={{)", self.code, re.M)
@@ -311,16 +300,12 @@ def public_names(crate):
 
 def catalogue(crate):
     """Returns the mutants that the catalogue of a crate has, by title, in order."""
-    name, found, title = f"crates/{crate}/mutants.edits", {}, None
-    text = read(name) if os.path.exists(path(name)) else ""
-    for number, line in enumerate(text.splitlines(), 1):
-        if line.startswith("== "):
-            title = line[3:]
-            if title in found or not title or "/" in title:
-                raise Failure(f"{name}:{number}: this title is a duplicate or not a file name: {title}")
-            found[title] = ""
-        elif title is not None and line:
-            found[title] += line + "\n"
-        elif line and not line.startswith("#"):
-            raise Failure(f"{name}:{number}: only comments may come before the first title: {line}")
-    return found
+    name = f"crates/{crate}/mutants.edits"
+    head, *edits = re.split("^== ", read(name) if os.path.exists(path(name)) else "", flags=re.M)
+    pairs = [re.sub(r"\n{2,}", "\n", edit).split("\n", 1) for edit in edits]
+    titles = [title for title, _ in pairs]
+    wrong = [line for line in head.splitlines() if line and not line.startswith("#")]
+    wrong += [title for title in titles if titles.count(title) > 1 or not re.fullmatch("[^/]+", title)]
+    if wrong:
+        raise Failure(f"{name}: a second title, or no file name, or no comment before the first title: {wrong[0]}")
+    return dict(pairs)

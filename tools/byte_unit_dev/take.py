@@ -1,23 +1,20 @@
 """Copies the library's six crates into another repository of Rattle, or updates the copy there.
 
-DIR is the top of the other repository. Copies the crates into DIR/crates, adds their lines to DIR/crates.txt and the
-line `out/` to DIR/.gitignore, and records in crates/byte_unit/VERSION what was copied: version, commit, toolchain, and
+Copies the crates, without tests and mutants, into FOLDER/crates, adds their lines to FOLDER/crates.txt and the line
+`out/` to FOLDER/.gitignore, and records in crates/byte_unit/VERSION what was copied: version, commit, toolchain, and
 the checksum of each file, as `sha256sum` writes it. Fails if one of the crates is already there, as a folder or as a
-line.
-
-With --update, replaces that copy by the current one. Fails, and names the files, if any was edited, added or removed.
-Each crate's out/ stays, and so does every other file of DIR.
-
-Either form changes everything or nothing. The library's tests and mutants are not copied.
+line. With --update, replaces that copy by the current one, but for each crate's out/. Fails, and names the files, if
+any was edited, added or removed. Either form changes everything or nothing.
 """
 
 import hashlib
 import os
 import re
+import shutil
 import subprocess
 from pathlib import Path
 
-from .common import ROOT, Failure, call, has_program, reason
+from .common import ROOT, Failure, call, reason
 from .replace import remove_folders, replace
 from .source import library
 
@@ -27,17 +24,12 @@ PARTS = ["src", "specs", "proofs"]
 RECORD = "crates/byte_unit/VERSION"
 
 
-def arguments(parser):
-    parser.add_argument("--update", action="store_true", help="replace the copy in DIR by the current one")
-    parser.add_argument("folder", metavar="DIR", help="the top of the other repository")
-
-
-def run(given):
+def run(folder, *, update=False):
     try:
-        lines = take(given.folder, given.update)
+        lines = take(folder, update)
     except (Failure, OSError, KeyboardInterrupt) as error:
-        raise Failure(f"{given.folder}: {reason(error)}; nothing was changed") from error
-    print("\n".join(f"take: {given.folder}{line}" for line in lines))
+        raise Failure(f"{folder}: {reason(error)}; nothing was changed") from error
+    print("\n".join(f"take: {folder}{line}" for line in lines))
 
 
 def take(shown, is_update):
@@ -135,7 +127,7 @@ def first_line(*words):
     """Returns the first line that a command prints, or None if it is not there or fails."""
     own = {name: value for name, value in os.environ.items() if not name.startswith("GIT_")}
     how = {"cwd": HERE, "env": own, "stdin": subprocess.DEVNULL, "stderr": subprocess.DEVNULL}
-    ran = call(*words, **how) if has_program(words[0]) else None
+    ran = call(*words, **how) if shutil.which(words[0]) else None
     return ran.stdout.partition("\n")[0] if ran and ran.returncode == 0 else None
 
 
@@ -159,8 +151,7 @@ def row_of(crate):
 
 
 def with_rows(text):
-    """Returns the text of crates.txt in which each of our lines takes the place of that of its crate, or is added. Also
-    returns a sentence for each change."""
+    """Returns a crates.txt with our lines, each in place of that of its crate, and a sentence for each change."""
     changes = []
     for crate in CRATES:
         ours = row_of(crate).search(bytes_of(HERE / "crates.txt"))[2]

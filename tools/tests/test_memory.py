@@ -1,7 +1,4 @@
-"""Each allocation fails in turn: in a program, in tests of calls that take no allocator, and in the built byte-unit.
-
-`rt try --fail-alloc N` makes the Nth allocation fail, in a program or in each test separately.
-"""
+"""Each allocation fails in turn: in tests of calls that take no allocator, and in the built programs."""
 
 import os
 import re
@@ -10,21 +7,16 @@ from concurrent.futures import ThreadPoolExecutor
 from itertools import count
 
 import pytest
-
-from byte_unit_dev.common import ROOT, call, copy_to, path, read, write
-from byte_unit_dev.fixtures import compiled, ended
+from byte_unit_dev.fixtures import ROOT, call, compiled, copy_to, ended, path, read, write
 
 LANES = int(os.environ.get("RT_JOBS") or min(4, os.cpu_count()))
-LINES = "1.5 KiB\n\n1Kbi\nx\n1YB"
-OUTPUT = ["1536 = 1.5 KiB\n", "no value\n", "bad unit\n", "not a number\n", "1000000000000000000000000 = 1 YB\n"]
 # What a test may end with: the error itself, or the message of an `expect` with the error.
 FAILURE = re.compile(r"(?:[\w ]+: )?(?:AllocError|Error\(out of memory\))")
 TESTS = "crates/byte_unit_tests/src/tests"
 MANY = b"".join(b"%d.5 KiB\n" % number for number in range(12_000))
-# Command lines: their words, and standard input. A run reads 65,536 bytes at once.
+# Calls of the command: their words, and standard input. A run reads 65,536 bytes at once.
 CALLS = [
     ("", MANY),
-    ("1.5KiB 100MB", b""),
     ("--total --to=MiB --padding=-30", MANY),
     ("--to=exact", b"1 KB\n" + b"0" * 200_000 + b"1 KB\n2 KB"),
     ("-d , --field=2,4- --header --invalid=warn", b"name,size\n" + b"a,1 KB,x,2 KB\nb,1 x,y,\xff\n" * 3_000),
@@ -33,52 +25,20 @@ CALLS = [
     ("--invalid=abort", b"1 KB\n" * 20_000 + b"1 x\n2 KB\n"),
     ("--bits --max=1kbit --min=1", b"1 kbit\n0\n2 kbit\n"),
     ("--total --to=auto -p 65535", b"1 KiB\n7 MB\n"),
-    *((words, b"") for words in ("--help", "--version", "--nothing", "--field=2", "-d , --field=1,3-2", "-p x")),
+    *((words, b"") for words in ("1.5KiB 100MB", "--help", "--version", "--nothing", "--field=2", "-p x",
+                                 "-d , --field=1,3-2")),
 ]
-
-
-def tried(crate, number, *more, root=ROOT, **given):
-    words = ["rt", "try", *more, "--fail-alloc", number]
-    return call(*words, cwd=os.path.join(root, "crates", crate), stderr=subprocess.PIPE, **given)
-
-
-@pytest.mark.whole
-def test_program():
-    """byte_unit_lines writes whole first lines, no fewer than if an earlier allocation fails, and `out of memory`."""
-    seen = [0]
-    for number in count(1):
-        got = tried("byte_unit_lines", number, input=LINES)
-        seen.append(len(got.stdout.splitlines()))
-        assert got.stdout == "".join(OUTPUT[: seen[-1]]) and seen[-1] >= seen[-2], number
-        assert ("\nout of memory\n" in "\n" + got.stderr) == (got.returncode == 1) == (got.returncode != 0), number
-        if got.returncode == 0:
-            break
-    assert seen[1] == 0 and len(set(seen[:-1])) > 2 and seen[-1] == len(OUTPUT)
-
-
-def copy_with_tests_of(module, root):
-    """Copies the crates, with the tests of one module of byte_unit_tests and of the modules that it uses."""
-    copy_to(root, "crates", "crates.txt")
-    kept, found = set(), {module}
-    while found:
-        kept |= found
-        texts = "".join(read(f"{TESTS}/{name}.rt") for name in found)
-        found = set(re.findall(r"^use super::(\w+)", texts, re.M)) - kept
-    for name in os.listdir(f"{root}/{TESTS}"):
-        if name.removesuffix(".rt") not in kept:
-            os.remove(f"{root}/{TESTS}/{name}")
-    names = re.sub(r"^mod (\w+);\n", lambda line: line[0] * (line[1] in kept), read(f"{TESTS}.rt"), flags=re.M)
-    write(f"{root}/{TESTS}.rt", names)
-    return root
+PROGRAMS = [*(("byte_unit_cli", *row) for row in CALLS), *(("byte_unit_lines", *row) for row in [
+    ("", MANY), ("bit", b"1.5 KiB\n\n1Kbi\nx\n1YB"), ("byte", b"1 KB\n2 KB\n" + b"1" * 1_000_000), ("x y", b"")])]
 
 
 def wrong_endings(root, last):
-    """Returns the tests of byte_unit_tests that end in a wrong way as one of the first allocations fails.
-
-    Those in refused.rt use the global allocator, and have to pass. Others may end with the error itself.
-    """
+    """Yields the tests of byte_unit_tests that end in a wrong way as one of the first allocations fails: those in
+    refused.rt, which use the global allocator, have to pass, and others may end with the error itself."""
+    how = {"cwd": f"{root}/crates/byte_unit_tests", "stderr": subprocess.PIPE}
     with ThreadPoolExecutor(LANES) as pool:
-        runs = list(pool.map(lambda number: tried("byte_unit_tests", number, "--test", root=root), range(1, last + 1)))
+        numbers = range(1, last + 1)
+        runs = list(pool.map(lambda at: call("rt", "try", "--test", "--fail-alloc", at, **how), numbers))
     names = [sorted(re.findall(r"^test (\S+) \.\.\. ", run.stdout, re.M)) for run in runs]
     for number, run in enumerate(runs, 1):
         assert "test tests::refused::" in run.stdout, run.stderr
@@ -90,7 +50,12 @@ def wrong_endings(root, last):
 
 def test_calls_without_allocator(tmp_path):
     """A test in refused.rt makes at most three allocations: in the fourth run none of them fails."""
-    assert not list(wrong_endings(copy_with_tests_of("refused", tmp_path), 4))
+    copy_to(tmp_path, "crates", "crates.txt")
+    others = re.findall(r"^mod (?!refused;|asserting;|shown;)(\w+);\n", read(f"{TESTS}.rt"), re.M)
+    for name in others:
+        os.remove(tmp_path / TESTS / f"{name}.rt")
+    write(tmp_path / f"{TESTS}.rt", re.sub(rf"^mod ({'|'.join(others)});\n", "", read(f"{TESTS}.rt"), flags=re.M))
+    assert not list(wrong_endings(tmp_path, 4))
 
 
 @pytest.mark.whole
@@ -118,15 +83,15 @@ def failing_call(program, shim, words, data, number, on):
 def is_out_of_memory(got, wanted, end):
     """Returns whether a call that is out of memory has written whole records and messages alone, and has said so."""
     *messages, last = got[2].splitlines(keepends=True) or [b""]
-    return (got[0] == 1 and last == b"byte-unit: out of memory\n" and wanted[1].startswith(got[1])
+    return (got[0] == 1 and last.removeprefix(b"byte-unit: ") == b"out of memory\n" and wanted[1].startswith(got[1])
             and (not got[1] or got[1].endswith(end)) and wanted[2].startswith(b"".join(messages)))
 
 
 @pytest.mark.parametrize("on", [False, True], ids=["alone", "and those after it"])
-@pytest.mark.parametrize("words, data", CALLS, ids=[words for words, _ in CALLS])
-def test_command(program, shim, words, data, on):
+@pytest.mark.parametrize("crate, words, data", PROGRAMS, ids=[f"{crate} {words}" for crate, words, _ in PROGRAMS])
+def test_program(program_of, shim, crate, words, data, on):
     """All is right, as it is if a smaller allocation is tried and once none fails; or the call is out of memory."""
-    end = b"\0" if "-z" in words else b"\n"
+    program, end = program_of(crate), b"\0" if "-z" in words else b"\n"
     wanted, _ = failing_call(program, shim, words, data, 0, False)
     with ThreadPoolExecutor(LANES) as pool:
         for start in count(1, 32):

@@ -4,40 +4,26 @@ import contextlib
 import hashlib
 import os
 import random
-import resource
 import subprocess
-from functools import partial
 from itertools import chain, repeat
 
 import pytest
-
-from byte_unit_dev.fixtures import ended, redirected
-from byte_unit_dev.model.lines import some_line
-from byte_unit_dev.needs import need
+from byte_unit_dev.fixtures import ended, need, redirected, some_line
 
 CRATE = "byte_unit_lines"
 # Lines that differ as bytes and as bits, and two that are not UTF-8.
 INPUT = b"1KiB\n\xff\n1\xff\n9 b\n"
-IN_BYTES = b"1024 = 1 KiB\nnot text\nnot text\n2 = 2 B\n"
-IN_BITS = b"8192 = 8 Kib\nnot text\nnot text\n9 = 9 b\n"
+IN_BYTES = (0, b"1024 = 1 KiB\nnot text\nnot text\n2 = 2 B\n", b"")
+IN_BITS = (0, b"8192 = 8 Kib\nnot text\nnot text\n9 = 9 b\n", b"")
 USAGE = (2, b"", b"usage: byte_unit_lines [byte|bit]\n")
-READ_FAILED, WRITE_FAILED, NO_MEMORY = b"read failed\n", b"write failed\n", b"out of memory\n"
+READ_FAILED, WRITE_FAILED = b"read failed\n", b"write failed\n"
 
 
-def limited(memory):
-    """Returns what limits the memory of a program that is about to start."""
-    return partial(resource.setrlimit, resource.RLIMIT_DATA, (memory, memory))
-
-
-@pytest.mark.parametrize("words, wanted", [([], IN_BYTES), (["byte"], IN_BYTES), (["bit"], IN_BITS)])
+@pytest.mark.parametrize("words, wanted", [
+    ([], IN_BYTES), (["byte"], IN_BYTES), (["bit"], IN_BITS), *((words, USAGE) for words in (
+        ["bits"], [""], ["--help"], ["bit", "bit"], ["byte", "bits"], [b"bit\xff"], ["bit", b"\xff"]))])
 def test_words(program, words, wanted):
-    assert ended(program, *words, input=INPUT) == (0, wanted, b"")
-
-
-@pytest.mark.parametrize("words", [
-    ["bits"], [""], ["--help"], ["bit", "bit"], ["byte", "bits"], [b"bit\xff"], ["bit", b"\xff"]])
-def test_wrong_words(program, words):
-    assert ended(program, *words, input=INPUT) == USAGE
+    assert ended(program, *words, input=INPUT) == wanted
 
 
 @pytest.mark.parametrize("words, how, wanted", [
@@ -66,20 +52,6 @@ def test_pipe_closed_after_the_first_line(start):
         written = child.stdout.readline()
         child.stdout.close()
         assert (written, child.stderr.read(), child.wait()) == (b"1000 = 1 KB\n", WRITE_FAILED, 1)
-
-
-def test_no_memory_for_the_arguments(program):
-    """With less and less memory: the usage while the arguments fit, and then out of memory at least once."""
-    words = ["x" * 100_000] * 10
-    endings = [ended(program, *words, preexec_fn=limited(limit), stdin=subprocess.DEVNULL)
-               for limit in range(4 << 20, 128 << 10, -(64 << 10))]
-    first = endings.index((1, b"", NO_MEMORY))
-    assert set(endings[:first]) == {USAGE}
-
-
-def test_no_memory_for_a_line(program):
-    wanted = (1, b"1000 = 1 KB\n2000 = 2 KB\n", NO_MEMORY)
-    assert ended(program, input=b"1 KB\n2 KB\n" + b"1" * (64 << 20), preexec_fn=limited(16 << 20)) == wanted
 
 
 @pytest.mark.parametrize("kind", ["byte", "bit"])

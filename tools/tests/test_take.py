@@ -7,8 +7,7 @@ from hashlib import sha256
 
 import pytest
 from byte_unit_dev import replace, take
-from byte_unit_dev.common import ROOT, call, output
-from byte_unit_dev.needs import need
+from byte_unit_dev.fixtures import ROOT, call, need, output
 from byte_unit_dev.source import library
 
 CRATES = library()

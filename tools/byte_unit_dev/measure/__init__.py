@@ -5,44 +5,26 @@
   command   the same of byte-unit, beside numfmt
   calls     a call from C, Rust, Python and SQLite, beside the Rust crate, humanfriendly, humanize and numfmt
   literals  `rt check` of functions in a caller's crate, each with a literal
-  gate      what .ci/run takes, or took if --log FILE has the output of `time .ci/run`
+  gate      what .ci/run takes
 
-Programs take turns on one processor; a figure is the minimum of the rounds. Inputs are made from the seed. The programs
-are in crates/NAME/out, where `rt run` builds them. For `literals` the library is built first, which takes some 20
-minutes if out/ has none. `tools/dev setup --compared` installs what is compared.
+Programs take turns on one processor; a figure is the minimum of the rounds. The programs are in crates/NAME/out, where
+`rt run` builds them. For `literals` the library is built first, which takes some 20 minutes if out/ has none, and for
+`calls` if --library gives no folder with it. `tools/dev setup --compared` installs what is compared.
 """
 
 import datetime
 import os
 import re
+from types import SimpleNamespace
 
-from ..common import Failure, output, path, read, write
+from ..common import Failure, output, path, read
+from ..common import write as write_file
 from ..render.pages import with_parts
-from . import calls, proofs, speed
+from . import calls, speed
 
-WHATS = {"program": speed.program, "command": speed.command, "calls": calls.calls, "literals": proofs.literals,
-         "gate": proofs.gate}
+WHATS = {"program": speed.program, "command": speed.command, "calls": calls.calls, "literals": speed.literals,
+         "gate": speed.gate}
 PAGE, OF_PAGE = "docs/SPEED.md", ["program", "command", "calls"]
-
-
-def arguments(parser):
-    parser.add_argument("what", nargs="+", choices=WHATS, metavar="WHAT", help=" ".join(WHATS))
-    parser.add_argument("--write", action="store_true", help=f"write the tables of {PAGE}: {', '.join(OF_PAGE)}")
-    parser.add_argument("--rounds", type=int, default=5, metavar="N")
-    parser.add_argument("--lines", type=int, default=1_000_000, metavar="N", help="the lines of an input")
-    parser.add_argument("--seed", type=int, default=1)
-    parser.add_argument("--before", metavar="PROGRAM", help="an earlier build of byte_unit_lines")
-    parser.add_argument("--original", metavar="DIR", help="the sources of the Rust crate byte-unit 5.2.6")
-    parser.add_argument("--library", metavar="DIR", help="a folder that tools/make-libraries has filled")
-    parser.add_argument("--log", metavar="FILE")
-
-
-def head_of(given):
-    """Returns the line about all tables: the machine, the day and the commit."""
-    commit = output("git", "log", "-1", "--format=%h", "--", "crates", "bindings", cwd=path()).strip()
-    found = re.search(r"^model name\s*: (.*)$", read("/proc/cpuinfo"), re.M)
-    return (f"Measured on {datetime.date.today()} on {os.cpu_count()} processors ({found[1] if found else 'unknown'}), "
-            f"of commit {commit}; minimum of {given.rounds} round{'s' * (given.rounds > 1)}.")
 
 
 def table(rows):
@@ -51,18 +33,22 @@ def table(rows):
     return "\n".join([lines[0], "|".join(["---"] * len(rows[0])), *lines[1:]])
 
 
-def run(given):
-    head, tables = head_of(given), {}
-    if given.write and head not in read(PAGE) and not set(OF_PAGE) <= set(given.what):
+def run(*what: WHATS, write=False, rounds=5, lines=1_000_000, seed=1, before=None, original=None, library=None):
+    given = SimpleNamespace(rounds=rounds, lines=lines, seed=seed, before=before, original=original, library=library)
+    commit = output("git", "log", "-1", "--format=%h", "--", "crates", "bindings", cwd=path()).strip()
+    model = re.search(r"^model name\s*: (.*)$|\Z", read("/proc/cpuinfo"), re.M)[1] or "unknown"
+    head = f"Measured on {datetime.date.today()} on {os.cpu_count()} processors ({model}), of commit {commit}; minimum "
+    head, tables = head + f"of {rounds} round{'s' * (rounds > 1)}.", {}
+    if write and head not in read(PAGE) and not set(OF_PAGE) <= set(what):
         raise Failure(f"{PAGE} has figures of another run: measure {' '.join(OF_PAGE)} together")
-    if given.write and output("git", "status", "--porcelain", "--", "crates", "bindings", cwd=path()):
+    if write and output("git", "status", "--porcelain", "--", "crates", "bindings", cwd=path()):
         raise Failure("crates/ or bindings/ have changes that no commit has")
     print(head)
-    for what in given.what:
-        for name, rows in WHATS[what](given).items():
-            print(f"\n{what} at load {os.getloadavg()[0]:.1f}:\n\n{table(rows)}", flush=True)
-            tables.update({name: table(rows)} if what in OF_PAGE else {})
-    if given.write:
+    for measured in what:
+        for name, rows in WHATS[measured](given).items():
+            print(f"\n{measured} at load {os.getloadavg()[0]:.1f}:\n\n{table(rows)}", flush=True)
+            tables.update({name: table(rows)} if measured in OF_PAGE else {})
+    if write:
         parts = {"measured": head, **tables}.items()
         places = ((f"<!-- {name} -->\n", "<!-- end -->", f"\n{text}\n\n") for name, text in parts)
-        write(PAGE, with_parts(PAGE, *places))
+        write_file(PAGE, with_parts(PAGE, *places))

@@ -1,7 +1,6 @@
-"""Calls from C, Rust, Python and SQLite, beside other libraries.
+"""Calls from C, Rust, Python and SQLite, beside other libraries: each program prints a line for each figure.
 
-Each program prints a line for each figure: its column and a colon, if that is not the program's, and its row. Rows that
-differ in what is after the last ` of ` are one, with a figure for each.
+It has the column and a colon, if that is not the program's, and the row. Rows that differ after ` of ` are one.
 """
 
 import os
@@ -11,7 +10,7 @@ import tempfile
 from .. import builds
 from ..common import output, path, read
 from ..needs import DEBIAN_PYTHON, PYTHON_PACKAGE, is_there
-from .speed import one_processor
+from .speed import ONE_PROCESSOR
 
 # The tables: the title of the first column, the other columns, and the form of a figure.
 TABLES = {
@@ -26,23 +25,23 @@ FIGURE = re.compile(r"^(?:(.*?): )?(.+?)(?: of (?!.* of )(.+?))? +([0-9]+(?:\.[0
 def by_c(name, library, work):
     made, archive = os.path.join(work, name), os.path.join(library, "libbyte_unit.a")
     output("cc", "-std=c11", "-O2", "-I", library, path("bindings/c/checks", f"{name}.c"), archive, "-o", made)
-    return lambda: output(made)
+    return lambda: output(*ONE_PROCESSOR, made)
 
 
 def by_rust(crate, library):
     made = builds.program("bindings/rust/checks/speed.rs", crate, library)
-    return lambda: output(made)
+    return lambda: output(*ONE_PROCESSOR, made)
 
 
 def by_python(library, work):
     env = builds.environment(BYTE_UNIT_LIBRARY_DIR=library, PYTHONPATH=f"{work}/python")
     words = ["setup.py", "-q", "build", "--build-base", f"{work}/build", "--build-lib", f"{work}/python"]
     output(DEBIAN_PYTHON, *words, cwd=path("bindings/python"), env=env)
-    return lambda: output(DEBIAN_PYTHON, path("bindings/python/checks/speed.py"), env=env)
+    return lambda: output(*ONE_PROCESSOR, DEBIAN_PYTHON, path("bindings/python/checks/speed.py"), env=env)
 
 
 def by_sqlite(library):
-    words = ["sqlite3", "-batch", "-cmd", f'.load "{library}/sqlite3/byte_unit"', ":memory:"]
+    words = [*ONE_PROCESSOR, "sqlite3", "-batch", "-cmd", f'.load "{library}/sqlite3/byte_unit"', ":memory:"]
     script = read("bindings/sqlite/checks/speed.sql")
 
     def figures():
@@ -85,12 +84,11 @@ def rows(title, columns, form, least):
 def calls(given):
     least = {}
     with tempfile.TemporaryDirectory() as work:
-        library = builds.library_of(given.library, work)
+        library = builds.library(given.library, work)
         print(f"libbyte_unit.a has {os.path.getsize(os.path.join(library, 'libbyte_unit.a')):,} bytes")
         made = list(programs(given, library, work))
-        with one_processor():
-            for name, run in made * given.rounds:
-                for column, row, item, figure in FIGURE.findall(run()):
-                    of = least.setdefault(column or name, {})
-                    of[row, item] = min(float(figure), of.get((row, item), float("inf")))
+        for name, run in made * given.rounds:
+            for column, row, item, figure in FIGURE.findall(run()):
+                of = least.setdefault(column or name, {})
+                of[row, item] = min(float(figure), of.get((row, item), float("inf")))
     return {name: rows(*parts, least) for name, parts in TABLES.items()}

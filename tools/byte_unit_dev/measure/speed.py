@@ -1,16 +1,19 @@
-"""The programs byte_unit_lines and byte-unit, on generated lines."""
+"""The programs byte_unit_lines and byte-unit, on generated lines; and the processor time of proofs."""
 
-import contextlib
 import os
 import random
 import re
+import shutil
 import subprocess
 import tempfile
+import time
 
 from .. import builds
-from ..common import Failure, call, has_program, path, spent
+from ..common import Failure, call, output, path, spent, write
+from ..source import copy_crates
 
 COUNTED, NUMFMT = 20_000, ["numfmt", "--from=auto"]
+ONE_PROCESSOR = ["taskset", "--cpu-list", str(max(os.sched_getaffinity(0)))]
 MULTIPLES = ["", *(letter + infix for letter in "KMGTPEZY" for infix in ("", "i"))]
 UNITS = [multiple + own for multiple in MULTIPLES for own in ("B", "bit")]
 LETTERS = MULTIPLES[: MULTIPLES.index("P")]  # `numfmt` prints only numbers below 10^18
@@ -84,22 +87,23 @@ COMMAND = [
 ]
 
 
-@contextlib.contextmanager
-def one_processor():
-    before = os.sched_getaffinity(0)
-    os.sched_setaffinity(0, {max(before)})
-    try:
-        yield
-    finally:
-        os.sched_setaffinity(0, before)
+# A crate of a caller, with functions that have a size, and their bodies.
+LITERALS = """//! Sizes.
+#![tactic(auto, unfolding(byte_unit::proofs::OnLiterals::byte_unit_on_literals))]
+
+ghost use Rattle.std.specs.Prelude.{◌≡◌};
+
+use byte_unit::Byte;
+"""
+FUNCTION = "\npub fn size_%d() -> Byte\n    ensures { result ≡ %d }\n{\n    %s\n}\n"
+BODIES = {"from_u64": "Byte::from_u64({0})", "parse_str": 'Byte::parse_str("{1} KiB", false).unwrap()',
+          "FromStr": '"{1} KiB".parse().unwrap()'}
 
 
 def user_time(command, file):
     """Returns the user time of a command with this input, in seconds."""
-    if not has_program(command[0]):
-        raise Failure(f"{command[0]} is missing: `rt run` in a folder of crates/ builds its program")
     with open(file, "rb") as lines:
-        return spent(*command, stdin=lines, stdout=subprocess.DEVNULL)[0]
+        return spent(*ONE_PROCESSOR, *command, stdin=lines, stdout=subprocess.DEVNULL)[0]
 
 
 def instructions(command, file):
@@ -115,8 +119,8 @@ def instructions(command, file):
 
 def measured(head, rows, given):
     """Returns a table of rows; each has a title, a maker of lines, and a command or None for each column."""
-    made = [[*head, "Instructions"] if has_program("valgrind") else head]
-    with one_processor(), tempfile.TemporaryDirectory() as folder:
+    made = [[*head, "Instructions"] if shutil.which("valgrind") else head]
+    with tempfile.TemporaryDirectory() as folder:
         file = os.path.join(folder, "lines")
         for title, line, commands in rows:
             write_lines(file, line, given.lines, given.seed)
@@ -145,3 +149,28 @@ def command(given):
     ours = path("crates/byte_unit_cli/out/byte_unit_cli")
     rows = [(title, line, [[ours, *words], [*NUMFMT, *its]]) for title, words, its, line in COMMAND]
     return {"command": measured(["Call", "`byte-unit`", "`numfmt`"], rows, given)}
+
+
+def literals(_, count=20):
+    with tempfile.TemporaryDirectory() as folder:
+        # A check begins with what checks of its name in other folders kept, so no other crate has this name.
+        crate = os.path.join(folder, "crates", f"literals_{os.getpid()}")
+        copy_crates(folder, ["byte_unit"], {os.path.basename(crate): ["byte_unit"]}, ["must-fail", "mutants.edits"])
+        output("rt", "lib", cwd=f"{folder}/crates/byte_unit")
+
+        def cost(body, count):
+            shutil.rmtree(crate, ignore_errors=True)
+            functions = [FUNCTION % (at, 1536 * at, body.format(1536 * at, 1.5 * at)) for at in range(3, count + 3)]
+            write(f"{crate}/src/lib.rt", LITERALS + "".join(functions))
+            return sum(spent("rt", "check", "--jobs", "1", cwd=crate))
+
+        none = min(cost("", 0), cost("", 0))
+        found = {f"{count} by `{name}`": cost(body, count) for name, body in BODIES.items()}
+    rows = [[what, f"{seconds:.1f}", f"{(seconds - none) / count:.2f}"] for what, seconds in found.items()]
+    return {"literals": [["Functions with a size", "Seconds", "Each"], ["none", f"{none:.1f}"], *rows]}
+
+
+def gate(_):
+    begin, used = time.monotonic(), sum(spent(path(".ci/run"), cwd=path()))
+    rows = [["elapsed", f"{(time.monotonic() - begin) / 60:.0f}"], ["of processors", f"{used / 60:.0f}"]]
+    return {"gate": [["`.ci/run`", "Minutes"], *rows]}

@@ -1,7 +1,7 @@
 """An exact model of how sizes are read and printed, and of the messages of errors, by integers of any length.
 
-Follows docs/DEFINITIONS.md and shares no code with the crates. The tests compare the built code with it. A kind is
-`byte` or `bit`.
+Follows docs/DEFINITIONS.md and shares no code with the crates. The tests compare the built code with it, on random
+lines too: numbers, valid and invalid units, white space, bytes that are not UTF-8. A kind is `byte` or `bit`.
 """
 
 import functools
@@ -20,13 +20,19 @@ BITS = {"b": 1, "B": 8, **{
     letter + infix + end: base**power * scale for power, letter in enumerate(LETTERS, 1)
     for end, scale in (("b", 1), ("B", 8)) for infix, base in (("", 1000), ("i", 1024))}}  # fmt: skip
 UNITS = list(BITS)
-# The characters with the Unicode property White_Space.
-WHITE_SPACE = (
-    "\t\n\v\f\r \x85\xa0\u1680" + "".join(map(chr, range(0x2000, 0x200B))) + "\u2028\u2029\u202f\u205f\u3000"
-)
+# The characters with the Unicode property White_Space: of Python's, all but four separators.
+WHITE_SPACE = "".join(c for c in map(chr, range(0x3001)) if c.isspace() and c not in "\x1c\x1d\x1e\x1f")
 NUMBER = re.compile(r"([0-9]*)(\.([0-9]*))?")
 SPELLING = re.compile(r"(?ai:([KMGTPEZYR])(i?))?(B|b|(?ai:bits?))?")
 SHORT_ESCAPES = {"\0": "\\0", "\t": "\\t", "\n": "\\n", "\r": "\\r", "'": "\\'", "\\": "\\\\"}
+# Parts of random lines.
+WORDS = ["", "B", "b", "bit", "bits", "BIT", "bItS", "bi", "bitx", "byte"]
+ODD = ["", " ", "\t", "x", "-1", "+1", ".5", "1.", "1 .5", "1,000", "1_000", "1e3", "\ufeff1",
+       "é", "1é", "1 Ké", "1😀"]  # fmt: skip
+# The parser takes eight digits at a time, nineteen fit 64 bits, and a fraction is split into two halves of fourteen.
+DIGITS = [1, 2, 3, 4, 6, 8, 9, 12, 15, 16, 18, 19, 20, 24, 27, 28, 29, 30, 34, 35]
+PLACES = [1, 1, 2, 2, 3, 6, 8, 12, 14, 15, 19, 20, 27, 28, 29]
+BROKEN = [b"\xff", b"1\xff", b"1\xc3", b"1\xed\xa0\x80", b"1\xc0\x80", b"1\x00", b"1KB\r", b"\r", b"1\x1c", b"1\x85"]
 getcontext().prec = 500  # each quotient below is exact
 
 # Why a text is not a size: what byte_unit_lines prints, and the message of the library.
@@ -126,3 +132,31 @@ def output_for(line, kind):
     """Returns the output of byte_unit_lines for a line, given as bytes without its line ending."""
     size = size_of(line, kind)
     return size.name if isinstance(size, Rejected) else f"{size} = {form(size, kind)}"
+
+
+def some_unit(rng, ends):
+    """Returns a spelling of a unit with one of these ends."""
+    letter = rng.choice(["", *LETTERS, *LETTERS.lower()])
+    return letter + (rng.choice(["", "", "i", "I"]) if letter else "") + rng.choice(ends)
+
+
+def some_line(rng):
+    """Returns a random line, as bytes without a line ending."""
+    make = rng.random()
+    if make < 0.05:
+        return rng.choice(BROKEN)
+    if make < 0.1:
+        return rng.choice(ODD).encode()
+    number = str(rng.randrange(10 ** rng.choice(DIGITS)))
+    if rng.random() < 0.5:
+        places = rng.choice(PLACES)
+        number += "." + "".join(rng.choices("0123456789", k=places))
+    if rng.random() < 0.03:
+        number = "0" * rng.randrange(40) + number
+    text = number + " " * rng.choice([0, 0, 1, 1, 1, 2, 9]) + some_unit(rng, WORDS)
+    if rng.random() < 0.05:
+        at = rng.randrange(len(text) + 1)
+        text = text[:at] + rng.choice("bikKx. \t0é\u3000\u212a") + text[at:]
+    if rng.random() < 0.03:
+        text = rng.choice([" ", "\u3000", "\u2028\v"]) + text + rng.choice([" ", "\u00a0", "\r", "\u200b"])
+    return text.encode()

@@ -1,16 +1,15 @@
 """Compares the library with the Rust crate byte-unit 5.2.6, and explains differences by rules of docs/DIFFERENCES.md.
 
-DIR has the sources of the crate: `src/lib.rs` and so on, or files whose names have `--` in place of `/` and end in
+FOLDER has the sources of the crate: `src/lib.rs` and so on, or files whose names have `--` in place of `/` and end in
 `.txt`, as `src--lib.rs.txt`. They are built offline, over crates that `tools/dev setup --compared` installs. The crate,
-the Rust package, which calls the C library, and an exact model take N random requests: texts and spellings of units to
+the Rust package, which calls the C library, and an exact model take random requests: texts and spellings of units to
 parse, sizes to format, numbers of units. Prints how many results each rule explains.
 
 The status is 1 if a result of the library is not that of the model, if no rule explains a difference, if one of 20,000
-results of the library with another digit is not found to be wrong, or if docs/DIFFERENCES.md lacks the words of a rule.
+results of the library with one more digit is not found to be wrong, or if docs/DIFFERENCES.md lacks the words of a rule.
 """
 
 import random
-import re
 import tempfile
 
 from .. import builds
@@ -19,13 +18,6 @@ from . import rules
 from .requests import requests
 
 PROGRAM, KINDS, CHANGED = "bindings/rust/checks/compare.rs", ("byte", "bit"), 20_000
-
-
-def arguments(parser):
-    parser.add_argument("--count", type=int, default=300_000, metavar="N")
-    parser.add_argument("--seed", type=int, default=1)
-    parser.add_argument("--library", metavar="LIBRARY", help="a folder that tools/make-libraries has filled")
-    parser.add_argument("original", metavar="DIR")
 
 
 def calls_of(words):
@@ -53,20 +45,9 @@ def calls_of(words):
         yield "formatted adjusted sizes", rules.adjusted, (size, kind, unit, spec)
 
 
-def by_program(program, lines):
-    """Returns the results of a program for each request."""
-    return [line.split("\t") for line in output(program, input="\n".join([*lines, ""]), stderr=None).split("\n")[:-1]]
-
-
-def changed(result, rng):
-    """Returns the result with another digit, or with one more if it has none."""
-    at = rng.choice([found.start() for found in re.finditer("[0-9]", result)] or [len(result)])
-    return result[:at] + str((int(result[at:][:1] or 0) + rng.randrange(1, 10)) % 10) + result[at + 1 :]
-
-
-def compared(lines, original, ours, seed):
+def compared(lines, original, ours):
     """Returns the number of results and the shortest example, by what was compared and the rule; and what is wrong."""
-    rng, found, findings, number = random.Random(seed), {}, [], 0
+    found, findings, number = {}, [], 0
     for line, theirs, mine in zip(lines, original, ours, strict=True):
         for (what, call, words), one, other in zip(calls_of(line.split()), theirs, mine, strict=True):
             example, number = f"{' '.join(map(str, words))}: {one}; {other}", number + 1
@@ -75,25 +56,25 @@ def compared(lines, original, ours, seed):
             found[what, rule] = count + 1, min(shortest, example, key=len)
             if wrong:
                 findings.append(f"{what}: {example!r}: {wrong}")
-            if number <= CHANGED and not rules.verdict(call, words, one, changed(other, rng))[1]:
-                findings.append(f"{what}: {example!r}: another digit is not found to be wrong")
+            if number <= CHANGED and not rules.verdict(call, words, one, f"{other}0")[1]:
+                findings.append(f"{what}: {example!r}: one more digit is not found to be wrong")
     return found, findings
 
 
-def run(given):
+def run(folder, *, count=300_000, seed=1, library=None):
     with tempfile.TemporaryDirectory() as work:
-        original = builds.original(given.original, work)
-        library = builds.library_of(given.library, work)
-        lines = list(requests(random.Random(given.seed), given.count))
-        theirs, ours = (by_program(builds.program(PROGRAM, *crate), lines)
-                        for crate in ([original], [builds.copied("rust", work), library]))
-    found, findings = compared(lines, theirs, ours, given.seed)
+        original, library = builds.original(folder, work), builds.library(library, work)
+        lines = list(requests(random.Random(seed), count))
+        programs = [builds.program(PROGRAM, *crate) for crate in ([original], [builds.copied("rust", work), library])]
+        printed = [output(program, input="\n".join([*lines, ""]), stderr=None) for program in programs]
+    theirs, ours = ([line.split("\t") for line in text.split("\n")[:-1]] for text in printed)
+    found, findings = compared(lines, theirs, ours)
     print("What was compared | What differs | Results | An example: the call, the crate; the library\n---|---|---|---")
     for (what, rule), (count, example) in sorted(found.items(), key=str):
         shown = f"{rules.RULES[rule][0]} | {count:,} | {ascii(example)[1:-1]}" if rule else f"nothing | {count:,}"
         print(f"{what} | {shown}")
     total, different = (sum(count for (_, rule), (count, _) in found.items() if rule or both) for both in (True, False))
-    print(f"\n{total:,} results of seed {given.seed}, of which {different:,} differ")
+    print(f"\n{total:,} results of seed {seed}, of which {different:,} differ")
     page = read("docs/DIFFERENCES.md")
     findings += [f"docs/DIFFERENCES.md does not say: {words}" for _, words in rules.RULES.values() if words not in page]
     return report(findings[:40], "each result of the library is that of the model, and a rule explains each other")

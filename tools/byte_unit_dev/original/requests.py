@@ -1,7 +1,6 @@
 """Random requests, in the form of bindings/rust/checks/compare.rs, many of them near a limit or a rounding."""
 
-from ..model.exact import BITS, LETTERS, UNITS
-from ..model.lines import some_line
+from ..model.exact import BITS, UNITS, some_line, some_unit
 
 LIMITS = [2**96, 2**112, 10**27, 10**28, 10**30, 2**64, 8 * 10**27, 2**93]
 PRECISIONS = [0, 1, 2, 3, 3, 3, 4, 6, 9, 12, 15, 16, 20, 25, 26, 27, 28, 29, 300]
@@ -36,15 +35,9 @@ def text_with_odd_character(rng):
 
 
 def some_text(rng):
-    choice = rng.random()
-    for limit, make in ((0.2, text_near_a_limit), (0.4, text_with_long_digits), (0.5, text_with_odd_character)):
-        if choice < limit:
-            return make(rng)
-    while True:
-        try:
-            return some_line(rng).decode()
-        except UnicodeDecodeError:
-            pass
+    ways = [text_near_a_limit, text_near_a_limit, text_with_long_digits, text_with_long_digits, text_with_odd_character]
+    make = rng.choice([*ways, *[None] * 5])
+    return make(rng) if make else some_line(rng).decode(errors="replace")
 
 
 def some_unit_text(rng):
@@ -53,8 +46,7 @@ def some_unit_text(rng):
         return text_with_odd_character(rng)
     text = "".join(rng.choices("KMGTPEZYRkmgtpezyriIbBitsTS xé", k=rng.randrange(6)))
     if rng.random() < 0.7:
-        text = rng.choice(["", *LETTERS, *LETTERS.lower()]) + rng.choice(["", "i", "I"])
-        text += rng.choice(["", "B", "b", "bit", "bits", "Bits", "BIT", "bi", "bt", "bitsx", "s"])
+        text = some_unit(rng, ["", "B", "b", "bit", "bits", "Bits", "BIT", "bi", "bt", "bitsx", "s"])
     return rng.choice(["", "", "", " ", "\u3000"]) + text + rng.choice(["", "", "", " ", "\t"])
 
 

@@ -1,8 +1,7 @@
 """The exact results of calls, and the rules of docs/DIFFERENCES.md that explain where the original's results differ.
 
 A call is a generator of the original's result, ours and the arguments. It yields the exact result, which ours has to
-be, and then each rule that could explain the original's result, and whether it does. A result `-` is none: the size or
-the unit is beyond the limits of the original.
+be, and then each rule that could explain the original's, and whether it does. A result `-` is beyond its limits.
 """
 
 import math
@@ -44,7 +43,6 @@ def verdict(call, given, theirs, ours):
 
 def unescaped(result):
     """Returns a result with the character that a message quotes as it is."""
-
     def character(found):
         code = re.fullmatch(r"\\u\{(0|[1-9a-f][0-9a-f]{0,4}|10[0-9a-f]{4})\}", found[1])
         return f"! the character '{chr(int(code[1], 16)) if code else ESCAPES.get(found[1], found[1])}' is "
@@ -102,10 +100,6 @@ def in_unit(theirs, ours, size, kind, either, precision):
         yield from of_best_unit(size, kind, number, their_unit, value, unit)
 
 
-def trimmed(text):
-    return text.rstrip("0").rstrip(".") if "." in text else text
-
-
 class Spec:
     """A format: flags as Rust writes them, after a colon, then a width and a precision."""
 
@@ -135,7 +129,8 @@ class Spec:
             scale = type(value)(10) ** min(self.precision, 16)
             whole = math.floor(value * scale)
             value = type(value)(whole + (value * scale - whole >= 0.5)) / scale
-        return trimmed(f"{Decimal(str(value)):f}")
+        text = f"{Decimal(str(value)):f}"
+        return text.rstrip("0").rstrip(".") if "." in text else text
 
 
 def formatted(theirs, ours, size, kind, spec):

@@ -8,31 +8,24 @@
     command   the commands of command/README.md print what is below them
     examples  the examples of the doc comments hold, and each public function of the library has a doc comment
 
-Prints each finding; the exit status is then 1. All but readme, command and examples take
-seconds. A check begins with a line `skipped: ` for each program that it runs and that is not built.
+Without WHAT, checks the first three, which take a second. Prints each finding; the exit status is then 1. A check
+begins with a line `skipped: ` for each program that it runs and that is not built.
 """
 
-from ..common import Failure, one_of, report
-from ..source import crates
-from . import commands, examples, text, version
+from ..common import Failure, reason, report
+from . import commands, examples, text
 
-QUICK = {"words": text.words, "names": text.names, "version": version.version}
-CHECKS = {**QUICK, "readme": commands.readme, "guide": commands.guide, "command": commands.command}
-
-
-def arguments(parser):
-    parser.add_argument("--crate", action="append", type=one_of(crates()), metavar="CRATE",
-                        help="a crate whose examples are run, by default all")
-    parser.add_argument("what", nargs="*", type=one_of([*CHECKS, "examples", "all"]), metavar="WHAT",
-                        help=f"by default {', '.join(QUICK)}; or all")
+CHECKS = {"words": text.words, "names": text.names, "version": text.version, "readme": commands.readme,
+          "guide": commands.guide, "command": commands.command, "examples": examples.examples}  # fmt: skip
+QUICK = ["words", "names", "version"]
 
 
-def run(given):
-    checks, status = {**CHECKS, "examples": lambda: examples.examples(given.crate)}, 0
-    for what in checks if "all" in given.what else given.what or ([*QUICK] if not given.crate else ["examples"]):
+def run(*what: CHECKS):
+    status = 0
+    for check in what or QUICK:
         try:
-            findings, fine = checks[what]()
-        except Failure as failure:
-            findings, fine = [str(failure)], ""
-        status |= report(findings, f"check-pages {what}: {fine}")
+            findings, fine = CHECKS[check]()
+        except (Failure, OSError) as failure:
+            findings, fine = [reason(failure)], ""
+        status |= report(findings, f"check-pages {check}: {fine}")
     return status

@@ -5,8 +5,8 @@ import re
 import subprocess
 import tempfile
 
-from ..common import ROOT, call, copy_to, output, path, read
-from .text import blocks, line_at
+from ..common import ROOT, call, copy_to, output, path, read, write
+from .text import blocks
 
 README, GUIDE, COMMAND = "README.md", "docs/GUIDE.md", "command/README.md"
 KINDS = ["sh", "text", "sh", "sh", "rust", "sh", "text", "rust", "sh", "text"]
@@ -42,22 +42,13 @@ def promise(page):
     return " ".join(line[2:] for line in section.splitlines() if line.startswith("> ")).split()
 
 
-def kit(page):
-    """Compares the toolchain's logic with that on the page: the letter of the kit may be another elsewhere."""
-    named = re.search(r"`rt version` prints `\S+ logic (\w+)`", page)
-    if named and f" logic {named[1]}\n" in output("rt", "version"):
-        return []
-    return [f"{README}:{line_at(page, named.start() if named else 0)}: rt version prints {output('rt', 'version')}"]
-
-
 def first_program(take, program, start, printed, folder):
     """Takes the library as the page says, and runs the first program. Returns what is wrong."""
     here, there, where = os.path.join(folder, "here"), os.path.join(folder, "sizes"), f"{README}:{take.line}"
     made = shell(take.text, here)
     if made.returncode:
         return [f"{where}: status {made.returncode}\n{made.stdout}{made.stderr}"]
-    with open(os.path.join(there, "crates/quota/src/main.rt"), "w", encoding="utf-8") as file:
-        file.write(program.text)
+    write(os.path.join(there, "crates/quota/src/main.rt"), program.text)
     wrong = differs(README, start, printed, there)
     given = shell(start.text[start.text.index("printf"):start.text.index("|")], there).stdout
     for name, text in {"src/main.rt": program.text, "stdin": given, "stdout": printed.text}.items():
@@ -76,7 +67,9 @@ def readme():
     if kinds != KINDS:
         return [f"{README}: its blocks are {' '.join(kinds)}, not {' '.join(KINDS)}"], ""
     program, printed, gate, take, first, start, first_printed, literal, built, built_printed = found
-    wrong = kit(page)
+    wrong, logic = [], re.search(r" logic (\w+)\n", output("rt", "version"))[1]
+    if not re.search(rf"`rt version` prints `\S+ logic {logic}`", page):  # the letter of the kit may be another
+        wrong.append(f"{README}: the logic of rt version is {logic}")
     if not promise(README) or promise(README) != promise("docs/PROVED.md"):
         wrong.append(f"{README}: the promise is not that of docs/PROVED.md")
     wrong += [f"{README}:{literal.line}: {LITERAL} has not\n{part}" for part in literal.text.split("\n\n")

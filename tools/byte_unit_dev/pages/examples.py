@@ -1,12 +1,11 @@
 """The examples of the doc comments, which are run as tests by `rt try --test` on copies of the crates.
 
 A block ```rust becomes the body of a test with `rt`, `alloc` and `?`, and a `use` line for each name in it that the
-root of its crate or of `byte_unit` exports. What is in it up to the last type with `#[derive(..)]` is put before the
-test, in a module, since no function may hold such a type. The tests are a crate, which uses all crates of the library.
-`rt try` proves nothing, and stops at only some of the calls that break a `requires`.
+root of its crate or of `byte_unit` exports. Each is a module of a crate that uses all crates of the library, named
+after its file and line; what is in it up to the last type with `#[derive(..)]` is put before the test, since no
+function may hold such a type. `rt try` proves nothing, and stops at only some of the calls that break a `requires`.
 """
 
-import os
 import re
 import subprocess
 import tempfile
@@ -16,12 +15,9 @@ from ..common import call, write
 from ..source import Source, below, copy_crates, crates, files, library, public_names
 from .text import blocks, line_at
 
-# The generated crate, and its module.
-EXAMPLES = "doc_examples"
-# The part of an example that is put before its test.
 ITEMS = re.compile(r"\A.*^#\[derive\(.*?^}\n", re.M | re.S)
 PUBLIC = re.compile(r"^[ \t]*pub (?:const )?(?:unsafe )?fn (\w+)", re.M)
-# An example, by its file and the line at which its block begins; and its test.
+# An example, by its file and the line at which its block begins; and the module with its test.
 Example = namedtuple("Example", "file line text crate test")
 
 
@@ -63,66 +59,47 @@ def imports_of(example):
     made = []
     for crate in dict.fromkeys([example.crate, "byte_unit"]):
         found = sorted(used & set().union(*public_names(crate)))
-        made += [f"    use {crate}::{name};" for name in found]
+        made += [f"use {crate}::{name};" for name in found]
         used -= set(found)
     return made
 
 
-def module_of(examples):
-    """Returns the text of a module of tests, and the file and line that each of its lines comes from."""
-    made, places = [], []
-    for example in examples:
-        lines = list(enumerate(example.text.splitlines(), 1))
-        items = ITEMS.match(example.text)
-        split, end = items[0].count("\n") if items else 0, len(lines) + 1
-        test = ["#[test]", "fn example(rt: HostRuntime) -> anyhow::Result<()> {"]
-        if re.search(r"\balloc\b", example.text):
-            test.append("    let alloc = rt.alloc();")
-        head = ["", f"mod {example.test} {{", *imports_of(example)]
-        rows = [*((0, line) for line in head), *lines[:split], *((split, line) for line in test), *lines[split:],
-                *((end, line) for line in ("    Ok(())", "}", "}"))]
-        made += [line for _, line in rows]
-        places += [f"{example.file}:{example.line + number}" for number, _ in rows]
-    return "\n".join(made) + "\n", places
-
-
-def set_up(top, examples):
-    """Copies the crates that the examples need, and adds that of the tests. Returns where its lines come from."""
-    copied = below([*library(), *(example.crate for example in examples)])
-    used = sorted({"anyhow", *copied, *(name for crate in copied for name in crates()[crate])})
-    copy_crates(top, copied, {EXAMPLES: used}, ["out", "must-fail", "mutants.edits"])
-    text, places = module_of(examples)
-    source = os.path.join(top, "crates", EXAMPLES, "src")
-    write(f"{source}/lib.rt", f"//! The examples.\n#![tactic(auto)]\n\n#[cfg(test)]\nmod {EXAMPLES};\n")
-    write(f"{source}/{EXAMPLES}.rt", text)
-    return places
+def test_of(example):
+    """Returns a module with an example as a test."""
+    items = ITEMS.match(example.text)
+    before, test = example.text[: items.end()] if items else "", example.text[items.end() if items else 0 :]
+    alloc = ["    let alloc = rt.alloc();"] * bool(re.search(r"\balloc\b", test))
+    lines = [f"    {line}".rstrip() for line in test.splitlines()]
+    head = [*imports_of(example), before, "#[test]", "fn holds(rt: HostRuntime) -> anyhow::Result<()> {"]
+    return "\n".join([*head, *alloc, *lines, "    Ok(())", "}", ""])
 
 
 def failures(examples):
-    """Runs the examples. Returns a line for each failure."""
+    """Runs the examples in a copy of the crates that they need. Returns a line for each failure."""
     with tempfile.TemporaryDirectory() as top:
-        places = set_up(top, examples)
-        got = call("rt", "try", "--test", cwd=os.path.join(top, "crates", EXAMPLES), stdin=subprocess.DEVNULL,
-                   stderr=subprocess.PIPE)
-
-    def place_of(found):
-        return places[int(found[1]) - 1] if int(found[1]) <= len(places) else found[0]
-
-    told = re.sub(rf"(?:[\w./-]*/)?src/{EXAMPLES}\.rt:(\d+)(?::\d+)?", place_of, got.stdout + got.stderr)
-    ends = dict(re.findall(rf"^test {EXAMPLES}::(\w+)::example \.\.\. (\w+)$", told, re.M))
+        copied = below([*library(), *(example.crate for example in examples)])
+        used = sorted({"anyhow", *copied, *(name for crate in copied for name in crates()[crate])})
+        copy_crates(top, copied, {"doc_examples": used}, ["out", "must-fail", "mutants.edits"])
+        modules = "".join(f"\n#[cfg(test)]\nmod {example.test};\n" for example in examples)
+        write(f"{top}/crates/doc_examples/src/lib.rt", f"//! The examples.\n#![tactic(auto)]\n{modules}")
+        for example in examples:
+            write(f"{top}/crates/doc_examples/src/{example.test}.rt", test_of(example))
+        got = call("rt", "try", "--test", cwd=f"{top}/crates/doc_examples", stdin=subprocess.DEVNULL,
+                   stderr=subprocess.PIPE)  # fmt: skip
+    ends = dict(re.findall(r"^test (\w+)::holds \.\.\. (\w+)$", got.stdout, re.M))
     if not ends:
-        return [told.strip() or "rt try --test printed nothing"]
+        return [f"status {got.returncode} of rt try --test\n{got.stdout}{got.stderr}".rstrip()]
     wrong = []
     for example in examples:
         if ends.get(example.test) != "ok":
-            why = re.search(rf"^test {EXAMPLES}::{example.test}::example \.\.\. \w+\n((?:    .*\n)*)", told, re.M)
+            why = re.search(rf"^test {example.test}::holds \.\.\. \w+\n((?:    .*\n)*)", got.stdout, re.M)
             wrong.append(f"{example.file}:{example.line}: the example fails\n{why[1] if why else ''}".rstrip())
-    return wrong or [told.strip()] * (got.returncode != 0)
+    return wrong or [got.stdout + got.stderr] * (got.returncode != 0)
 
 
-def examples(chosen):
+def examples():
     found, wrong = [], []
-    for crate in chosen or crates():
+    for crate in crates():
         for source in map(Source, files(f"crates/{crate}/src", ".rt")):
             more, faults = examples_of(source)
             found += more

@@ -1,12 +1,13 @@
-"""The pages as texts: their blocks, their words and links, and the names in them."""
+"""The pages as texts: their blocks, their words and links, the names in them, and the places that say the version."""
 
 import fnmatch
 import functools
 import os
 import re
 from collections import namedtuple
+from pathlib import Path
 
-from ..common import files, path, read
+from ..common import Failure, files, path, read
 
 PAGE = re.compile(r"(docs/.*|(.*/)?README|[^/]*)\.md")
 TOTAL = 28_000
@@ -23,6 +24,24 @@ rattle_env_at lseek getcwd isatty SHORTER_PROOFS.md mul_8 div_8 rocket schemars 
 crates/quota/src/main.rt crates/byte_unit_cli/out/byte_unit_cli /usr/local/lib
 crates/byte_unit_lines/out/byte_unit_lines lib/sqlite3/byte_unit.so
 """.split())
+C_HEADER, C_EXAMPLE = "bindings/c/byte_unit.h", "bindings/c/examples/example.c"
+DEFINITION, RATTLE = "crates/byte_unit_c/specs/Version.antt", "crates/byte_unit_c/src/version.rt"
+# Each place that says the version: a file, and a text with `{..}` for what has to be there, once.
+VERSIONS = [
+    *((C_HEADER, f"#define BYTE_UNIT_VERSION{end}\n") for end in (
+        '_STRING "{version}"', " {number}", "_MAJOR {major}", "_MINOR {minor}", "_PATCH {patch}")),
+    (DEFINITION, "-- the version {version}: "),
+    (DEFINITION, "\nversion = {number}\n"),
+    (RATTLE, "the version of the library, {version}, as the number {number:,}.\n"),
+    (RATTLE, "\n    {number:_}\n"),
+    ("crates/byte_unit_command/src/arguments.rt", '.version("{version}")'),
+    ("bindings/c/byte_unit.3", "which is {number} for {version}.\n"),
+    ("bindings/c/README.md", "`libbyte_unit.so.{major}`"),
+    (C_EXAMPLE, '"version {version}"'),
+    (C_EXAMPLE, "BYTE_UNIT_VERSION == {number})"),
+    ("bindings/rust/Cargo.toml", '\nversion = "5.2.6"\n'),
+    ("bindings/rust/Cargo.toml", '\nlibrary-version = "{version}"\n'),
+]
 NAME = re.compile(r"[A-Za-z_]\w*(?:(?:::|\.)\w+)*(?:\(.*\))?!?")
 PATH = re.compile(r"\.{0,2}/?[\w.*\-]+(?:/[\w.*\-]+)+/?")
 LINK = re.compile(r"\]\(([^()\s]*)[^()]*\)|^\[[^\]]+\]: *(\S+)", re.M)
@@ -100,8 +119,7 @@ def known_words():
     for name in files():
         known.update(re.findall(r"\w+", name))
         if not name.endswith((".md", "byte_unit_dev/pages/text.py")):
-            with open(path(name), encoding="utf-8", errors="replace") as file:
-                known.update(re.findall(r"\w+", file.read()))
+            known.update(re.findall(r"\w+", Path(path(name)).read_text(encoding="utf-8", errors="replace")))
     return known
 
 
@@ -118,11 +136,12 @@ def missing(page, known, ends):
     for found in re.finditer(r"`([^`\n]+)`", text):
         name, line = found[1].split(" ")[0], line_at(text, found.start())
         if PATH.fullmatch(name):
-            if name not in OTHERS and not leads_somewhere(name, page, ends):
-                yield f"{page}:{line}: {name}"
-        elif NAME.fullmatch(found[1]) and not set(re.findall(r"\w+", found[1].split("(")[0])) <= known:
-            if found[1] not in OTHERS:
-                yield f"{page}:{line}: {found[1]}"
+            is_known = leads_somewhere(name, page, ends)
+        else:
+            name, is_known = found[1], set(re.findall(r"\w+", found[1].split("(")[0])) <= known
+            is_known |= not NAME.fullmatch(name)
+        if name not in OTHERS and not is_known:
+            yield f"{page}:{line}: {name}"
 
 
 def names():
@@ -130,3 +149,22 @@ def names():
     read_here = [page for page in pages() if page != "CHANGELOG.md"]
     found = [line for page in read_here for line in missing(page, known, ends)]
     return found, f"each name in {len(read_here)} pages is in the tree"
+
+
+def version():
+    said = read("VERSION")
+    if not re.fullmatch(r"\d+\.\d+\.\d+\n", said):
+        raise Failure(f"VERSION: {said!r} is no line such as 1.2.3")
+    parts = [int(part) for part in said.split(".")]
+    number = (parts[0] * 1000 + parts[1]) * 1000 + parts[2]
+    values = {"version": said.strip(), "number": number, **dict(zip(["major", "minor", "patch"], parts))}
+    wrong = []
+    for name, place in VERSIONS:
+        form = r"[\d.,_]*\d".join(map(re.escape, re.split(r"\{.*?\}", place)))
+        found, wanted = re.findall(form, read(name)), place.format(**values)
+        if found != [wanted]:
+            wrong.append(f"{name}: {' and '.join(map(repr, found)) or 'nothing'}, not {wanted!r}")
+    newest = re.search(r"^## \[(.*?)\]", read("CHANGELOG.md"), re.M)
+    if not newest or newest[1] != values["version"]:
+        wrong.append(f"CHANGELOG.md: the newest section is not that of {values['version']}")
+    return wrong, f"{len(VERSIONS) + 1} places say {values['version']}"

@@ -16,18 +16,14 @@ Without WHAT, renders all, in this order. In a page, what is rendered follows th
 import os
 from itertools import zip_longest
 
-from ..common import Failure, one_of, path, read, report, write
-from . import bindings, bits, calling, definitions, pages, vectors
+from ..common import Failure, path, read, reason, report, write
+from . import bindings, bits, contracts, pages, vectors
 
 # Each yields the name and the text of each file that it renders, or no text for one that has to go, and may end by a
 # failure for what else is wrong.
-PARTS = {"bits": bits.made, "bindings": bindings.made, "calling": calling.made, "definitions": definitions.made,
-         "laws": pages.laws, "guide": pages.guide, "tools": pages.tools, "vectors": vectors.made}
-
-
-def arguments(parser):
-    parser.add_argument("--check", action="store_true", help="write nothing, and fail if a file differs")
-    parser.add_argument("what", nargs="*", type=one_of(PARTS), metavar="WHAT")
+PARTS = {"bits": bits.made, "bindings": bindings.made, "calling": contracts.calling,
+         "definitions": contracts.definitions, "laws": pages.laws, "guide": pages.guide, "tools": pages.tools,
+         "vectors": vectors.made}  # fmt: skip
 
 
 def wrong(part, check):
@@ -47,11 +43,10 @@ def wrong(part, check):
                 write(name, text) if text else os.remove(path(name))
             else:
                 yield f"{name}:1: nothing renders this file, and its first line does not say that it is rendered"
-    except Failure as failure:
-        yield str(failure)
+    except (Failure, OSError) as failure:
+        yield reason(failure)
 
 
-def run(given):
-    parts = [part for part in PARTS if part in given.what or not given.what]
-    return report([line for part in parts for line in wrong(part, given.check)],
-                  f"as rendered: {', '.join(parts)}")
+def run(*what: PARTS, check=False):
+    parts = [part for part in PARTS if part in what or not what]
+    return report([line for part in parts for line in wrong(part, check)], f"as rendered: {', '.join(parts)}")

@@ -18,14 +18,9 @@ def prefixes():
     return {letter: units.split() for letter, units in rows}
 
 
-def in_lines(form, indent, end):
-    """Returns the units in a form, those of a prefix in a line; `end` follows the last."""
-    rows = [["Bit", "B"], *prefixes().values()]
-    return ",\n".join(indent + ", ".join(map(form, row)) for row in rows) + end
-
-
-def name_of(unit):
-    return unit.lower()[0] if unit == "Bit" else unit.replace("bit", "b")
+def in_lines(form):
+    """Returns the units in a form, those of a prefix in a line."""
+    return ",\n".join("    " + ", ".join(map(form, row)) for row in [["Bit", "B"], *prefixes().values()])
 
 
 def expected():
@@ -52,14 +47,13 @@ def constants():
 
 
 def made():
-    codes = in_lines(lambda unit: f"BYTE_UNIT_{unit.upper()}", "    ", "")
+    codes, units = in_lines(lambda unit: f"BYTE_UNIT_{unit.upper()}"), in_lines(lambda unit: f"Unit::{unit}")
+    names = in_lines(lambda unit: '"%s"' % unit.replace("Bit", "b").replace("bit", "b"))
     yield HEADER, with_parts(HEADER, (r"The codes of the units\. \*/\nenum \{\n", r"\n\};", codes))
     yield f"{RUST}/unit.rs", with_parts(
-        f"{RUST}/unit.rs",
-        (r"^pub enum Unit \{\n", r"\n\}", in_lines(str, "    ", ",")),
-        (r"^pub\(crate\) const UNITS: ", r"\n\];",
-         f"[Unit; {2 + 4 * len(prefixes())}] = [\n" + in_lines(lambda unit: f"Unit::{unit}", "    ", ",")),
-        (r"^const NAMES: .*?\[\n", r"\n\];", in_lines(lambda unit: f'"{name_of(unit)}"', "    ", ",")))
+        f"{RUST}/unit.rs", (r"^pub enum Unit \{\n", r",\n\}", in_lines(str)),
+        (r"^const NAMES: .*?\[\n", r",\n\];", names),
+        (r"^pub\(crate\) const UNITS: ", r",\n\];", f"[Unit; {2 + 4 * len(prefixes())}] = [\n{units}"))
     yield f"{RUST}/constants.rs", with_parts(
         f"{RUST}/constants.rs", (r"constants! \{ @units \$Size \$kind,\n", r"\n        \}", ",\n".join(constants())))
     arms = "".join(f"        {pattern(row)} => &[{', '.join(map(repr, row))}],\n" for row in expected())

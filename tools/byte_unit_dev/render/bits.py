@@ -4,12 +4,14 @@ import functools
 import os
 import re
 import tomllib
+from pathlib import Path
 
 from ..common import Failure, files, read
 from ..source import catalogue
 
 CRATE = "byte_unit_bit"
 SOURCE, TARGET, MOST_COLUMNS = "crates/byte_unit_byte", f"crates/{CRATE}", 120
+HEAD = "{} Rendered from {}. Do not edit.\n".format
 # The differences beside words: the file says what it has.
 ROWS = f"{SOURCE}/bits.toml"
 SERDE = re.compile(r"crates/byte_unit_serde/(?:src|proofs)/(byte|optional_byte|byte_vec)[/.].*")
@@ -47,10 +49,6 @@ WORDS_OF_CONSTANTS = {**WORDS_OF_COMMENTS, **both_ways({f"{prefix}B": f"{prefix}
 WORDS_OF_NAMES = {**WORDS, **both_ways({f"{name}byte".lower(): f"{name}bit".lower() for name in PREFIXES.values()})}
 
 
-def head(mark, source):
-    return f"{mark} Rendered from {source}. Do not edit.\n"
-
-
 def named(name):
     """Returns the name of the file or mutant that is rendered from this one."""
     return "".join(WORDS_OF_NAMES.get(part, part) for part in re.split(r"([/.])", name))
@@ -80,11 +78,8 @@ def in_bits(name, text, is_whole=True):
 
 
 def constants(text):
-    """Replaces the numbers of the constants that are named after units of bits, by those of units of bytes.
-
-    In bytes 1 Kbit is 1000 / 8, and in bits 1 KB is 1000 * 8, so the number is 64 times as large. The constants that
-    are named after units of bytes have the numbers of those that are named after units of bits in the other crate.
-    """
+    """Replaces the numbers of the constants that are named after units of bits, by those of units of bytes: in bytes
+    1 Kbit is 1000 / 8, and in bits 1 KB is 1000 * 8, so the number is 64 times as large."""
     def row(found):
         value = found[3]
         number = 64 * int(re.search(r"\d[\d_]*", value)[0])
@@ -103,11 +98,9 @@ def constants(text):
 
 def crate(name):
     """Returns the sources of a crate by their names, and its mutants by their titles, those of must-fail/ first."""
-    texts = {found.removeprefix(f"{name}/"): read(found) for found in files() if found.startswith(f"{name}/")}
-    mutants = {os.path.basename(found)[:-len(".edit")]: texts.pop(found) for found in [*texts]
-               if re.fullmatch(r"must-fail/[^/]*\.edit", found)}
-    for other in ("mutants.edits", os.path.basename(ROWS)):
-        texts.pop(other, None)
+    texts = {found.removeprefix(f"{name}/"): read(found) for found in files() if found.startswith(f"{name}/")
+             and not found.endswith(("/mutants.edits", ROWS))}  # fmt: skip
+    mutants = {Path(found).stem: texts.pop(found) for found in [*texts] if re.match(r"must-fail/[^/]*\.edit$", found)}
     more = catalogue(os.path.basename(name))
     wrong = [found for found in texts if not found.endswith(".rt")] + [title for title in mutants if title in more]
     if wrong:
@@ -116,8 +109,7 @@ def crate(name):
 
 
 def mutants():
-    """Returns the mutants of byte_unit_bit by their titles: those of byte_unit_byte, of must-fail/ too, but for those
-    that turn `ignore_case`."""
+    """Returns the mutants of byte_unit_bit by their titles: those of byte_unit_byte, but for those of `without`."""
     found = {}
     for title, text in crate(SOURCE)[1].items():
         edited = re.match(r"file: (\S+)\n", text)
@@ -130,26 +122,20 @@ def mutants():
 
 
 def misfits(name, texts, mutants):
-    """Yields a line for each mutant of a crate that cannot be applied. Reads it as `rt must-fail` does."""
+    """Yields a line for each mutant of a crate that cannot be applied."""
     for title, text in mutants.items():
-        edited = old = None
-        for key, value in re.findall(r"^(file|old|new): ?(.*)$", text, re.M):
-            if key == "file":
-                edited = texts.get(value.strip())
-            elif key == "old":
-                old = value
-            elif edited is None or not old or edited.count(old) != 1:
+        edited = texts.get(text.partition("\n")[0].removeprefix("file: "), "")
+        for old, new in re.findall(r"^old: (.*)\nnew: ?(.*)$", text, re.M) or [(text, "")]:
+            if edited.count(old) != 1:
                 yield f"{name}: the mutant {title} cannot be applied, for this is not in its file exactly once: {old}"
-                break
-            else:
-                edited, old = edited.replace(old, value), None
+            edited = edited.replace(old, new)
 
 
 def made():
     """Each file of src/; modules of byte_unit_serde and their proofs. A mutant of either crate that cannot be applied,
     because its old text is not in its file exactly once, is a failure."""
     texts, edits = crate(SOURCE)
-    made_texts = {named(name): head("//", f"{SOURCE}/{name}") + in_bits(
+    made_texts = {named(name): HEAD("//", f"{SOURCE}/{name}") + in_bits(
         name, constants(text) if name == CONSTANTS else text) for name, text in texts.items()}
     without = differences()["without"]
     made_edits = mutants()
@@ -162,7 +148,7 @@ def made():
     for found in filter(None, map(SERDE.fullmatch, files())):
         name, mark = found[0], "//" if found[0].endswith(".rt") else "--"
         target = name[:found.start(1)] + WORDS[found[1]] + name[found.end(1):]
-        yield target, head(mark, name) + in_bits(name, read(name))
+        yield target, HEAD(mark, name) + in_bits(name, read(name))
     wrong = [f"{TARGET}/{name}:{number}: more than {MOST_COLUMNS} columns: {line}" for name, text in made_texts.items()
              for number, line in enumerate(text.splitlines(), 1) if len(line) > MOST_COLUMNS]
     wrong += [*misfits(SOURCE, texts, edits), *misfits(TARGET, made_texts, made_edits)]

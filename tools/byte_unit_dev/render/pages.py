@@ -3,12 +3,11 @@
 import re
 
 from .. import tests, verbs
-from ..common import Failure, files, read
+from ..common import Failure, files, read, reason
 from ..source import line_of, source
 
 LAWS, BITS = re.compile(r"crates/(\w+)/src/laws(?:/\w+)?\.rt"), "byte_unit_bit"
-BLOCK = re.compile(r"(?ms)^(?P<head>(?:<!-- from (?P<file>[^\s:]+)(?:: (?P<parts>[^\n]+))? -->\n)?"
-                   r"```(?P<language>\w+)\n)(?P<code>.*?)^```$")
+BLOCK = re.compile(r"(?ms)^((?:<!-- from ([^\s:]+)(?:: ([^\n]+))? -->\n)?```(\w+)\n)(.*?)^```$")
 PART = re.compile(r"^ +([a-z-]+) {2,}\S", re.M)
 
 
@@ -36,9 +35,8 @@ def statement(comment):
 
 
 def laws(page="docs/PROVED.md"):
-    """The public functions in `laws` of each crate but that of bits, with the first sentence of each comment.
-
-    The first law of a file has the file in its row. What a file says after its first paragraph is below the table."""
+    """The public functions in `laws` of each crate but that of bits, with the first sentence of each comment; below
+    the table, what a file says after its first paragraph."""
     rows, notes = ["Law | Statement | File, also of the rows below", "---|---|---"], []
     for found in filter(None, map(LAWS.fullmatch, files())):
         file, link = source(found[0]), f"[{found[0].removeprefix('crates/')}](../{found[0]})"
@@ -47,15 +45,6 @@ def laws(page="docs/PROVED.md"):
         rows += [f"{stated[0]} | {link}", *stated[1:]] if stated else []
         notes += [f"- {link}: {line_of(note)}" for note in file.comment().split("\n\n")[1:] if stated]
     yield page, with_parts(page, section("Laws", "\n".join(["<!-- laws: rendered -->", "", *rows, "", *notes])))
-
-
-def code_of(block):
-    """Returns what a block has to be, by its comment."""
-    if not block["file"] and block["language"] == "rust":
-        raise Failure("no comment names the source of this block")
-    if block["parts"]:
-        return "\n".join(source(block["file"]).part(words.strip()) for words in block["parts"].split(","))
-    return read(block["file"]) if block["file"] else block["code"]
 
 
 def guide(page="docs/GUIDE.md"):
@@ -72,10 +61,16 @@ def guide(page="docs/GUIDE.md"):
     text = read(page)
 
     def with_code(block):
+        head, file, parts, language, code = block.groups()
         try:
-            return f"{block['head']}{code_of(block)}```"
-        except Failure as failure:
-            raise Failure(f"{page}:{1 + text.count(chr(10), 0, block.start())}: {failure}") from None
+            if not file and language == "rust":
+                raise Failure("no comment names the source of this block")
+            if parts:
+                code = "\n".join(source(file).part(words.strip()) for words in parts.split(","))
+            return f"{head}{read(file) if file and not parts else code}```"
+        except (Failure, OSError) as failure:
+            line = 1 + text.count("\n", 0, block.start())
+            raise Failure(f"{page}:{line}: {reason(failure)}") from None
 
     yield page, BLOCK.sub(with_code, text)
 

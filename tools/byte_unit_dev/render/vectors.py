@@ -1,16 +1,103 @@
-"""The rows of the test vectors, from tables of tests: vectors/tables.txt has the tables and the forms of the rows."""
+"""The rows of the test vectors, from tables of tests: vectors/tables.txt has the tables and the forms of the rows.
+
+Evaluates constants and arrays of the tests in Rattle: literals, arithmetic, other constants, the macros of specs. A
+number is an int, a string or a character a str, and a path, or a call of it, a Name.
+"""
 
 import re
 import string
 
 from ..common import Failure, read
-from .literals import Name, Verbatim, arrays, constant
+from ..source import source
 from .pages import with_parts
 
 FILE, TABLES = "vectors/byte-unit.txt", "vectors/tables.txt"
 UNITS = {"Unit::Bit": "b", "Unit::B": "B", **{
     f"Unit::{letter}{name}": letter + text for letter in "KMGTPEZYR"
     for name, text in [("bit", "b"), ("ibit", "ib"), ("B", "B"), ("iB", "iB")]}}
+TOKEN = re.compile(
+    r"""\s+|//[^\n]*|&
+    |"(?P<text>(?:\\.|[^"\\])*)"|'(?P<character>\\u\{\w+\}|\\.|[^'\\])'
+    |(?P<number>\d[\d_]*)(?:[ui]\d+|[ui]size)?
+    |(?P<path>[A-Za-z_]\w*(?:::[A-Za-z_]\w*)*!?)
+    |(?P<sign><<|[\[\](),*+-])|(?P<brace>[{}])
+    |(?P<other>.)""",
+    re.X | re.S,
+)
+ESCAPES = {"n": "\n", "t": "\t", "r": "\r", "0": "\0"}
+FLAGS = {"Left": "<", "Center": "^", "Right": ">", "Unset": "", "Plus": "+", "Minus": "-"}
+
+
+class Verbatim(str):
+    """What a row has as it is, such as a format string of the Rust crate: `{:>+#10.2}`."""
+
+
+class Name(str):
+    """A path, such as `Unit::KB`, with its last segment. That of a call, such as `Some(1)`, has arguments."""
+
+    def __init__(self, path):
+        self.last, self.arguments = path.rpartition("::")[2], ()
+
+    def __call__(self, *arguments):
+        call = Name(self)
+        call.arguments = arguments
+        return call
+
+
+def spec(alternate, sign, precision, width, align):
+    """Returns the format string of the arguments of `spec!`."""
+    flags = "".join(FLAGS[flag.last] for flag in (*align.arguments, sign)) + "#" * alternate
+    flags += "".join(map(str, width.arguments)) + "".join(f".{places}" for places in precision.arguments)
+    return Verbatim("{:%s}" % flags if flags else "{}")
+
+
+def places(alternate):
+    return lambda count: spec(alternate, Name("Unset"), Name("Some")(count), Name("None"), Name("None"))
+
+
+KNOWN = {"u128::MAX": 2**128 - 1, "u64::MAX": 2**64 - 1, "true": True, "false": False, "TEN": list("BKMGTPEZYR"),
+         "FormatSpec::PLAIN": Verbatim("{}"), "FormatSpec::ALTERNATE": Verbatim("{:#}"),
+         "spec!": spec, "places!": places(False), "precise!": places(True), "rows!": lambda *rows: list(rows)}
+
+
+def evaluated(file, start, end, local):
+    """Evaluates the expression between two places of a file, as one of Python, which has its operators and precedence:
+    literals, brackets, operators and calls of `value`. Any other token is a failure."""
+    def value(path):
+        is_constant = path not in local and re.search(rf"^(?:pub )?const {path}:", file.code, re.M)
+        return constant(file.name, path) if is_constant else {**KNOWN, **local}.get(path, Name(path))
+
+    def python(token):
+        kind, text = token.lastgroup, token[token.lastgroup or 0]
+        if kind == "other":
+            raise file.wrong(start + token.start(), f"no literal: {text}")
+        if kind in ("text", "character"):
+            return repr(re.sub(r"\\u\{(\w+)\}|\\(.)", lambda escape: chr(int(escape[1], 16)) if escape[1] else
+                               ESCAPES.get(escape[2], escape[2]), text, flags=re.S))
+        if kind == "number":
+            return text.replace("_", "").lstrip("0") or "0"
+        return {None: " ", "path": f"value({text!r})", "brace": "(" if text == "{" else ")"}.get(kind, text)
+
+    return eval(f"({TOKEN.sub(python, file.text[start:end])})", {"__builtins__": {}, "value": value})
+
+
+def constant(name, constant_name):
+    """Evaluates a constant of a file."""
+    file = source(name)
+    _, start, end = file.item(f"const {constant_name}")
+    return evaluated(file, file.code.index("=", start) + 1, end - 1, {})
+
+
+def arrays(name, function):
+    """Evaluates the arrays of tuples or of strings in the body of a function, in their order."""
+    file = source(name)
+    _, start, end = file.item(f"fn {function}")
+    local = {let: int(n) for let, n in re.findall(r"\blet (\w+) = (\d[\d_]*);", file.code[start:end])}
+    found = []
+    while begins := re.compile(r"(?:\[|\brows! \{)\s*[(\"]").search(file.plain, start, end):
+        start = file.closing(begins.start())
+        found.append(evaluated(file, begins.start(), start, local))
+    return found
 
 
 def quoted(text):
@@ -25,10 +112,6 @@ def quoted(text):
 def decimal(whole, fraction):
     """Returns a number, whose fraction is scaled by 10^28, as decimal digits."""
     return Verbatim(f"{whole}.{fraction:028}".rstrip("0").rstrip("."))
-
-
-def scaled(mantissa, scale):
-    return decimal(mantissa // 10**scale, mantissa % 10**scale * 10 ** (28 - scale))
 
 
 def shown(value):
@@ -52,11 +135,16 @@ class Form(string.Formatter):
         pair = re.fullmatch(r"(\d+)([./])(\d+)", name)
         if not pair:
             return super().get_field(name, arguments, more)
-        return {".": decimal, "/": scaled}[pair[2]](arguments[int(pair[1])], arguments[int(pair[3])]), name
+        whole, fraction = arguments[int(pair[1])], arguments[int(pair[3])]
+        if pair[2] == "/":  # a mantissa and a scale
+            whole, fraction = whole // 10**fraction, whole % 10**fraction * 10 ** (28 - fraction)
+        return decimal(whole, fraction), name
 
     def format_field(self, value, how):
         if "|" in how:
             return how.split("|")[not value]
+        if how.startswith("after "):
+            return quoted(how.removeprefix("after ") + value)
         return {"lower": lambda: value.last.lower(), "bare": lambda: value, "json": lambda: quoted(f'"{value}"'),
                 "": lambda: shown(value)}[how]()
 
@@ -70,21 +158,11 @@ def long_texts(table):
                 "parse byte cased {0} = {1}", "parse bit cased {0} = {2}")  # fmt: skip
 
 
-def strange(table):
-    return rows([(before + text, c) for c, text in table for before in ("", "1.")],
-                "parse byte cased {} = NotNumber {}", "parse bit cased {} = NotNumber {}")  # fmt: skip
-
-
 def strange_in_a_unit(table, strange):
     errors = [(front + c, Name("Unit")(c, expected, or_end)) for front, expected, or_end in table for c, _ in strange]
     numbers = ("1", "1.5", "1.0000000000000000000000000001", "1 ")
     return rows([(number + text, error) for number in numbers for text, error in errors],
                 "parse byte cased {} = {}", "parse bit cased {} = {}") + rows(errors, "unit cased bytes {} = {}")
-
-
-def unit_errors(table):
-    ways = [f"{case} {kind}" for case in ("cased", "uncased") for kind in ("bits", "bytes")]
-    return [row for way in ways for row in rows(table, f"unit {way} {{}} = {{}}")]
 
 
 def widest(table):
@@ -93,8 +171,7 @@ def widest(table):
         "text {0:lower} {1} " + "in {2} " * bool(unit.arguments) + "{3} = {4}")]
 
 
-BY = {"long_texts": long_texts, "strange": strange, "strange_in_a_unit": strange_in_a_unit, "unit_errors": unit_errors,
-      "widest": widest}
+BY = {"long_texts": long_texts, "strange_in_a_unit": strange_in_a_unit, "widest": widest}
 
 
 def rows_of(file, table, forms):

@@ -1,32 +1,33 @@
-"""The contracts of what `byte_unit` exports, and the parts of CALLING.md that show them."""
+"""The contracts that `byte_unit` exports, and the definitions that they use, in CALLING.md and docs/DEFINITIONS.md."""
 
 import functools
 import re
+from itertools import chain
 
 from ..common import Failure, read
-from ..source import WORD, crates, exports, line_of, resolved, sources, specs
+from ..source import EXAMPLES, WORD, closure, crates, exports, library, line_of, resolved, sources, specs
 from .bits import WORDS
 from .pages import section, with_parts
 
-PAGE, FACADE = "CALLING.md", "byte_unit"
+FACADE = "byte_unit"
 PROOF = "crates/byte_unit_uses/proofs/message/parse_argument/Answers.antt"
 # The order of the types; what is not here comes after them, in the order in which the crate exports it.
 FIRST = ["Byte", "AdjustedByte", "Bit", "AdjustedBit", "Unit", "UnitType", "FormatSpec", "Align", "Sign"]
 SMALL, BELOW = FIRST[5:], ["Kind", "Family", "Decimal", "Expansion", "Steps", "Ties"]
+# The types whose contracts docs/DEFINITIONS.md begins with, and fields that follow from others.
+SAID, FOLLOWS = ["Byte", "AdjustedByte", "Unit"], ["computed"]
 MIRRORED = {"Byte": "Bit", "AdjustedByte": "AdjustedBit"}
 # Members of a trait that prove its rules and say nothing of a result.
 PROOFS = {"laws", "total", "matches_partial_cmp", "matches_eq", "coded", "inverse", "inverse_ok"}
 
 
 class Entry:
-    """What a page says of an item: its first line, its clauses, and the definitions that these cite in the file that it
-    is from, as crate, module and name; but for `hidden`, clauses of a type's private fields, which no caller sees."""
+    """What a page says of an item: its first line and those of its clauses; and the definitions that these cite, but
+    for `hidden`, clauses of a type's private fields, which no caller sees."""
 
     def __init__(self, line, clauses, file, hidden=()):
-        self.line, self.clauses = line, list(clauses)
-        self.lines = (line, *("  " + clause for clause in self.clauses))
-        seen = " ".join(clause for clause in self.clauses if clause not in hidden)
-        self.cited = set(resolved(WORD.findall(seen), file.imports))
+        self.line, self.lines = line, (line, *(f"  {clause}" for clause in clauses))
+        self.cited = {*resolved(WORD.findall(" ".join({*clauses} - {*hidden})), file.imports)}
 
 
 def declaration(file, name):
@@ -59,32 +60,21 @@ def type_entries(name, file):
                     hidden = [] if shown else [members[key] for key in ("view", "invariant") if key in members]
                     first = Entry(line, [*derives, *members.values()], part, hidden)
                 elif members:
-                    traits.append(Entry(header, with_styled(members).values(), part))
+                    traits.append(Entry(header, members.values(), part))
     return [first, *calls, *traits]
-
-
-def with_styled(members):
-    """Returns the members with one `output, styled_output` if the second is the first under every spec."""
-    output, styled = (members.get(key, "").partition(" = ")[2] for key in ("output", "styled_output"))
-    parts = re.fullmatch(r"\{ λ (\w+) \w+\. (.*) \}", styled)
-    if not parts or output not in (f"{{ λ {parts[1]}. {parts[2]} }}", f"{{ {parts[2].removesuffix(' ' + parts[1])} }}"):
-        return members
-    others = {key: text for key, text in members.items() if key not in ("output", "styled_output")}
-    return {"output": f"ghost output, styled_output = {output}", **others}
 
 
 @functools.lru_cache(maxsize=None)
 def items():
     """Returns the entries of each type that the crate exports, those of its functions, and those of its laws."""
     def functions(found):
-        starts = [(name, file, re.search(rf"^pub fn {name}\b", file.code, re.M)) for name, file in found.items()]
+        starts = ((name, file, re.search(rf"^pub fn {name}\b", file.code, re.M)) for name, file in found.items())
         return {name: Entry(*file.function(start.start()), file) for name, file, start in starts if start}
 
     found, types, seen = exports(FACADE), {}, set()
-    for name in [name for name in FIRST if name in found] + [name for name in found if name not in FIRST]:
-        if name[0].isupper():
-            types[name] = [entry for entry in type_entries(name, found[name]) if entry.lines not in seen]
-            seen.update(entry.lines for entry in types[name])
+    for name in dict.fromkeys([*FIRST, *filter(lambda name: name[0].isupper(), found)]):
+        types[name] = [entry for entry in type_entries(name, found[name]) if entry.lines not in seen]
+        seen.update(entry.lines for entry in types[name])
     return types, functions(found), functions(exports(FACADE, "laws"))
 
 
@@ -126,9 +116,9 @@ def joined(entries):
 def shown_types():
     """Returns the entries that the page has, by heading: the small types, and the errors, are one heading each."""
     types, functions, _ = items()
-    headings = {f"`{name}`": types[name] for name in types if name in FIRST and name not in SMALL}
-    headings["Specs and types of units"] = [entry for name in SMALL for entry in types[name]]
-    headings["Errors"] = [entry for name in types if name not in FIRST + BELOW for entry in types[name]]
+    headings = {f"`{name}`": types[name] for name in FIRST[:5]}
+    headings["Specs and types of units"] = [*chain(*(types[name] for name in SMALL))]
+    headings["Errors"] = [*chain(*(types[name] for name in types if name not in FIRST + BELOW))]
     headings["`Unit`"] = headings["`Unit`"] + [functions["unit_to_json"], functions["unit_from_json"]]
     return headings
 
@@ -147,7 +137,7 @@ def cited_by(entries):
 
 def words():
     """Returns a link to each file of definitions that the page's contracts cite, with the words that they use."""
-    cited, found = cited_by(entry for entries in shown_types().values() for entry in entries), []
+    cited, found = cited_by(chain(*shown_types().values())), []
     for module, spec in ((module, spec) for crate in crates() for module, spec in specs(crate).items()):
         names = [f"`{name}`" for name in spec.definitions if (spec.crate, module, name) in cited]
         found += [f"[{module}](docs/DEFINITIONS.md#{module.lower()}): {', '.join(names)}"] * bool(names)
@@ -163,9 +153,9 @@ def preconditions():
     """Returns a list of the calls with a `requires`: those of `Byte`, which `Bit` has too, and the others."""
     types, functions, laws = items()
     shared, others = {}, {}
-    for entry in [*(entry for found in types.values() for entry in found), *functions.values(), *laws.values()]:
+    for entry in [*chain(*types.values()), *functions.values(), *laws.values()]:
         found = re.match(r"fn ((?:(\w+)::)?(\w+))", entry.line)
-        if found and any(clause.startswith("requires") for clause in entry.clauses):
+        if found and any(line.startswith("  requires") for line in entry.lines):
             is_shared = found[2] in ("Byte", "Bit")
             (shared if is_shared else others)[found[3] if is_shared else found[1]] = entry
     return (f"{listed(shared)} of `Byte` and `Bit`, and {listed(others)}, have a `requires`, proved at each call. "
@@ -175,18 +165,127 @@ def preconditions():
 def below():
     """Returns a list of the items that the page leaves out, by file."""
     _, functions, laws = items()
-    shown = {entry.line for entries in shown_types().values() for entry in entries}
+    shown = {entry.line for entry in chain(*shown_types().values())}
     homes, rows = {**exports(FACADE), **exports(FACADE, "laws")}, {}
     for name in [*BELOW, *(name for name, entry in functions.items() if entry.line not in shown), *laws]:
         rows.setdefault(homes[name].name, []).append(f"`{name}`")
     return "\n".join(f"- [{path.removeprefix('crates/')}]({path}): {', '.join(names)}" for path, names in rows.items())
 
 
-def made():
+def calling(page="CALLING.md"):
     """The row of calls that have a `requires`; the proof PROOF; the definitions that contracts on the page use; the
-    contracts of the types but BELOW, to the letter but for line breaks, of traits what implementations say, calls of a
-    type with the same clauses once, those of bits that are those of bytes counted; the names of what is left out."""
-    yield PAGE, with_parts(
-        PAGE, (r"^\| preconditions \| ", r" \|$", preconditions()), (r"^```antt\n", r"^```$", read(PROOF)),
+    contracts of the types but BELOW, those of bits that are those of bytes counted; the names of what is left out."""
+    yield page, with_parts(
+        page, (r"^\| preconditions \| ", r" \|$", preconditions()), (r"^```antt\n", r"^```$", read(PROOF)),
         section("Words of the contracts", words()), section("Contracts", contracts()),
         section("Laws, and calls below the types", below()))
+
+
+@functools.lru_cache(maxsize=None)
+def groups():
+    """Returns the definitions that contracts of SAID cite, those to read, and those that laws and FOLLOWS add."""
+    types, functions, laws = items()
+    calls = cited_by([*chain(*types.values()), *functions.values()])
+    reached = closure(calls, FOLLOWS)
+    added = closure(calls | cited_by(laws.values())) - reached
+    return cited_by(chain(*(types[name] for name in SAID))) & reached, reached, added
+
+
+def link(spec):
+    return f"[{spec.module}](../{spec.name})"
+
+
+def said(spec, name=None):
+    """Returns the first sentence of a file, without the mark of a private one, or the comment of a definition."""
+    head = re.split(r"(?<=\.)\s+(?=[A-Z`0-9])", spec.head.removeprefix("Private: "))[0]
+    words = spec.definitions[name].comment if name else head
+    if not words:
+        raise Failure(f"{spec.name}: {name or 'the file'} has no comment")
+    return words
+
+
+def bullets(found):
+    return "\n".join(f"- {link(spec)}: {said(spec)}" for spec in found)
+
+
+def names_in(spec, places):
+    """Returns the names of the definitions of a file that are among these."""
+    return [name for name in spec.definitions if (spec.crate, spec.module, name) in places]
+
+
+def files_of(crates, places):
+    return [spec for crate in crates for spec in specs(crate).values() if names_in(spec, places)]
+
+
+def to_read():
+    quoted, reached, _ = groups()
+    parts = []
+    for spec in files_of(library(), reached):
+        parts += [f"### `{spec.crate}`"] * (f"### `{spec.crate}`" not in parts)
+        names = [name for name in names_in(spec, quoted) if name[0].isupper()]
+        parts += [f"#### {link(spec)}", said(spec)]
+        parts += ["\n".join(f"- `{name}`: {said(spec, name)}" for name in names)] * bool(names)
+    return "\n\n".join(parts)
+
+
+def private():
+    """Returns a list of what is private: whole files, and definitions in files to read."""
+    _, reached, added = groups()
+    used = (reached | added).union(*public_elsewhere().values())
+    lines = []
+    for crate in library():
+        whole, some = [], []
+        for spec in specs(crate).values():
+            names = [name for name in spec.definitions if name not in names_in(spec, used)]
+            if len(names) == len(spec.definitions):
+                whole.append(link(spec))
+            elif names and names_in(spec, reached):
+                some.append(f"{listed(names)} in {spec.module}")
+        lines += [f"- `{crate}`: " + "; ".join([", ".join(whole)] * bool(whole) + some)] * bool(whole + some)
+    return "\n".join(lines)
+
+
+@functools.lru_cache(maxsize=None)
+def public_elsewhere():
+    """Returns the definitions that public contracts and traits lead to, by crate but those of the library."""
+    return {crate: public_of(crate) for crate in crates()
+            if crate not in library() and not EXAMPLES.fullmatch(crate) and specs(crate)}  # fmt: skip
+
+
+def public_of(crate):
+    found = set()
+    for file in sources(crate):
+        clauses = []
+        for match in re.finditer(r'\bpub (?:extern "C" )?fn \w+', file.plain):
+            clauses += file.function(match.start())[1]
+        for header, start, end in file.impls():
+            clauses += list(file.ghosts(start, end).values()) if " for " in header else []
+        found |= set(resolved(WORD.findall(" ".join(clauses)), file.imports))
+    return closure(found)
+
+
+def others():
+    _, reached, added = groups()
+    parts, public = [], set().union(*public_elsewhere().values())
+    for crate, own in public_elsewhere().items():
+        shown = [spec for spec in files_of([crate], public) if not spec.head.startswith("Private:")]
+        below = ", ".join(map(link, files_of(library(), own - reached - added)))
+        hidden = ", ".join(link(spec) + f" (but for {listed(names)})" * bool(names) for spec in specs(crate).values()
+                           if spec not in shown for names in [names_in(spec, public)])
+        lines = [bullets(shown), below and f"- Also of the library: {below}", hidden and f"- Private: {hidden}"]
+        parts += [f"### `{crate}`", "\n".join(filter(None, lines))]
+    return "\n\n".join(parts)
+
+
+def definitions(page="docs/DEFINITIONS.md"):
+    """The files that the contracts of what `byte_unit` exports lead to, with the properties (their names begin with a
+    capital) that contracts of SAID cite; those that only laws and FOLLOWS lead to; those, and definitions in files to
+    read, that no public contract leads to; those of other crates. A definition leads to those that it uses."""
+    _, reached, added = groups()
+    of_laws = [spec for spec in files_of(library(), added) if not names_in(spec, reached)]
+    yield page, with_parts(page, section("To read", to_read()), section("Laws", bullets(of_laws)),
+                           section("Private", private()), section("Other crates", others()))
+    wrong = [f"{spec.name}:1: says that it is private, but a public contract leads to it"
+             for spec in files_of(library(), reached | added) if spec.head.startswith("Private:")]
+    if wrong:
+        raise Failure("\n".join(wrong))
