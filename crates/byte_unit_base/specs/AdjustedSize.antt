@@ -17,8 +17,8 @@ abbrev pub size_answer : Result AdjustedSize ParseError → Result ℕ ParseErro
 size_answer (Ok adjusted) = Ok adjusted.size
 size_answer (Err error) = Err error
 
--- the result of parsing an adjusted size: the size is that of the ordinary parser, and the unit is the largest that is
--- not above it, binary or decimal
+-- the result of parsing an adjusted size: the size of the ordinary parser, and the largest unit, binary or decimal, not
+-- above it
 pub record IsAdjustedReading (kind : Kind) (bytes : List ℕ) (result : Result AdjustedSize ParseError) : Type 0 where
   pub size : IsSizeReading kind false bytes (size_answer result)
   pub unit : IfOk result (λ adjusted. IsAppropriate kind Both adjusted.size adjusted.unit)

@@ -69,7 +69,7 @@ pub record IsBinaryReading
   -- the same as an equation, which a proof can compute for a literal; it follows from the others
   pub computed : result_map_both (λ n. n) size_fault result ≡ parsed_binary_size kind ignore_case bytes
 
--- as `IsBytesReading`, if decimal prefixes mean binary ones
+-- as `IsBytesReading`, by the binary reading
 abbrev pub IsBinaryBytesReading : Kind → Bool → List ℕ → Option (Result ℕ ParseError) → Type 0
 IsBinaryBytesReading kind ignore_case bytes result =
     MatchOption result (IsNotUtf8 bytes) (λ answer. IsUtf8 bytes × IsBinaryReading kind ignore_case bytes answer)

@@ -111,7 +111,7 @@ abbrev pub IsAppropriateIn : Version → Kind → UnitType → ℕ → Shape →
 IsAppropriateIn version kind unit_type size =
     IsLargestOrOwn kind (IsEligibleUnitIn version (own_family kind) unit_type (size * bits_in kind))
 
--- The largest unit of the kind and of the type that is not above the size, among the units of the current version, or
--- the base unit of the kind if there is none.
+-- The largest unit of the kind and type, not above the size, of the current version, or the base unit of the kind if
+-- there is none.
 abbrev pub IsAppropriate : Kind → UnitType → ℕ → UnitName → Type 0
 IsAppropriate kind unit_type size unit = IsAppropriateIn current kind unit_type size (shape_of unit)

@@ -20,8 +20,8 @@ abbrev pub string_answer :
 string_answer errors (Ok value) = Ok value
 string_answer errors (Err error) = Err (errors.of_text error)
 
--- a JSON string has the result of parsing its text; any other value, which has no text (`None`), gives the error of a
--- value that is not a string
+-- a JSON string has the result of parsing its text; any other value (`None`) gives the error of a value that is not a
+-- string
 abbrev pub ReadsString :
     {A TextError JsonError : Type 0} → JsonErrors TextError JsonError → (List ℕ → Result A TextError → Type 0)
     → Option (List ℕ) → Result A JsonError → Type 0

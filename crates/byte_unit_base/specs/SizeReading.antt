@@ -9,9 +9,8 @@ use Rattle.byte_unit_base.specs.declared.kind.Kind.{Kind}
 use Rattle.byte_unit_base.specs.Accepted.{IsAccepted, Exceeds, IsRejected}
 use Rattle.byte_unit_base.specs.Parsed.{parsed_size}
 
--- the result is the size that the input is accepted as, the error of a size that is too large (with its number, scaled
--- by 10^28), or the error of an input that is not in the grammar. What is returned is right, and what is right is
--- returned
+-- the result is exactly the size that the input is accepted as, or the error of a size that is too large (with its
+-- number, scaled by 10^28), or of an input that is not in the grammar
 pub record IsSizeReading
     (kind : Kind) (ignore_case : Bool) (bytes : List ℕ) (result : Result ℕ ParseError) : Type 0 where
   pub found : IfOk result (IsAccepted kind ignore_case bytes)

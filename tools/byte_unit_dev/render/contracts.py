@@ -60,8 +60,18 @@ def type_entries(name, file):
                     hidden = [] if shown else [members[key] for key in ("view", "invariant") if key in members]
                     first = Entry(line, [*derives, *members.values()], part, hidden)
                 elif members:
-                    traits.append(Entry(header, members.values(), part))
+                    traits.append(Entry(header, with_styled(members).values(), part))
     return [first, *calls, *traits]
+
+
+def with_styled(members):
+    """Returns the members with one `output, styled_output` if the second is the first under every spec."""
+    output, styled = (members.get(key, "").partition(" = ")[2] for key in ("output", "styled_output"))
+    parts = re.fullmatch(r"\{ λ (\w+) \w+\. (.*) \}", styled)
+    if not parts or output not in (f"{{ λ {parts[1]}. {parts[2]} }}", f"{{ {parts[2].removesuffix(' ' + parts[1])} }}"):
+        return members
+    others = {key: text for key, text in members.items() if key not in ("output", "styled_output")}
+    return {"output": f"ghost output, styled_output = {output}", **others}
 
 
 @functools.lru_cache(maxsize=None)
