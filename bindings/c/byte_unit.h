@@ -8,7 +8,7 @@
  *
  * - A pointer is valid for its type and its length: `text` for reading `len` bytes, `out` for writing `out_len` bytes,
  *   arrays for their number of elements. With a length of 0 it may be NULL, as an empty std::string_view, Go slice or
- *   Arrow buffer has it. `error` may be NULL. `size`, `unit` and `count`, as pointers, may not.
+ *   Arrow buffer has it. `error` may be NULL. `size`, `unit`, `position` and `count`, as pointers, may not.
  * - What is written overlaps no other argument of the call, and no other thread uses it during the call. No other
  *   thread writes what is read.
  *
@@ -18,7 +18,8 @@
  *
  * Callers by a foreign function interface: a `static inline` call is no symbol of the library. The symbol is the name
  * with `_to` added, and takes the length of each array after its pointer: byte_unit_parse_to(text, len, flags, size,
- * error, error_len), where error_len is 1, or 0 for no error.
+ * error, error_len), where error_len is 1, or 0 for no error. With BYTE_UNIT_BINARY_PREFIXES byte_unit_parse calls
+ * byte_unit_parse_binary_to.
  */
 #ifndef BYTE_UNIT_H
 #define BYTE_UNIT_H
@@ -146,6 +147,8 @@ uint32_t byte_unit_version(void);
 /* The symbols of the inline calls below. */
 uint32_t byte_unit_parse_to(const char *text, size_t len, uint32_t flags, byte_unit_number *size,
                             byte_unit_error *error, size_t error_len);
+uint32_t byte_unit_parse_binary_to(const char *text, size_t len, uint32_t flags, byte_unit_number *size,
+                                   byte_unit_error *error, size_t error_len);
 uint32_t byte_unit_parse_unit_to(const char *text, size_t len, uint32_t flags, uint32_t *unit, byte_unit_error *error,
                                  size_t error_len);
 uint32_t byte_unit_parse_many_to(const char *data, size_t data_len, const int64_t *offsets, size_t offsets_len,
@@ -162,7 +165,9 @@ uint32_t byte_unit_parse_many_32_to(const char *data, size_t data_len, const int
 static inline uint32_t byte_unit_parse(const char *text, size_t len, uint32_t flags, byte_unit_number *size,
                                        byte_unit_error *error)
 {
-    return byte_unit_parse_to(text, len, flags, size, error, error ? 1 : 0);
+    return flags & BYTE_UNIT_BINARY_PREFIXES
+               ? byte_unit_parse_binary_to(text, len, flags, size, error, error ? 1 : 0)
+               : byte_unit_parse_to(text, len, flags, size, error, error ? 1 : 0);
 }
 
 /* Parses a unit by its name or another of its spellings: `KiB`, `kib`, `K`, ` MBits `, and the empty string for B.
@@ -195,6 +200,15 @@ static inline uint32_t byte_unit_parse_many_32(const char *data, size_t data_len
     return byte_unit_parse_many_32_to(data, data_len, offsets, offsets ? count + 1 : 0, flags, sizes, count,
                                       codes, count);
 }
+
+/* Writes to `position` the index, from 0, of the first byte of a string that byte_unit_parse rejects which no size can
+ * have there: of its first wrong character, or of its end, before white space there, if it ends too early. The index is
+ * the same with all flags. Returns false and writes nothing if the string is a size, if only its size is 10^30 or more,
+ * or if the bytes are not UTF-8. */
+bool byte_unit_error_position(const char *text, size_t len, size_t *position);
+
+/* The same for a string that byte_unit_parse_unit rejects. */
+bool byte_unit_unit_error_position(const char *text, size_t len, size_t *position);
 
 /* The calls that write a text return its length, also if it is greater than `out_len`; then they write nothing. They
  * write no terminating zero, and leave the bytes after the text as they are. */

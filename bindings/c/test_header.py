@@ -55,15 +55,19 @@ def in_c(name, kind):
 
 
 def calls_in_c(declared):
-    """Yields the call of a function in C, and the inline call of one whose name ends in `_to`."""
+    """Yields the call of a function in C, and the inline call of one whose name ends in `_to`, but in `_binary_to`: that
+    of byte_unit_parse_to calls this other one with the flag for it."""
     name, given, result = re.fullmatch(r"fn (\w+)\((.*)\) -> (\w+)", declared).groups()
     pairs = re.findall(r"(\w+): ([^,]+)", given)
     yield f"{TYPES[result]} {name}({', '.join(in_c(*pair) for pair in pairs) or 'void'});"
-    if name.endswith("_to"):
+    if name.endswith("_to") and not name.endswith("_binary_to"):
         own = ["size_t count" if pair[0] == "offsets_len" else in_c(*pair) for pair in pairs
                if pair[0] not in PASSED or pair[0] == "offsets_len"]
         words = ", ".join(PASSED.get(parameter, parameter) for parameter, _ in pairs)
-        yield f"static inline {TYPES[result]} {name[:-3]}({', '.join(own)}) {{ return {name}({words}); }}"
+        called = f"{name}({words})"
+        if name == "byte_unit_parse_to":
+            called = f"flags & BYTE_UNIT_BINARY_PREFIXES ? byte_unit_parse_binary_to({words}) : {called}"
+        yield f"static inline {TYPES[result]} {name[:-3]}({', '.join(own)}) {{ return {called}; }}"
 
 
 def structs(text):
@@ -169,6 +173,7 @@ WRONG = [
     (HEADER, "size_t byte_unit_unit_name(uint32_t unit, char *out, size_t out_len);",
      "size_t byte_unit_unit_name(uint32_t unit);"),
     (HEADER, "parse_to(text, len, flags, size, error, error ? 1 : 0)", "parse_to(text, len, flags, size, error, 1)"),
+    (HEADER, "flags & BYTE_UNIT_BINARY_PREFIXES", "flags & BYTE_UNIT_EITHER_KIND"),
     (HEADER, "return byte_unit_parse_unit_to(", "return byte_unit_parse_to("),
     (HEADER, "data_len, offsets, offsets ? count + 1 : 0, flags", "data_len, offsets, count, flags"),
     (HEADER, "sizes, count, codes,", "sizes, count + 1, codes,"),

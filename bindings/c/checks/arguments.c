@@ -122,6 +122,7 @@ static void nulls(void)
     byte_unit_error error;
     byte_unit_spec spec;
     uint32_t unit = 77;
+    size_t position = 77;
 
     memset(&spec, 0, sizeof spec);
     check("parse", byte_unit_parse(NULL, 0, 0, &size, &error) == BYTE_UNIT_NO_VALUE && size.low == 7);
@@ -134,6 +135,9 @@ static void nulls(void)
     check("explain", byte_unit_explain(NULL, 0, 0, NULL, 0) == 21 && byte_unit_explain("1", 1, 0, NULL, 0) == 0);
     check("explain_unit", byte_unit_explain_unit(NULL, 0, 0, NULL, 0) == 0
                               && byte_unit_explain_unit("bix", 3, 0, NULL, 0) == 48);
+    check("error_position", byte_unit_error_position(NULL, 0, &position) && position == 0);
+    check("unit_error_position", !byte_unit_unit_error_position(NULL, 0, &position)
+                                     && !byte_unit_error_position("1\xff", 2, &position) && position == 0);
     check("text", byte_unit_text(number(1536), 0, spec, NULL, 0) == 4);
     check("adjusted_text", byte_unit_adjusted_text(number(1536), 0, BYTE_UNIT_KIB, spec, NULL, 0) == 7);
     check("unit_name", byte_unit_unit_name(BYTE_UNIT_KIB, NULL, 0) == 3);

@@ -51,7 +51,7 @@ static void format_in_each_unit(int precision, uint32_t width)
 /* Parses a string, as a size and as a unit, and writes its error message. */
 static void parse(const char *text)
 {
-    size_t length = strlen(text), message;
+    size_t length = strlen(text), message, position;
     byte_unit_number size;
     byte_unit_error error;
     uint32_t unit;
@@ -67,7 +67,10 @@ static void parse(const char *text)
     message = byte_unit_explain_unit(begin, length, BYTE_UNIT_BYTES, out, sizeof out);
     wrong += message > sizeof out;
     wrong += byte_unit_explain_unit(text, length, BYTE_UNIT_BYTES, end - message, message) != message;
-    calls += 6;
+    begin = memcpy(end - length, text, length);
+    wrong += byte_unit_error_position(begin, length, &position) && position > length;
+    wrong += byte_unit_unit_error_position(begin, length, &position) && position > length;
+    calls += 8;
 }
 
 /* Parses all strings, and each prefix of their list, in one call, with each array at the end of memory of its own. */

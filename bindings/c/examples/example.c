@@ -100,6 +100,7 @@ static void details_of_errors(void)
 {
     byte_unit_number size = { 7, 7 };
     byte_unit_error error;
+    size_t position = 7;
     char out[BYTE_UNIT_BUFFER_SIZE];
     uint32_t code = byte_unit_parse("12 Kiq", 6, 0, &size, &error);
 
@@ -112,6 +113,10 @@ static void details_of_errors(void)
     code = byte_unit_parse("1000.5 RB", 9, 0, &size, &error);
     expect_true("a number that is too large", code == BYTE_UNIT_EXCEEDED_BOUNDS && error.number.whole.low == 1000
                                                   && error.number.fraction.high == 271050543 && error.character == 0);
+    expect_true("the position", byte_unit_error_position("12 Kiq", 6, &position) && position == 5);
+    expect_true("the end", byte_unit_error_position("  1. ", 5, &position) && position == 4);
+    expect_true("no position", !byte_unit_error_position("1000.5 RB", 9, &position) && position == 4);
+    expect_true("in a unit", byte_unit_unit_error_position("Kiq", 3, &position) && position == 2);
 }
 
 static void parse_units(void)
@@ -172,6 +177,7 @@ static void many_texts(void)
 {
     static const char data[] = "1.5 KiB2 xxx\xff 8 b";
     static const int64_t offsets[] = { 0, 7, 10, 12, 13, 17 };
+    static const int64_t by_1024[] = { 0, 2, 6, 9 };
     static const int32_t decreasing[] = { 0, 7, 6 };
     byte_unit_number sizes[5] = { { 9, 9 }, { 9, 9 }, { 9, 9 }, { 9, 9 }, { 9, 9 } };
     uint8_t codes[5];
@@ -183,6 +189,8 @@ static void many_texts(void)
     snprintf(out, sizeof out, "%d %d %d %d %d", (int)sizes[0].low, (int)sizes[1].low, (int)sizes[2].low,
              (int)sizes[3].low, (int)sizes[4].low);
     expect("their sizes", out, strlen(out), "1536 0 0 0 1");
+    expect_true("by 1024", byte_unit_parse_many("1K2 KB8 b", 9, by_1024, 3, BYTE_UNIT_BINARY_PREFIXES, sizes, codes)
+                               == BYTE_UNIT_OK && sizes[0].low == 1024 && sizes[1].low == 2048 && sizes[2].low == 1);
     sizes[0].low = 42;
     expect_true("offsets that decrease",
                 byte_unit_parse_many_32(data, 17, decreasing, 2, 0, sizes, codes) == BYTE_UNIT_INVALID_ARGUMENT

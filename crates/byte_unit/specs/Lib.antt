@@ -47,6 +47,7 @@ pub use Rattle.byte_unit_base.specs.ParsedAdjusted
 pub use Rattle.byte_unit_format.specs.AdjustedString
 pub use Rattle.byte_unit_format.specs.Room
 pub use Rattle.byte_unit_format.specs.Written
+pub use Rattle.byte_unit_base.specs.ErrorPosition
 pub use Rattle.byte_unit_base.specs.ReaderLaws
 pub use Rattle.byte_unit_base.specs.ChoiceLaws
 pub use Rattle.byte_unit_base.specs.SizeLaws

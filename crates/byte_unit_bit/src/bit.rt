@@ -18,6 +18,7 @@ mod constants;
 mod decimal;
 mod json;
 mod parse;
+mod position;
 mod text;
 mod units;
 

@@ -17,6 +17,7 @@ mod constants;
 mod decimal;
 mod json;
 mod parse;
+mod position;
 mod text;
 mod units;
 

@@ -1,11 +1,10 @@
 //! Parsing with the flag `BINARY_PREFIXES`: decimal prefixes mean binary ones.
 //!
-//! The calls end here if the flags word is not one without that flag, so that parsing without it costs no instruction.
+//! The calls without the flag are compiled apart from these, so that it costs them no instruction.
 
-ghost use Rattle.std.specs.Prelude.{◌≡◌, ℕ, ◌≤◌, length, Option, Result, IfSome, IfNone, codes};
+ghost use Rattle.std.specs.Prelude.{◌≡◌, ℕ, ◌≤◌, length, Option, Result, IfSome, IfNone};
 ghost use Rattle.byte_unit_base.specs.BinaryReading.{IsBinaryBytesReading};
 ghost use Rattle.byte_unit_base.specs.declared.errors.ParseError.{ParseError};
-ghost use Rattle.byte_unit_format.specs.Written.{WritesForm};
 ghost use Rattle.byte_unit_c.specs.Flags.{binary_flags_at};
 ghost use Rattle.byte_unit_c.specs.Error.{ok, invalid_argument};
 ghost use Rattle.byte_unit_c.specs.Many.{offsets_of, IsLayout, IsBinaryParsed, AreBinaryParsed};
@@ -14,53 +13,51 @@ ghost use Rattle.byte_unit_c.specs.Parse.{IsReturned, IsExplanation};
 use crate::error::{Error, INVALID_ARGUMENT, NOT_UTF8, OK};
 use crate::flags::{ParseFlags, binary_flags_at};
 use crate::many::{code_of, is_layout};
-use crate::message::write_unknown_flag;
 use crate::offsets::Offsets;
 use crate::parse::{explain_result, write_result};
 use crate::values::Number;
 use byte_unit_base::binary;
 
-/// Parses as `byte_unit_parse_to` does with the flag `BINARY_PREFIXES`. Returns `INVALID_ARGUMENT` and writes nothing
-/// without it, or if another flag is set.
-#[cold]
-#[inline(never)]
-pub fn parse_flagged(text: &[u8], flags: u32, size: &mut Number, errors: &mut [Error]) -> u32
-    ensures binary { IfSome (binary_flags_at flags)
+/// Parses as `byte_unit_parse_to` does, with the flag `BINARY_PREFIXES` (8) beside the others: a decimal prefix means the
+/// binary one, so `K` and `KB` are by 1024, as `Ki` and `KiB` are.
+///
+/// Returns `INVALID_ARGUMENT` and writes nothing without that flag, or if another is set.
+///
+/// For example, `10m` in bytes gives `OK` and the size 10,485,760.
+#[unsafe(no_mangle)]
+pub extern "C" fn byte_unit_parse_binary_to(
+    text: &[u8],
+    flags: u32,
+    size: &mut Number,
+    error: &mut [Error],
+) -> u32
+    ensures reading { IfSome (binary_flags_at flags)
         (λ asked. (answer : Option (Result ℕ ParseError))
         × IsBinaryBytesReading asked.kind asked.ignore_case text.now answer
-        × IsReturned answer result size.old size.new errors.old errors.new) }
+        × IsReturned answer result size.old size.new error.old error.new) }
     ensures rejected { IfNone (binary_flags_at flags)
-        ((result ≡ invalid_argument) × (size.new ≡ size.old) × (errors.new ≡ errors.old)) }
+        ((result ≡ invalid_argument) × (size.new ≡ size.old) × (error.new ≡ error.old)) }
 {
     match binary_flags_at(flags) {
         Some(asked) => {
             let answer = binary::parse_bytes(text, asked.ignore_case, asked.kind);
-            write_result(answer, size, errors)
+            write_result(answer, size, error)
         }
         None => INVALID_ARGUMENT,
     }
 }
 
-/// Explains as `byte_unit_explain` does with the flag `BINARY_PREFIXES`. Without it, or if another flag is set, the
-/// message is `a flag is unknown`.
+/// Explains as `byte_unit_explain` does, if decimal prefixes mean binary ones.
 #[cold]
 #[inline(never)]
-pub fn explain_flagged(text: &[u8], flags: u32, out: &mut [u8]) -> usize
-    ensures binary { IfSome (binary_flags_at flags)
-        (λ asked. (answer : Option (Result ℕ ParseError))
+pub fn explain_binary(text: &[u8], asked: ParseFlags, out: &mut [u8]) -> usize
+    ensures reading { (answer : Option (Result ℕ ParseError))
         × IsBinaryBytesReading asked.kind asked.ignore_case text.now answer
-        × IsExplanation answer out.old out.new result) }
-    ensures unknown_flag { IfNone (binary_flags_at flags)
-        (WritesForm (λ words. words ≡ codes "a flag is unknown") out.old out.new result) }
+        × IsExplanation answer out.old out.new result }
     ensures bound { result ≤ 256 }
 {
-    match binary_flags_at(flags) {
-        Some(asked) => {
-            let answer = binary::parse_bytes(text, asked.ignore_case, asked.kind);
-            explain_result(answer, out)
-        }
-        None => write_unknown_flag(out),
-    }
+    let answer = binary::parse_bytes(text, asked.ignore_case, asked.kind);
+    explain_result(answer, out)
 }
 
 /// Parses many texts as `byte_unit_parse_many_to` does with the flag `BINARY_PREFIXES`, with offsets of either width.

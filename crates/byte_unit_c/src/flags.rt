@@ -1,7 +1,7 @@
 //! The flags words of the C API. A flags word is a sum of flags: 1 for sizes of bits (and else of bytes), 2 for parsing
 //! that ignores case, 4 for units of either kind, and 8 for parsing in which decimal prefixes mean binary ones.
 
-ghost use Rattle.std.specs.Prelude.{◌≡◌};
+ghost use Rattle.std.specs.Prelude.{◌≡◌, ◌≤◌, Some};
 ghost use Rattle.byte_unit_c.specs.Flags.{kind_at, parse_flags_at, binary_flags_at, choice_flags_at};
 
 use byte_unit_base::Kind;
@@ -18,7 +18,8 @@ const EITHER_KIND: u32 = 4;
 /// The flag of parsing in which decimal prefixes mean binary ones.
 const BINARY_PREFIXES: u32 = 8;
 
-const BITS_IGNORE_CASE: u32 = BITS | IGNORE_CASE;
+/// The greatest flags word of a parsing call without the flag `BINARY_PREFIXES`.
+pub const MOST_PLAIN: u32 = BITS | IGNORE_CASE;
 
 const BITS_EITHER_KIND: u32 = BITS | EITHER_KIND;
 
@@ -78,9 +79,22 @@ pub fn parse_flags_at(flags: u32) -> Option<ParseFlags>
         0 => Some(ParseFlags::new(Kind::Byte, false)),
         BITS => Some(ParseFlags::new(Kind::Bit, false)),
         IGNORE_CASE => Some(ParseFlags::new(Kind::Byte, true)),
-        BITS_IGNORE_CASE => Some(ParseFlags::new(Kind::Bit, true)),
+        MOST_PLAIN => Some(ParseFlags::new(Kind::Bit, true)),
         _ => None,
     }
+}
+
+/// Returns how to parse, by a word with the flags `BITS` and `IGNORE_CASE`, one of them, or none.
+pub fn plain_flags(flags: u32) -> ParseFlags
+    requires { flags ≤ 3 }
+    ensures { parse_flags_at flags ≡ Some result }
+{
+    let kind = if flags % 2 == BITS {
+        Kind::Bit
+    } else {
+        Kind::Byte
+    };
+    ParseFlags::new(kind, flags >= IGNORE_CASE)
 }
 
 /// Returns how to parse, by a word with the flag `BINARY_PREFIXES` and, beside it, `BITS` and `IGNORE_CASE`, one of

@@ -17,6 +17,7 @@ mod many;
 mod message;
 mod offsets;
 mod parse;
+mod position;
 mod spec;
 mod texts;
 mod units;

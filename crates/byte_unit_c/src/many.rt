@@ -8,7 +8,7 @@ ghost use Rattle.byte_unit_c.specs.Many.{offsets_of, IsLayout, IsParsed, ArePars
 
 use crate::binary::parse_many_flagged;
 use crate::error::{Error, INVALID_ARGUMENT, NOT_UTF8, OK, UNIT};
-use crate::flags::{ParseFlags, parse_flags_at};
+use crate::flags::{MOST_PLAIN, ParseFlags, plain_flags};
 use crate::offsets::Offsets;
 use crate::values::Number;
 use byte_unit_base::{ParseError, size};
@@ -104,9 +104,10 @@ fn parse_many(
         (length codes.old)
         → IsRejectedCall result sizes.old sizes.new codes.old codes.new }
 {
-    let Some(asked) = parse_flags_at(flags) else {
+    if flags > MOST_PLAIN {
         return parse_many_flagged(data, offsets, flags, sizes, codes);
-    };
+    }
+    let asked = plain_flags(flags);
     if !is_layout(data, offsets, sizes.len(), codes.len()) {
         return INVALID_ARGUMENT;
     }

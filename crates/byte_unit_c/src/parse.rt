@@ -14,10 +14,10 @@ ghost use Rattle.byte_unit_c.specs.Error.{invalid_argument};
 ghost use Rattle.byte_unit_c.specs.Parse.{IsReturned, IsUnitBytesReading, IsUnitReturned, IsExplanation};
 ghost use Rattle.byte_unit_c.specs.Parse.{IsUnitExplanation};
 
-use crate::binary::{explain_flagged, parse_flagged};
+use crate::binary::explain_binary;
 use crate::codes::code_of;
 use crate::error::{Error, INVALID_ARGUMENT, NOT_UTF8, OK, UNIT, bytes_of};
-use crate::flags::parse_flags_at;
+use crate::flags::{binary_flags_at, parse_flags_at};
 use crate::message::{write_message, write_not_utf8, write_unit_message, write_unknown_flag};
 use crate::values::Number;
 use byte_unit_base::size::Outcome;
@@ -26,8 +26,7 @@ use std::str;
 
 /// Parses a size, rounded up to the next whole byte, or to the next whole bit with the flag `BITS` (1). Sizes are below
 /// 10^30. With the flag `IGNORE_CASE` (2) the suffix `b` means bytes too. Sizes in bits are always case-sensitive: with
-/// `BITS`, `IGNORE_CASE` has no effect. With the flag `BINARY_PREFIXES` (8) a decimal prefix means the binary one: `K`
-/// and `KB` are by 1024, as `Ki` and `KiB` are.
+/// `BITS`, `IGNORE_CASE` has no effect.
 ///
 /// Returns `OK` and writes `size` if the string represents a size. Otherwise returns the code of the error and writes
 /// its details to the first of `error`, if it is not empty. Returns `NOT_UTF8` and writes nothing if the bytes are not
@@ -45,16 +44,12 @@ pub extern "C" fn byte_unit_parse_to(
         (λ asked. (answer : Option (Result ℕ ParseError))
         × IsBytesReading asked.kind asked.ignore_case text.now answer
         × IsReturned answer result size.old size.new error.old error.new) }
-    ensures binary { IfSome (binary_flags_at flags)
-        (λ asked. (answer : Option (Result ℕ ParseError))
-        × IsBinaryBytesReading asked.kind asked.ignore_case text.now answer
-        × IsReturned answer result size.old size.new error.old error.new) }
-    ensures rejected { IfNone (parse_flags_at flags) (IfNone (binary_flags_at flags)
-        ((result ≡ invalid_argument) × (size.new ≡ size.old) × (error.new ≡ error.old))) }
+    ensures rejected { IfNone (parse_flags_at flags)
+        ((result ≡ invalid_argument) × (size.new ≡ size.old) × (error.new ≡ error.old)) }
 {
     match parse_flags_at(flags) {
         Some(asked) => parse_as(text, asked.kind, asked.ignore_case, size, error),
-        None => parse_flagged(text, flags, size, error),
+        None => INVALID_ARGUMENT,
     }
 }
 
@@ -256,7 +251,10 @@ pub extern "C" fn byte_unit_explain(text: &[u8], flags: u32, out: &mut [u8]) -> 
 {
     match parse_flags_at(flags) {
         Some(asked) => explain_as(text, asked.kind, asked.ignore_case, out),
-        None => explain_flagged(text, flags, out),
+        None => match binary_flags_at(flags) {
+            Some(asked) => explain_binary(text, asked, out),
+            None => write_unknown_flag(out),
+        },
     }
 }
 
