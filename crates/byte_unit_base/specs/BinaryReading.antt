@@ -1,5 +1,4 @@
--- The binary reading of a size: a decimal prefix means the binary one, so `10m` and `128MB` are by 1024. The grammar is
--- the same. An input is given by its UTF-8 bytes, and a number is scaled by 10^28.
+-- The binary reading: a decimal prefix means the binary one, so `10m` is by 1024. The grammar is the same. An input is given by its UTF-8 bytes, and a number is scaled by 10^28.
 use Rattle.std.specs.Prelude.{◌≡◌, ℕ, ◌<◌, ◌≤◌, ◌⊎◌, Bool, true, List, Option, MatchOption, Result, Ok, IfOk, IfErr}
 use Rattle.std.specs.Prelude.{IsErrAnd, if◌then◌else◌, nat_lt}
 use Rattle.std.specs.Result.{result_map_both}
@@ -58,7 +57,7 @@ parsed_binary_size kind ignore_case bytes =
     size_of_parsed kind
     (result_map_both binary_parts (λ fault. fault) (parsed_number (flags_for kind ignore_case) bytes))
 
--- as `IsSizeReading`, if decimal prefixes mean binary ones
+-- as `IsSizeReading`, by the binary reading
 pub record IsBinaryReading
     (kind : Kind) (ignore_case : Bool) (bytes : List ℕ) (result : Result ℕ ParseError) : Type 0 where
   pub found : IfOk result (IsBinaryAccepted kind ignore_case bytes)

@@ -24,10 +24,10 @@ abbrev pub IsPositionFor : (ParserState → List ℕ → Type 0) → Flags → L
 IsPositionFor IsViable flags bytes None = (fault : Fault) → ¬ (IsFirstFault IsViable current flags (trim_of bytes) fault)
 IsPositionFor IsViable flags bytes (Some position) = IsErrorAt IsViable flags bytes position
 
--- the position of the error of a number and a unit, whatever the flags; `None` if the input is in the grammar
+-- the position of the error of a number and a unit; `None` if the input is in the grammar
 abbrev pub IsSizePosition : List ℕ → Option ℕ → Type 0
 IsSizePosition bytes result = (flags : Flags) → IsPositionFor (IsViableSizePrefix current) flags bytes result
 
--- the position of the error of a unit, whatever the flags; `None` if the input spells one
+-- the same of a unit; `None` if the input spells one
 abbrev pub IsUnitPosition : List ℕ → Option ℕ → Type 0
 IsUnitPosition bytes result = (flags : Flags) → IsPositionFor (IsViableUnitPrefix current) flags bytes result

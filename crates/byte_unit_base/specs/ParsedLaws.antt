@@ -1,4 +1,4 @@
--- The laws of the parsers as functions (`Parsed`): for each input they give exactly its meaning or its error.
+-- The parsers as functions (`Parsed`) give for each input exactly its meaning or its error.
 use Rattle.std.specs.Prelude.{◌≡◌, ◌↔◌, ℕ, Bool, List, Result, Ok, Err}
 use Rattle.byte_unit_base.specs.Shape.{Shape}
 use Rattle.byte_unit_base.specs.Version.{current}

@@ -1,4 +1,4 @@
--- A state machine that reads an input character by character, so that a proof can compute what is read from a literal.
+-- A state machine by characters, so that a proof can compute what a literal is read as.
 -- It is proved that the state machines accept the inputs, and give the errors, of the other files (`ParsedLaws`).
 use Rattle.std.specs.Prelude.{ℕ, List, [], ◌∷◌, Option, Some, None, Result, Ok, Err, option_and_then}
 use Rattle.byte_unit_base.specs.Version.{current}

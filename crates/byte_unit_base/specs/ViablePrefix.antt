@@ -1,4 +1,4 @@
--- Viable prefixes: the texts that can be completed to a unit, or to a number and a unit, and the parser state after
+-- The texts that can be completed to a unit, or to a number and a unit, and the parser state after
 -- each.
 use Rattle.std.specs.Prelude.{◌≡◌, ℕ, ◌<◌, Bool, ◌⊎◌, List, [], ◌++◌, replicate, codes}
 use Rattle.std.specs.Str.{str_to_ascii_lowercase}

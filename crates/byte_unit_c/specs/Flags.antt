@@ -1,5 +1,5 @@
--- The flags words of the C API: sums of the flags 1 (bits), 2 (ignore case), 4 (units of either kind) and 8 (decimal
--- prefixes mean binary ones).
+-- The flags words of the C API: sums of 1 (bits), 2 (ignore case), 4 (units of either kind), 8 (decimal prefixes are
+-- binary).
 use Rattle.std.specs.Prelude.{ℕ, ◌-◌, ◌==◌, nat_lt, Bool, true, false, if◌then◌else◌, [], ◌∷◌, Option, Some, None}
 use Rattle.std.specs.Prelude.{slice_get}
 use Rattle.byte_unit_base.specs.declared.kind.Kind.{Kind}

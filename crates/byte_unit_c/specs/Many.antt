@@ -1,4 +1,4 @@
--- Many texts in one call: text i is the bytes from offset i up to offset i + 1.
+-- Many texts in one call: text i is from offset i up to offset i + 1.
 use Rattle.std.specs.Prelude.{◌≡◌, ℕ, ◌+◌, ◌-◌, ◌<◌, ℤ, pos, negsuc, ◌≤ℤ◌, Bool, List, [], ◌∷◌, length}
 use Rattle.std.specs.Prelude.{slice_index, slice_index_or, slice_range, Option, Some, None, Result, Ok, Err}
 use Rattle.byte_unit_base.specs.Errors.{size_fault}

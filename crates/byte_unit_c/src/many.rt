@@ -4,7 +4,7 @@ ghost use Rattle.std.specs.Prelude.{◌≡◌, ◌↔◌, IsTrue, length, IfSome
 ghost use Rattle.byte_unit_base.specs.Errors.{size_fault};
 ghost use Rattle.byte_unit_c.specs.Error.{ok, code_of};
 ghost use Rattle.byte_unit_c.specs.Flags.{parse_flags_at, binary_flags_at};
-ghost use Rattle.byte_unit_c.specs.Many.{offsets_of, IsLayout, IsParsed, AreParsed, AreBinaryParsed};
+ghost use Rattle.byte_unit_c.specs.Many.{offsets_of, IsLayout, IsParsed, AreParsed, AreBinaryParsed, IsRejectedCall};
 
 use crate::binary::parse_many_flagged;
 use crate::error::{Error, INVALID_ARGUMENT, NOT_UTF8, OK, UNIT};

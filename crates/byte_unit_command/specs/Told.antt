@@ -1,4 +1,4 @@
--- What a run has told on standard error, by the records that it has read and how it ended.
+-- What a run has told on standard error, by the records read and its end.
 use Rattle.std.specs.Prelude.{◌≡◌, ◌⊎◌, Bool, false, List, [], ◌∷◌, ◌++◌, ℕ, Result, Ok, Err}
 use Rattle.byte_unit_command.specs.Fields.{fields_of}
 use Rattle.byte_unit_command.specs.Messages.{AreMessages, AreMessagesToRejected, next_place, last_place}

@@ -1,4 +1,4 @@
--- How a call of the program ends: what it has written, its exit status, and its line for standard error.
+-- How a call of the program ends: its output, its exit status, its line for standard error.
 use Rattle.std.specs.Prelude.{ℕ, List, Option, None, Some, Ok, Err, codes}
 use Rattle.byte_unit_lines.specs.Answer.{Kind}
 use Rattle.byte_unit_lines.specs.FaultWords.{message_of}
