@@ -1,4 +1,4 @@
--- Where an input is wrong: the index in bytes of its first wrong character. An input is given by its UTF-8 bytes.
+-- Where an input is wrong: the byte index of its first wrong character. An input is given by its UTF-8 bytes.
 use Rattle.std.specs.Prelude.{◌≡◌, ℕ, ◌+◌, ◌-◌, List, length, Option, Some, None}
 use Rattle.std.specs.Str.{trim_start}
 use Rattle.byte_unit_base.specs.Version.{current}
@@ -24,7 +24,7 @@ abbrev pub IsPositionFor : (ParserState → List ℕ → Type 0) → Flags → L
 IsPositionFor IsViable flags bytes None = (fault : Fault) → ¬ (IsFirstFault IsViable current flags (trim_of bytes) fault)
 IsPositionFor IsViable flags bytes (Some position) = IsErrorAt IsViable flags bytes position
 
--- the position of the error of a number and a unit; `None` if the input is in the grammar
+-- the position of the error of a number and unit; `None` if the input is in the grammar
 abbrev pub IsSizePosition : List ℕ → Option ℕ → Type 0
 IsSizePosition bytes result = (flags : Flags) → IsPositionFor (IsViableSizePrefix current) flags bytes result
 

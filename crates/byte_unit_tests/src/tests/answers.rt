@@ -67,7 +67,12 @@ fn is_result(read: &Result<u128, ParseError>, wanted: Expected) -> bool {
 }
 
 /// Asserts that a string was parsed with the expected result.
-fn assert_result(rt: &impl Abort, text: &str, read: Result<u128, ParseError>, wanted: Expected) {
+pub fn assert_result(
+    rt: &impl Abort,
+    text: &str,
+    read: Result<u128, ParseError>,
+    wanted: Expected,
+) {
     let is_wanted = is_result(&read, wanted);
     assert!(rt; is_wanted, "{text} is {read:?}");
 }
