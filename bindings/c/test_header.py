@@ -55,8 +55,7 @@ def in_c(name, kind):
 
 
 def calls_in_c(declared):
-    """Yields the call of a function in C, and the inline call of one whose name ends in `_to`, but in `_binary_to`: that
-    of byte_unit_parse_to calls this other one with the flag for it."""
+    """Yields the call of a function in C, and the inline call of one in `_to`: byte_unit_parse's calls two."""
     name, given, result = re.fullmatch(r"fn (\w+)\((.*)\) -> (\w+)", declared).groups()
     pairs = re.findall(r"(\w+): ([^,]+)", given)
     yield f"{TYPES[result]} {name}({', '.join(in_c(*pair) for pair in pairs) or 'void'});"
@@ -64,9 +63,8 @@ def calls_in_c(declared):
         own = ["size_t count" if pair[0] == "offsets_len" else in_c(*pair) for pair in pairs
                if pair[0] not in PASSED or pair[0] == "offsets_len"]
         words = ", ".join(PASSED.get(parameter, parameter) for parameter, _ in pairs)
-        called = f"{name}({words})"
-        if name == "byte_unit_parse_to":
-            called = f"flags & BYTE_UNIT_BINARY_PREFIXES ? byte_unit_parse_binary_to({words}) : {called}"
+        other = f"flags & BYTE_UNIT_BINARY_PREFIXES ? byte_unit_parse_binary_to({words}) : "
+        called = other * (name == "byte_unit_parse_to") + f"{name}({words})"
         yield f"static inline {TYPES[result]} {name[:-3]}({', '.join(own)}) {{ return {called}; }}"
 
 

@@ -1,9 +1,8 @@
 """The examples of the doc comments, which are run as tests by `rt try --test` on copies of the crates.
 
 A block ```rust becomes the body of a test with `rt`, `alloc` and `?`, and a `use` line for each name in it that the
-root of its crate or of `byte_unit` exports. Each is a module of a crate that uses all crates of the library, named
-after its file and line; what is in it up to the last type with `#[derive(..)]` is put before the test, since no
-function may hold such a type. `rt try` proves nothing, and stops at only some of the calls that break a `requires`.
+root of its crate or of `byte_unit` exports; what is in it up to the last type with `#[derive(..)]` comes before the
+test, since no function may hold one. `rt try` proves nothing, and stops at only some calls that break a `requires`.
 """
 
 import re
@@ -15,7 +14,7 @@ from ..common import call, write
 from ..source import Source, below, copy_crates, crates, files, library, public_names
 from .text import blocks, line_at
 
-ITEMS = re.compile(r"\A.*^#\[derive\(.*?^}\n", re.M | re.S)
+ITEMS = re.compile(r"(.*^#\[derive\(.*?^}\n)?(.*)", re.M | re.S)
 PUBLIC = re.compile(r"^[ \t]*pub (?:const )?(?:unsafe )?fn (\w+)", re.M)
 # An example, by its file and the line at which its block begins; and the module with its test.
 Example = namedtuple("Example", "file line text crate test")
@@ -66,12 +65,10 @@ def imports_of(example):
 
 def test_of(example):
     """Returns a module with an example as a test."""
-    items = ITEMS.match(example.text)
-    before, test = example.text[: items.end()] if items else "", example.text[items.end() if items else 0 :]
+    items, test = re.fullmatch(ITEMS, example.text).groups(default="")
     alloc = ["    let alloc = rt.alloc();"] * bool(re.search(r"\balloc\b", test))
-    lines = [f"    {line}".rstrip() for line in test.splitlines()]
-    head = [*imports_of(example), before, "#[test]", "fn holds(rt: HostRuntime) -> anyhow::Result<()> {"]
-    return "\n".join([*head, *alloc, *lines, "    Ok(())", "}", ""])
+    head = [*imports_of(example), items, "#[test]", "fn holds(rt: HostRuntime) -> anyhow::Result<()> {"]
+    return "\n".join([*head, *alloc, *(f"    {line}".rstrip() for line in test.splitlines()), "    Ok(())", "}", ""])
 
 
 def failures(examples):

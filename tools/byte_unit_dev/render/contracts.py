@@ -68,10 +68,10 @@ def with_styled(members):
     """Returns the members with one `output, styled_output` if the second is the first under every spec."""
     output, styled = (members.get(key, "").partition(" = ")[2] for key in ("output", "styled_output"))
     parts = re.fullmatch(r"\{ λ (\w+) \w+\. (.*) \}", styled)
-    if not parts or output not in (f"{{ λ {parts[1]}. {parts[2]} }}", f"{{ {parts[2].removesuffix(' ' + parts[1])} }}"):
-        return members
-    others = {key: text for key, text in members.items() if key not in ("output", "styled_output")}
-    return {"output": f"ghost output, styled_output = {output}", **others}
+    if parts and output in (f"{{ λ {parts[1]}. {parts[2]} }}", f"{{ {parts[2].removesuffix(' ' + parts[1])} }}"):
+        members = {**members, "output": f"ghost output, styled_output = {output}"}
+        del members["styled_output"]
+    return members
 
 
 @functools.lru_cache(maxsize=None)
