@@ -43,6 +43,8 @@ pub const BYTE_UNIT_BYTES: u32 = 0;
 pub const BYTE_UNIT_BITS: u32 = 1;
 pub const BYTE_UNIT_IGNORE_CASE: u32 = 2;
 pub const BYTE_UNIT_EITHER_KIND: u32 = 4;
+// No call of the package has it yet.
+#[allow(dead_code)]
 pub const BYTE_UNIT_BINARY_PREFIXES: u32 = 8;
 
 pub const BYTE_UNIT_OK: u32 = 0;
