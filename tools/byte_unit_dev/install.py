@@ -87,8 +87,7 @@ def functions(header):
 
 def calls_of(header):
     """Returns the names of the header's functions, but for those, named `.._to`, that only inline functions call."""
-    names = functions(header)
-    return sorted(name for name in names if name.removesuffix("_to") == name or name.removesuffix("_to") not in names)
+    return sorted(name for name in functions(header) if not name.endswith("_to"))
 
 
 def files_of(folder, prefix, without):
