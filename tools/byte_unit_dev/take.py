@@ -1,4 +1,4 @@
-"""Copies the library's six crates into another repository of Rattle, or updates the copy there.
+"""Copies the library's seven crates into another repository of Rattle, or updates the copy there.
 
 Copies the crates, without tests and mutants, into FOLDER/crates, adds their lines to FOLDER/crates.txt and the line
 `out/` to FOLDER/.gitignore, and records in crates/byte_unit/VERSION what was copied: version, commit, toolchain, and

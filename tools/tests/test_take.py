@@ -135,7 +135,7 @@ def test_update(here, copied):
     assert (copied / "crates.txt").read_text() == lines.replace("byte_unit_math:\n", "byte_unit_math: core\n", 1)
     now, anew = contents(copied, times=True), here.with_name("anew")
     stay = [path for path in kept if "/out/" in path or path.startswith("crates/quota") or path == ".gitignore"]
-    assert len(stay) == 8 and all(now[path] == kept[path] for path in stay)
+    assert len(stay) == len(CRATES) + 2 and all(now[path] == kept[path] for path in stay)
     anew.mkdir()
     run(here, anew)
     now = {path: row for path, row in contents(copied).items() if path.startswith("crates/") and path not in stay}
@@ -146,7 +146,7 @@ def test_update(here, copied):
 def test_each_failure(here, copied, monkeypatch, error):
     """If one of the moves of an update fails, or a signal comes there, nothing changes."""
     change(here)
-    before, left = contents(copied), []
+    before, left, moves = contents(copied), [], len(CRATES) + 4
     monkeypatch.setattr(take, "HERE", here)
     monkeypatch.setattr(take, "first_line", lambda *words: None)
     monkeypatch.setattr(replace, "on_signals", lambda handler: None)
@@ -159,12 +159,12 @@ def test_each_failure(here, copied, monkeypatch, error):
 
     for name in ("replace", "remove"):
         monkeypatch.setattr(os, name, partial(counted, getattr(os, name)))
-    for tried in range(10):
+    for tried in range(moves):
         left[:] = [tried]
         with pytest.raises(type(error)):
             take.take(str(copied), True)
         assert contents(copied) == before
-    left[:] = [10]
+    left[:] = [moves]
     take.take(str(copied), True)
     assert left == [0] and contents(copied) != before
 

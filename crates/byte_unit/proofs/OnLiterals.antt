@@ -8,15 +8,16 @@ use Rattle.byte_unit_base.specs.Accepted.{IsAccepted, IsRejected}
 use Rattle.byte_unit_base.specs.SizeReading.{IsSizeReading}
 use Rattle.byte_unit_base.specs.JsonReading.{ReadsString, size_errors, string_answer}
 use Rattle.byte_unit_base.specs.Parsed.{parsed_size}
+use Rattle.byte_unit_choice.specs.ParsedAdjusted.{parsed_adjusted}
 use Rattle.byte_unit_base.specs.declared.kind.Kind.{Kind}
 use Rattle.byte_unit_base.specs.declared.errors.JsonSizeError.{JsonSizeError}
 use Rattle.byte_unit_base.proofs.OnLiterals.{byte_unit_base_on_literals}
 use Rattle.byte_unit_base.proofs.ParsedTexts.{parsed_sizes_are_accepted}
-pub use Rattle.byte_unit_base.proofs.AdjustedLiterals.{adjusted_computed}
+pub use Rattle.byte_unit_choice.proofs.AdjustedLiterals.{adjusted_computed}
 
 -- what a proof unfolds to compute what the parsers return for a literal
 unfoldable pub byte_unit_on_literals : ⊤
-unfolding byte_unit_base_on_literals
+unfolding byte_unit_base_on_literals parsed_adjusted
 byte_unit_on_literals = tt
 
 -- a literal that is computed as a size is accepted as this size

@@ -4,10 +4,6 @@
 pub use byte_unit_base::laws::binary::{
     binary_readings_are_those_with_i, each_text_has_one_with_i,
 };
-pub use byte_unit_base::laws::choices::{
-    choices_are_one, choices_at_no_places_are_whole, each_size_has_a_choice_or_none,
-    more_places_give_no_smaller_unit, number_times_unit_is_size, sizes_are_exact_by_powers,
-};
 pub use byte_unit_base::laws::readers::{
     names_spell_their_units, parsed_numbers_are_represented, parsed_sizes_are_accepted,
     parsed_units_are_spelled, size_fronts_are_beginnings, size_texts_have_one_answer,
@@ -20,6 +16,10 @@ pub use byte_unit_base::laws::sizes::{
 pub use byte_unit_base::laws::versions::current_extends_old;
 pub use byte_unit_bit::laws::{bit_bounds, bit_constant};
 pub use byte_unit_byte::laws::{byte_bounds, byte_constant};
+pub use byte_unit_choice::laws::{
+    choices_are_one, choices_at_no_places_are_whole, each_size_has_a_choice_or_none,
+    more_places_give_no_smaller_unit, number_times_unit_is_size, sizes_are_exact_by_powers,
+};
 pub use byte_unit_format::laws::{
     adjusted_string_reads_back, expansions_end, layout_fills_width,
     named_specs_set_no_other_option, old_meanings_stay, places_of_size, plain_form_fills_width,

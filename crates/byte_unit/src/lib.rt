@@ -20,11 +20,12 @@ pub mod laws;
 mod unit_json;
 
 pub use byte_unit_base::{
-    ExceededBoundsError, Family, JsonSizeError, Kind, ParseError, Unit, UnitParseError, UnitType,
-    ValueParseError, choose_unit, largest_unit, read_size,
+    ExceededBoundsError, JsonSizeError, Kind, ParseError, Unit, UnitParseError, ValueParseError,
+    read_size,
 };
 pub use byte_unit_bit::{AdjustedBit, Bit};
 pub use byte_unit_byte::{AdjustedByte, Byte};
+pub use byte_unit_choice::{Family, UnitType, choose_unit, largest_unit};
 pub use byte_unit_format::{
     Align, FormatSpec, Sign, append_layout, append_plain, layout_len, plain_len, write_layout,
     write_plain,

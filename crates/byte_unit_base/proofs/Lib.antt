@@ -1,4 +1,4 @@
--- The lemmas that the proofs of this crate rest on, from the lists of characters up to the parsers and the choice.
+-- The lemmas that the proofs of this crate rest on, from the lists of characters up to the parsers.
 pub mod Lists
 pub mod ExpectedLists
 pub mod Lines
@@ -21,16 +21,6 @@ pub mod ParsedTexts
 pub mod BinaryUnits
 pub mod BinarySizes
 pub mod BinaryTexts
-pub mod Quotients
-pub mod Falling
-pub mod Choosing
-pub mod Rows
-pub mod SizePowers
-pub mod FewSteps
-pub mod SomeChoice
-pub mod LaterChoices
-pub mod OneChoice
-pub mod AdjustedLiterals
 pub mod OnLiterals
 pub mod ErrorTexts
 pub mod NumberTexts

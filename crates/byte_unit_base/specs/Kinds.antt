@@ -4,8 +4,6 @@ use Rattle.byte_unit_base.specs.Shape.{Shape, shape}
 use Rattle.byte_unit_base.specs.Spelling.{Flags, flags_of}
 use Rattle.byte_unit_base.specs.declared.kind.Kind.{Kind}
 use Rattle.byte_unit_base.specs.declared.kind.Kind.TheVariants.{Byte, Bit}
-use Rattle.byte_unit_base.specs.declared.unit.family.Family.{Family}
-use Rattle.byte_unit_base.specs.declared.unit.family.Family.TheVariants.{Bytes, Bits}
 
 -- the number of bits that a size of 1 has: 8 for bytes, 1 for bits
 abbrev pub bits_in : Kind → ℕ
@@ -20,11 +18,6 @@ counts_bits Bit = true
 -- the base unit of the kind: a byte or a bit, without a prefix
 abbrev pub own_unit : Kind → Shape
 own_unit kind = shape 0 (not (counts_bits kind)) (counts_bits kind)
-
--- the unit set of the multiples of the base unit
-abbrev pub own_family : Kind → Family
-own_family Byte = Bytes
-own_family Bit = Bits
 
 -- how the parser of this kind reads a unit: for sizes in bytes, bytes are preferred; for sizes in bits, bits are, and
 -- case is always significant

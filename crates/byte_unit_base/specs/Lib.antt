@@ -25,13 +25,8 @@ pub mod Readings
 pub mod SizeReading
 pub mod BinaryReading
 pub mod JsonReading
-pub mod Family
-pub mod Choice
-pub mod AdjustedSize
-pub mod ParsedAdjusted
 pub mod ErrorPosition
 pub mod ReaderLaws
-pub mod ChoiceLaws
 pub mod SizeLaws
 pub mod BinaryLaws
 pub mod ParsedLaws
@@ -41,4 +36,3 @@ pub mod PartsReading
 pub mod Expected
 pub mod Outcome
 pub mod PlaceReading
-pub mod Multiples

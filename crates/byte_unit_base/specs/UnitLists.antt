@@ -1,9 +1,6 @@
--- Lists of the units: of the crate, by their shape, and of a unit set, from the largest.
-use Rattle.std.specs.Prelude.{ℕ, zero, suc, Bool, true, false, List, [], ◌∷◌, ◌++◌, get_or, length}
-use Rattle.byte_unit_base.specs.Shape.{Shape, shape}
-use Rattle.byte_unit_base.specs.Version.{current}
-use Rattle.byte_unit_base.specs.declared.unit.family.Family.{Family}
-use Rattle.byte_unit_base.specs.declared.unit.family.Family.TheVariants.{All, Bytes, Bits}
+-- Lists of the units: of the crate, and by their shape.
+use Rattle.std.specs.Prelude.{Bool, true, false, List, [], ◌∷◌, get_or}
+use Rattle.byte_unit_base.specs.Shape.{Shape}
 use Rattle.byte_unit_base.specs.declared.unit.Unit.{Unit as UnitName}
 use Rattle.byte_unit_base.specs.declared.unit.Unit.TheVariants.{Bit, B, Kbit, Kibit, KB, KiB, Mbit, Mibit, MB, MiB}
 use Rattle.byte_unit_base.specs.declared.unit.Unit.TheVariants.{Gbit, Gibit, GB, GiB, Tbit, Tibit, TB, TiB}
@@ -33,19 +30,3 @@ units_with true false = B ∷ KiB ∷ MiB ∷ GiB ∷ TiB ∷ PiB ∷ EiB ∷ Zi
 -- the unit of the crate that has this shape; `B` for a shape that none has
 abbrev pub unit_of_shape : Shape → UnitName
 unit_of_shape s = get_or (units_with s.binary s.bit) s.power B
-
--- the number of prefixes, one for each prefix letter
-abbrev pub prefix_count : ℕ
-prefix_count = length current.letters
-
--- the units of a unit set whose prefix has this index, from the largest to the smallest
-abbrev pub units_of_prefix : Family → ℕ → List Shape
-units_of_prefix All power =
-    shape power true false ∷ shape power false false ∷ shape power true true ∷ shape power false true ∷ []
-units_of_prefix Bytes power = shape power true false ∷ shape power false false ∷ []
-units_of_prefix Bits power = shape power true true ∷ shape power false true ∷ []
-
--- the units of a unit set whose prefix has an index of at most n, from the largest to the smallest
-abbrev pub units_of_prefixes : Family → ℕ → List Shape
-units_of_prefixes family zero = []
-units_of_prefixes family (suc power) = units_of_prefix family (suc power) ++ units_of_prefixes family power

@@ -1,7 +1,6 @@
 //! Laws of the definitions. Each function does nothing; its contract is the law.
 
 pub mod binary;
-pub mod choices;
 pub mod readers;
 pub mod sizes;
 pub mod versions;

@@ -13,11 +13,9 @@ use crate::unit::scan::unit_of;
 use crate::unit::tables::{UNIT_BITS, UNITS};
 use std::fmt;
 
-pub(crate) mod family;
 pub(crate) mod parse;
 pub(crate) mod scan;
 pub(crate) mod tables;
-pub(crate) mod unit_type;
 
 /// A unit of bits or bytes, with a decimal (SI) prefix, with a binary (IEC) prefix, or without one.
 ///

@@ -3,8 +3,8 @@ use Rattle.std.specs.Prelude.{◌≡◌, ℕ, List, [], ◌∷◌, Option, Some,
 use Rattle.byte_unit_base.specs.Shape.{Shape}
 use Rattle.byte_unit_base.specs.Units.{shape_of}
 use Rattle.byte_unit_base.specs.UnitLists.{units}
-use Rattle.byte_unit_base.specs.declared.unit.unit_type.UnitType.{UnitType}
-use Rattle.byte_unit_base.specs.declared.unit.unit_type.UnitType.TheVariants.{Binary, Decimal, Both}
+use Rattle.byte_unit_choice.specs.declared.unit_type.UnitType.{UnitType}
+use Rattle.byte_unit_choice.specs.declared.unit_type.UnitType.TheVariants.{Binary, Decimal, Both}
 use Rattle.byte_unit_base.specs.declared.unit.Unit.{Unit as UnitName}
 
 -- the unit with a code, which is its index among the units; none if the code is 38 or more

@@ -3,7 +3,8 @@
 ghost use Rattle.std.specs.Prelude.{◌≡◌, slice_get, Some};
 ghost use Rattle.byte_unit_c.specs.Codes.{types, unit_at};
 
-use byte_unit_base::{Unit, UnitType};
+use byte_unit_base::Unit;
+use byte_unit_choice::UnitType;
 
 /// Returns the unit with a code, which is its index among the variants. Returns `None` if the code is 38 or more.
 pub fn unit_at(code: u32) -> Option<Unit>

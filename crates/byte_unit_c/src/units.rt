@@ -6,7 +6,7 @@ ghost use Rattle.byte_unit_base.specs.Shape.{bits};
 ghost use Rattle.byte_unit_base.specs.Version.{current};
 ghost use Rattle.byte_unit_base.specs.Units.{shape_of};
 ghost use Rattle.byte_unit_base.specs.Kinds.{bits_in};
-ghost use Rattle.byte_unit_base.specs.Choice.{IsRecoveredIn, IsAppropriateIn};
+ghost use Rattle.byte_unit_choice.specs.Choice.{IsRecoveredIn, IsAppropriateIn};
 ghost use Rattle.byte_unit_base.specs.LeastOfKind.{IsLeastOf};
 ghost use Rattle.byte_unit_base.specs.SizeOrNone.{IsSizeOrNone};
 ghost use Rattle.byte_unit_c.specs.Codes.{unit_at, types, CodesUnit};
@@ -16,7 +16,8 @@ ghost use Rattle.byte_unit_c.specs.Values.{number_of, AreDecimalParts};
 use crate::codes::{code_of, type_at, unit_at};
 use crate::flags::{choice_flags_at, kind_at};
 use crate::values::{DecimalParts, Number};
-use byte_unit_base::{Kind, Unit, appropriate_unit, exact_unit, recoverable_unit, size};
+use byte_unit_base::{Kind, Unit, size};
+use byte_unit_choice::{appropriate_unit, exact_unit, recoverable_unit};
 use byte_unit_math::Steps;
 
 /// The code that no unit has.

@@ -19,7 +19,7 @@ use Rattle.byte_unit_base.specs.Version.{current, unit_name_in}
 use Rattle.byte_unit_base.specs.declared.kind.Kind.{Kind}
 use Rattle.byte_unit_base.specs.declared.kind.Kind.TheVariants.{Byte, Bit}
 use Rattle.byte_unit_base.specs.declared.unit.Unit.{Unit as UnitName}
-use Rattle.byte_unit_base.proofs.Choosing.{some_bits}
+use Rattle.byte_unit_choice.proofs.Choosing.{some_bits}
 use Rattle.byte_unit_format.specs.Adjusted.{IsAdjustedForm, IsNumeralBy, full, round_to, has_no_prefix, Rule, rule_of}
 use Rattle.byte_unit_format.proofs.ShownForms.{exact_in_unit}
 use Rattle.byte_unit_format.proofs.Widths.{name_short, layout_fills_width}

@@ -13,7 +13,7 @@ ghost use Rattle.byte_unit_command.specs.Shown.{IsFormText};
 use crate::meaning::kind_of;
 use crate::options::{Form, Kind, Options};
 use byte_unit::{Bit, Byte, FormatSpec, ParseError};
-use byte_unit_base::appropriate_unit;
+use byte_unit_choice::appropriate_unit;
 use byte_unit_format::{write_adjusted, write_text};
 
 /// Parses a field as a size of the kind of the options. Returns `None` if it is not UTF-8.

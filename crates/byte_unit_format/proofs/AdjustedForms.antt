@@ -19,7 +19,7 @@ use Rattle.byte_unit_math.proofs.Texts.{same_finite, expansion_unique, nearest_u
 use Rattle.byte_unit_math.proofs.Texts.{expansion_of_same_fraction}
 use Rattle.byte_unit_base.specs.Shape.{Shape, bits, twos, fives}
 use Rattle.byte_unit_base.specs.Version.{Version, unit_name, unit_name_in}
-use Rattle.byte_unit_base.proofs.Choosing.{some_bits}
+use Rattle.byte_unit_choice.proofs.Choosing.{some_bits}
 use Rattle.byte_unit_base.specs.declared.kind.Kind.{Kind}
 use Rattle.byte_unit_format.specs.declared.spec.FormatSpec.{FormatSpec}
 use Rattle.byte_unit_base.specs.Kinds.{bits_in}

@@ -10,8 +10,9 @@ use Rattle.byte_unit_math.specs.Bounds.{size_limit, scale}
 use Rattle.byte_unit_math.proofs.TwosFives.{FivesOff-trailing_zeros}
 use Rattle.byte_unit_base.specs.Shape.{Shape, shape, bits}
 use Rattle.byte_unit_base.specs.Version.{current}
-use Rattle.byte_unit_base.specs.Choice.{IsRecoveredIn, IsExactUnit, places_within}
-use Rattle.byte_unit_base.specs.Kinds.{bits_in, counts_bits, own_family, own_unit}
+use Rattle.byte_unit_choice.specs.Choice.{IsRecoveredIn, IsExactUnit, places_within}
+use Rattle.byte_unit_base.specs.Kinds.{bits_in, counts_bits, own_unit}
+use Rattle.byte_unit_choice.specs.Family.{own_family}
 use Rattle.byte_unit_base.specs.declared.kind.Kind.{Kind}
 use Rattle.byte_unit_format.specs.FewPlaces.{FitsPrefix, IsGreatest}
 use Rattle.byte_unit_format.proofs.NarrowTexts.{pow10_next, prefix_of, unit_bits, own_kind, pow10_le_pow2}

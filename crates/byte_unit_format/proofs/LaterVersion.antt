@@ -11,15 +11,15 @@ use Rattle.byte_unit_base.specs.Version.{Version, first_version, current, unit_n
 use Rattle.byte_unit_base.specs.Spelling.{Spells, SpellsPrefix}
 use Rattle.byte_unit_base.specs.declared.unit.scan.Flags.{Flags}
 use Rattle.byte_unit_base.specs.Number.{IsNumberText}
-use Rattle.byte_unit_base.specs.Family.{InFamily}
-use Rattle.byte_unit_base.specs.Kinds.{bits_in, own_family, flags_for}
-use Rattle.byte_unit_base.specs.Choice.{IsLargestOrOwn, IsExactUnitIn, IsEligibleUnitIn, IsRecoveredIn}
+use Rattle.byte_unit_choice.specs.Family.{InFamily, own_family}
+use Rattle.byte_unit_base.specs.Kinds.{bits_in, flags_for}
+use Rattle.byte_unit_choice.specs.Choice.{IsLargestOrOwn, IsExactUnitIn, IsEligibleUnitIn, IsRecoveredIn}
 use Rattle.byte_unit_format.specs.Layout.{layout}
 use Rattle.byte_unit_format.specs.Forms.{places_of}
 use Rattle.byte_unit_format.specs.VersionLaws.{AcceptedTextsStay, SizeFormsStay, AppropriateUnitsStay}
 use Rattle.byte_unit_format.specs.VersionLaws.{AdjustedFormsStay}
 use Rattle.byte_unit_base.specs.declared.kind.Kind.{Kind}
-use Rattle.byte_unit_base.specs.declared.unit.family.Family.{Family}
+use Rattle.byte_unit_choice.specs.declared.family.Family.{Family}
 use Rattle.byte_unit_format.specs.declared.spec.FormatSpec.{FormatSpec}
 use Rattle.byte_unit_format.proofs.NarrowTexts.{prefix_of, unit_bits, bits_in_positive, prefix_at_least}
 use Rattle.byte_unit_format.proofs.FewPlaces.{exponent_below}

@@ -29,11 +29,11 @@ use Rattle.byte_unit_base.specs.declared.kind.Kind.TheVariants.{Byte, Bit}
 use Rattle.byte_unit_format.specs.declared.spec.FormatSpec.{FormatSpec}
 use Rattle.byte_unit_format.specs.declared.spec.Sign.{Sign}
 use Rattle.byte_unit_format.specs.declared.spec.Sign.TheVariants.{Plus}
-use Rattle.byte_unit_base.specs.Family.{HasKind}
-use Rattle.byte_unit_base.specs.Choice.{IsRecoveredIn}
-use Rattle.byte_unit_base.proofs.Choosing.{some_bits, own_bits}
+use Rattle.byte_unit_choice.specs.Family.{HasKind, own_family}
+use Rattle.byte_unit_choice.specs.Choice.{IsRecoveredIn}
+use Rattle.byte_unit_choice.proofs.Choosing.{some_bits, own_bits}
 use Rattle.byte_unit_base.proofs.Names.{IsKnown, SaysKind, name_spells, name_ascii, name_end, unit_known}
-use Rattle.byte_unit_base.specs.Kinds.{bits_in, counts_bits, own_unit, own_family, flags_for}
+use Rattle.byte_unit_base.specs.Kinds.{bits_in, counts_bits, own_unit, flags_for}
 use Rattle.byte_unit_base.specs.LeastOfKind.{IsLeastOf}
 use Rattle.byte_unit_base.specs.Accepted.{IsAccepted, IsRejected}
 use Rattle.byte_unit_format.specs.Layout.{layout, layout_padding, layout_left_padding, gap_of}
@@ -51,7 +51,7 @@ use Rattle.byte_unit_format.specs.AdjustedString.{IsAdjustedString}
 use Rattle.byte_unit_format.specs.declared.spec.TheConstants.FormatSpec.{ALTERNATE}
 use Rattle.byte_unit_base.specs.declared.unit.Unit.{Unit as UnitName}
 use Rattle.byte_unit_base.proofs.LongFractions.{long_fault}
-use Rattle.byte_unit_base.proofs.Quotients.{exact_more}
+use Rattle.byte_unit_choice.proofs.Quotients.{exact_more}
 
 skip_spaces : (count : ℕ) (text : List ℕ)
     → skip_leading_whitespace (spaces count ++ text) ≡ skip_leading_whitespace text

@@ -21,7 +21,7 @@ use Rattle.byte_unit_format.specs.FormLaws.{ShownSizeIsPlainForm, ShownAdjustedS
 use Rattle.byte_unit_format.specs.declared.spec.TheConstants.FormatSpec.{PLAIN}
 use Rattle.byte_unit_base.specs.declared.unit.Unit.{Unit as UnitName}
 use Rattle.byte_unit_base.specs.declared.unit.Unit.TheVariants.{Bit}
-use Rattle.byte_unit_base.proofs.Choosing.{some_bits}
+use Rattle.byte_unit_choice.proofs.Choosing.{some_bits}
 
 unit_below_limit : (unit : UnitName) → leb (bits (shape_of unit)) unit_limit ≡ true
 unit_below_limit Bit = refl

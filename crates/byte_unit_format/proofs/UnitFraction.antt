@@ -16,7 +16,7 @@ use Rattle.byte_unit_math.specs.Digits.{last_digits, at_places, trim_zeros, trim
 use Rattle.byte_unit_math.specs.Numeral.{text_of, short_numeral}
 use Rattle.byte_unit_math.proofs.Texts.{short_numeral_is_expansion, expansion_of_same_fraction, text_of_short_numeral}
 use Rattle.byte_unit_math.proofs.Digits.{last_digits_below_ten, small_without_zeros}
-use Rattle.byte_unit_base.specs.Choice.{IsRecoveredIn}
+use Rattle.byte_unit_choice.specs.Choice.{IsRecoveredIn}
 use Rattle.byte_unit_base.specs.Kinds.{bits_in, counts_bits, own_unit}
 use Rattle.byte_unit_base.specs.Shape.{Shape, shape, bits}
 use Rattle.byte_unit_base.specs.Version.{unit_name_in, current}

@@ -1,21 +1,21 @@
 -- A size has exactly one text with a unit by each spec, and what the code writes of it is this text.
-use Rattle.std.proofs.Common.{rules, ◌≡◌, ℕ, ◌*◌, inl, inr, false, List, refl, sym, ◌∙◌, ⊎_elim, ◌+◌, ◌-◌}
-use Rattle.std.proofs.Common.{◌<◌, min, zero, suc, Bool, true, ◌∷◌, ◌++◌, length, take, replicate, arith, ap}
-use Rattle.std.proofs.Common.{subst}
+use Rattle.std.proofs.Common.{rules, ◌≡◌, ℕ, ◌*◌, inl, inr, false, List, refl, sym, ◌∙◌, ⊎_elim, ◌+◌, ◌-◌, ◌<◌, min}
+use Rattle.std.proofs.Common.{zero, suc, Bool, true, ◌∷◌, ◌++◌, length, take, replicate, arith, ap, subst}
 use Rattle.std.proofs.Math.Nat.{eq_of_mul-eq-mul_right}
 use Rattle.byte_unit_base.specs.Shape.{Shape, bits}
 use Rattle.byte_unit_base.specs.Version.{Version, unit_name_in, current}
-use Rattle.byte_unit_base.specs.Choice.{IsRecoveredIn, family_for}
-use Rattle.byte_unit_base.proofs.Choosing.{some_bits, own_number}
-use Rattle.byte_unit_base.proofs.OneChoice.{one_largest}
+use Rattle.byte_unit_choice.specs.Choice.{IsRecoveredIn, family_for}
+use Rattle.byte_unit_choice.proofs.Choosing.{some_bits, own_number}
+use Rattle.byte_unit_choice.proofs.OneChoice.{one_largest}
 use Rattle.byte_unit_base.specs.declared.kind.Kind.{Kind}
 use Rattle.byte_unit_format.specs.declared.spec.FormatSpec.{FormatSpec}
-use Rattle.byte_unit_base.specs.Kinds.{bits_in, own_family, own_unit}
+use Rattle.byte_unit_base.specs.Kinds.{bits_in, own_unit}
+use Rattle.byte_unit_choice.specs.Family.{own_family}
 use Rattle.byte_unit_format.specs.Forms.{places_of, IsSizeFormIn, IsSizeForm, IsText}
 use Rattle.byte_unit_math.specs.Bounds.{scale, places_of_decimal}
 use Rattle.byte_unit_math.specs.Numeral.{short_numeral, glyphs, fraction_text, text_of}
-use Rattle.byte_unit_base.proofs.LaterChoices.{number_times_chosen}
-use Rattle.byte_unit_base.proofs.SomeChoice.{choice_or_none}
+use Rattle.byte_unit_choice.proofs.LaterChoices.{number_times_chosen}
+use Rattle.byte_unit_choice.proofs.SomeChoice.{choice_or_none}
 use Rattle.byte_unit_format.specs.Layout.{layout}
 use Rattle.byte_unit_format.specs.FormLaws.{SizeHasOneForm}
 use Rattle.std.specs.Prelude.{MatchBool}

@@ -3,7 +3,7 @@ use Rattle.std.specs.Prelude.{◌≡◌, ℕ, ◌+◌, ◌*◌, ◌^◌, ◌<◌
 use Rattle.byte_unit_math.specs.Bounds.{scale}
 use Rattle.byte_unit_math.specs.Digits.{last_digits, trim_zeros}
 use Rattle.byte_unit_math.specs.Numeral.{fraction_text}
-use Rattle.byte_unit_base.specs.Choice.{IsRecoveredIn}
+use Rattle.byte_unit_choice.specs.Choice.{IsRecoveredIn}
 use Rattle.byte_unit_base.specs.Kinds.{bits_in, counts_bits, own_unit}
 use Rattle.byte_unit_base.specs.Shape.{Shape, bits, shape}
 use Rattle.byte_unit_base.specs.Version.{unit_name_in, current}

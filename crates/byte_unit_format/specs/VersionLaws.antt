@@ -3,11 +3,11 @@ use Rattle.std.specs.Prelude.{◌↔◌, ℕ, ◌<◌, ◌≤◌, Bool, List, le
 use Rattle.byte_unit_base.specs.Shape.{Shape}
 use Rattle.byte_unit_base.specs.Version.{first_version, current}
 use Rattle.byte_unit_base.specs.Accepted.{IsAccepted, IsAcceptedIn}
-use Rattle.byte_unit_base.specs.Choice.{IsAppropriateIn}
+use Rattle.byte_unit_choice.specs.Choice.{IsAppropriateIn}
 use Rattle.byte_unit_format.specs.Adjusted.{IsAdjustedFormIn}
 use Rattle.byte_unit_format.specs.Forms.{IsSizeForm, IsSizeFormIn}
 use Rattle.byte_unit_base.specs.declared.kind.Kind.{Kind}
-use Rattle.byte_unit_base.specs.declared.unit.unit_type.UnitType.{UnitType}
+use Rattle.byte_unit_choice.specs.declared.unit_type.UnitType.{UnitType}
 use Rattle.byte_unit_format.specs.declared.spec.FormatSpec.{FormatSpec}
 
 -- Each string that the first version accepts is accepted as the same size.

@@ -3,7 +3,7 @@
 ghost use Rattle.std.specs.Prelude.{◌≡◌, ℕ, ◌+◌, ◌*◌, ◌-◌, ◌/◌, ◌%◌, ◌^◌, ◌<◌, ◌≤◌, true, false};
 ghost use Rattle.byte_unit_math.specs.Bounds.{scale, size_limit};
 ghost use Rattle.byte_unit_base.specs.declared.kind.Kind.{Kind as OfKind};
-ghost use Rattle.byte_unit_base.specs.Choice.{IsRecovered, IsRecoveredIn};
+ghost use Rattle.byte_unit_choice.specs.Choice.{IsRecovered, IsRecoveredIn};
 ghost use Rattle.byte_unit_base.specs.Kinds.{bits_in, counts_bits};
 ghost use Rattle.byte_unit_base.specs.Shape.{bits, shape};
 ghost use Rattle.byte_unit_base.specs.Units.{shape_of};
@@ -11,7 +11,8 @@ ghost use Rattle.byte_unit_base.specs.Version.{current};
 ghost use Rattle.byte_unit_format.specs.FewPlaces.{IsGreatest};
 ghost use Rattle.byte_unit_format.specs.UnitFraction.{HasPrefix, IsSplit};
 
-use byte_unit_base::{Kind, Unit, recoverable_unit, unit_with_prefix};
+use byte_unit_base::{Kind, Unit, unit_with_prefix};
+use byte_unit_choice::recoverable_unit;
 use byte_unit_math::{Decimal, Steps, div_rem_thousand, power_of_ten};
 
 /// The precision up to which the unit is found without a search.

@@ -9,20 +9,12 @@ ghost use Rattle.byte_unit_base.specs.Version.{current};
 
 use crate::unit::{Shape, Unit, UnitData};
 
-/// A row of a table: a unit, its number of bits, and the exponents of 2 and of 5 in that number.
-#[derive(Clone, Copy)]
-pub(crate) struct UnitRow {
-    pub(crate) unit: Unit,
-    pub(crate) bits: u128,
-    pub(crate) twos: u32,
-    pub(crate) fives: u32,
-}
-
 /// The number of prefixes.
-pub(crate) const PREFIXES: usize = 9;
+pub const PREFIXES: usize = 9;
 
 /// Calls a macro with each prefix: its letter, its units, its position, and its value as a decimal and as a binary
 /// prefix.
+#[macro_export]
 macro_rules! with_prefixes {
     ($table:ident $kind:ident) => {
         $table![$kind
@@ -99,64 +91,6 @@ macro_rules! table {
     };
 }
 
-/// Writes the row of one unit.
-macro_rules! row {
-    ($unit:ident, $bits:expr, $twos:expr, $fives:expr) => {
-        UnitRow {
-            unit: Unit::$unit,
-            bits: $bits,
-            twos: $twos,
-            fives: $fives,
-        }
-    };
-}
-
-/// Writes the rows of a unit set, the largest first: each prefix puts its own before those that are made.
-macro_rules! rows {
-    ($set:ident $letter:literal $bit:ident $ibit:ident $b:ident $ib:ident $($rest:tt)*) => {
-        rows_before![$set [] $letter $bit $ibit $b $ib $($rest)*]
-    };
-}
-
-/// Puts the rows of the first prefix before those that are made, and goes on with the other prefixes.
-macro_rules! rows_before {
-    (all [$($made:tt)*]
-        $letter:literal $bit:ident $ibit:ident $b:ident $ib:ident $n:literal $decimal:literal $binary:literal
-        $(, $($rest:tt)*)?
-    ) => {
-        rows_before![all [
-            row!($ib, $binary * 8, 10 * $n + 3, 0),
-            row!($b, $decimal * 8, 3 * $n + 3, 3 * $n),
-            row!($ibit, $binary, 10 * $n, 0),
-            row!($bit, $decimal, 3 * $n, 3 * $n),
-            $($made)*
-        ] $($($rest)*)?]
-    };
-    (bytes [$($made:tt)*]
-        $letter:literal $bit:ident $ibit:ident $b:ident $ib:ident $n:literal $decimal:literal $binary:literal
-        $(, $($rest:tt)*)?
-    ) => {
-        rows_before![bytes [
-            row!($ib, $binary * 8, 10 * $n + 3, 0),
-            row!($b, $decimal * 8, 3 * $n + 3, 3 * $n),
-            $($made)*
-        ] $($($rest)*)?]
-    };
-    (bits [$($made:tt)*]
-        $letter:literal $bit:ident $ibit:ident $b:ident $ib:ident $n:literal $decimal:literal $binary:literal
-        $(, $($rest:tt)*)?
-    ) => {
-        rows_before![bits [
-            row!($ibit, $binary, 10 * $n, 0),
-            row!($bit, $decimal, 3 * $n, 3 * $n),
-            $($made)*
-        ] $($($rest)*)?]
-    };
-    ($set:ident [$($made:tt)*]) => {
-        [$($made)*]
-    };
-}
-
 /// The name and the shape of each unit, in the order of the variants.
 pub(crate) static UNITS: [UnitData; 38] = with_prefixes!(table data);
 
@@ -174,15 +108,6 @@ static LETTERS: [u8; PREFIXES] = with_prefixes!(table letters);
 
 /// What is expected at the beginning of a unit: `B` and the letters of the prefixes.
 pub(crate) static BEGINNING: [char; PREFIXES + 1] = with_prefixes!(table expected);
-
-/// The units of bytes and of bits with a prefix, the largest first.
-pub(crate) static ALL: [UnitRow; 36] = with_prefixes!(rows all);
-
-/// The units of bytes with a prefix, the largest first.
-pub(crate) static BYTES: [UnitRow; 18] = with_prefixes!(rows bytes);
-
-/// The units of bits with a prefix, the largest first.
-pub(crate) static BITS: [UnitRow; 18] = with_prefixes!(rows bits);
 
 /// Returns the letter of the prefix of a position, from 1 for K to 9 for R.
 ///

@@ -5,7 +5,7 @@ ghost use Rattle.std.specs.String.{string_bytes};
 ghost use Rattle.byte_unit_base.specs.Shape.{bits};
 ghost use Rattle.byte_unit_base.specs.Units.{shape_of};
 ghost use Rattle.byte_unit_base.specs.Kinds.{bits_in};
-ghost use Rattle.byte_unit_base.specs.Choice.{IsAppropriate};
+ghost use Rattle.byte_unit_choice.specs.Choice.{IsAppropriate};
 ghost use Rattle.byte_unit_format.specs.Forms.{text_limit};
 ghost use Rattle.byte_unit_format.specs.Adjusted.{IsAdjustedForm};
 ghost use Rattle.byte_unit_format.specs.Room.{AppendsForm};
@@ -13,7 +13,8 @@ ghost use Rattle.byte_unit_format.specs.Written.{WritesForm};
 ghost use Rattle.byte_unit_base.specs.declared.kind.Kind.TheVariants.{Byte as InBytes};
 
 use super::Byte;
-use byte_unit_base::{Kind, Unit, UnitType, appropriate_unit};
+use byte_unit_base::{Kind, Unit};
+use byte_unit_choice::{UnitType, appropriate_unit};
 use byte_unit_format::FormatSpec;
 use std::alloc::{AllocError, Allocator, Global};
 use std::marker::Model;
@@ -36,7 +37,7 @@ pub struct AdjustedByte {
 }
 
 impl Model for AdjustedByte {
-    ghost use Rattle.byte_unit_base.specs.AdjustedSize.{AdjustedSize};
+    ghost use Rattle.byte_unit_choice.specs.AdjustedSize.{AdjustedSize};
 
     ghost Value = { AdjustedSize };
 

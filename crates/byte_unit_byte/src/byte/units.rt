@@ -6,11 +6,12 @@ ghost use Rattle.byte_unit_math.specs.Steps.{saturating_add};
 ghost use Rattle.byte_unit_base.specs.Shape.{bits};
 ghost use Rattle.byte_unit_base.specs.Units.{shape_of};
 ghost use Rattle.byte_unit_base.specs.Kinds.{bits_in};
-ghost use Rattle.byte_unit_base.specs.Choice.{IsRecovered, CountsChoice, most_steps};
+ghost use Rattle.byte_unit_choice.specs.Choice.{IsRecovered, CountsChoice, most_steps};
 ghost use Rattle.byte_unit_base.specs.declared.kind.Kind.TheVariants.{Byte as InBytes};
 
 use super::Byte;
-use byte_unit_base::{Kind, Unit, exact_unit, recoverable_unit};
+use byte_unit_base::{Kind, Unit};
+use byte_unit_choice::{exact_unit, recoverable_unit};
 use byte_unit_math::{Decimal, Steps};
 
 impl Byte {

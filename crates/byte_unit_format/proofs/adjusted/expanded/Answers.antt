@@ -5,7 +5,7 @@ use Rattle.byte_unit_math.proofs.Texts.{nearest_of_expansion, text_of_padded, te
 use Rattle.byte_unit_base.specs.Shape.{bits}
 use Rattle.byte_unit_base.specs.Units.{shape_of}
 use Rattle.byte_unit_base.specs.Kinds.{bits_in}
-use Rattle.byte_unit_base.proofs.Choosing.{some_bits}
+use Rattle.byte_unit_choice.proofs.Choosing.{some_bits}
 use Rattle.byte_unit_format.proofs.adjusted.expanded.Goals as goal
 
 pub returns-in-To-clause-number : goal.returns-in-To-clause-number

@@ -1,13 +1,13 @@
 -- The larger of the two prefixes has the unit, and the size in it is a number of thousandths.
 use Rattle.std.proofs.Common.{◌≡◌, ℕ, ◌*◌, false, arith, refl}
 use Rattle.byte_unit_math.specs.Bounds.{scale}
-use Rattle.byte_unit_base.specs.Choice.{IsRecoveredIn}
+use Rattle.byte_unit_choice.specs.Choice.{IsRecoveredIn}
 use Rattle.byte_unit_base.specs.declared.kind.Kind.{Kind}
 use Rattle.byte_unit_format.specs.UnitFraction.{IsSplit}
 use Rattle.byte_unit_format.specs.declared.thousandths.UnitFraction.TheVariants.{Own}
 use Rattle.byte_unit_base.specs.Kinds.{own_unit}
 use Rattle.byte_unit_base.specs.Version.{current}
-use Rattle.byte_unit_base.proofs.Choosing.{own_number}
+use Rattle.byte_unit_choice.proofs.Choosing.{own_number}
 use Rattle.byte_unit_format.proofs.UnitFraction.{whole_below}
 use Rattle.byte_unit_format.proofs.FewPlaces.{recovered_own, recovered_none, recovered_decimal, recovered_binary}
 use Rattle.byte_unit_format.proofs.FewPlaces.{number_of_units}

@@ -3,7 +3,7 @@ use Rattle.std.proofs.Common.{ℕ, ◌*◌, ◌/◌, ◌^◌, ◌≤◌, false, 
 use Rattle.byte_unit_math.specs.Bounds.{scale}
 use Rattle.byte_unit_base.specs.Kinds.{counts_bits, own_unit}
 use Rattle.byte_unit_base.specs.Shape.{shape}
-use Rattle.byte_unit_base.proofs.Choosing.{own_number}
+use Rattle.byte_unit_choice.proofs.Choosing.{own_number}
 use Rattle.byte_unit_format.specs.FewPlaces.{FitsPrefix}
 use Rattle.byte_unit_format.proofs.TextParts.{front_is}
 use Rattle.byte_unit_format.proofs.UnitFraction.{form_of_split, form_of_thousandths}

@@ -1,6 +1,0 @@
--- The law is the statement of a lemma.
-use Rattle.byte_unit_base.proofs.LaterChoices.{no_smaller}
-use Rattle.byte_unit_base.proofs.laws.choices.more_places_give_no_smaller_unit.Goals as goal
-
-pub returns : goal.returns
-returns c = no_smaller

@@ -1,0 +1,68 @@
+-- A size has at most one chosen unit and number.
+use Rattle.std.proofs.Common.{◌≡◌, ℕ, ◌*◌, ◌^◌, ◌-◌, ◌≤◌, Bool, true, arith, sym, ap, ◌∙◌}
+use Rattle.std.proofs.Math.Nat.{eq_of_mul-eq-mul_right}
+use Rattle.byte_unit_math.specs.Exact.{IsQuotient}
+use Rattle.byte_unit_math.specs.Bounds.{places_of_decimal}
+use Rattle.byte_unit_math.specs.Powers.{IsTwoFive}
+use Rattle.byte_unit_math.proofs.Powers.{exact_by_powers}
+use Rattle.byte_unit_base.specs.Shape.{Shape, shape, bits, twos, fives}
+use Rattle.byte_unit_choice.specs.Choice.{IsLargest, IsExactUnitIn, places_within}
+use Rattle.byte_unit_choice.specs.ChoiceLaws.{ChoicesAreOne}
+use Rattle.byte_unit_base.specs.Version.{Version}
+use Rattle.byte_unit_choice.specs.declared.family.Family.{Family}
+use Rattle.byte_unit_choice.proofs.Choosing.{some_bits}
+
+-- 2^a * 5^b has the exponents a of 2 and b of 5
+pure_powers : (a b : ℕ) → IsTwoFive (2 ^ a * 5 ^ b) a b
+pure_powers a b = record {
+  left = 1;
+  product = omega arith;
+  odd = λ e. let k : ⊥ = cc in k;
+  no_five = λ e. let k : ⊥ = cc in k;
+}
+
+-- if 2^c * 5^d is 2^a * 5^b, then c and d are no greater than a and b
+no_greater : (a b c d : ℕ) → 2 ^ a * 5 ^ b ≡ 2 ^ c * 5 ^ d → (c ≤ a) × (d ≤ b)
+no_greater a b c d e =
+    let h = (exact_by_powers (2 ^ a * 5 ^ b) c d a b 0 (pure_powers a b)).0 (1, omega (arith, e)) in
+    (omega (arith, h.0), omega (arith, h.1))
+
+-- two units with a prefix and the same exponents are the same
+same_fields : (power : ℕ) (binary bit : Bool) (other : ℕ) (other_binary other_bit : Bool) → 1 ≤ power → 1 ≤ other
+    → twos (shape power binary bit) ≡ twos (shape other other_binary other_bit)
+    → fives (shape power binary bit) ≡ fives (shape other other_binary other_bit)
+    → shape power binary bit ≡ shape other other_binary other_bit
+same_fields power true true other true true some other_some t f = grind arith
+same_fields power binary bit other other_binary other_bit some other_some t f = grind arith
+
+-- two units with a prefix and the same number of bits are the same
+pub same_unit : (unit other : Shape) → 1 ≤ unit.power → 1 ≤ other.power → bits unit ≡ bits other → unit ≡ other
+same_unit unit other prefix other_prefix same =
+    let low = no_greater (twos unit) (fives unit) (twos other) (fives other) same in
+    let high = no_greater (twos other) (fives other) (twos unit) (fives unit) (sym same) in
+    same_fields unit.power unit.binary unit.bit other.power other.binary other.bit prefix other_prefix
+    (omega (arith, low.0, high.0)) (omega (arith, low.1, high.1))
+
+-- there is only one largest unit in which a size is exact
+pub one_largest : (version : Version) (family : Family) (in_bits precision : ℕ) (unit other : Shape)
+    → IsLargest (IsExactUnitIn version family in_bits precision) unit
+    → IsLargest (IsExactUnitIn version family in_bits precision) other → unit ≡ other
+one_largest version family in_bits precision unit other largest other_largest =
+    same_unit unit other largest.has.member.prefix.some other_largest.has.member.prefix.some
+    (omega (arith, largest.largest other other_largest.has, other_largest.largest unit largest.has))
+
+-- an exact quotient has only one value
+same_number : (size places unit number other : ℕ) → 1 ≤ unit → IsQuotient size unit places number
+    → IsQuotient size unit places other → number ≡ other
+same_number size places unit number other some quotient other_quotient =
+    let same = sym quotient.exact ∙ other_quotient.exact in
+    let count = eq_of_mul-eq-mul_right unit (omega (arith, some)) quotient.count other_quotient.count same in
+    quotient.number ∙ (ap (λ count. count * 10 ^ (places_of_decimal - places)) count ∙ sym other_quotient.number)
+
+-- a size has at most one chosen unit and number
+pub one_choice : ChoicesAreOne
+one_choice version family in_bits precision number other_number unit other_unit chosen other =
+    let same = one_largest version family in_bits precision unit other_unit chosen.unit_is other.unit_is in
+    let places = places_within precision in
+    let quotient : IsQuotient in_bits (bits unit) places other_number = rw same other.number_is in
+    (same, same_number in_bits places (bits unit) number other_number (some_bits unit) chosen.number_is quotient)
