@@ -3,8 +3,8 @@
 ghost use Rattle.std.specs.Prelude.{◌≡◌, ◌<◌, ◌≤◌, ◌⊎◌, slice_get, None, IfSome, IfNone};
 ghost use Rattle.byte_unit_math.specs.Bounds.{size_limit};
 ghost use Rattle.byte_unit_base.specs.Version.{unit_name};
-ghost use Rattle.byte_unit_format.specs.Forms.{IsText, text_limit};
-ghost use Rattle.byte_unit_format.specs.Adjusted.{IsAdjustedForm, IsApproximateForm};
+ghost use Rattle.byte_unit_format.specs.Forms.{IsText, narrow_text, text_limit};
+ghost use Rattle.byte_unit_format.specs.Adjusted.{IsAdjustedForm, IsApproximateForm, most_adjusted_text};
 ghost use Rattle.byte_unit_format.specs.Written.{WritesForm};
 ghost use Rattle.byte_unit_c.specs.Codes.{unit_at, types};
 ghost use Rattle.byte_unit_c.specs.Flags.{kind_at};
@@ -32,6 +32,7 @@ pub extern "C" fn byte_unit_text(size: Number, flags: u32, spec: Spec, out: &mut
         ⊎ (spec_at spec ≡ None)
         → (result ≡ 0) × (out.new ≡ out.old) }
     ensures bound { result < text_limit }
+    ensures narrow { IfSome (spec_at spec) (λ asked. asked.width ≡ None → result ≤ narrow_text) }
 {
     match (size::bounded(size.get()), kind_at(flags), spec.get()) {
         (Some(size), Some(kind), Some(spec)) => write_text(size, kind, spec, out),
@@ -64,6 +65,7 @@ pub extern "C" fn byte_unit_adjusted_text(
         ⊎ (spec_at spec ≡ None)
         → (result ≡ 0) × (out.new ≡ out.old) }
     ensures bound { result < text_limit }
+    ensures narrow { IfSome (spec_at spec) (λ asked. result ≤ most_adjusted_text asked) }
 {
     match (
         size::bounded(size.get()),
@@ -81,8 +83,8 @@ pub extern "C" fn byte_unit_adjusted_text(
 /// Formats a size in its appropriate unit to the start of `out`, and returns the length of the text. The unit is the
 /// one that `byte_unit_appropriate_unit` returns for the unit type (0 binary, 1 decimal, 2 both), and the text that of
 /// `byte_unit_adjusted_text` in this unit. The size is in bytes, or in bits with the flag `BITS` (1). Returns the
-/// length and writes nothing if `out` is shorter. Returns 0 and writes nothing if the size is out of range, another flag
-/// is set, the unit type is unknown, or the spec is invalid.
+/// length and writes nothing if `out` is shorter. Returns 0 and writes nothing if the size is out of range, another
+/// flag is set, the unit type is unknown, or the spec is invalid.
 ///
 /// For example, 10,000 bytes with the unit type 0 and the precision 1 gives 7, the length of `9.8 KiB`.
 #[unsafe(no_mangle)]
@@ -104,6 +106,7 @@ pub extern "C" fn byte_unit_approximate_text(
         ⊎ (spec_at spec ≡ None)
         → (result ≡ 0) × (out.new ≡ out.old) }
     ensures bound { result < text_limit }
+    ensures narrow { IfSome (spec_at spec) (λ asked. result ≤ most_adjusted_text asked) }
 {
     match (
         size::bounded(size.get()),
@@ -112,8 +115,13 @@ pub extern "C" fn byte_unit_approximate_text(
         spec.get(),
     ) {
         (Some(size), Some(kind), Some(unit_type), Some(spec)) => {
-            let unit = appropriate_unit(size, kind, unit_type);
-            write_adjusted(size, kind, unit, spec, out)
+            write_adjusted(
+                size,
+                kind,
+                appropriate_unit(size, kind, unit_type),
+                spec,
+                out,
+            )
         }
         _ => 0,
     }

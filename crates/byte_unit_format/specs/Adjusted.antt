@@ -1,6 +1,7 @@
 -- The text of a size in a given unit.
-use Rattle.std.specs.Prelude.{◌≡◌, ℕ, ◌*◌, min, Bool, true, false, List, ◌++◌, codes, Option, None, Some, ◌==◌}
+use Rattle.std.specs.Prelude.{◌≡◌, ℕ, ◌+◌, ◌*◌, min, max, Bool, true, false, List, ◌++◌, codes, Option, None, Some, ◌==◌}
 use Rattle.std.specs.Prelude.{if◌then◌else◌}
+use Rattle.byte_unit_math.specs.Bounds.{expansion_places}
 use Rattle.byte_unit_math.specs.Finite.{Finite, IsExpansion}
 use Rattle.byte_unit_math.specs.Nearest.{IsNearest}
 use Rattle.byte_unit_math.specs.Digits.{expansion_of}
@@ -13,6 +14,7 @@ use Rattle.byte_unit_base.specs.declared.kind.Kind.{Kind}
 use Rattle.byte_unit_format.specs.declared.spec.FormatSpec.{FormatSpec}
 use Rattle.byte_unit_base.specs.Kinds.{bits_in}
 use Rattle.byte_unit_format.specs.Layout.{layout}
+use Rattle.byte_unit_format.specs.Plain.{least_columns}
 use Rattle.byte_unit_base.specs.Units.{shape_of}
 use Rattle.byte_unit_base.specs.declared.unit.Unit.{Unit as UnitName}
 use Rattle.byte_unit_base.specs.declared.unit.unit_type.UnitType.{UnitType}
@@ -64,11 +66,22 @@ pub record IsAdjustedFormIn (version : Version) (kind : Kind) (size : ℕ) (unit
   pub number_is : IsNumeralBy (rule_of spec.precision spec.alternate unit) (size * bits_in kind) (bits unit) number
   pub text_is : text ≡ layout number (unit_name_in version unit) spec
 
--- The size formatted in a unit of the crate, by its name in the current version.
+-- The size formatted in a unit, by its name in the current version.
 abbrev pub IsAdjustedForm : Kind → ℕ → UnitName → FormatSpec → List ℕ → Type 0
 IsAdjustedForm kind size unit spec text = IsAdjustedFormIn current kind size (shape_of unit) spec text
 
--- The text is the size in its appropriate unit, the largest of the type that is not above it, formatted by the spec.
+-- The most digits after the point of a size in a unit: 93 if no precision is set; otherwise the precision, or three if
+-- that is less, which bits have in `B`.
+abbrev pub most_shown_places : Option ℕ → ℕ
+most_shown_places None = expansion_places
+most_shown_places (Some precision) = max precision 3
+
+-- The most bytes of the text of a size in a unit: the width, or if it is more, 31 digits, the point, the digits after
+-- it, and the four columns of a space and a unit.
+abbrev pub most_adjusted_text : FormatSpec → ℕ
+most_adjusted_text spec = max (least_columns spec.width) (36 + most_shown_places spec.precision)
+
+-- The size formatted in its appropriate unit of the type.
 pub record IsApproximateForm (kind : Kind) (unit_type : UnitType) (size : ℕ) (spec : FormatSpec) (text : List ℕ)
     : Type 0 where
   pub unit : UnitName
