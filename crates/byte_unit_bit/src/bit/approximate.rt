@@ -43,8 +43,9 @@ impl Bit {
     /// is at most the size.
     ///
     /// If no precision is set, the number has all its digits; with a precision it is rounded, as the text of an
-    /// adjusted size is. The unit is chosen before that: 999,999 bits with one place are `1000.0 Kb`. `append_text` and
-    /// `to_text_in` of that adjusted size take any allocator.
+    /// adjusted size is. The unit is chosen before that: 999,999 bits with one place are `1000.0 Kb`.
+    ///
+    /// `append_text` and `to_text_in` of that adjusted size take any allocator.
     ///
     /// # Errors
     /// `AllocError` if an allocation fails.
