@@ -201,10 +201,11 @@ static inline uint32_t byte_unit_parse_many_32(const char *data, size_t data_len
                                       codes, count);
 }
 
-/* Writes to `position` the index, from 0, of the first byte of a string that byte_unit_parse rejects which no size can
- * have there: of its first wrong character, or of its end, before white space there, if it ends too early. The index is
- * the same with all flags. Returns false and writes nothing if the string is a size, if only its size is 10^30 or more,
- * or if the bytes are not UTF-8. */
+/* Writes to `position` the index in bytes, from 0, of the first wrong character of a string that byte_unit_parse
+ * rejects: up to there the string, without the white space at its ends, begins a size, and with that character it
+ * begins none. If it ends too early, the index is that of its end, before white space there. The index is the same with
+ * all flags. Returns false and writes nothing if the string is a size, if only its size is 10^30 or more, or if the
+ * bytes are not UTF-8. */
 bool byte_unit_error_position(const char *text, size_t len, size_t *position);
 
 /* The same for a string that byte_unit_parse_unit rejects. */
@@ -236,6 +237,14 @@ size_t byte_unit_text(byte_unit_number size, uint32_t flags, byte_unit_spec spec
  * Flags: BITS. */
 size_t byte_unit_adjusted_text(byte_unit_number size, uint32_t flags, uint32_t unit, byte_unit_spec spec, char *out,
                                size_t out_len);
+
+/* Writes the text of a size, as byte_unit_adjusted_text does, in the unit that byte_unit_appropriate_unit returns: the
+ * largest of the unit type that is not above the size. It is chosen before the number is rounded: with precision 1,
+ * 999,999 bytes are "1000.0 KB". Returns 0 if the size is out of range, the unit type or a flag is unknown, or the spec
+ * is invalid.
+ * Flags: BITS. */
+size_t byte_unit_approximate_text(byte_unit_number size, uint32_t flags, uint32_t unit_type, byte_unit_spec spec,
+                                  char *out, size_t out_len);
 
 /* Writes the name of a unit, such as "KiB". Returns 0 if the unit is unknown. */
 size_t byte_unit_unit_name(uint32_t unit, char *out, size_t out_len);

@@ -63,7 +63,7 @@ module _ (flags : Flags) (text front suffix : List ℕ) (h : HasDecimalPrefix fl
         number_part = h.number_part;
         spaces = h.spaces;
         unit_part = h.letter ∷ rest;
-        text_is = ap (λ t. t ++ rest) h.front_is ∙ (append_assoc h.number_part (gap ++ h.letter ∷ []) rest
+        text_is = ap (λ t. t ++ rest) h.before_is ∙ (append_assoc h.number_part (gap ++ h.letter ∷ []) rest
             ∙ ap (λ t. h.number_part ++ t) (append_assoc gap (h.letter ∷ []) rest));
         number_is = h.number_is;
         unit_is = spells_with infix_part binary is;
@@ -113,7 +113,7 @@ module _ (flags : Flags) (text : List ℕ) (number : ℕ) (unit : Shape) (h : Is
           text_is = h.text_is ∙ (ap (λ u. h.number_part ++ (gap ++ u)) unit_is
               ∙ sym (append_assoc h.number_part (gap ++ letter ∷ []) m.count_part
               ∙ ap (λ t. h.number_part ++ t) (append_assoc gap (letter ∷ []) m.count_part)));
-          front_is = refl;
+          before_is = refl;
           number_is = h.number_is;
           letter_is = m.prefix_is.letter_is;
           suffix_is = m.count_is;

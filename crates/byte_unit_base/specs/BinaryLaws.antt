@@ -11,17 +11,17 @@ use Rattle.byte_unit_base.specs.BinaryReading.{IsBinaryReading}
 use Rattle.byte_unit_base.specs.declared.errors.ParseError.{ParseError}
 use Rattle.byte_unit_base.specs.declared.kind.Kind.{Kind}
 
--- the text is a number, any number of spaces, the letter of a prefix, and a suffix, so the prefix is decimal; `front` is
--- all before the suffix
-pub record HasDecimalPrefix (flags : Flags) (text front suffix : List ℕ) : Type 0 where
+-- the text is a number, any number of spaces, the letter of a prefix, and a suffix, so the prefix is decimal; `before`
+-- is all before the suffix
+pub record HasDecimalPrefix (flags : Flags) (text before suffix : List ℕ) : Type 0 where
   pub number_part : List ℕ
   pub number : ℕ
   pub spaces : ℕ
   pub letter : ℕ
   pub power : ℕ
   pub bit : Bool
-  pub text_is : text ≡ front ++ suffix
-  pub front_is : front ≡ number_part ++ (replicate spaces space ++ letter ∷ [])
+  pub text_is : text ≡ before ++ suffix
+  pub before_is : before ≡ number_part ++ (replicate spaces space ++ letter ∷ [])
   pub number_is : IsNumberText current number_part number
   pub letter_is : IsPrefixLetter current power letter
   pub suffix_is : SpellsCount flags suffix bit
@@ -30,8 +30,8 @@ pub record HasDecimalPrefix (flags : Flags) (text front suffix : List ℕ) : Typ
 -- that is rejected
 abbrev pub IsWithI : Flags → List ℕ → List ℕ → Type 0
 IsWithI flags text other =
-    ((front suffix : List ℕ) × HasDecimalPrefix flags text front suffix × (other ≡ front ++ letter_i ∷ suffix))
-    ⊎ ((front suffix : List ℕ) → ¬ (HasDecimalPrefix flags text front suffix)) × (other ≡ text)
+    ((before suffix : List ℕ) × HasDecimalPrefix flags text before suffix × (other ≡ before ++ letter_i ∷ suffix))
+    ⊎ ((before suffix : List ℕ) → ¬ (HasDecimalPrefix flags text before suffix)) × (other ≡ text)
 
 -- law: the binary reading of each input is the reading of the input with an `i` after its decimal prefix, whether it is
 -- accepted or rejected

@@ -1,4 +1,5 @@
--- The binary reading: a decimal prefix means the binary one, so `10m` is by 1024. The grammar is the same. An input is given by its UTF-8 bytes, and a number is scaled by 10^28.
+-- The binary reading: a decimal prefix means the binary one, so `10m` is by 1024. The grammar is the same. An input is
+-- given by its UTF-8 bytes, and a number is scaled by 10^28.
 use Rattle.std.specs.Prelude.{◌≡◌, ℕ, ◌<◌, ◌≤◌, ◌⊎◌, Bool, true, List, Option, MatchOption, Result, Ok, IfOk, IfErr}
 use Rattle.std.specs.Prelude.{IsErrAnd, if◌then◌else◌, nat_lt}
 use Rattle.std.specs.Result.{result_map_both}

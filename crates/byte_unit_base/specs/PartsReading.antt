@@ -1,5 +1,5 @@
--- Private: what the parts of the parser of a number and a unit return. Contracts of this crate, and of private functions
--- of byte_unit_c, cite this file.
+-- Private: what the parts of the parser of a number and a unit return. Contracts of this crate, and of private
+-- functions of byte_unit_c, cite this file.
 use Rattle.std.specs.Prelude.{◌≡◌, ◌≢◌, ⊤, ℕ, ◌-◌, ◌<◌, ◌≤◌, nat_eq, Bool, true, false, List, [], ◌∷◌, ◌++◌, length}
 use Rattle.std.specs.Prelude.{take, replicate}
 use Rattle.std.specs.Prelude.{drop, slice_index, Option, Some, None, Result, Ok, Err}

@@ -1,5 +1,5 @@
--- Private: where the parts of a string are wrong, by the state machines. Contracts of private functions of this crate alone
--- cite this file.
+-- Private: where the parts of a string are wrong, by the state machines. Contracts of private functions of this crate
+-- alone cite this file.
 use Rattle.std.specs.Prelude.{◌≡◌, ℕ, ◌+◌, ◌*◌, ◌<◌, ◌≤◌, List, length, take, drop, get_or, Option, Some, None}
 use Rattle.std.specs.Prelude.{Result, Ok, Err}
 use Rattle.std.specs.Char.{digit_value}

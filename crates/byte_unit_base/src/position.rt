@@ -13,10 +13,12 @@ use crate::unit::parse::read_unit;
 use crate::unit::scan::Flags;
 use byte_unit_math::{DECIMAL_PLACES, WHOLE_LIMIT};
 
-/// Returns the index in bytes of the first wrong character of a string that is not in the grammar of sizes: no size can
-/// have it there. If the string ends too early, it is the index of its end, before white space there.
+/// Returns the index in bytes of the first wrong character of a string that is not in the grammar of sizes: up to there
+/// the string, without the white space at its ends, begins a size, and with that character it begins none. If it ends
+/// too early, the index is that of its end, before white space there.
 ///
-/// Returns `None` if the string is in the grammar. The index is the same for both kinds, with and without `ignore_case`.
+/// Returns `None` if the string is in the grammar. The index is the same for both kinds, with and without
+/// `ignore_case`.
 ///
 /// # Examples
 /// ```rust
@@ -38,8 +40,9 @@ pub fn of_size_error(s: &str) -> Option<usize>
 impl Unit {
     ghost use Rattle.byte_unit_base.specs.ErrorPosition.{IsUnitPosition};
 
-    /// Returns the index in bytes of the first wrong character of a string that [`Unit::parse_str`] rejects: no unit can
-    /// have it there. If the string ends too early, it is the index of its end, before white space there.
+    /// Returns the index in bytes of the first wrong character of a string that [`Unit::parse_str`] rejects: up to
+    /// there the string, without the white space at its ends, begins a unit, and with that character it begins none.
+    /// If it ends too early, the index is that of its end, before white space there.
     ///
     /// Returns `None` if the string spells a unit. The index does not depend on the options of `parse_str`.
     ///
@@ -142,8 +145,8 @@ fn places_len(bytes: &[u8]) -> usize
     count
 }
 
-/// Returns where bytes, from an index on, stop being the beginning of a unit, counted from that index. Returns `None` if
-/// they are a unit.
+/// Returns where bytes, from an index on, stop being the beginning of a unit, counted from that index. Returns `None`
+/// if they are a unit.
 fn unit_place(bytes: &[u8], from: usize) -> Option<usize>
     requires { from ≤ length bytes.now }
     ensures { IsUnitPlace (drop from bytes.now) result }

@@ -11,6 +11,7 @@ use std::cmp::Ordering;
 use std::marker::Model;
 
 mod adjusted;
+mod approximate;
 mod binary;
 mod built_in_traits;
 mod constants;

@@ -18,8 +18,8 @@ use crate::parse::{explain_result, write_result};
 use crate::values::Number;
 use byte_unit_base::binary;
 
-/// Parses as `byte_unit_parse_to` does, with the flag `BINARY_PREFIXES` (8) beside the others: a decimal prefix means the
-/// binary one, so `K` and `KB` are by 1024, as `Ki` and `KiB` are.
+/// Parses as `byte_unit_parse_to` does, with the flag `BINARY_PREFIXES` (8) beside the others: a decimal prefix means
+/// the binary one, so `K` and `KB` are by 1024, as `Ki` and `KiB` are.
 ///
 /// Returns `INVALID_ARGUMENT` and writes nothing without that flag, or if another is set.
 ///

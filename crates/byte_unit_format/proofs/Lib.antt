@@ -3,6 +3,7 @@ pub mod WrittenForms
 pub mod TextParts
 pub mod ReadBack
 pub mod AdjustedForms
+pub mod AdjustedLengths
 pub mod ShownForms
 pub mod ShortExpansions
 pub mod Widths

@@ -1,19 +1,23 @@
 -- The text of a size in a given unit.
-use Rattle.std.specs.Prelude.{◌≡◌, ℕ, ◌*◌, min, Bool, true, false, List, ◌++◌, codes, Option, None, Some, ◌==◌}
+use Rattle.std.specs.Prelude.{◌≡◌, ℕ, ◌+◌, ◌*◌, min, max, Bool, true, false, List, ◌++◌, codes, Option, None, Some, ◌==◌}
 use Rattle.std.specs.Prelude.{if◌then◌else◌}
+use Rattle.byte_unit_math.specs.Bounds.{expansion_places}
 use Rattle.byte_unit_math.specs.Finite.{Finite, IsExpansion}
 use Rattle.byte_unit_math.specs.Nearest.{IsNearest}
 use Rattle.byte_unit_math.specs.Digits.{expansion_of}
 use Rattle.byte_unit_math.specs.Numeral.{text_of, numeral, short_numeral}
 use Rattle.byte_unit_math.specs.declared.expansion.Ties.TheVariants.{Even, Up}
+use Rattle.byte_unit_base.specs.Choice.{IsAppropriate}
 use Rattle.byte_unit_base.specs.Shape.{Shape, bits}
 use Rattle.byte_unit_base.specs.Version.{Version, unit_name_in, current}
 use Rattle.byte_unit_base.specs.declared.kind.Kind.{Kind}
 use Rattle.byte_unit_format.specs.declared.spec.FormatSpec.{FormatSpec}
 use Rattle.byte_unit_base.specs.Kinds.{bits_in}
 use Rattle.byte_unit_format.specs.Layout.{layout}
+use Rattle.byte_unit_format.specs.Plain.{least_columns}
 use Rattle.byte_unit_base.specs.Units.{shape_of}
 use Rattle.byte_unit_base.specs.declared.unit.Unit.{Unit as UnitName}
+use Rattle.byte_unit_base.specs.declared.unit.unit_type.UnitType.{UnitType}
 
 -- The text is num / den with all its digits after the point.
 abbrev pub IsFullNumeral : ℕ → ℕ → List ℕ → Type 0
@@ -62,9 +66,27 @@ pub record IsAdjustedFormIn (version : Version) (kind : Kind) (size : ℕ) (unit
   pub number_is : IsNumeralBy (rule_of spec.precision spec.alternate unit) (size * bits_in kind) (bits unit) number
   pub text_is : text ≡ layout number (unit_name_in version unit) spec
 
--- The size formatted in a unit of the crate, by its name in the current version.
+-- The size formatted in a unit, by its name in the current version.
 abbrev pub IsAdjustedForm : Kind → ℕ → UnitName → FormatSpec → List ℕ → Type 0
 IsAdjustedForm kind size unit spec text = IsAdjustedFormIn current kind size (shape_of unit) spec text
+
+-- The most digits after the point of a size in a unit: 93 if no precision is set; otherwise the precision, or three if
+-- that is less, which bits have in `B`.
+abbrev pub most_shown_places : Option ℕ → ℕ
+most_shown_places None = expansion_places
+most_shown_places (Some precision) = max precision 3
+
+-- The most bytes of the text of a size in a unit: the width, or if it is more, 31 digits, the point, the digits after
+-- it, and the four columns of a space and a unit.
+abbrev pub most_adjusted_text : FormatSpec → ℕ
+most_adjusted_text spec = max (least_columns spec.width) (36 + most_shown_places spec.precision)
+
+-- The size formatted in its appropriate unit of the type.
+pub record IsApproximateForm (kind : Kind) (unit_type : UnitType) (size : ℕ) (spec : FormatSpec) (text : List ℕ)
+    : Type 0 where
+  pub unit : UnitName
+  pub appropriate : IsAppropriate kind unit_type size unit
+  pub form : IsAdjustedForm kind size unit spec text
 
 -- What `Display` writes of a size in a unit: the number with all its digits, a space, and the unit's name.
 abbrev pub adjusted_text_in : Version → Kind → ℕ → Shape → List ℕ

@@ -21,6 +21,6 @@ IsAdjustedStringIn version kind size unit text =
     IsGreatest version size × IsSizeFormIn version kind size alternate_spec text
     ⊎ ¬ (IsGreatest version size) × IsAdjustedFormIn version kind size unit alternate_spec text
 
--- The string that the size in a unit of the crate is stored as.
+-- The string that the size in a unit is stored as.
 abbrev pub IsAdjustedString : Kind → ℕ → UnitName → List ℕ → Type 0
 IsAdjustedString kind size unit text = IsAdjustedStringIn current kind size (shape_of unit) text

@@ -1,6 +1,6 @@
 -- Laws of formatted sizes. How a string is parsed depends on the version of the grammar; laws about parsing are about
 -- the current one.
-use Rattle.std.specs.Prelude.{◌≡◌, ◌≢◌, ℕ, ◌+◌, ◌-◌, ◌*◌, ◌<◌, ◌⊎◌, max, Bool, false, List, length, Option, None, Some}
+use Rattle.std.specs.Prelude.{◌≡◌, ◌≢◌, ℕ, ◌+◌, ◌-◌, ◌*◌, ◌<◌, ◌⊎◌, max, Bool, false, List, length}
 use Rattle.std.specs.Fmt.{decimal}
 use Rattle.byte_unit_math.specs.Bounds.{places_of_decimal, expansion_places}
 use Rattle.byte_unit_math.specs.Exact.{IsExactAt, IsLeastPlaces}
@@ -15,7 +15,7 @@ use Rattle.byte_unit_format.specs.AdjustedString.{IsAdjustedString, IsGreatest}
 use Rattle.byte_unit_format.specs.Forms.{IsSizeForm, IsSizeFormIn, IsText, IsTextIn}
 use Rattle.byte_unit_format.specs.Layout.{layout, gap_of}
 use Rattle.byte_unit_format.specs.NamedSpecs.{plain_spec, alternate_spec}
-use Rattle.byte_unit_format.specs.Plain.{plain, signed_digits}
+use Rattle.byte_unit_format.specs.Plain.{plain, signed_digits, least_columns}
 use Rattle.byte_unit_base.specs.Kinds.{bits_in}
 use Rattle.byte_unit_base.specs.declared.kind.Kind.{Kind}
 use Rattle.byte_unit_base.specs.declared.kind.Kind.TheVariants.{Byte, Bit as OfBits}
@@ -75,11 +75,6 @@ abbrev pub ShownAdjustedSizeIsPlainForm : Type 0
 ShownAdjustedSizeIsPlainForm =
     (version : Version) (kind : Kind) (size : ℕ) (unit : UnitName)
     → IsAdjustedFormIn version kind size (shape_of unit) plain_spec (adjusted_text_in version kind size (shape_of unit))
-
--- The least number of columns for a width: 0 if no width is set.
-abbrev pub least_columns : Option ℕ → ℕ
-least_columns None = 0
-least_columns (Some width) = width
 
 -- A size formatted as digits is as long as the width, or as its sign and digits if these are longer.
 abbrev pub PlainFormFillsWidth : Type 0

@@ -17,6 +17,11 @@ plus_of Minus = []
 abbrev pub signed_digits : ℕ → FormatSpec → List ℕ
 signed_digits size spec = plus_of spec.sign ++ decimal size
 
+-- The least number of columns for a width: 0 if no width is set.
+abbrev pub least_columns : Option ℕ → ℕ
+least_columns None = 0
+least_columns (Some width) = width
+
 -- The number of spaces that a text of this length lacks of the width; 0 if no width is set.
 abbrev pub padding_for : Option ℕ → ℕ → ℕ
 padding_for None len = 0

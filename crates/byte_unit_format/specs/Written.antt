@@ -1,8 +1,8 @@
 -- The effect of a call that writes a text into a buffer of the caller.
 use Rattle.std.specs.Prelude.{◌≡◌, ℕ, ◌<◌, ◌≤◌, List, ◌++◌, length, drop}
 
--- `needed` is the length of a text of this form in bytes. If it fits, it is at the beginning of the buffer, and the
--- bytes after it are unchanged; else all bytes are unchanged.
+-- `needed` is the length in bytes of a text of this form. If it fits, it begins the buffer, and the bytes after it are
+-- unchanged; else all are unchanged.
 pub record WritesForm (IsForm : List ℕ → Type 0) (old new : List ℕ) (needed : ℕ) : Type 0 where
   pub form : List ℕ
   pub is_form : IsForm form

@@ -20,6 +20,7 @@ ghost use Rattle.byte_unit_format.specs.Room.{AppendsForm};
 ghost use Rattle.byte_unit_format.specs.Written.{WritesForm};
 ghost use Rattle.byte_unit_format.specs.Forms.{text_limit};
 ghost use Rattle.byte_unit_format.specs.Adjusted.{IsNumeralBy, IsAdjustedForm, adjusted_text, has_no_prefix};
+ghost use Rattle.byte_unit_format.specs.Adjusted.{most_adjusted_text};
 
 use crate::FormatSpec;
 use crate::layout::{append_layout, layout_len, layout_parts, write_layout};
@@ -53,6 +54,8 @@ enum Rounding {
 
 /// Returns the length in bytes of a size formatted in a unit. Does not allocate.
 ///
+/// If no width is set, it is at most 129, and with a precision at most 36 more than that, or 39.
+///
 /// Precondition (proved at every call): the size is below 10^30.
 ///
 /// # Examples
@@ -65,6 +68,7 @@ pub fn adjusted_len(size: u128, kind: Kind, unit: Unit, spec: FormatSpec) -> usi
     ensures exact { (form : List ℕ) → IsAdjustedForm kind size unit spec form
         → result ≡ length form }
     ensures bound { result < text_limit }
+    ensures narrow { result ≤ most_adjusted_text spec }
 {
     let rounding = rounding_of(unit, spec);
     match short_parts(size, kind, unit, rounding, spec) {
@@ -131,6 +135,7 @@ pub fn write_adjusted(size: u128, kind: Kind, unit: Unit, spec: FormatSpec, out:
     requires { size < size_limit }
     ensures written { WritesForm (IsAdjustedForm kind size unit spec) out.old out.new result }
     ensures bound { result < text_limit }
+    ensures narrow { result ≤ most_adjusted_text spec }
 {
     let rounding = rounding_of(unit, spec);
     match rounding {

@@ -71,8 +71,8 @@ fn binary_expansion(numerator: u128, places: u32) -> Option<ShortExpansion>
     })
 }
 
-/// Returns the expansion of `numerator / (2^twos * 10^tens)`, or `None` if `twos` is more than 3 or it may have more than
-/// 28 digits after the point.
+/// Returns the expansion of `numerator / (2^twos * 10^tens)`, or `None` if `twos` is more than 3 or it may have more
+/// than 28 digits after the point.
 #[inline(always)]
 fn decimal_expansion(numerator: u128, twos: u32, tens: u32) -> Option<ShortExpansion>
     requires { numerator < bits_limit }

@@ -55,6 +55,7 @@ macro_rules! rows {
 mod adjusted;
 mod answers;
 mod any_texts;
+mod approximate;
 mod asserting;
 mod binary;
 mod bounds;

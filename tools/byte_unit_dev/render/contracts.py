@@ -98,13 +98,26 @@ def mirrored(types):
                 for entry in types[name]]
         there = [entry.lines for entry in types[bit]]
         other = [entry for entry in types[bit] if entry.lines not in same]
-        missing = [lines[0] for lines in same if lines not in there]
+        missing = [lines for lines in same if lines not in there]
         if len(missing) != len(other):
-            raise Failure(f"{FACADE}: {bit} lacks calls of {name}, or has more: {'; '.join(missing)}")
-        said = f"{len(there) - len(other)} of {len(there)} entries are those of `{name}`, with `{of_bits}`, `Bit`, "
-        said += f"`get_bit`, `allow_in_bytes` for `{of_bytes}`, `Byte`, `get_byte`, `allow_in_bits`"
+            names = "; ".join(lines[0] for lines in missing)
+            raise Failure(f"{FACADE}: {bit} lacks calls of {name}, or has more: {names}")
+        cased = [entry for entry in other if entry.lines in map(without_case, missing)]
+        other = [entry for entry in other if entry not in cased]
+        said = f"{len(there) - len(other)} of {len(there)} entries are those of `{name}`, with "
+        said += "the same words" if found else (
+            f"`{of_bits}`, `Bit`, `get_bit`, `allow_in_bytes` for `{of_bytes}`, `Byte`, `get_byte`, `allow_in_bits`")
+        if cased:
+            calls = ", ".join(f"`{re.search(r'::(.*?)[(<]', entry.line)[1]}`" for entry in cased)
+            said += f"; without `ignore_case`, which is `false` in the clauses: {calls}"
         found[bit] = said + ("; these differ:" if other else "."), other
     return found
+
+
+def without_case(lines):
+    """Returns an entry with no parameter `ignore_case`: in its clauses this is `false`."""
+    return (lines[0].replace(", ignore_case: bool", ""),
+            *(re.sub(r"\bignore_case\b", "false", line) for line in lines[1:]))
 
 
 def joined(entries):

@@ -1,5 +1,5 @@
-//! Parses a number at the beginning of a line. Its digits are loaded eight bytes at a time, as a number of 64 bits whose
-//! lowest byte is the first.
+//! Parses a number at the beginning of a line. Its digits are loaded eight bytes at a time, as a number of 64 bits
+//! whose lowest byte is the first.
 
 ghost use Rattle.std.specs.Prelude.{◌≡◌, ℕ, List, ◌+◌, ◌%◌, ◌^◌, ◌<◌, ◌≤◌, length, take, drop, slice_range};
 ghost use lib.Lanes.{number_l};
@@ -191,8 +191,8 @@ fn up_to_eight(word: u64) -> (usize, u64)
     )
 }
 
-/// Returns the number that eight digits write, from their values. Two products add four pairs by their places: the first
-/// and the third pair, and the second and the fourth (D. Lemire, "Number parsing at a gigabyte per second").
+/// Returns the number that eight digits write, from their values. Two products add four pairs by their places: the
+/// first and the third pair, and the second and the fourth (D. Lemire, "Number parsing at a gigabyte per second").
 #[inline(always)]
 #[tactic(auto, using(core::proofs::dec2flt::Eight::eight_is))]
 fn value_of_eight(digits: u64) -> u64

@@ -1,7 +1,7 @@
 //! The table of prefixes, and the tables of units that are made from it.
 //!
-//! A lookup in a table is a load. LLVM makes a jump table of a `match` over the units, which is slower if the units change
-//! from one string to the next.
+//! A lookup in a table is a load. LLVM makes a jump table of a `match` over the units, which is slower if the units
+//! change from one string to the next.
 
 ghost use Rattle.std.specs.Prelude.{◌≡◌, ◌≤◌, ◌-◌, slice_index, slice_get};
 ghost use Rattle.byte_unit_base.specs.UnitLists.{units};

@@ -1,14 +1,14 @@
 // Rendered from crates/byte_unit_byte/src/byte/adjusted.rt. Do not edit.
 //! `AdjustedBit`, a size in bits with a unit for its text.
 
-ghost use Rattle.std.specs.Prelude.{◌≡◌, ◌*◌, ◌<◌, ℕ, List, length, IfOk};
+ghost use Rattle.std.specs.Prelude.{◌≡◌, ◌*◌, ◌<◌, ◌≤◌, ℕ, List, length, IfOk};
 ghost use Rattle.std.specs.String.{string_bytes};
 ghost use Rattle.byte_unit_base.specs.Shape.{bits};
 ghost use Rattle.byte_unit_base.specs.Units.{shape_of};
 ghost use Rattle.byte_unit_base.specs.Kinds.{bits_in};
 ghost use Rattle.byte_unit_choice.specs.Choice.{IsAppropriate};
 ghost use Rattle.byte_unit_format.specs.Forms.{text_limit};
-ghost use Rattle.byte_unit_format.specs.Adjusted.{IsAdjustedForm};
+ghost use Rattle.byte_unit_format.specs.Adjusted.{IsAdjustedForm, most_adjusted_text};
 ghost use Rattle.byte_unit_format.specs.Room.{AppendsForm};
 ghost use Rattle.byte_unit_format.specs.Written.{WritesForm};
 ghost use Rattle.byte_unit_base.specs.declared.kind.Kind.TheVariants.{Bit as InBits};
@@ -92,6 +92,8 @@ impl AdjustedBit {
 
     /// Returns the length of the text under the spec, in bytes: below 65,600. Does not allocate.
     ///
+    /// If no width is set, it is at most 129, and with a precision at most 36 more than that, or 39.
+    ///
     /// # Examples
     /// ```rust
     /// let adjusted = Bit::from_u64(123_456).get_adjusted_unit(Unit::Kbit);
@@ -101,6 +103,7 @@ impl AdjustedBit {
         ensures exact { (form : List ℕ) → IsAdjustedForm InBits self.size self.unit spec form
             → result ≡ length form }
         ensures bound { result < text_limit }
+        ensures narrow { result ≤ most_adjusted_text spec }
     {
         byte_unit_format::adjusted_len(self.size.as_u128(), Kind::Bit, self.unit, spec)
     }
@@ -156,6 +159,7 @@ impl AdjustedBit {
         ensures written { let IsForm = IsAdjustedForm InBits self.size self.unit spec in
             WritesForm IsForm out.old out.new result }
         ensures bound { result < text_limit }
+        ensures narrow { result ≤ most_adjusted_text spec }
     {
         byte_unit_format::write_adjusted(self.size.as_u128(), Kind::Bit, self.unit, spec, out)
     }

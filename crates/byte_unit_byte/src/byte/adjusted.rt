@@ -1,13 +1,13 @@
 //! `AdjustedByte`, a size in bytes with a unit for its text.
 
-ghost use Rattle.std.specs.Prelude.{◌≡◌, ◌*◌, ◌<◌, ℕ, List, length, IfOk};
+ghost use Rattle.std.specs.Prelude.{◌≡◌, ◌*◌, ◌<◌, ◌≤◌, ℕ, List, length, IfOk};
 ghost use Rattle.std.specs.String.{string_bytes};
 ghost use Rattle.byte_unit_base.specs.Shape.{bits};
 ghost use Rattle.byte_unit_base.specs.Units.{shape_of};
 ghost use Rattle.byte_unit_base.specs.Kinds.{bits_in};
 ghost use Rattle.byte_unit_choice.specs.Choice.{IsAppropriate};
 ghost use Rattle.byte_unit_format.specs.Forms.{text_limit};
-ghost use Rattle.byte_unit_format.specs.Adjusted.{IsAdjustedForm};
+ghost use Rattle.byte_unit_format.specs.Adjusted.{IsAdjustedForm, most_adjusted_text};
 ghost use Rattle.byte_unit_format.specs.Room.{AppendsForm};
 ghost use Rattle.byte_unit_format.specs.Written.{WritesForm};
 ghost use Rattle.byte_unit_base.specs.declared.kind.Kind.TheVariants.{Byte as InBytes};
@@ -91,6 +91,8 @@ impl AdjustedByte {
 
     /// Returns the length of the text under the spec, in bytes: below 65,600. Does not allocate.
     ///
+    /// If no width is set, it is at most 129, and with a precision at most 36 more than that, or 39.
+    ///
     /// # Examples
     /// ```rust
     /// let adjusted = Byte::from_u64(123_456).get_adjusted_unit(Unit::KB);
@@ -100,6 +102,7 @@ impl AdjustedByte {
         ensures exact { (form : List ℕ) → IsAdjustedForm InBytes self.size self.unit spec form
             → result ≡ length form }
         ensures bound { result < text_limit }
+        ensures narrow { result ≤ most_adjusted_text spec }
     {
         byte_unit_format::adjusted_len(self.size.as_u128(), Kind::Byte, self.unit, spec)
     }
@@ -155,6 +158,7 @@ impl AdjustedByte {
         ensures written { let IsForm = IsAdjustedForm InBytes self.size self.unit spec in
             WritesForm IsForm out.old out.new result }
         ensures bound { result < text_limit }
+        ensures narrow { result ≤ most_adjusted_text spec }
     {
         byte_unit_format::write_adjusted(self.size.as_u128(), Kind::Byte, self.unit, spec, out)
     }

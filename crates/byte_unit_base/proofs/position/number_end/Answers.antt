@@ -1,5 +1,5 @@
--- The bytes begin with a whole part, or with a whole part, a point and a fraction, or are wrong where a digit is missing
--- or is one too many.
+-- The bytes begin with a whole part, or with a whole part, a point and a fraction, or are wrong where a digit is
+-- missing or is one too many.
 use Rattle.std.proofs.Common.{◌<◌, ◌≤◌, ◌+◌, length, get_or, drop, sym, subst, arith}
 use Rattle.std.specs.Char.{digit_value}
 use Rattle.std.proofs.lemmas.List.{take_rest}

@@ -1,8 +1,11 @@
 -- The parts, or the number and its unit, are the adjusted text, so they have its length.
-use Rattle.std.proofs.Common.{ap, sym, length, ◌∙◌}
+use Rattle.std.proofs.Common.{ap, sym, length, arith, ◌∙◌}
 use Rattle.byte_unit_math.specs.Numeral.{text_of}
 use Rattle.byte_unit_math.specs.Padded.{pad_of}
+use Rattle.byte_unit_format.specs.Layout.{layout_of}
+use Rattle.byte_unit_format.specs.TextParts.{parts_text}
 use Rattle.byte_unit_format.proofs.AdjustedForms.{adjusted_by_rounding, adjusted_form_unique}
+use Rattle.byte_unit_format.proofs.AdjustedLengths.{adjusted_narrow}
 use Rattle.byte_unit_format.proofs.adjusted.adjusted_len.Goals as goal
 
 pub returns-in-Some-clause-exact : goal.returns-in-Some-clause-exact
@@ -15,3 +18,18 @@ returns-in-None-clause-exact c = λ other is_other.
     let form = adjusted_by_rounding (text_of (pad_of number.1 number.0)) c.rounding_of-rounding.ensures
     c.expanded-number.ensures.number in
     c.layout_len.ensures.exact ∙ sym (ap length (adjusted_form_unique is_other form))
+
+pub returns-in-Some-clause-narrow : goal.returns-in-Some-clause-narrow
+returns-in-Some-clause-narrow c =
+    let narrow = adjusted_narrow c.args.kind c.args.size c.args.unit c.args.spec (parts_text c.in-Some.parts) c.requires
+    c.in-Some.ensures.text in
+    omega (arith, c.in-Some.ensures.len, narrow)
+
+pub returns-in-None-clause-narrow : goal.returns-in-None-clause-narrow
+returns-in-None-clause-narrow c =
+    let number = c.expanded-number.result in
+    let form = adjusted_by_rounding (text_of (pad_of number.1 number.0)) c.rounding_of-rounding.ensures
+    c.expanded-number.ensures.number in
+    let narrow = adjusted_narrow c.args.kind c.args.size c.args.unit c.args.spec
+    (layout_of number.0 number.1 c.args.unit c.args.spec) c.requires form in
+    omega (arith, c.layout_len.ensures.exact, narrow)

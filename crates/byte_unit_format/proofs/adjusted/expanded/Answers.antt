@@ -1,4 +1,5 @@
--- The number is the expansion of the size in the unit, or the nearest one with so many digits after the point.
+-- The number is the expansion of the size in the unit, or the nearest with the number of digits after the point that
+-- the rounding gives.
 use Rattle.std.proofs.Common.{◌*◌, ◌∙◌}
 use Rattle.byte_unit_math.specs.declared.expansion.Ties.TheVariants.{Even, Up}
 use Rattle.byte_unit_math.proofs.Texts.{nearest_of_expansion, text_of_padded, text_of_short_numeral}

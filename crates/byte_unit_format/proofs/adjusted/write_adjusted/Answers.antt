@@ -5,6 +5,7 @@ use Rattle.byte_unit_format.specs.Adjusted.{IsAdjustedForm}
 use Rattle.byte_unit_format.specs.TextParts.{parts_text}
 use Rattle.byte_unit_format.proofs.TextParts.{writes_form}
 use Rattle.byte_unit_format.proofs.AdjustedForms.{adjusted_by_rounding}
+use Rattle.byte_unit_format.proofs.AdjustedLengths.{written_narrow}
 use Rattle.byte_unit_format.proofs.adjusted.write_adjusted.Goals as goal
 
 pub returns-in-To-clause-written : goal.returns-in-To-clause-written
@@ -16,3 +17,11 @@ returns-in-To-clause-written c =
     (adjusted_by_rounding (numeral number c.in-To.places) by
     (rw c.in-To.is (number, c.rounded_to_few-number.ensures, refl))) in
     writes_form (parts_text c.scaled_parts.result) form c.write.ensures.written
+
+pub returns-in-To-clause-narrow : goal.returns-in-To-clause-narrow
+returns-in-To-clause-narrow c =
+    written_narrow c.args.kind c.args.size c.args.unit c.args.spec c.requires (returns-in-To-clause-written c)
+
+pub returns-in_default-clause-narrow : goal.returns-in_default-clause-narrow
+returns-in_default-clause-narrow c =
+    written_narrow c.args.kind c.args.size c.args.unit c.args.spec c.requires c.write_longer.ensures.written
