@@ -15,7 +15,8 @@ use crate::codes::{type_at, unit_at};
 use crate::flags::kind_at;
 use crate::spec::Spec;
 use crate::values::Number;
-use byte_unit_base::{appropriate_unit, size};
+use byte_unit_base::size;
+use byte_unit_choice::appropriate_unit;
 use byte_unit_format::{write_adjusted, write_text};
 
 /// Formats a size to the start of `out`, and returns the length of the text. The size is in bytes, or in bits with the

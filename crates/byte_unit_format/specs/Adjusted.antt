@@ -7,7 +7,7 @@ use Rattle.byte_unit_math.specs.Nearest.{IsNearest}
 use Rattle.byte_unit_math.specs.Digits.{expansion_of}
 use Rattle.byte_unit_math.specs.Numeral.{text_of, numeral, short_numeral}
 use Rattle.byte_unit_math.specs.declared.expansion.Ties.TheVariants.{Even, Up}
-use Rattle.byte_unit_base.specs.Choice.{IsAppropriate}
+use Rattle.byte_unit_choice.specs.Choice.{IsAppropriate}
 use Rattle.byte_unit_base.specs.Shape.{Shape, bits}
 use Rattle.byte_unit_base.specs.Version.{Version, unit_name_in, current}
 use Rattle.byte_unit_base.specs.declared.kind.Kind.{Kind}
@@ -17,7 +17,7 @@ use Rattle.byte_unit_format.specs.Layout.{layout}
 use Rattle.byte_unit_format.specs.Plain.{least_columns}
 use Rattle.byte_unit_base.specs.Units.{shape_of}
 use Rattle.byte_unit_base.specs.declared.unit.Unit.{Unit as UnitName}
-use Rattle.byte_unit_base.specs.declared.unit.unit_type.UnitType.{UnitType}
+use Rattle.byte_unit_choice.specs.declared.unit_type.UnitType.{UnitType}
 
 -- The text is num / den with all its digits after the point.
 abbrev pub IsFullNumeral : ℕ → ℕ → List ℕ → Type 0

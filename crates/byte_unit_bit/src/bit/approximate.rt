@@ -8,7 +8,7 @@ ghost use Rattle.byte_unit_format.specs.Written.{WritesForm};
 ghost use Rattle.byte_unit_base.specs.declared.kind.Kind.TheVariants.{Bit as InBits};
 
 use super::Bit;
-use byte_unit_base::UnitType;
+use byte_unit_choice::UnitType;
 use byte_unit_format::FormatSpec;
 use std::alloc::{AllocError, Global};
 
