@@ -22,8 +22,8 @@ static PyMethodDef CALLS[] = {
 };
 
 static PyMethodDef METHODS[] = {
-    PRIVATE(parse_many), PRIVATE(parse_buffers), PRIVATE(ints),  PRIVATE(part),    PRIVATE(sum),
-    PRIVATE(extremum),   PRIVATE(first_large),   PRIVATE(int64), PRIVATE(float64), PRIVATE(mask),
+    PRIVATE(position), PRIVATE(parse_many), PRIVATE(parse_buffers), PRIVATE(ints),    PRIVATE(part), PRIVATE(sum),
+    PRIVATE(extremum), PRIVATE(first_large), PRIVATE(int64), PRIVATE(float64), PRIVATE(mask),
     {NULL, NULL, 0, NULL},
 };
 
@@ -64,7 +64,7 @@ static PyObject *codes_by_name(PyObject *names)
 static bool name_fields(state *state)
 {
     static const char *const NAMES[FIELDS] = {
-        "name", "character", "expected", "also_expect_no_character", "number", "text", "row"};
+        "name", "character", "expected", "also_expect_no_character", "number", "text", "row", "_of_unit"};
     bool named = true;
     for (int i = 0; named && i < FIELDS; i++) {
         state->fields[i] = PyUnicode_InternFromString(NAMES[i]);

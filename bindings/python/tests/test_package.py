@@ -59,8 +59,8 @@ class Package(unittest.TestCase):
 
     def test_arguments(self) -> None:
         """Flags and options are keyword-only, and have one default each."""
-        defaults = {"bits": False, "ignore_case": False, "either_kind": False, "alternate": True, "unit_type": "both",
-                    "errors": "coerce", "validity_offset": 0}  # fmt: skip
+        defaults = {"bits": False, "ignore_case": False, "binary": False, "either_kind": False, "alternate": True,
+                    "unit_type": "both", "errors": "coerce", "validity_offset": 0}  # fmt: skip
         for name in byte_unit.__all__:
             value = getattr(byte_unit, name)
             if not inspect.isroutine(value):
@@ -157,7 +157,7 @@ class Arguments(unittest.TestCase):
 
     def test_private_calls(self) -> None:
         """The other functions reject what the modules above them never pass."""
-        names = "parse_many parse_buffers ints part sum extremum first_large int64 float64 mask"
+        names = "position parse_many parse_buffers ints part sum extremum first_large int64 float64 mask"
         for call in names.split():
             with self.subTest(call), self.assertRaises(TypeError):
                 getattr(_native, call)()

@@ -22,6 +22,7 @@ def to_sizes(
     *,
     bits: bool = False,
     ignore_case: bool = False,
+    binary: bool = False,
     errors: Literal["coerce", "raise"] = "coerce",
     overflow: Literal["raise", "null", "saturate"] = "raise",
 ) -> "pandas.Series":
@@ -37,7 +38,7 @@ def to_sizes(
     >>> to_sizes(quota, overflow="null").to_dict()
     {'a': 1000, 'b': <NA>, 'c': <NA>}
     """
-    column = parse_many(texts.to_numpy(object), bits=bits, ignore_case=ignore_case, errors=errors)
+    column = parse_many(texts.to_numpy(object), bits=bits, ignore_case=ignore_case, binary=binary, errors=errors)
     numbers = numpy.array(column.int64(overflow=overflow))
     mask = numpy.array(column.mask(hide_large=overflow == "null"))
     return pandas.Series(pandas.arrays.IntegerArray(numbers, mask), texts.index, name=texts.name)
