@@ -75,3 +75,13 @@ def test_columns(python, tmp_path, part, needs):
     need(*needs)
     said = output(python.program, path("bindings/python/examples/columns.py"), cwd=tmp_path, env=environment())
     assert f"with_{part}: as expected" in said.splitlines()
+
+
+@pytest.mark.parametrize("count, workers", [(10**5, "2"), pytest.param(10**7, "1 2 4", marks=pytest.mark.whole)])
+def test_cluster(python, tmp_path, count, workers):
+    """The job of the example for Dask over processes, one of which is ended."""
+    need("import pandas", "import dask.dataframe", "import distributed")
+    words = [path("bindings/python/checks/cluster.py"), str(count), *workers.split()]
+    said = output(python.program, *words, cwd=tmp_path, env=environment())
+    print(said)
+    assert said.count("the same result") == len(workers.split()) + 1 and "one of them ended" in said

@@ -1,4 +1,4 @@
-"""Sizes in settings of other programs, which mean 1024 by `k` and bytes by `b`: lines as their documentation has them."""
+"""Sizes in settings of other programs, which mean 1024 by `k`, and bytes by `b`: lines as their manuals have them."""
 
 import re
 import unittest
