@@ -237,6 +237,13 @@ size_t byte_unit_text(byte_unit_number size, uint32_t flags, byte_unit_spec spec
 size_t byte_unit_adjusted_text(byte_unit_number size, uint32_t flags, uint32_t unit, byte_unit_spec spec, char *out,
                                size_t out_len);
 
+/* Writes the text of a size, as byte_unit_adjusted_text does, in the unit that byte_unit_appropriate_unit returns: the
+ * largest of the unit type that is not above the size. Returns 0 if the size is out of range, the unit type or a flag
+ * is unknown, or the spec is invalid.
+ * Flags: BITS. */
+size_t byte_unit_approximate_text(byte_unit_number size, uint32_t flags, uint32_t unit_type, byte_unit_spec spec,
+                                  char *out, size_t out_len);
+
 /* Writes the name of a unit, such as "KiB". Returns 0 if the unit is unknown. */
 size_t byte_unit_unit_name(uint32_t unit, char *out, size_t out_len);
 

@@ -24,13 +24,14 @@ static byte_unit_number number(uint64_t n)
     return result;
 }
 
-/* Whether both calls that take a spec reject this one, and write nothing. */
+/* Whether the calls that take a spec reject this one, and write nothing. */
 static bool rejects(byte_unit_spec spec)
 {
     char out[8] = { 'x', 'x', 'x', 'x', 'x', 'x', 'x', 'x' };
     size_t length = byte_unit_text(number(1), 0, spec, out, sizeof out);
 
     length += byte_unit_adjusted_text(number(1), 0, BYTE_UNIT_B, spec, out, sizeof out);
+    length += byte_unit_approximate_text(number(1), 0, BYTE_UNIT_BOTH, spec, out, sizeof out);
     return length == 0 && memcmp(out, "xxxxxxxx", sizeof out) == 0;
 }
 
@@ -103,6 +104,7 @@ static void flags(uint32_t word)
                               && memcmp(out, parses_units ? "the char" : "a flag i", 8) == 0);
     check("text", (byte_unit_text(number(1), word, spec, out, sizeof out) != 0) == formats);
     check("adjusted_text", (byte_unit_adjusted_text(number(1), word, 0, spec, out, sizeof out) != 0) == formats);
+    check("approximate_text", (byte_unit_approximate_text(number(1), word, 0, spec, out, sizeof out) != 0) == formats);
     check("appropriate_unit", (byte_unit_appropriate_unit(number(1), word, 0) != BYTE_UNIT_NO_UNIT) == formats);
     size.high = 7;
     check("from_unit", byte_unit_from_unit(number(1), 0, word, &size) == formats && (size.high == 7) == !formats);
@@ -140,6 +142,7 @@ static void nulls(void)
                                      && !byte_unit_error_position("1\xff", 2, &position) && position == 0);
     check("text", byte_unit_text(number(1536), 0, spec, NULL, 0) == 4);
     check("adjusted_text", byte_unit_adjusted_text(number(1536), 0, BYTE_UNIT_KIB, spec, NULL, 0) == 7);
+    check("approximate_text", byte_unit_approximate_text(number(1536), 0, BYTE_UNIT_BOTH, spec, NULL, 0) == 7);
     check("unit_name", byte_unit_unit_name(BYTE_UNIT_KIB, NULL, 0) == 3);
     check("parse_many", byte_unit_parse_many(NULL, 0, NULL, 0, 0, NULL, NULL) == BYTE_UNIT_OK);
     check("parse_many_32", byte_unit_parse_many_32(NULL, 0, NULL, 0, 0, NULL, NULL) == BYTE_UNIT_OK);
@@ -159,6 +162,7 @@ static void out_of_range(void)
     for (int at = 0; at < 3; at++) {
         check("text", byte_unit_text(sizes[at], 0, spec, out, sizeof out) == 0);
         check("adjusted_text", byte_unit_adjusted_text(sizes[at], 0, 0, spec, out, sizeof out) == 0);
+        check("approximate_text", byte_unit_approximate_text(sizes[at], 0, 0, spec, out, sizeof out) == 0);
         check("exact_unit", byte_unit_exact_unit(sizes[at], 0, &count) == BYTE_UNIT_NO_UNIT);
         check("recoverable_unit", byte_unit_recoverable_unit(sizes[at], 0, 0, &decimal) == BYTE_UNIT_NO_UNIT);
         check("from_unit", !byte_unit_from_unit(sizes[at], BYTE_UNIT_B, 0, &count));
@@ -168,7 +172,8 @@ static void out_of_range(void)
         check("unit_name", byte_unit_unit_name(codes[at], out, sizeof out) == 0);
         check("adjusted_text", byte_unit_adjusted_text(number(1), 0, codes[at], spec, out, sizeof out) == 0);
         check("from_unit", !byte_unit_from_unit(number(1), codes[at], 0, &count));
-        check("unit type", byte_unit_appropriate_unit(number(1), 0, codes[at] - 35) == BYTE_UNIT_NO_UNIT);
+        check("unit type", byte_unit_appropriate_unit(number(1), 0, codes[at] - 35) == BYTE_UNIT_NO_UNIT
+                               && byte_unit_approximate_text(number(1), 0, codes[at] - 35, spec, out, sizeof out) == 0);
     }
 }
 

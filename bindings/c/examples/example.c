@@ -215,6 +215,9 @@ static void format_sizes(void)
     unit = byte_unit_appropriate_unit(size, 0, BYTE_UNIT_DECIMAL);
     length = byte_unit_adjusted_text(size, 0, unit, plain_spec(), out, sizeof out);
     expect("in its decimal unit", out, length, "123.456 KB");
+    spec.precision = 1;
+    length = byte_unit_approximate_text(size, 0, BYTE_UNIT_BINARY, spec, out, sizeof out);
+    expect("approximately", out, length, "120.6 KiB");
     spec = alternate_spec();
     spec.width = 12;
     length = byte_unit_text(number(1536), 0, spec, out, sizeof out);

@@ -1,21 +1,21 @@
 //! Formatting of sizes and names of units into a buffer of the caller.
 
-ghost use Rattle.std.specs.Prelude.{◌≡◌, ◌<◌, ◌≤◌, ◌⊎◌, None, IfSome, IfNone};
+ghost use Rattle.std.specs.Prelude.{◌≡◌, ◌<◌, ◌≤◌, ◌⊎◌, slice_get, None, IfSome, IfNone};
 ghost use Rattle.byte_unit_math.specs.Bounds.{size_limit};
 ghost use Rattle.byte_unit_base.specs.Version.{unit_name};
 ghost use Rattle.byte_unit_format.specs.Forms.{IsText, text_limit};
-ghost use Rattle.byte_unit_format.specs.Adjusted.{IsAdjustedForm};
+ghost use Rattle.byte_unit_format.specs.Adjusted.{IsAdjustedForm, IsApproximateForm};
 ghost use Rattle.byte_unit_format.specs.Written.{WritesForm};
-ghost use Rattle.byte_unit_c.specs.Codes.{unit_at};
+ghost use Rattle.byte_unit_c.specs.Codes.{unit_at, types};
 ghost use Rattle.byte_unit_c.specs.Flags.{kind_at};
 ghost use Rattle.byte_unit_c.specs.Values.{number_of};
 ghost use Rattle.byte_unit_c.specs.Spec.{spec_at};
 
-use crate::codes::unit_at;
+use crate::codes::{type_at, unit_at};
 use crate::flags::kind_at;
 use crate::spec::Spec;
 use crate::values::Number;
-use byte_unit_base::size;
+use byte_unit_base::{appropriate_unit, size};
 use byte_unit_format::{write_adjusted, write_text};
 
 /// Formats a size to the start of `out`, and returns the length of the text. The size is in bytes, or in bits with the
@@ -72,6 +72,47 @@ pub extern "C" fn byte_unit_adjusted_text(
         spec.get(),
     ) {
         (Some(size), Some(kind), Some(unit), Some(spec)) => {
+            write_adjusted(size, kind, unit, spec, out)
+        }
+        _ => 0,
+    }
+}
+
+/// Formats a size in its appropriate unit to the start of `out`, and returns the length of the text. The unit is the
+/// one that `byte_unit_appropriate_unit` returns for the unit type (0 binary, 1 decimal, 2 both), and the text that of
+/// `byte_unit_adjusted_text` in this unit. The size is in bytes, or in bits with the flag `BITS` (1). Returns the
+/// length and writes nothing if `out` is shorter. Returns 0 and writes nothing if the size is out of range, another flag
+/// is set, the unit type is unknown, or the spec is invalid.
+///
+/// For example, 10,000 bytes with the unit type 0 and the precision 1 gives 7, the length of `9.8 KiB`.
+#[unsafe(no_mangle)]
+pub extern "C" fn byte_unit_approximate_text(
+    size: Number,
+    flags: u32,
+    unit_type: u32,
+    spec: Spec,
+    out: &mut [u8],
+) -> usize
+    ensures text { number_of size < size_limit
+        → IfSome (kind_at flags)
+        (λ kind. IfSome (slice_get types unit_type) (λ of. IfSome (spec_at spec) (λ asked.
+        WritesForm
+        (IsApproximateForm kind of (number_of size) asked)
+        out.old out.new result))) }
+    ensures rejected { (size_limit ≤ number_of size) ⊎ (kind_at flags ≡ None)
+        ⊎ (slice_get types unit_type ≡ None)
+        ⊎ (spec_at spec ≡ None)
+        → (result ≡ 0) × (out.new ≡ out.old) }
+    ensures bound { result < text_limit }
+{
+    match (
+        size::bounded(size.get()),
+        kind_at(flags),
+        type_at(unit_type),
+        spec.get(),
+    ) {
+        (Some(size), Some(kind), Some(unit_type), Some(spec)) => {
+            let unit = appropriate_unit(size, kind, unit_type);
             write_adjusted(size, kind, unit, spec, out)
         }
         _ => 0,

@@ -6,6 +6,7 @@ use Rattle.byte_unit_math.specs.Nearest.{IsNearest}
 use Rattle.byte_unit_math.specs.Digits.{expansion_of}
 use Rattle.byte_unit_math.specs.Numeral.{text_of, numeral, short_numeral}
 use Rattle.byte_unit_math.specs.declared.expansion.Ties.TheVariants.{Even, Up}
+use Rattle.byte_unit_base.specs.Choice.{IsAppropriate}
 use Rattle.byte_unit_base.specs.Shape.{Shape, bits}
 use Rattle.byte_unit_base.specs.Version.{Version, unit_name_in, current}
 use Rattle.byte_unit_base.specs.declared.kind.Kind.{Kind}
@@ -14,6 +15,7 @@ use Rattle.byte_unit_base.specs.Kinds.{bits_in}
 use Rattle.byte_unit_format.specs.Layout.{layout}
 use Rattle.byte_unit_base.specs.Units.{shape_of}
 use Rattle.byte_unit_base.specs.declared.unit.Unit.{Unit as UnitName}
+use Rattle.byte_unit_base.specs.declared.unit.unit_type.UnitType.{UnitType}
 
 -- The text is num / den with all its digits after the point.
 abbrev pub IsFullNumeral : ℕ → ℕ → List ℕ → Type 0
@@ -65,6 +67,13 @@ pub record IsAdjustedFormIn (version : Version) (kind : Kind) (size : ℕ) (unit
 -- The size formatted in a unit of the crate, by its name in the current version.
 abbrev pub IsAdjustedForm : Kind → ℕ → UnitName → FormatSpec → List ℕ → Type 0
 IsAdjustedForm kind size unit spec text = IsAdjustedFormIn current kind size (shape_of unit) spec text
+
+-- The text is the size in its appropriate unit, the largest of the type that is not above it, formatted by the spec.
+pub record IsApproximateForm (kind : Kind) (unit_type : UnitType) (size : ℕ) (spec : FormatSpec) (text : List ℕ)
+    : Type 0 where
+  pub unit : UnitName
+  pub appropriate : IsAppropriate kind unit_type size unit
+  pub form : IsAdjustedForm kind size unit spec text
 
 -- What `Display` writes of a size in a unit: the number with all its digits, a space, and the unit's name.
 abbrev pub adjusted_text_in : Version → Kind → ℕ → Shape → List ℕ
