@@ -119,6 +119,24 @@
     "precision=1, alternate=False)\n" \
     "('0.4 B', '0.375 B')"
 
+#define APPROXIMATE_TEXT_DOC \
+    "approximate_text($module, size, *, bits=False, unit_type='binary', precision=1, width=None, align=None, " \
+    "sign=None, alternate=True)\n" \
+    "--\n" \
+    "\n" \
+    "Formats a size for people, rounded in the largest unit of its kind and of a type that is not above it.\n" \
+    "\n" \
+    "The unit is what `appropriate_unit` returns with `unit_type`, \"binary\", \"decimal\" or \"both\", and the\n" \
+    "text what `adjusted_text` does in it. The unit is chosen before the number is rounded. With\n" \
+    "`precision=None` all digits are shown.\n" \
+    "\n" \
+    "Raises `ByteUnitError` if an argument is out of range.\n" \
+    "\n" \
+    ">>> approximate_text(123456789), approximate_text(123456789, unit_type=\"decimal\", precision=2)\n" \
+    "('117.7 MiB', '123.46 MB')\n" \
+    ">>> approximate_text(1023), approximate_text(2**20 - 1), approximate_text(1500, bits=True)\n" \
+    "('1023 B', '1024 KiB', '1.5 Kib')"
+
 #define APPROPRIATE_UNIT_DOC \
     "appropriate_unit($module, size, *, bits=False, unit_type='both')\n" \
     "--\n" \

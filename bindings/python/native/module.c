@@ -14,6 +14,7 @@ static PyMethodDef CALLS[] = {
     CALL("explain_unit", explain_unit, EXPLAIN_UNIT_DOC),
     CALL("text", text_of, TEXT_DOC),
     CALL("adjusted_text", adjusted_text, ADJUSTED_TEXT_DOC),
+    CALL("approximate_text", approximate_text, APPROXIMATE_TEXT_DOC),
     CALL("appropriate_unit", appropriate_unit, APPROPRIATE_UNIT_DOC),
     CALL("exact_unit", exact_unit, EXACT_UNIT_DOC),
     CALL("recoverable_unit", recoverable_unit, RECOVERABLE_UNIT_DOC),

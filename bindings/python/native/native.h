@@ -168,7 +168,7 @@ typedef PyObject *call(PyObject *module, PyObject *const *args, Py_ssize_t count
 typedef PyObject *function(PyObject *module, PyObject *const *args, Py_ssize_t count);
 
 call parse, explain, parse_unit, explain_unit;
-call text_of, adjusted_text, appropriate_unit, exact_unit, recoverable_unit, from_unit;
+call text_of, adjusted_text, approximate_text, appropriate_unit, exact_unit, recoverable_unit, from_unit;
 function position, parse_many, parse_buffers;
 function ints, part, sum, extremum, first_large, int64, float64, mask;
 

@@ -28,6 +28,7 @@ ONLY_TYPES = [
     r"byte_unit\._columns\.(Errors|Final|Iterable|Iterator|Literal|Overflow|SupportsIndex|TypeAlias|overload)",
     r"byte_unit\._columns\.Sequence\.index",
     r"byte_unit\._errors\.Decimal",
+    r"byte_unit\.pandas\.Callable",
 ]
 HAS_MYPY = importlib.util.find_spec("mypy") is not None
 README = os.path.join(os.path.dirname(os.path.abspath(__file__)), "../README.md")
@@ -55,12 +56,14 @@ class Package(unittest.TestCase):
                 self.assertTrue(value.__doc__, name)
         public = {name for name in vars(byte_unit) if not name.startswith("_")} - {"pandas"}
         self.assertEqual(public, set(byte_unit.__all__) - {"__version__"})
-        self.assertEqual(len(CALLS), 10)
+        self.assertEqual(len(CALLS), 11)
 
     def test_arguments(self) -> None:
-        """Flags and options are keyword-only, and have one default each."""
+        """Flags and options are keyword-only, and have one default each, but for those in `own`."""
         defaults = {"bits": False, "ignore_case": False, "binary": False, "either_kind": False, "alternate": True,
                     "unit_type": "both", "errors": "coerce", "validity_offset": 0}  # fmt: skip
+        own = {("recoverable_unit", "precision"): 3, ("approximate_text", "precision"): 1,
+               ("approximate_text", "unit_type"): "binary"}  # fmt: skip
         for name in byte_unit.__all__:
             value = getattr(byte_unit, name)
             if not inspect.isroutine(value):
@@ -70,8 +73,8 @@ class Package(unittest.TestCase):
                     is_option = argument.default is not argument.empty
                     self.assertEqual(argument.kind is argument.KEYWORD_ONLY, is_option)
                     if is_option:
-                        precision = 3 if (name, argument.name) == ("recoverable_unit", "precision") else None
-                        self.assertEqual(argument.default, defaults.get(argument.name, precision))
+                        wanted = own.get((name, argument.name), defaults.get(argument.name))
+                        self.assertEqual(argument.default, wanted)
         for call in (byte_unit.parse, byte_unit.explain, byte_unit.parse_unit, byte_unit.explain_unit):
             with self.assertRaises(TypeError):
                 call("B", True)

@@ -94,7 +94,11 @@ class FormatSizes(unittest.TestCase):
         self.assertEqual(format_sizes(sizes, unit="KiB", precision=1).tolist(), ["120.6 KiB", "1.5 KiB"])
         self.assertEqual(format_sizes(sizes, alternate=False, width=8, sign="plus").tolist(), [" +123456", "   +1536"])
         self.assertEqual(format_sizes(sizes, bits=True, align="right", width=9)[1], "  1.5 Kib")
-        for wrong in ({"unit": "kib"}, {"precision": -1}, {"sign": "+"}):
+        self.assertEqual(format_sizes(sizes, unit_type="binary").tolist(), ["120.6 KiB", "1.5 KiB"])
+        self.assertEqual(format_sizes(sizes, unit_type="decimal", precision=2, bits=True)[0], "123.46 Kb")
+        with self.assertRaises(TypeError):
+            format_sizes(sizes, unit="KiB", unit_type="binary")
+        for wrong in ({"unit_type": "iec"}, {"unit": "kib"}, {"precision": -1}, {"sign": "+"}):
             with self.assertRaises(ByteUnitError):
                 format_sizes(sizes, **wrong)
 

@@ -39,6 +39,17 @@ def adjusted_text(
     sign: _Sign | None = None,
     alternate: bool = True,
 ) -> str: ...
+def approximate_text(
+    size: SupportsIndex,
+    *,
+    bits: bool = False,
+    unit_type: _UnitType = "binary",
+    precision: SupportsIndex | None = 1,
+    width: SupportsIndex | None = None,
+    align: _Align | None = None,
+    sign: _Sign | None = None,
+    alternate: bool = True,
+) -> str: ...
 def appropriate_unit(size: SupportsIndex, *, bits: bool = False, unit_type: _UnitType = "both") -> str: ...
 def exact_unit(size: SupportsIndex, *, bits: bool = False, either_kind: bool = False) -> tuple[int, str]: ...
 def recoverable_unit(
