@@ -170,6 +170,10 @@ class Parse(unittest.TestCase):
                     offsets = array("i", [0, len(text)])
                     self.assertEqual(byte_unit.parse_buffers(text.encode(), offsets, **flags)[0], size)
                     self.assertIsNone(byte_unit.explain(text, **flags))
+        for prefix in "KMGTPEZYRkmgtpezyr":
+            for suffix in ("", "B", "b", "bit", "bits"):
+                size = byte_unit.parse(f"1.5 {prefix}i{suffix}")
+                self.assertEqual(byte_unit.parse(f"1.5 {prefix}{suffix}", binary=True), size)
         self.assertEqual(byte_unit.parse("1 Kb", bits=True, binary=True), 1024)
         self.assertEqual(byte_unit.explain("900 RB", binary=True), "the value 900 exceeds the valid range")
         with self.assertRaises(TypeError):
