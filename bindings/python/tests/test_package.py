@@ -237,11 +237,14 @@ class Memory(unittest.TestCase):
                 byte_unit.parse_many(many)
                 byte_unit.parse_buffers(b"1 1 KB", offsets)
                 byte_unit.text(10**29 + 1, width=400)
+                byte_unit.approximate_text(10**29 + 1, width=400)
                 byte_unit.recoverable_unit(10**29 + 1, precision=28)
                 for call in (lambda: byte_unit.parse("1000 RB"), lambda: byte_unit.parse_unit("\ud800"),
                              lambda: byte_unit.parse_buffers(b"1", offsets), lambda: byte_unit.parse_many(["1", None])):
                     try:
                         call()
+                    except byte_unit.SizeError as error:
+                        error.position
                     except (ValueError, TypeError):
                         pass
 

@@ -31,7 +31,8 @@ def to_sizes(
 
     A null is `NA`. So is a text that is not a size; with `errors="raise"` the first one raises `SizeError`, which names
     the row. If a size is 2^63 or more, `overflow` decides: `"raise"` raises `ByteUnitError`, `"null"` makes it `NA`,
-    and `"saturate"` makes it 2^63 - 1. The series may be of objects, of strings, or backed by Arrow.
+    and `"saturate"` makes it 2^63 - 1. The series may be of objects, of strings, or backed by Arrow. The flags are
+    those of `parse`.
 
     The sum of an `Int64` series wraps past 2^63, in pandas; `parse_many(texts).sum()` is exact.
 
