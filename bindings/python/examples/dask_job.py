@@ -36,18 +36,19 @@ def write_whole(name: str, rows: list[tuple[object, ...]]) -> None:
 def summarize(part: pandas.DataFrame, rejected: str) -> dict[str, tuple[int, int]]:
     """Returns the number of sizes of a partition and their sum, by owner, and writes the rows that are rejected."""
     sums, rows = {}, []
+    file = next(iter(part["file"]), None)
     for owner, texts in part.groupby("owner")["size"]:
         column = byte_unit.parse_many(texts, **FLAGS)
         sums[owner] = column.codes.count(0), column.sum()
-        for place, error in column.errors(texts, **FLAGS):
-            row = texts.index[place]
-            rows.append((part.at[row, "file"], row + 1, owner, error.text, error.name, error.position, error))
+        numbers = texts.index.tolist()
+        for row, error in column.errors(texts, **FLAGS):
+            rows.append((file, numbers[row] + 1, owner, error.text, error.name, error.position, str(error)))
     write_whole(rejected, sorted(rows, key=lambda row: row[1]))
     return sums
 
 
 def run(client: Client, files: list[str], folder: str) -> dict[str, tuple[int, int]]:
-    """Returns the number of sizes and their sum by owner. Makes the folder, with a file of rejected rows a partition."""
+    """Returns the number of sizes and their sum by owner. Makes the folder, with a file of rejected rows by part."""
     os.makedirs(folder)
     frame = dataframe.read_csv(files, dtype=str, keep_default_na=False, blocksize=None, include_path_column="file")
     jobs = [

@@ -80,9 +80,9 @@ class SizeError(ByteUnitError):
         If the text ends too early, it is the index of its end, before white space there. It is `None` if only the size
         is too large, and for `not_utf8`. In `bytes` it is the index of a byte.
         """
-        from . import _native  # which imports this module
+        import byte_unit._native  # which imports this module
 
-        return None if self.text is None else _native.position(self.text, bool(self._of_unit))
+        return None if self.text is None else byte_unit._native.position(self.text, bool(self._of_unit))
 
     def __str__(self) -> str:
         """Returns the message."""
