@@ -1,6 +1,7 @@
 """Parsing of many texts in one call."""
 
 from _collections_abc import Sequence  # as collections.abc has it, whose import takes longer than all of this package
+from itertools import compress
 
 from . import _native
 from ._errors import ByteUnitError, SizeError
@@ -17,6 +18,7 @@ if TYPE_CHECKING:
 ERROR_NAMES: "Final[tuple[str, ...]]" = _native.CODES
 
 _NULL = ERROR_NAMES.index("null")
+_REJECTED = bytes(code not in (0, _NULL) for code in range(256))
 _AT_A_TIME = 1024
 
 
@@ -159,20 +161,21 @@ class Column(Sequence["int | None"]):
         3 '1 Kx' 3 the character 'x' is incorrect ('B' or 'b' or no character is expected)
         """
         if texts is None:
-            return ((row, ERROR_NAMES[code]) for row, code in enumerate(self._codes) if code not in (0, _NULL))
+            rows = compress(range(len(self._codes)), self._codes.translate(_REJECTED))
+            return ((row, ERROR_NAMES[self._codes[row]]) for row in rows)
         return self._size_errors(texts, {"bits": bits, "ignore_case": ignore_case, "binary": binary})
 
     def _size_errors(
         self, texts: "Iterable[str | bytes | None]", flags: "dict[str, bool]"
     ) -> "Iterator[tuple[int, SizeError]]":
-        for row, (text, code) in enumerate(zip(texts, self._codes, strict=True)):
-            if code not in (0, _NULL):
-                try:
-                    _native.parse(text, **flags)  # type: ignore[arg-type]
-                except SizeError as error:
-                    yield row, error
-                else:
-                    raise ByteUnitError(f"texts[{row}]: {text!r} is a size, but it was parsed as one that is none")
+        rows = zip(range(len(self._codes)), texts, strict=True)
+        for row, text in compress(rows, self._codes.translate(_REJECTED)):
+            try:
+                _native.parse(text, **flags)  # type: ignore[arg-type]
+            except SizeError as error:
+                yield row, error
+            else:
+                raise ByteUnitError(f"texts[{row}]: {text!r} is a size, but it was parsed as one that is none")
 
     def ints(self) -> "list[int | None]":
         """Returns the sizes as a list, with `None` for a text without one."""
