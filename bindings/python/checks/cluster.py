@@ -3,8 +3,9 @@
     cluster.py TEXTS WORKERS..
 
 Runs the job for each number of worker processes; for the last one once more, and then one of them is ended after some
-partitions. Sums and rejected rows have to be those of a model in Python's integers each time. Prints the seconds of
-each run, and of pandas with humanfriendly, if it is installed, for a tenth of the texts. Works in the current folder.
+partitions. Sums and rejected rows have to be those of a model in Python's integers each time. Prints what each run
+takes, and pandas with humanfriendly, if it is installed, in one process for a tenth of the texts. Works in the current
+folder.
 """
 
 import contextlib
@@ -59,6 +60,10 @@ def digest(name: str) -> str:
         return hashlib.sha256(file.read()).hexdigest()
 
 
+def figure(seconds: float, count: int) -> str:
+    return f"{seconds:.2f} s, {seconds / count * 1e6:.2f} µs a text"
+
+
 def end_one(worker: int, folder: str) -> int:
     """Ends the process of a worker as soon as some partitions are done. Returns how many are."""
     while len(done := glob.glob(f"{folder}/part-?????.csv")) < PARTS // 8:
@@ -76,7 +81,7 @@ def printed(wanted: list[Found]) -> str:
     return "".join(line + "\n" for line in lines)
 
 
-def check(client: Client, wanted: list[Found], ends: bool) -> None:
+def check(client: Client, wanted: list[Found], per_part: int, ends: bool) -> None:
     """Runs the job, and compares its sums and rejected rows."""
     workers = [*client.run(os.getpid).values()]
     files, folder = sorted(glob.glob("texts-*.csv")), f"rejected-{len(workers)}" + "-ended" * ends
@@ -92,10 +97,10 @@ def check(client: Client, wanted: list[Found], ends: bool) -> None:
         client.wait_for_workers(len(workers))
         assert workers[0] not in client.run(os.getpid).values() and done.result() < PARTS
         how += f", one of them ended after {done.result()} of {PARTS} partitions"
-    print(f"{how}: {seconds:.2f} s, the same result", flush=True)
+    print(f"{how}: {figure(seconds, len(files) * per_part)}, the same result", flush=True)
 
 
-def beside() -> None:
+def beside(per_part: int) -> None:
     """Measures pandas with humanfriendly."""
     import humanfriendly
 
@@ -110,19 +115,20 @@ def beside() -> None:
         frame = pandas.read_csv(name, dtype=str, keep_default_na=False)
         frame["size"].map(parse).groupby(frame["owner"]).sum()
     seconds = time.perf_counter() - begin
-    print(f"pandas with humanfriendly, {len(names)} of {PARTS} partitions in one process: {seconds:.2f} s")
+    print(f"pandas with humanfriendly, {len(names)} partitions: {figure(seconds, len(names) * per_part)}")
 
 
 def main(count: int, numbers_of_workers: list[int]) -> None:
     wanted: list[Found] = []
+    per_part = count // PARTS
     for workers in numbers_of_workers:
         with Client(n_workers=workers, threads_per_worker=1, dashboard_address=None) as client:
-            wanted = wanted or client.gather(client.map(make, range(PARTS), count=count // PARTS))
-            check(client, wanted, ends=False)
+            wanted = wanted or client.gather(client.map(make, range(PARTS), count=per_part))
+            check(client, wanted, per_part, ends=False)
             if workers == numbers_of_workers[-1]:
-                check(client, wanted, ends=True)
+                check(client, wanted, per_part, ends=True)
     if importlib.util.find_spec("humanfriendly"):
-        beside()
+        beside(per_part)
 
 
 if __name__ == "__main__":
