@@ -254,7 +254,8 @@ class Memory(unittest.TestCase):
         before, references = tracemalloc.get_traced_memory()[0], sys.getrefcount(None)
         work()
         self.assertLess(tracemalloc.get_traced_memory()[0] - before, 20_000)
-        self.assertLess(abs(sys.getrefcount(None) - references), 100)
+        if sys.version_info < (3, 12):  # later None is immortal, and its count means nothing
+            self.assertLess(abs(sys.getrefcount(None) - references), 100)
 
 
 if __name__ == "__main__":
