@@ -19,6 +19,7 @@ from setuptools import Extension, setup
 from setuptools.command.sdist import sdist
 
 HERE = os.path.dirname(os.path.abspath(__file__))
+ROOT = os.path.dirname(os.path.dirname(HERE))
 HEADER, ARCHIVE = "byte_unit.h", "libbyte_unit.a"
 NOT_FOUND = (
     f"byte_unit: {HEADER} and {ARCHIVE} are not found. Build them by `tools/make-libraries DIR` in the repository, and "
@@ -60,8 +61,7 @@ def from_distribution():
 
 
 def from_repository():
-    root = os.path.dirname(os.path.dirname(HERE))
-    return pair(os.path.join(root, "bindings/c", HEADER), os.path.join(root, "crates/byte_unit_c/out/libbyte_unit_c.a"))
+    return pair(os.path.join(ROOT, "bindings/c", HEADER), os.path.join(ROOT, "crates/byte_unit_c/out/libbyte_unit_c.a"))
 
 
 def version_of(header):
@@ -84,13 +84,15 @@ def extension(header, archive):
 
 
 class WithLibrary(sdist):
-    """A source distribution with the header and the archive, so that another machine builds it."""
+    """A source distribution with the header and the archive, so that another machine builds it, and the changelog."""
 
     def make_release_tree(self, base_dir, files):
         super().make_release_tree(base_dir, files)
         os.makedirs(os.path.join(base_dir, "library"), exist_ok=True)
         for name, path in zip((HEADER, ARCHIVE), found):
             shutil.copyfile(path, os.path.join(base_dir, "library", name))
+        if os.path.isfile(os.path.join(ROOT, "bindings/c", HEADER)):  # the repository
+            shutil.copy(os.path.join(ROOT, "CHANGELOG.md"), base_dir)
 
 
 found = from_variable() or from_distribution() or from_pkg_config() or from_repository()

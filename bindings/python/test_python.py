@@ -41,6 +41,23 @@ def test_one_line_says_what_is_missing(python_package, tmp_path, variable, value
     assert (got.returncode, got.stdout[:11], got.stdout.count("\n")) == (1, "byte_unit: ", 1) and words in got.stdout
 
 
+def test_source_distribution(python_package, library, tmp_path):
+    """It builds where neither the repository nor a library is, and its wheel needs no more than its tag says."""
+    need("readelf")
+    here = environment(BYTE_UNIT_LIBRARY_DIR=library)
+    output(DEBIAN_PYTHON, "setup.py", "sdist", "-d", tmp_path, cwd=python_package, env=here)
+    (source,) = tmp_path.glob("byte_unit-*.tar.gz")
+    words = [DEBIAN_PYTHON, "-m", "pip", "wheel", "--no-index", "--no-deps", "-w", tmp_path, source]
+    output(*words, cwd=tmp_path, env=environment(PKG_CONFIG_LIBDIR="/nowhere"))
+    (wheel,) = tmp_path.glob("*.whl")
+    assert wheel.name.endswith("-cp311-abi3-manylinux_2_17_x86_64.whl")
+    shutil.unpack_archive(wheel, tmp_path, "zip")
+    said = output("readelf", "-dVW", tmp_path / "byte_unit/_native.abi3.so")
+    assert set(re.findall(r"\(NEEDED\).*\[(.+)\]", said)) == {"libc.so.6"}
+    versions = re.findall(r"Name: (\w+?)_([0-9.]+) ", said)
+    assert versions and all(name == "GLIBC" and [*map(int, number.split("."))] <= [2, 17] for name, number in versions)
+
+
 def test_its_c_has_no_warning(python):
     assert not re.search(r"\.[ch]:\d+.*warning: ", python.said), python.said
 
@@ -75,3 +92,13 @@ def test_columns(python, tmp_path, part, needs):
     need(*needs)
     said = output(python.program, path("bindings/python/examples/columns.py"), cwd=tmp_path, env=environment())
     assert f"with_{part}: as expected" in said.splitlines()
+
+
+@pytest.mark.parametrize("count, workers", [(10**5, "2"), pytest.param(10**7, "1 2 4", marks=pytest.mark.whole)])
+def test_cluster(python, tmp_path, count, workers):
+    """The job of the example for Dask over processes, one of which is ended."""
+    need("import pandas", "import dask.dataframe", "import distributed")
+    words = [path("bindings/python/checks/cluster.py"), str(count), *workers.split()]
+    said = output(python.program, *words, cwd=tmp_path, env=environment())
+    print(said)
+    assert said.count("the same result") == len(workers.split()) + 1 and "one of them ended" in said

@@ -25,8 +25,9 @@ PACKAGES = {
     "import setuptools": "python3-setuptools", "import wheel": "python3-wheel",
     "import ensurepip": "python3-venv", "import pip": "python3-pip", "import pytest": "python3-pytest",
     "import hypothesis": "python3-hypothesis", "import numpy": "python3-numpy", "import pandas": "python3-pandas",
-    "import dask.dataframe": "python3-dask", "cargo": "cargo", "rustc": "rustc", "/usr/bin/cargo": "cargo",
-    "/usr/bin/rustc": "rustc", "/usr/bin/time": "time", "cargo-clippy": "rust-clippy", "cargo-fmt": "rustfmt",
+    "import dask.dataframe": "python3-dask", "import distributed": "python3-distributed", "cargo": "cargo",
+    "rustc": "rustc", "/usr/bin/cargo": "cargo", "/usr/bin/rustc": "rustc", "/usr/bin/time": "time",
+    "cargo-clippy": "rust-clippy", "cargo-fmt": "rustfmt",
     f"{DEBIAN_RUST}/serde_json-*": "librust-serde-json-dev", f"{DEBIAN_RUST}/serde-*": "librust-serde-dev",
     f"{DEBIAN_RUST}/toml-*": "librust-toml-dev", "git": "git",
 }

@@ -75,13 +75,16 @@ def single() -> None:
     one("Python: `parse`, an error, of 1.5 XB", rejected, byte_unit.parse, byte_unit.SizeError, "1.5 XB")
     one("Python: `text` with a unit of 1536", byte_unit.text, 1536)
     one("Python: `adjusted_text` in KB of 1536", byte_unit.adjusted_text, 1536, "KB")
+    one("Python: `approximate_text` of 123456789", byte_unit.approximate_text, 123456789)
     if humanfriendly:
         parse_size, invalid = humanfriendly.parse_size, humanfriendly.InvalidSize
         one("humanfriendly: `parse` of 1.5 KiB", parse_size, text)
         one("humanfriendly: `parse`, an error, of 1.5 XB", rejected, parse_size, invalid, "1.5 XB")
         one("humanfriendly: `text` with a unit of 1536", humanfriendly.format_size, 1536)
+        one("humanfriendly: `approximate_text` of 123456789", humanfriendly.format_size, 123456789, False, True)
     if humanize:
         one("humanize: `text` with a unit of 1536", humanize.naturalsize, 1536)
+        one("humanize: `approximate_text` of 123456789", humanize.naturalsize, 123456789, True)
     if shutil.which("numfmt"):
         line("`numfmt`: `parse` of 1.5 KiB", with_numfmt("--from=iec", ["1.5K"] * 200_000))
         line("`numfmt`: `text` with a unit of 1536", with_numfmt("--to=iec", ["1536"] * 200_000))

@@ -30,6 +30,8 @@ def parsing() -> None:
     look("1 KiB", line(b"1 KiB"), "1024 = 1 KiB")
     look("9 b", line("9 b"), "2 = 2 B")
     look("9 b", line("9 b", ignore_case=True), "9 = 9 B")
+    look("10m by 1024", byte_unit.parse("10m", binary=True), 10485760)
+    look("100 mb by 1024", byte_unit.parse("100 mb", binary=True, ignore_case=True), 104857600)
     look("999 RB", line("999 RB"), "999000000000000000000000000000 = 999 RB")
     look("1 byte", line("1 byte"), "unit: the character 'y' is incorrect ('i' or no character is expected)")
     look("1 KÖB", line("1 KÖB"), "unit: the character 'Ö' is incorrect ('B' or 'b' or no character is expected)")
@@ -53,11 +55,14 @@ def parsing() -> None:
     except byte_unit.SizeError as error:
         seen = (error.character, error.expected, error.also_expect_no_character)
         look("fields of an error", seen, ("x", "BKMGTPEZYR", True))
+        look("where it is wrong", error.position, 1)
 
 
 def formatting() -> None:
     look("in KiB", byte_unit.adjusted_text(123456, "KiB"), "120.5625 KiB")
     look("to two places", byte_unit.adjusted_text(123456, "KiB", precision=2), "120.56 KiB")
+    look("approximately", byte_unit.approximate_text(123456789), "117.7 MiB")
+    look("of decimal units", byte_unit.approximate_text(123456789, unit_type="decimal", precision=2), "123.46 MB")
     look("in twelve columns", byte_unit.text(123456, width=12, align="right"), "  123.456 KB")
     look("in 300 columns", len(byte_unit.text(123456, width=300)), 300)
     look("with a plus sign", byte_unit.text(15500, alternate=False, sign="plus", width=10), "    +15500")

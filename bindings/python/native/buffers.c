@@ -233,15 +233,15 @@ static bool to_place(PyObject *module, PyObject *object, size_t *place)
     return number >= 0;
 }
 
-/* parse_buffers(data, offsets, validity or None, validity_offset, bits, ignore_case, is_strict) */
+/* parse_buffers(data, offsets, validity or None, validity_offset, bits, ignore_case, binary, is_strict) */
 PyObject *parse_buffers(PyObject *module, PyObject *const *args, Py_ssize_t count)
 {
     uint32_t is_strict = 0;
     Py_buffer data, offsets, bits;
     validity validity = {NULL, 0};
     texts texts = {.data = &data};
-    if (!has_arguments(count, 7) || !to_place(module, args[3], &validity.offset) ||
-        !parse_flags(args + 4, &texts.flags) || !add_flag(args[6], "is_strict", 1, &is_strict) ||
+    if (!has_arguments(count, 8) || !to_place(module, args[3], &validity.offset) ||
+        !parse_flags(args + 4, &texts.flags) || !add_flag(args[7], "is_strict", 1, &is_strict) ||
         PyObject_GetBuffer(args[0], &data, PyBUF_SIMPLE)) {
         return NULL;
     }

@@ -191,11 +191,11 @@ static bool parse_list(PyObject *module, PyObject *list, uint32_t flags, bool is
                      reject_row(module, PyList_GetItem(list, (Py_ssize_t)rejected), flags, rejected));
 }
 
-/* parse_many(texts, bits, ignore_case, is_strict) */
+/* parse_many(texts, bits, ignore_case, binary, is_strict) */
 PyObject *parse_many(PyObject *module, PyObject *const *args, Py_ssize_t count)
 {
     uint32_t flags, is_strict = 0;
-    if (!has_arguments(count, 4) || !parse_flags(args + 1, &flags) || !add_flag(args[3], "is_strict", 1, &is_strict)) {
+    if (!has_arguments(count, 5) || !parse_flags(args + 1, &flags) || !add_flag(args[4], "is_strict", 1, &is_strict)) {
         return NULL;
     }
     PyObject *list = PySequence_List(args[0]); /* a new list, which no other thread can change */

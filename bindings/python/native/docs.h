@@ -4,7 +4,7 @@
 #define DOCS_H
 
 #define PARSE_DOC \
-    "parse($module, text, *, bits=False, ignore_case=False)\n" \
+    "parse($module, text, *, bits=False, ignore_case=False, binary=False)\n" \
     "--\n" \
     "\n" \
     "Parses a size: a number and a unit, or a number alone.\n" \
@@ -12,6 +12,9 @@
     "Returns the number of bytes, or of bits with `bits`, rounded up to a whole one. White space at both ends\n" \
     "is ignored. A text without a unit is in bytes, or in bits with `bits`. `B` means bytes, and `b` bits\n" \
     "unless `ignore_case` is set, which makes it bytes; with `bits` that flag has no effect.\n" \
+    "\n" \
+    "`K` and `KB` are by 1000, up to `R` and `RB`; with `binary` they are by 1024, as `Ki` and `KiB` always\n" \
+    "are. So nginx, docker, the JVM and PostgreSQL mean them, where `b` is bytes: with `ignore_case` too.\n" \
     "\n" \
     "Raises `SizeError` if the text is not a size. Bytes are taken as UTF-8.\n" \
     "\n" \
@@ -21,12 +24,14 @@
     "(2, 9)\n" \
     ">>> parse(b\"1 KB\", bits=True)\n" \
     "8000\n" \
+    ">>> parse(\"10m\", binary=True), parse(\"128 mb\", binary=True, ignore_case=True)\n" \
+    "(10485760, 134217728)\n" \
     ">>> parse(\"1 KX\")\n" \
     "Traceback (most recent call last):\n" \
     "byte_unit.SizeError: the character 'X' is incorrect ('B' or 'b' or no character is expected)"
 
 #define EXPLAIN_DOC \
-    "explain($module, text, *, bits=False, ignore_case=False)\n" \
+    "explain($module, text, *, bits=False, ignore_case=False, binary=False)\n" \
     "--\n" \
     "\n" \
     "Returns the message of the error that `parse` raises, or `None` if the text is a size.\n" \
@@ -113,6 +118,24 @@
     ">>> adjusted_text(3, \"B\", bits=True, precision=1), adjusted_text(3, \"B\", bits=True, " \
     "precision=1, alternate=False)\n" \
     "('0.4 B', '0.375 B')"
+
+#define APPROXIMATE_TEXT_DOC \
+    "approximate_text($module, size, *, bits=False, unit_type='binary', precision=1, width=None, align=None, " \
+    "sign=None, alternate=True)\n" \
+    "--\n" \
+    "\n" \
+    "Formats a size for people, rounded in the largest unit of its kind and of a type that is not above it.\n" \
+    "\n" \
+    "The unit is what `appropriate_unit` returns with `unit_type`, \"binary\", \"decimal\" or \"both\", and the\n" \
+    "text what `adjusted_text` does in it. The unit is chosen before the number is rounded. With\n" \
+    "`precision=None` all digits are shown.\n" \
+    "\n" \
+    "Raises `ByteUnitError` if an argument is out of range.\n" \
+    "\n" \
+    ">>> approximate_text(123456789), approximate_text(123456789, unit_type=\"decimal\", precision=2)\n" \
+    "('117.7 MiB', '123.46 MB')\n" \
+    ">>> approximate_text(1023), approximate_text(2**20 - 1), approximate_text(1500, bits=True)\n" \
+    "('1023 B', '1024 KiB', '1.5 Kib')"
 
 #define APPROPRIATE_UNIT_DOC \
     "appropriate_unit($module, size, *, bits=False, unit_type='both')\n" \

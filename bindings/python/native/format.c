@@ -1,33 +1,36 @@
 /* Texts of sizes, and units. */
 #include "native.h"
 
-/* Writes a text as the library's calls do. The unit is BYTE_UNIT_NO_UNIT for a text that is not adjusted. */
+/* A call of the library that writes a text: in a unit, or in one of a unit type. */
+typedef size_t writer(byte_unit_number size, uint32_t flags, uint32_t unit, byte_unit_spec spec, char *out,
+                      size_t out_len);
+
+/* Writes a text that is in no certain unit. */
 static size_t write_text(byte_unit_number size, uint32_t flags, uint32_t unit, byte_unit_spec spec, char *out,
-                         size_t len)
+                         size_t out_len)
 {
-    if (unit == BYTE_UNIT_NO_UNIT) {
-        return byte_unit_text(size, flags, spec, out, len);
-    }
-    return byte_unit_adjusted_text(size, flags, unit, spec, out, len);
+    (void)unit;
+    return byte_unit_text(size, flags, spec, out, out_len);
 }
 
 /* Returns a text that is longer than BYTE_UNIT_BUFFER_SIZE. */
-static PyObject *long_text(byte_unit_number size, uint32_t flags, uint32_t unit, byte_unit_spec spec, size_t len)
+static PyObject *long_text(writer *write, byte_unit_number size, uint32_t flags, uint32_t unit, byte_unit_spec spec,
+                           size_t len)
 {
     char *out = PyMem_Malloc(len);
     if (!out) {
         return PyErr_NoMemory();
     }
-    PyObject *string = from_ascii(out, write_text(size, flags, unit, spec, out, len));
+    PyObject *string = from_ascii(out, write(size, flags, unit, spec, out, len));
     PyMem_Free(out);
     return string;
 }
 
-static PyObject *text_with(byte_unit_number size, uint32_t flags, uint32_t unit, byte_unit_spec spec)
+static PyObject *text_with(writer *write, byte_unit_number size, uint32_t flags, uint32_t unit, byte_unit_spec spec)
 {
     char out[BYTE_UNIT_BUFFER_SIZE];
-    size_t len = write_text(size, flags, unit, spec, out, sizeof out);
-    return len > sizeof out ? long_text(size, flags, unit, spec, len) : from_ascii(out, len);
+    size_t len = write(size, flags, unit, spec, out, sizeof out);
+    return len > sizeof out ? long_text(write, size, flags, unit, spec, len) : from_ascii(out, len);
 }
 
 static const choices SIGNS = {
@@ -83,7 +86,7 @@ PyObject *text_of(PyObject *module, PyObject *const *args, Py_ssize_t count, PyO
         !to_options(module, names, given + 1, &flags, &spec)) {
         return NULL;
     }
-    return text_with(size, flags, BYTE_UNIT_NO_UNIT, spec);
+    return text_with(write_text, size, flags, BYTE_UNIT_NO_UNIT, spec);
 }
 
 PyObject *adjusted_text(PyObject *module, PyObject *const *args, Py_ssize_t count, PyObject *names)
@@ -98,7 +101,28 @@ PyObject *adjusted_text(PyObject *module, PyObject *const *args, Py_ssize_t coun
         !to_unit(module, given[1], &unit) || !to_options(module, names, given + 2, &flags, &spec)) {
         return NULL;
     }
-    return text_with(size, flags, unit, spec);
+    return text_with(byte_unit_adjusted_text, size, flags, unit, spec);
+}
+
+PyObject *approximate_text(PyObject *module, PyObject *const *args, Py_ssize_t count, PyObject *names)
+{
+    static const signature SIGNATURE = {
+        "approximate_text", 1, 8, {"size", "unit_type", "bits", "precision", "width", "align", "sign", "alternate"}};
+    PyObject *given[8] = {NULL};
+    byte_unit_number size;
+    uint32_t flags;
+    uint8_t unit_type = BYTE_UNIT_BINARY;
+    byte_unit_spec spec;
+    if (!place(&SIGNATURE, args, count, names, given) || !to_size(module, given[0], &size) ||
+        (given[1] && !to_choice(module, &TYPES, given[1], &unit_type)) ||
+        !to_options(module, names, given + 2, &flags, &spec)) {
+        return NULL;
+    }
+    if (!given[3]) { /* the precision */
+        spec.has_precision = 1;
+        spec.precision = 1;
+    }
+    return text_with(byte_unit_approximate_text, size, flags, unit_type, spec);
 }
 
 PyObject *unit_names(void)

@@ -14,6 +14,7 @@ static PyMethodDef CALLS[] = {
     CALL("explain_unit", explain_unit, EXPLAIN_UNIT_DOC),
     CALL("text", text_of, TEXT_DOC),
     CALL("adjusted_text", adjusted_text, ADJUSTED_TEXT_DOC),
+    CALL("approximate_text", approximate_text, APPROXIMATE_TEXT_DOC),
     CALL("appropriate_unit", appropriate_unit, APPROPRIATE_UNIT_DOC),
     CALL("exact_unit", exact_unit, EXACT_UNIT_DOC),
     CALL("recoverable_unit", recoverable_unit, RECOVERABLE_UNIT_DOC),
@@ -22,8 +23,8 @@ static PyMethodDef CALLS[] = {
 };
 
 static PyMethodDef METHODS[] = {
-    PRIVATE(parse_many), PRIVATE(parse_buffers), PRIVATE(ints),  PRIVATE(part),    PRIVATE(sum),
-    PRIVATE(extremum),   PRIVATE(first_large),   PRIVATE(int64), PRIVATE(float64), PRIVATE(mask),
+    PRIVATE(position), PRIVATE(parse_many), PRIVATE(parse_buffers), PRIVATE(ints),    PRIVATE(part), PRIVATE(sum),
+    PRIVATE(extremum), PRIVATE(first_large), PRIVATE(int64), PRIVATE(float64), PRIVATE(mask),
     {NULL, NULL, 0, NULL},
 };
 
@@ -64,7 +65,7 @@ static PyObject *codes_by_name(PyObject *names)
 static bool name_fields(state *state)
 {
     static const char *const NAMES[FIELDS] = {
-        "name", "character", "expected", "also_expect_no_character", "number", "text", "row"};
+        "name", "character", "expected", "also_expect_no_character", "number", "text", "row", "_of_unit"};
     bool named = true;
     for (int i = 0; named && i < FIELDS; i++) {
         state->fields[i] = PyUnicode_InternFromString(NAMES[i]);

@@ -25,8 +25,8 @@ __extension__ typedef unsigned __int128 u128;
 /* The code of a text that is null, beside those of the library: that of an invalid argument, which no text has. */
 enum { NULL_TEXT = BYTE_UNIT_INVALID_ARGUMENT };
 
-/* The fields of SizeError. */
-enum field { NAME, CHARACTER, EXPECTED, ALSO_EXPECT_NO_CHARACTER, NUMBER, TEXT, ROW, FIELDS };
+/* The fields of SizeError, whose class has a None for each that is left out. */
+enum field { NAME, CHARACTER, EXPECTED, ALSO_EXPECT_NO_CHARACTER, NUMBER, TEXT, ROW, OF_UNIT, FIELDS };
 
 /* What the module keeps: objects that are made once. */
 typedef struct state {
@@ -90,7 +90,7 @@ bool has_arguments(Py_ssize_t count, Py_ssize_t expected);
 bool wrong_type(const char *name, const char *expected, PyObject *object);
 /* Adds the flag if the object is True. NULL is False. */
 bool add_flag(PyObject *object, const char *name, uint32_t flag, uint32_t *flags);
-/* Reads the flags `bits` and `ignore_case` of a call that parses. */
+/* Reads the flags `bits`, `ignore_case` and `binary` of a call that parses. */
 bool parse_flags(PyObject *const *objects, uint32_t *flags);
 /* Reads a size, a number of units, and a precision or a width. */
 bool to_size(PyObject *module, PyObject *object, byte_unit_number *size);
@@ -112,6 +112,8 @@ typedef struct text {
 /* Borrows the bytes of a str as UTF-8, or those of a bytes object as they are. Without an exception set if the object
  * is neither. */
 bool borrow_text(PyObject *object, text *text);
+/* The same for the argument `text`: raises a TypeError if it is neither. */
+bool to_text(PyObject *object, text *text);
 void release_text(text *text);
 /* Whether the object is null: None, a float that is not a number, or NA or NaT of pandas. */
 bool is_null(PyObject *module, PyObject *object);
@@ -166,8 +168,8 @@ typedef PyObject *call(PyObject *module, PyObject *const *args, Py_ssize_t count
 typedef PyObject *function(PyObject *module, PyObject *const *args, Py_ssize_t count);
 
 call parse, explain, parse_unit, explain_unit;
-call text_of, adjusted_text, appropriate_unit, exact_unit, recoverable_unit, from_unit;
-function parse_many, parse_buffers;
+call text_of, adjusted_text, approximate_text, appropriate_unit, exact_unit, recoverable_unit, from_unit;
+function position, parse_many, parse_buffers;
 function ints, part, sum, extremum, first_large, int64, float64, mask;
 
 /* Returns a tuple of the names of the codes, and one of the names of the units. */

@@ -26,7 +26,8 @@ PyObject *code_names(void)
     return names;
 }
 
-#define PARAMETERS {"text", "bits", "ignore_case"}
+#define SIZE_PARAMETERS {"text", "bits", "ignore_case", "binary"}
+#define UNIT_PARAMETERS {"text", "bits", "ignore_case"}
 
 /* The arguments of the calls of this file. */
 typedef struct given {
@@ -39,14 +40,13 @@ typedef struct given {
 static bool read_arguments(const signature *signature, PyObject *const *args, Py_ssize_t count, PyObject *names,
                            given *given)
 {
-    PyObject *objects[3] = {NULL};
+    PyObject *objects[4] = {NULL};
     given->flags = BYTE_UNIT_BYTES;
     if (!place(signature, args, count, names, objects) || (names && !parse_flags(objects + 1, &given->flags))) {
         return false;
     }
     given->object = objects[0];
-    return borrow_text(given->object, &given->text) ||
-           (!PyErr_Occurred() && wrong_type("text", "str or bytes", given->object));
+    return to_text(given->object, &given->text);
 }
 
 /* Raises the SizeError of the text. Returns NULL. */
@@ -59,7 +59,7 @@ static PyObject *reject_given(PyObject *module, const given *given, uint32_t cod
 
 PyObject *parse(PyObject *module, PyObject *const *args, Py_ssize_t count, PyObject *names)
 {
-    static const signature SIGNATURE = {"parse", 1, 3, PARAMETERS};
+    static const signature SIGNATURE = {"parse", 1, 4, SIZE_PARAMETERS};
     given given;
     byte_unit_number size;
     byte_unit_error error;
@@ -74,7 +74,7 @@ PyObject *parse(PyObject *module, PyObject *const *args, Py_ssize_t count, PyObj
 
 PyObject *parse_unit(PyObject *module, PyObject *const *args, Py_ssize_t count, PyObject *names)
 {
-    static const signature SIGNATURE = {"parse_unit", 1, 3, PARAMETERS};
+    static const signature SIGNATURE = {"parse_unit", 1, 3, UNIT_PARAMETERS};
     given given;
     uint32_t unit;
     byte_unit_error error;
@@ -86,6 +86,35 @@ PyObject *parse_unit(PyObject *module, PyObject *const *args, Py_ssize_t count, 
                             : Py_XNewRef(PyTuple_GetItem(state_of(module)->units, (Py_ssize_t)unit));
     release_text(&given.text);
     return result;
+}
+
+/* Returns the number of characters in UTF-8. */
+static size_t characters(const char *bytes, size_t len)
+{
+    size_t count = 0;
+    for (size_t i = 0; i < len; i++) {
+        count += (bytes[i] & 0xC0) != 0x80; /* the first byte of a character */
+    }
+    return count;
+}
+
+/* position(text, of_unit): the index of the first wrong character of a str, or byte of a bytes object, or None */
+PyObject *position(PyObject *module, PyObject *const *args, Py_ssize_t count)
+{
+    (void)module;
+    text text;
+    size_t place;
+    uint32_t of_unit = 0;
+    if (!has_arguments(count, 2) || !add_flag(args[1], "of_unit", 1, &of_unit) || !to_text(args[0], &text)) {
+        return NULL;
+    }
+    bool is_found = of_unit ? byte_unit_unit_error_position(text.bytes, (size_t)text.len, &place)
+                            : byte_unit_error_position(text.bytes, (size_t)text.len, &place);
+    if (is_found && PyUnicode_Check(args[0])) {
+        place = characters(text.bytes, place);
+    }
+    release_text(&text);
+    return is_found ? PyLong_FromSize_t(place) : Py_NewRef(Py_None);
 }
 
 static PyObject *explained(const signature *signature, PyObject *const *args, Py_ssize_t count,
@@ -102,14 +131,14 @@ static PyObject *explained(const signature *signature, PyObject *const *args, Py
 
 PyObject *explain(PyObject *module, PyObject *const *args, Py_ssize_t count, PyObject *names)
 {
-    static const signature SIGNATURE = {"explain", 1, 3, PARAMETERS};
+    static const signature SIGNATURE = {"explain", 1, 4, SIZE_PARAMETERS};
     (void)module;
     return explained(&SIGNATURE, args, count, names, byte_unit_explain);
 }
 
 PyObject *explain_unit(PyObject *module, PyObject *const *args, Py_ssize_t count, PyObject *names)
 {
-    static const signature SIGNATURE = {"explain_unit", 1, 3, PARAMETERS};
+    static const signature SIGNATURE = {"explain_unit", 1, 3, UNIT_PARAMETERS};
     (void)module;
     return explained(&SIGNATURE, args, count, names, byte_unit_explain_unit);
 }

@@ -24,6 +24,11 @@ bool borrow_text(PyObject *object, text *text)
     return PyBytes_Check(object) && !PyBytes_AsStringAndSize(object, &text->bytes, &text->len);
 }
 
+bool to_text(PyObject *object, text *text)
+{
+    return borrow_text(object, text) || (!PyErr_Occurred() && wrong_type("text", "str or bytes", object));
+}
+
 void release_text(text *text)
 {
     Py_CLEAR(text->owner);
@@ -77,7 +82,7 @@ static PyObject *with_row(const rejection *rejection, PyObject *message)
 }
 
 /* Fills the values of the fields. One that the code does not use is None, an empty str or False. */
-static bool fill(PyObject *module, const rejection *rejection, PyObject **values)
+static bool fill(PyObject *module, const rejection *rejection, bool of_unit, PyObject **values)
 {
     const byte_unit_error *error = rejection->error;
     uint32_t code = rejection->code;
@@ -90,18 +95,19 @@ static bool fill(PyObject *module, const rejection *rejection, PyObject **values
     values[NUMBER] = is_above ? from_decimal(module, error->number) : Py_NewRef(Py_None);
     values[TEXT] = Py_NewRef(rejection->object);
     values[ROW] = has_row ? PyLong_FromSsize_t(rejection->row) : Py_NewRef(Py_None);
+    values[OF_UNIT] = Py_NewRef(of_unit ? Py_True : Py_None);
     for (int i = 0; i < FIELDS; i++) {
         filled = filled && values[i];
     }
     return filled;
 }
 
-/* Returns the fields as a dictionary. */
+/* Returns the fields that are not None as a dictionary: one of at most five is not resized. */
 static PyObject *fields_of(state *state, PyObject *const *values)
 {
     PyObject *fields = PyDict_New();
     for (int i = 0; fields && i < FIELDS; i++) {
-        if (PyDict_SetItem(fields, state->fields[i], values[i])) {
+        if (values[i] != Py_None && PyDict_SetItem(fields, state->fields[i], values[i])) {
             Py_CLEAR(fields);
         }
     }
@@ -132,7 +138,8 @@ PyObject *reject(PyObject *module, const rejection *rejection, explainer *explai
     if (rejection->row >= 0) {
         message = with_row(rejection, message);
     }
-    PyObject *error = message && fill(module, rejection, values) ? size_error(state, message, values) : NULL;
+    bool is_filled = message && fill(module, rejection, explain == byte_unit_explain_unit, values);
+    PyObject *error = is_filled ? size_error(state, message, values) : NULL;
     if (error) {
         PyErr_SetObject(state->size_error, error);
     }

@@ -24,7 +24,8 @@ def caught(text: str | bytes) -> SizeError:
 
 
 def fields(error: SizeError) -> tuple[object, ...]:
-    return (error.name, error.character, error.expected, error.also_expect_no_character, error.number, str(error))
+    names = "name character expected also_expect_no_character number text row position args".split()
+    return (str(error), *(getattr(error, name) for name in names))
 
 
 class Errors(unittest.TestCase):
@@ -60,13 +61,14 @@ class Errors(unittest.TestCase):
         self.assertEqual((unit.exception.text, unit.exception.args[0]), ("Kx", str(unit.exception)))
         plain = SizeError("a message", name="unit", expected="Bb")
         self.assertEqual((plain.text, plain.row, plain.expected, plain.args[3]), (None, None, "Bb", "Bb"))
+        self.assertEqual((plain.position, pickle.loads(pickle.dumps(unit.exception)).position), (None, 1))
 
     def test_fields_are_those_of_the_constructor(self) -> None:
         for text in TEXTS:
             error = caught(text)
             made = SizeError(*error.args)
             made.text, made.row = error.text, error.row
-            self.assertEqual((vars(made), made.args), (vars(error), error.args))
+            self.assertEqual(fields(made), fields(error))
 
     def test_a_million_errors(self) -> None:
         """Memory and references stay as they are."""

@@ -1,6 +1,7 @@
 """Texts and units: expected values, and the edges of the range of each argument."""
 
 import decimal
+import random
 import unittest
 from decimal import Decimal
 from enum import IntEnum
@@ -40,9 +41,30 @@ ADJUSTED = [
     (1, "KB", {"precision": 300, "alternate": False}, "0.001" + "0" * 297 + " KB"),
 ]
 
+# size, arguments, text
+APPROXIMATE = [
+    (0, {}, "0 B"),
+    (1023, {}, "1023 B"),
+    (1024, {}, "1 KiB"),
+    (123456789, {}, "117.7 MiB"),
+    (123456789, {"unit_type": "decimal"}, "123.5 MB"),
+    (123456789, {"unit_type": "both", "precision": 2}, "117.74 MiB"),
+    (1000, {"unit_type": "both"}, "1 KB"),
+    (123456789, {"precision": None}, "117.73756885528564453125 MiB"),
+    (123456789, {"precision": 0}, "118 MiB"),
+    (123456789, {"precision": 3, "alternate": False}, "117.738 MiB"),
+    (2**20 - 1, {}, "1024 KiB"),
+    (1500, {"bits": True}, "1.5 Kib"),
+    (1536, {"width": 12}, "1.5      KiB"),
+    (1536, {"width": 12, "align": "right", "sign": "minus"}, "      1.5KiB"),
+    (1536, {"width": 300, "align": "left"}, "1.5" + " " * 294 + "KiB"),
+    (10**30 - 1, {"unit_type": "decimal"}, "1000 RB"),
+]
+
 SIZE_CALLS = [
     byte_unit.text,
     lambda size: byte_unit.adjusted_text(size, "KiB"),
+    byte_unit.approximate_text,
     byte_unit.appropriate_unit,
     byte_unit.exact_unit,
     byte_unit.recoverable_unit,
@@ -52,8 +74,11 @@ DIGIT_CALLS = [
     lambda number: byte_unit.text(1, precision=number),
     lambda number: byte_unit.adjusted_text(1, "KiB", width=number),
     lambda number: byte_unit.adjusted_text(1, "KiB", precision=number),
+    lambda number: byte_unit.approximate_text(1, width=number),
+    lambda number: byte_unit.approximate_text(1, precision=number),
     lambda number: byte_unit.recoverable_unit(1, precision=number),
 ]
+TYPES = ["binary", "decimal", "both"]
 FAR = [-1, -(2**31), -(2**32) + 20, -(2**63), -(2**64), -(2**128), -(10**5000), 2**128, 2**128 + 1, 2**192, 10**5000]
 NO_NUMBERS = [1.0, "1", b"1", Decimal(1), [1], object()]
 
@@ -81,6 +106,18 @@ class Texts(unittest.TestCase):
         for size, unit, arguments, text in ADJUSTED:
             with self.subTest(size, unit=unit, **arguments):
                 self.assertEqual(byte_unit.adjusted_text(size, unit, **arguments), text)
+
+    def test_approximate(self) -> None:
+        for size, arguments, text in APPROXIMATE:
+            with self.subTest(size, **arguments):
+                self.assertEqual(byte_unit.approximate_text(size, **arguments), text)
+        rng = random.Random(1)
+        for _ in range(2000):
+            size, bits, unit_type = rng.randrange(10 ** rng.randrange(1, 31)), rng.random() < 0.5, rng.choice(TYPES)
+            unit = byte_unit.appropriate_unit(size, bits=bits, unit_type=unit_type)
+            options = {"bits": bits, "precision": rng.choice([None, 0, 1, 2, 30]), "width": rng.choice([None, 20])}
+            text = byte_unit.adjusted_text(size, unit, **options)
+            self.assertEqual(byte_unit.approximate_text(size, unit_type=unit_type, **options), text)
 
     def test_units(self) -> None:
         self.assertEqual(byte_unit.appropriate_unit(10000, unit_type="binary"), "KiB")
@@ -147,7 +184,7 @@ class Ranges(unittest.TestCase):
             for wrong in NO_NUMBERS:
                 with self.subTest(wrong=wrong), self.assertRaises(TypeError):
                     call(wrong)
-        for call in calls[:5] + calls[-1:] + [lambda number: byte_unit.recoverable_unit(1, precision=number)]:
+        for call in [*SIZE_CALLS, calls[-1]] + [lambda number: byte_unit.recoverable_unit(1, precision=number)]:
             with self.assertRaises(TypeError):
                 call(None)
 
@@ -162,6 +199,7 @@ class Ranges(unittest.TestCase):
             lambda name: byte_unit.adjusted_text(1, name),
             lambda name: byte_unit.from_unit(1, name),
             lambda name: byte_unit.appropriate_unit(1, unit_type=name),
+            lambda name: byte_unit.approximate_text(1, unit_type=name),
         ]
         for call in calls:
             for name in ("", "+", "PLUS", "kib", "KiB ", "b\0", "\ud800", "left,"):
@@ -180,6 +218,8 @@ class Ranges(unittest.TestCase):
             lambda flag: byte_unit.text(1, alternate=flag),
             lambda flag: byte_unit.adjusted_text(1, "B", bits=flag),
             lambda flag: byte_unit.appropriate_unit(1, bits=flag),
+            lambda flag: byte_unit.approximate_text(1, bits=flag),
+            lambda flag: byte_unit.approximate_text(1, alternate=flag),
             lambda flag: byte_unit.exact_unit(1, bits=flag),
             lambda flag: byte_unit.exact_unit(1, either_kind=flag),
             lambda flag: byte_unit.recoverable_unit(1, either_kind=flag),

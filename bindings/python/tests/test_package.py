@@ -28,6 +28,7 @@ ONLY_TYPES = [
     r"byte_unit\._columns\.(Errors|Final|Iterable|Iterator|Literal|Overflow|SupportsIndex|TypeAlias|overload)",
     r"byte_unit\._columns\.Sequence\.index",
     r"byte_unit\._errors\.Decimal",
+    r"byte_unit\.pandas\.Callable",
 ]
 HAS_MYPY = importlib.util.find_spec("mypy") is not None
 README = os.path.join(os.path.dirname(os.path.abspath(__file__)), "../README.md")
@@ -55,12 +56,14 @@ class Package(unittest.TestCase):
                 self.assertTrue(value.__doc__, name)
         public = {name for name in vars(byte_unit) if not name.startswith("_")} - {"pandas"}
         self.assertEqual(public, set(byte_unit.__all__) - {"__version__"})
-        self.assertEqual(len(CALLS), 10)
+        self.assertEqual(len(CALLS), 11)
 
     def test_arguments(self) -> None:
-        """Flags and options are keyword-only, and have one default each."""
-        defaults = {"bits": False, "ignore_case": False, "either_kind": False, "alternate": True, "unit_type": "both",
-                    "errors": "coerce", "validity_offset": 0}  # fmt: skip
+        """Flags and options are keyword-only, and have one default each, but for those in `own`."""
+        defaults = {"bits": False, "ignore_case": False, "binary": False, "either_kind": False, "alternate": True,
+                    "unit_type": "both", "errors": "coerce", "validity_offset": 0}  # fmt: skip
+        own = {("recoverable_unit", "precision"): 3, ("approximate_text", "precision"): 1,
+               ("approximate_text", "unit_type"): "binary"}  # fmt: skip
         for name in byte_unit.__all__:
             value = getattr(byte_unit, name)
             if not inspect.isroutine(value):
@@ -70,8 +73,8 @@ class Package(unittest.TestCase):
                     is_option = argument.default is not argument.empty
                     self.assertEqual(argument.kind is argument.KEYWORD_ONLY, is_option)
                     if is_option:
-                        precision = 3 if (name, argument.name) == ("recoverable_unit", "precision") else None
-                        self.assertEqual(argument.default, defaults.get(argument.name, precision))
+                        wanted = own.get((name, argument.name), defaults.get(argument.name))
+                        self.assertEqual(argument.default, wanted)
         for call in (byte_unit.parse, byte_unit.explain, byte_unit.parse_unit, byte_unit.explain_unit):
             with self.assertRaises(TypeError):
                 call("B", True)
@@ -157,7 +160,7 @@ class Arguments(unittest.TestCase):
 
     def test_private_calls(self) -> None:
         """The other functions reject what the modules above them never pass."""
-        names = "parse_many parse_buffers ints part sum extremum first_large int64 float64 mask"
+        names = "position parse_many parse_buffers ints part sum extremum first_large int64 float64 mask"
         for call in names.split():
             with self.subTest(call), self.assertRaises(TypeError):
                 getattr(_native, call)()
@@ -234,11 +237,14 @@ class Memory(unittest.TestCase):
                 byte_unit.parse_many(many)
                 byte_unit.parse_buffers(b"1 1 KB", offsets)
                 byte_unit.text(10**29 + 1, width=400)
+                byte_unit.approximate_text(10**29 + 1, width=400)
                 byte_unit.recoverable_unit(10**29 + 1, precision=28)
                 for call in (lambda: byte_unit.parse("1000 RB"), lambda: byte_unit.parse_unit("\ud800"),
                              lambda: byte_unit.parse_buffers(b"1", offsets), lambda: byte_unit.parse_many(["1", None])):
                     try:
                         call()
+                    except byte_unit.SizeError as error:
+                        error.position
                     except (ValueError, TypeError):
                         pass
 
@@ -248,7 +254,8 @@ class Memory(unittest.TestCase):
         before, references = tracemalloc.get_traced_memory()[0], sys.getrefcount(None)
         work()
         self.assertLess(tracemalloc.get_traced_memory()[0] - before, 20_000)
-        self.assertLess(abs(sys.getrefcount(None) - references), 100)
+        if sys.version_info < (3, 12):  # later None is immortal, and its count means nothing
+            self.assertLess(abs(sys.getrefcount(None) - references), 100)
 
 
 if __name__ == "__main__":

@@ -61,6 +61,7 @@ class ToSizes(unittest.TestCase):
         quota = pandas.Series(["9 b"])
         self.assertEqual(to_sizes(quota, ignore_case=True).tolist(), [9])
         self.assertEqual(to_sizes(quota, bits=True).tolist(), [9])
+        self.assertEqual(to_sizes(pandas.Series(["100 mb"]), ignore_case=True, binary=True).tolist(), [100 * 2**20])
 
     def test_large_sizes(self) -> None:
         for size in (2**63 - 1, 2**63, 2**64, 10**30 - 1):
@@ -93,7 +94,11 @@ class FormatSizes(unittest.TestCase):
         self.assertEqual(format_sizes(sizes, unit="KiB", precision=1).tolist(), ["120.6 KiB", "1.5 KiB"])
         self.assertEqual(format_sizes(sizes, alternate=False, width=8, sign="plus").tolist(), [" +123456", "   +1536"])
         self.assertEqual(format_sizes(sizes, bits=True, align="right", width=9)[1], "  1.5 Kib")
-        for wrong in ({"unit": "kib"}, {"precision": -1}, {"sign": "+"}):
+        self.assertEqual(format_sizes(sizes, unit_type="binary").tolist(), ["120.6 KiB", "1.5 KiB"])
+        self.assertEqual(format_sizes(sizes, unit_type="decimal", precision=2, bits=True)[0], "123.46 Kb")
+        with self.assertRaises(TypeError):
+            format_sizes(sizes, unit="KiB", unit_type="binary")
+        for wrong in ({"unit_type": "iec"}, {"unit": "kib"}, {"precision": -1}, {"sign": "+"}):
             with self.assertRaises(ByteUnitError):
                 format_sizes(sizes, **wrong)
 

@@ -1,6 +1,8 @@
 """Parsing of one text: sizes, errors, types and flags."""
 
 import unittest
+from array import array
+from collections.abc import Callable
 from decimal import Decimal
 
 import byte_unit
@@ -31,6 +33,29 @@ SIZES = [
     ("0.0000000000000000000000000001 RB", False, False, 1),
     ("0" * 100_000 + "1", False, False, 1),
 ]
+
+# text, whether case is ignored, size with `binary`, without
+BINARY = [
+    ("10m", False, 10 * 2**20, 10 * 10**6),
+    ("512m", False, 512 * 2**20, 512 * 10**6),
+    ("128MB", False, 128 * 2**20, 128 * 10**6),
+    ("1.5 KiB", False, 1536, 1536),
+    ("1.5 KB", False, 1536, 1500),
+    ("100 mb", True, 100 * 2**20, 100 * 10**6),
+    ("100 mb", False, 100 * 2**17, 12_500_000),
+    ("2g", True, 2**31, 2 * 10**9),
+    ("0.1 K", False, 103, 100),
+    ("1 Rib", False, 2**87, 2**87),
+    ("1 R", False, 2**90, 10**27),
+    ("12", False, 12, 12),
+]
+
+# the index of the first wrong character, and the text
+POSITIONS = [(3, "1 byte"), (5, "12 Kiq"), (2, "1..5"), (2, "1."), (4, "  1.  "), (0, ""), (2, "  "), (0, "-1"),
+             (4, "\u30001 K\u00d6B"), (3, "1 K\U0001f600"), (2, "1.\u00e9"), (34, "1" * 40), (30, "1." + "0" * 29),
+             (None, "1000.5 RB"), (None, "1\ud800"), (None, b"\xff")]  # fmt: skip
+UNIT_POSITIONS = [(1, "Kx"), (3, "Kbix"), (3, "Kbi"), (4, " Kbi "), (1, "K\u00d6B"), (1, "\u3000\u00e9"), (0, "1 KB"),
+                  (None, "\ud800")]  # fmt: skip
 
 # text, flags, name, character, expected, also_expect_no_character, number, message
 ERRORS = [
@@ -107,6 +132,14 @@ def quoted(character: str) -> str:
     return f"'{character}'" if " " <= character <= "~" else f"'\\u{{{ord(character):x}}}'"
 
 
+def caught(call: Callable[..., object], argument: object, **options: object) -> SizeError:
+    try:
+        call(argument, **options)
+    except SizeError as error:
+        return error
+    raise AssertionError(argument)
+
+
 class Parse(unittest.TestCase):
     def test_sizes(self) -> None:
         for text, bits, ignore_case, size in SIZES:
@@ -127,12 +160,49 @@ class Parse(unittest.TestCase):
                 self.assertEqual(byte_unit.explain(text, **flags), message)
                 self.assertIn(error.name, byte_unit.ERROR_NAMES)
 
+    def test_binary_prefixes(self) -> None:
+        for text, ignore_case, binary, decimal in BINARY:
+            for size, flag in ((binary, True), (decimal, False)):
+                flags = {"ignore_case": ignore_case, "binary": flag}
+                with self.subTest(text, **flags):
+                    self.assertEqual(byte_unit.parse(text, **flags), size)
+                    self.assertEqual(byte_unit.parse_many([text, None], **flags).ints(), [size, None])
+                    offsets = array("i", [0, len(text)])
+                    self.assertEqual(byte_unit.parse_buffers(text.encode(), offsets, **flags)[0], size)
+                    self.assertIsNone(byte_unit.explain(text, **flags))
+        for prefix in "KMGTPEZYRkmgtpezyr":
+            for suffix in ("", "B", "b", "bit", "bits"):
+                size = byte_unit.parse(f"1.5 {prefix}i{suffix}")
+                self.assertEqual(byte_unit.parse(f"1.5 {prefix}{suffix}", binary=True), size)
+        self.assertEqual(byte_unit.parse("1 Kb", bits=True, binary=True), 1024)
+        self.assertEqual(byte_unit.explain("900 RB", binary=True), "the value 900 exceeds the valid range")
+        with self.assertRaises(TypeError):
+            byte_unit.parse_unit("K", binary=True)
+
+    def test_positions(self) -> None:
+        """`text[position]` is the wrong character, or the text ends there, before white space."""
+        for call, rows in ((byte_unit.parse, POSITIONS), (byte_unit.parse_unit, UNIT_POSITIONS)):
+            for position, text in rows:
+                for flags in ({}, {"ignore_case": True}, {"bits": True}):
+                    with self.subTest(call.__name__, text=text, **flags):
+                        error = caught(call, text, **flags)
+                        self.assertEqual(error.position, position)
+                        if position is not None:
+                            bytes_before = text[:position].encode()
+                            self.assertEqual(caught(call, text.encode(), **flags).position, len(bytes_before))
+                        if error.name == "unit" and text[position:].strip():
+                            self.assertEqual(text[position], error.character)
+        column = byte_unit.parse_many(["1", "1 K\u00d6"])
+        self.assertEqual([error.position for _, error in column.errors(["1", "1 K\u00d6"])], [3])
+        self.assertEqual(caught(byte_unit.parse_many, ["1", "1 K\u00d6"], errors="raise").position, 3)
+
     def test_types(self) -> None:
         for call in (byte_unit.parse, byte_unit.explain, byte_unit.parse_unit, byte_unit.explain_unit):
             for wrong in (None, 1, 1.5, ["1"], bytearray(b"1"), memoryview(b"1"), object()):
                 with self.subTest(call.__name__, wrong=wrong), self.assertRaises(TypeError):
                     call(wrong)
-            for flag in ("bits", "ignore_case"):
+            flags = ["bits", "ignore_case"] + ["binary"] * (call in (byte_unit.parse, byte_unit.explain))
+            for flag in flags:
                 for value in (None, 0, 1, "no", 1.0):
                     with self.subTest(call.__name__, flag=flag, value=value), self.assertRaises(TypeError):
                         call("1", **{flag: value})

@@ -166,7 +166,8 @@ class Raised(unittest.TestCase):
     def test_copies(self) -> None:
         error = self.caught(byte_unit.parse_many, ["1", "1000.5 RB"])
         for other in (copy.copy(error), copy.deepcopy(error), pickle.loads(pickle.dumps(error))):
-            self.assertEqual((vars(other), other.args, str(other)), (vars(error), error.args, str(error)))
+            self.assertEqual((other.args, str(other)), (error.args, str(error)))
+            self.assertEqual((other.row, other.text, other.number), (1, "1000.5 RB", error.number))
 
 
 class Errors(unittest.TestCase):
@@ -183,6 +184,8 @@ class Errors(unittest.TestCase):
         texts = ["1Kx", "9 b"]
         column = byte_unit.parse_many(iter(texts), ignore_case=True)
         self.assertEqual([error.expected for _, error in column.errors(iter(texts), ignore_case=True)], ["B"])
+        column = byte_unit.parse_many(["900 RB"], binary=True)
+        self.assertEqual([error.name for _, error in column.errors(["900 RB"], binary=True)], ["exceeded_bounds"])
 
     def test_other_texts(self) -> None:
         column = byte_unit.parse_many(["1", "x"])
@@ -368,7 +371,8 @@ class Memory(unittest.TestCase):
         before, references = tracemalloc.get_traced_memory()[0], sys.getrefcount(None)
         work()
         self.assertLess(tracemalloc.get_traced_memory()[0] - before, 20_000)
-        self.assertLess(abs(sys.getrefcount(None) - references), 100)
+        if sys.version_info < (3, 12):  # later None is immortal, and its count means nothing
+            self.assertLess(abs(sys.getrefcount(None) - references), 100)
 
 
 if __name__ == "__main__":

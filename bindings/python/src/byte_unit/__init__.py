@@ -9,6 +9,8 @@ A size is an `int`, of bytes or with `bits=True` of bits, below `SIZE_LIMIT`, 10
 '1.5 KiB'
 >>> byte_unit.adjusted_text(1536, "MB")
 '0.001536 MB'
+>>> byte_unit.approximate_text(123456789)
+'117.7 MiB'
 
 A text that is not a size raises `SizeError`, an argument out of range `ByteUnitError`, which is the base class of both
 and a `ValueError`, and an argument of the wrong type `TypeError`. Flags are keyword-only.
@@ -24,6 +26,7 @@ from ._native import (
     UNITS,
     adjusted_text,
     appropriate_unit,
+    approximate_text,
     exact_unit,
     explain,
     explain_unit,
@@ -45,6 +48,7 @@ __all__ = [
     "__version__",
     "adjusted_text",
     "appropriate_unit",
+    "approximate_text",
     "exact_unit",
     "explain",
     "explain_unit",

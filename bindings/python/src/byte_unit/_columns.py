@@ -1,6 +1,7 @@
 """Parsing of many texts in one call."""
 
 from _collections_abc import Sequence  # as collections.abc has it, whose import takes longer than all of this package
+from itertools import compress
 
 from . import _native
 from ._errors import ByteUnitError, SizeError
@@ -17,6 +18,7 @@ if TYPE_CHECKING:
 ERROR_NAMES: "Final[tuple[str, ...]]" = _native.CODES
 
 _NULL = ERROR_NAMES.index("null")
+_REJECTED = bytes(code not in (0, _NULL) for code in range(256))
 _AT_A_TIME = 1024
 
 
@@ -123,45 +125,57 @@ class Column(Sequence["int | None"]):
 
         @overload
         def errors(
-            self, texts: None = None, *, bits: bool = False, ignore_case: bool = False
+            self, texts: None = None, *, bits: bool = False, ignore_case: bool = False, binary: bool = False
         ) -> Iterator[tuple[int, str]]: ...
 
         @overload
         def errors(
-            self, texts: Iterable[str | bytes | None], *, bits: bool = False, ignore_case: bool = False
+            self,
+            texts: Iterable[str | bytes | None],
+            *,
+            bits: bool = False,
+            ignore_case: bool = False,
+            binary: bool = False,
         ) -> Iterator[tuple[int, SizeError]]: ...
 
     def errors(
-        self, texts: "Iterable[str | bytes | None] | None" = None, *, bits: bool = False, ignore_case: bool = False
+        self,
+        texts: "Iterable[str | bytes | None] | None" = None,
+        *,
+        bits: bool = False,
+        ignore_case: bool = False,
+        binary: bool = False,
     ) -> "Iterator[tuple[int, str]] | Iterator[tuple[int, SizeError]]":
         """Returns an iterator over the row of each text that is rejected, and the reason.
 
         The reason is the name of the error. With the texts and the flags that were parsed, it is the `SizeError` that
-        `parse` raises: its `text` is the text, and its message says why it is rejected. A null is not rejected.
+        `parse` raises: its `text` is the text, its message says why it is rejected, and its `position` where. A null is
+        not rejected.
 
         >>> texts = ["1 KB", "", None, "1 Kx"]
         >>> list(parse_many(texts).errors())
         [(1, 'no_value'), (3, 'unit')]
         >>> for row, error in parse_many(texts).errors(texts):
-        ...     print(row, repr(error.text), error)
-        1 '' no value can be found
-        3 '1 Kx' the character 'x' is incorrect ('B' or 'b' or no character is expected)
+        ...     print(row, repr(error.text), error.position, error)
+        1 '' 0 no value can be found
+        3 '1 Kx' 3 the character 'x' is incorrect ('B' or 'b' or no character is expected)
         """
         if texts is None:
-            return ((row, ERROR_NAMES[code]) for row, code in enumerate(self._codes) if code not in (0, _NULL))
-        return self._size_errors(texts, bits, ignore_case)
+            rows = compress(range(len(self._codes)), self._codes.translate(_REJECTED))
+            return ((row, ERROR_NAMES[self._codes[row]]) for row in rows)
+        return self._size_errors(texts, {"bits": bits, "ignore_case": ignore_case, "binary": binary})
 
     def _size_errors(
-        self, texts: "Iterable[str | bytes | None]", bits: bool, ignore_case: bool
+        self, texts: "Iterable[str | bytes | None]", flags: "dict[str, bool]"
     ) -> "Iterator[tuple[int, SizeError]]":
-        for row, (text, code) in enumerate(zip(texts, self._codes, strict=True)):
-            if code not in (0, _NULL):
-                try:
-                    _native.parse(text, bits=bits, ignore_case=ignore_case)  # type: ignore[arg-type]
-                except SizeError as error:
-                    yield row, error
-                else:
-                    raise ByteUnitError(f"texts[{row}]: {text!r} is a size, but it was parsed as one that is none")
+        rows = zip(range(len(self._codes)), texts, strict=True)
+        for row, text in compress(rows, self._codes.translate(_REJECTED)):
+            try:
+                _native.parse(text, **flags)  # type: ignore[arg-type]
+            except SizeError as error:
+                yield row, error
+            else:
+                raise ByteUnitError(f"texts[{row}]: {text!r} is a size, but it was parsed as one that is none")
 
     def ints(self) -> "list[int | None]":
         """Returns the sizes as a list, with `None` for a text without one."""
@@ -247,7 +261,12 @@ class Column(Sequence["int | None"]):
 
 
 def parse_many(
-    texts: "Iterable[str | bytes | None]", *, bits: bool = False, ignore_case: bool = False, errors: "Errors" = "coerce"
+    texts: "Iterable[str | bytes | None]",
+    *,
+    bits: bool = False,
+    ignore_case: bool = False,
+    binary: bool = False,
+    errors: "Errors" = "coerce",
 ) -> Column:
     """Parses each text of a list or another iterable, such as an array of numpy or a series of pandas, as `parse` does.
 
@@ -270,7 +289,7 @@ def parse_many(
     many = texts if tolist is None else tolist()
     if isinstance(many, (str, bytes)):
         raise TypeError("texts must be an iterable of texts, not an array without a dimension")
-    return Column(*_native.parse_many(many, bits, ignore_case, errors == "raise"))
+    return Column(*_native.parse_many(many, bits, ignore_case, binary, errors == "raise"))
 
 
 def parse_buffers(
@@ -281,6 +300,7 @@ def parse_buffers(
     validity_offset: "SupportsIndex" = 0,
     bits: bool = False,
     ignore_case: bool = False,
+    binary: bool = False,
     errors: "Errors" = "coerce",
 ) -> Column:
     """Parses texts in Arrow's layout: text `i` is `data[offsets[i]:offsets[i + 1]]`. No object is made of a text.
@@ -305,8 +325,9 @@ def parse_buffers(
     [None, 2048]
     """
     _check("errors", errors, ("coerce", "raise"))
+    flags = bits, ignore_case, binary, errors == "raise"
     try:
-        found = _native.parse_buffers(data, offsets, validity, validity_offset, bits, ignore_case, errors == "raise")
+        found = _native.parse_buffers(data, offsets, validity, validity_offset, *flags)
     except ByteUnitError:
         raise
     except (BufferError, ValueError) as error:

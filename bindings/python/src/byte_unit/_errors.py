@@ -26,8 +26,10 @@ class SizeError(ByteUnitError):
     ... except SizeError as error:
     ...     print(error)
     ...     print(error.text, error.name, error.character, error.expected, error.also_expect_no_character)
+    ...     print(error.position, error.text[error.position])
     the character 'x' is incorrect ('B' or 'b' or no character is expected)
     1 Kx unit x Bb True
+    3 x
 
     `text` is the text. The names are those of the codes in byte_unit.h:
 
@@ -47,9 +49,12 @@ class SizeError(ByteUnitError):
 
     __module__ = "byte_unit"
 
-    # The extension module sets all fields itself, without a call of `__init__`.
+    # The extension module sets all fields itself but those that are `None`, without a call of `__init__`.
     text: "str | bytes | None" = None
     row: "int | None" = None
+    character: "str | None" = None
+    number: "Decimal | None" = None
+    _of_unit: "bool | None" = None
 
     def __init__(
         self,
@@ -67,6 +72,17 @@ class SizeError(ByteUnitError):
         self.expected = expected
         self.also_expect_no_character = also_expect_no_character
         self.number = number
+
+    @property
+    def position(self) -> "int | None":
+        """The index in `text` of the first wrong character, which no size, or unit, can have there.
+
+        If the text ends too early, it is the index of its end, before white space there. It is `None` if only the size
+        is too large, and for `not_utf8`. In `bytes` it is the index of a byte.
+        """
+        import byte_unit._native  # which imports this module
+
+        return None if self.text is None else byte_unit._native.position(self.text, bool(self._of_unit))
 
     def __str__(self) -> str:
         """Returns the message."""

@@ -8,13 +8,14 @@
 ['1.5 KiB', <NA>]
 """
 
+from collections.abc import Callable
 from functools import partial
 from typing import Literal, SupportsIndex
 
 import numpy
 import pandas  # type: ignore[import]
 
-from . import adjusted_text, parse_many, text
+from . import adjusted_text, approximate_text, parse_many, text
 
 
 def to_sizes(
@@ -22,6 +23,7 @@ def to_sizes(
     *,
     bits: bool = False,
     ignore_case: bool = False,
+    binary: bool = False,
     errors: Literal["coerce", "raise"] = "coerce",
     overflow: Literal["raise", "null", "saturate"] = "raise",
 ) -> "pandas.Series":
@@ -29,7 +31,8 @@ def to_sizes(
 
     A null is `NA`. So is a text that is not a size; with `errors="raise"` the first one raises `SizeError`, which names
     the row. If a size is 2^63 or more, `overflow` decides: `"raise"` raises `ByteUnitError`, `"null"` makes it `NA`,
-    and `"saturate"` makes it 2^63 - 1. The series may be of objects, of strings, or backed by Arrow.
+    and `"saturate"` makes it 2^63 - 1. The series may be of objects, of strings, or backed by Arrow. The flags are
+    those of `parse`.
 
     The sum of an `Int64` series wraps past 2^63, in pandas; `parse_many(texts).sum()` is exact.
 
@@ -37,7 +40,7 @@ def to_sizes(
     >>> to_sizes(quota, overflow="null").to_dict()
     {'a': 1000, 'b': <NA>, 'c': <NA>}
     """
-    column = parse_many(texts.to_numpy(object), bits=bits, ignore_case=ignore_case, errors=errors)
+    column = parse_many(texts.to_numpy(object), bits=bits, ignore_case=ignore_case, binary=binary, errors=errors)
     numbers = numpy.array(column.int64(overflow=overflow))
     mask = numpy.array(column.mask(hide_large=overflow == "null"))
     return pandas.Series(pandas.arrays.IntegerArray(numbers, mask), texts.index, name=texts.name)
@@ -47,6 +50,7 @@ def format_sizes(
     sizes: "pandas.Series",
     *,
     unit: str | None = None,
+    unit_type: Literal["binary", "decimal", "both"] | None = None,
     bits: bool = False,
     precision: SupportsIndex | None = None,
     width: SupportsIndex | None = None,
@@ -56,15 +60,24 @@ def format_sizes(
 ) -> "pandas.Series":
     """Returns the texts of a series of integers as strings, with its index and name.
 
-    Each is what `text` returns, or with `unit` what `adjusted_text` does, with the same arguments and errors. A null is
-    `NA`. Raises `TypeError` if the series is of floats, which are not exact: make it `Int64` first.
+    Each is what `text` returns, with `unit` what `adjusted_text` does, or with `unit_type` what `approximate_text`
+    does, with the same arguments, defaults and errors. A null is `NA`. Raises `TypeError` if both are given, or if the
+    series is of floats, which are not exact: make it `Int64` first.
 
     >>> format_sizes(pandas.Series([1536, 123456]), unit="KiB", precision=1).tolist()
     ['1.5 KiB', '120.6 KiB']
+    >>> format_sizes(pandas.Series([1536, 123456789]), unit_type="binary").tolist()
+    ['1.5 KiB', '117.7 MiB']
     """
-    call = partial(text) if unit is None else partial(adjusted_text, unit=unit)
-    options = {"bits": bits, "precision": precision, "width": width, "align": align, "sign": sign}
-    call = partial(call, **options, alternate=alternate)
+    function: Callable[..., str] = text
+    if unit is not None:
+        function = adjusted_text
+    if unit_type is not None:
+        function = approximate_text
+    options = {"unit": unit, "unit_type": unit_type, "precision": precision, "width": width, "align": align,
+               "sign": sign}  # fmt: skip
+    given = {name: value for name, value in options.items() if value is not None}
+    call = partial(function, bits=bits, alternate=alternate, **given)
     rows = zip(sizes.to_numpy(object), sizes.isna(), strict=True)
     texts = [pandas.NA if is_null else call(size) for size, is_null in rows]
     return pandas.Series(pandas.array(texts, "string"), sizes.index, name=sizes.name)
