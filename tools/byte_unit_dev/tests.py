@@ -16,7 +16,7 @@ from .needs import DEBIAN_PYTHON
 
 PARTS = {
     **{part: f"bindings/c/test_{part}.py" for part in ("header", "c", "install")},
-    **{part: f"bindings/{part}/test_{part}.py" for part in ("python", "rust", "sqlite")},
+    **{part: f"bindings/{part}/test_{part}.py" for part in ("python", "rust", "sqlite", "postgresql")},
     "vectors": "vectors/test_vectors.py", "command": "command/tests",
     **{part: f"tools/tests/test_{part}.py" for part in ("scale", "memory", "take")},
 }
