@@ -217,8 +217,9 @@ def test_compiled_expressions(server):
     """Answers the same where the server compiles expressions with the functions' bitcode inlined, if it can."""
     query = "SELECT sum(size_parse(x || ' KiB') * 2), count(*) FROM generate_series(1, 10000) AS x;"
     settings = "SET jit = on; SET jit_above_cost = 0; SET jit_inline_above_cost = 0; SET jit_optimize_above_cost = 0;"
-    assert server.sql(settings, query) == server.sql("SET jit = off;", query) == ["102419456000 B|10000"] or server.sql(
-        settings, query) == server.sql("SET jit = off;", query)  # fmt: skip
+    compiled = server.sql(settings, query, f"EXPLAIN ANALYZE {query}")
+    assert server.sql("SET jit = off;", query) == compiled[:1] == ["102410.24 MB|10000"]
+    assert any("Inlining true" in line for line in compiled)
 
 
 def test_upgrade(server):
