@@ -30,6 +30,9 @@ PACKAGES = {
     "/usr/bin/rustc": "rustc", "/usr/bin/time": "time", "cargo-clippy": "rust-clippy", "cargo-fmt": "rustfmt",
     f"{DEBIAN_RUST}/serde_json-*": "librust-serde-json-dev", f"{DEBIAN_RUST}/serde-*": "librust-serde-dev",
     f"{DEBIAN_RUST}/toml-*": "librust-toml-dev", "git": "git", f"{POSTGRESQL_15}/bin/initdb": "postgresql-15",
+    "node": "nodejs", "tsc": "node-typescript", "chromium": "chromium", "chromedriver": "chromium-driver",
+    "aarch64-linux-gnu-gcc": "gcc-aarch64-linux-gnu", "qemu-aarch64": "qemu-user",
+    "/usr/aarch64-linux-gnu/include/stdio.h": "libc6-dev-arm64-cross",
     f"{POSTGRESQL_15}/bin/psql": "postgresql-client-15", "make": "make", "setpriv": "util-linux", "valgrind": "valgrind",
     f"{POSTGRESQL_15}/lib/pgxs/src/makefiles/pgxs.mk": "postgresql-server-dev-15",
 }
