@@ -14,7 +14,8 @@ folder PREFIX, such as /usr/local, but for what --without-sqlite and --without-c
     share/man/man3/byte_unit.3      the manual page, also by the name of each call
     share/byte_unit/LICENSE, installed    the license, and the list of these files, which --uninstall reads
 
-With --postgresql it also builds the extension for PostgreSQL, and puts it where pg_config, or the program that $PG_CONFIG
+With --target aarch64-unknown-linux-gnu the library is that of this target, without the command and the extension; the
+shared library needs Debian's aarch64-linux-gnu-gcc. With --postgresql it also builds the extension for PostgreSQL, and puts it where pg_config, or the program that $PG_CONFIG
 names, says; with --uninstall it removes it from there.
 
 With the variable DESTDIR the files go to $DESTDIR/PREFIX, and name PREFIX: for packages. Without a C compiler ($CC, or
@@ -39,7 +40,8 @@ LIST = "share/byte_unit/installed"
 COMMAND = "byte-unit"
 
 
-def run(prefix, *, from_=None, without_sqlite=False, without_command=False, postgresql=False, uninstall=False):
+def run(prefix, *, from_=None, without_sqlite=False, without_command=False, postgresql=False, target="",
+        uninstall=False):  # fmt: skip
     prefix = os.path.abspath(prefix)
     if re.search(r'[\x00-\x1f"\\$#]', prefix):
         why = 'a prefix with a control character or one of " \\ $ # cannot be written in byte_unit.pc'
@@ -49,7 +51,10 @@ def run(prefix, *, from_=None, without_sqlite=False, without_command=False, post
         return remove_installed(root) or postgresql and extension(root, "uninstall")
     with tempfile.TemporaryDirectory() as folder:
         try:
-            build(Path(folder), from_, not without_command)
+            if target and not from_:
+                libraries.build_for(target, Path(folder), False)
+            else:
+                build(Path(folder), from_, not without_command)
             print(f"installing in {root}", flush=True)
             files = files_of(Path(folder), prefix, [EXTENSION] * without_sqlite)
             if postgresql:
