@@ -28,6 +28,7 @@ def test_types(javascript):
 @pytest.mark.parametrize("kind", ["byte", "bit"])
 def test_lines(javascript, check_drawn, kind):
     """Compares drawn lines with the exact model. A line that is not UTF-8 is no string."""
+
     def wrong(lines):
         lines = [line for line in lines if getattr(size_of(line, kind), "name", "") != "not text"]
         got = printed([*NODE, javascript / "checks/lines.js", kind], lines)
@@ -108,8 +109,13 @@ class Browser:
                 break
         words = ["--headless=new", "--no-sandbox", f"--user-data-dir={profile}", "--proxy-server=127.0.0.1:9",
                  "--disable-background-networking", *words]  # fmt: skip
-        options = {"goog:chromeOptions": {"args": words, "binary": shutil.which("chromium")}, "goog:loggingPrefs": {"browser": "ALL"}}
-        self.base += f"/session/{self.call('POST', '/session', {'capabilities': {'alwaysMatch': options}})['sessionId']}"
+        options = {
+            "goog:chromeOptions": {"args": words, "binary": shutil.which("chromium")},
+            "goog:loggingPrefs": {"browser": "ALL"},
+        }
+        self.base += (
+            f"/session/{self.call('POST', '/session', {'capabilities': {'alwaysMatch': options}})['sessionId']}"
+        )
 
     def call(self, method, place, body=None):
         data = None if body is None else json.dumps(body).encode()
@@ -128,12 +134,24 @@ class Browser:
         self.call("POST", "/actions", {"actions": [{"type": "key", "id": "keys", "actions": actions}]})
 
     def size(self, width, height):
-        self.call("POST", "/goog/cdp/execute", {"cmd": "Emulation.setDeviceMetricsOverride", "params": {
-            "width": width, "height": height, "deviceScaleFactor": 1, "mobile": False}})
+        self.call(
+            "POST",
+            "/goog/cdp/execute",
+            {
+                "cmd": "Emulation.setDeviceMetricsOverride",
+                "params": {"width": width, "height": height, "deviceScaleFactor": 1, "mobile": False},
+            },
+        )
 
     def scheme(self, name):
-        self.call("POST", "/goog/cdp/execute", {"cmd": "Emulation.setEmulatedMedia", "params": {
-            "features": [{"name": "prefers-color-scheme", "value": name}]}})
+        self.call(
+            "POST",
+            "/goog/cdp/execute",
+            {
+                "cmd": "Emulation.setEmulatedMedia",
+                "params": {"features": [{"name": "prefers-color-scheme", "value": name}]},
+            },
+        )
 
     def screenshot(self, file):
         file.write_bytes(base64.b64decode(self.call("GET", "/screenshot")))
@@ -169,9 +187,13 @@ def browser(place):
 
 def typed(browser, text, reading="bytes"):
     """Types a text in the field by keys. Returns what the page answers, and what it marks."""
-    browser.script("document.querySelector(`[value=${arguments[0]}]`).click(); document.getElementById('text').select()", reading)
+    browser.script(
+        "document.querySelector(`[value=${arguments[0]}]`).click(); document.getElementById('text').select()", reading
+    )
     browser.keys("\ue003", *text)
-    return browser.script("return [document.querySelector('#answer').innerText, document.querySelector('mark')?.textContent ?? null]")
+    return browser.script(
+        "return [document.querySelector('#answer').innerText, document.querySelector('mark')?.textContent ?? null]"
+    )
 
 
 @pytest.mark.parametrize("text, reading, parts, marked", [
@@ -192,7 +214,11 @@ def test_page_answers(browser, text, reading, parts, marked):
 
 def test_page_by_the_vectors(browser):
     """Each text of the vectors that is a size has the exact form of the vectors on the page."""
-    rows = re.findall(r'^\S+: parse byte cased "([^"\\]{1,40})" = (\d+)$', Path(path("vectors/byte-unit.txt")).read_text("utf-8"), re.M)
+    rows = re.findall(
+        r'^\S+: parse byte cased "([^"\\]{1,40})" = (\d+)$',
+        Path(path("vectors/byte-unit.txt")).read_text("utf-8"),
+        re.M,
+    )
     got = browser.script(
         "const field = document.getElementById('text'); document.querySelector('[value=bytes]').click();"
         "return arguments[0].map(text => { field.value = text; document.getElementById('form').dispatchEvent(new Event('input'));"
@@ -202,8 +228,14 @@ def test_page_by_the_vectors(browser):
 
 def test_page_for_all(browser, place):
     """Every field has a label, each table and region a name; keys reach all; a link opens the same state; no message."""
-    assert browser.script("return [...document.querySelectorAll('input')].filter(input => !input.labels.length).length") == 0
-    assert browser.script("return [...document.querySelectorAll('[role=region]')].filter(part => !part.ariaLabel).length") == 0
+    assert (
+        browser.script("return [...document.querySelectorAll('input')].filter(input => !input.labels.length).length")
+        == 0
+    )
+    assert (
+        browser.script("return [...document.querySelectorAll('[role=region]')].filter(part => !part.ariaLabel).length")
+        == 0
+    )
     typed(browser, "10m", "binary")
     link = browser.script("return location.href")
     assert link.endswith("#binary=10m")
@@ -214,7 +246,11 @@ def test_page_for_all(browser, place):
     seen = []
     for _ in range(24):
         browser.keys("\ue004")
-        seen.append(browser.script("return document.activeElement.dataset.copy ?? document.activeElement.ariaLabel ?? document.activeElement.name"))
+        seen.append(
+            browser.script(
+                "return document.activeElement.dataset.copy ?? document.activeElement.ariaLabel ?? document.activeElement.name"
+            )
+        )
     assert {"reading", "number", "text", "link", "Bytes by 1024", "The text in each reading"} <= set(seen)
     browser.open(f"{place.as_uri()}#bytes=%E0%A4%A")
     assert browser.script("return document.querySelectorAll('#units tr').length") == 38
@@ -230,7 +266,12 @@ def test_page_at_three_widths(browser, tmp_path):
             browser.scheme(scheme)
             time.sleep(0.1)
             assert browser.script("return document.documentElement.scrollWidth - innerWidth") <= 0
-            assert browser.script("return [...document.querySelectorAll('#units td')].filter(cell => cell.offsetHeight > 40).length") == 0
+            assert (
+                browser.script(
+                    "return [...document.querySelectorAll('#units td')].filter(cell => cell.offsetHeight > 40).length"
+                )
+                == 0
+            )
             browser.screenshot(tmp_path / f"{width}-{scheme}.png")
             assert (tmp_path / f"{width}-{scheme}.png").stat().st_size < 200_000
     browser.size(1000, 1200)
@@ -253,6 +294,8 @@ def test_contrast(browser):
 
 
 def test_time_of_a_redraw(browser):
-    took = browser.script("const start = performance.now(); for (let at = 0; at < 50; at++) "
-                          "document.getElementById('form').dispatchEvent(new Event('input')); return (performance.now() - start) / 50")
+    took = browser.script(
+        "const start = performance.now(); for (let at = 0; at < 50; at++) "
+        "document.getElementById('form').dispatchEvent(new Event('input')); return (performance.now() - start) / 50"
+    )
     assert took < 50

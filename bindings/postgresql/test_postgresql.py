@@ -54,7 +54,9 @@ def test_statements_of_the_readme(server):
     text = "".join(re.findall(r"^```sql\n(.*?)^```$", read("bindings/postgresql/README.md"), re.M | re.S))
     rows = [(code, shown) for code, shown in re.findall(r"^([^\n]*;)(?: -- ([^\n]*))?$", text, re.M)]
     server.sql("CREATE DATABASE readme;")
-    got = [call(server.bin / "psql", "-XAtq", "-d", "readme", "-c", code, env=server.variables).stdout for code, _ in rows]
+    got = [
+        call(server.bin / "psql", "-XAtq", "-d", "readme", "-c", code, env=server.variables).stdout for code, _ in rows
+    ]
     shown = [" ".join(line for line in said.split("\n") if not re.match(r"LINE |\s+\^", line)).strip() for said in got]
     assert rows and shown == [wanted for _, wanted in rows]
 
@@ -71,6 +73,7 @@ def test_shared_rows(server):
 
 def test_lines(server, check_drawn):
     """Compares drawn lines with the exact model: sizes and their texts, or SQLSTATE and message."""
+
     def row(line):
         text, size = line.decode(), size_of(line, "byte")
         expression = f"size_parse(t)::numeric || '|' || t::bytesize FROM (SELECT {quoted(text)} AS t) AS line"
@@ -205,7 +208,10 @@ def test_encodings(server, encoding):
     name = f"in_{encoding.lower()}"
     server.sql(f"CREATE DATABASE {name} ENCODING '{encoding}' TEMPLATE template0;")
     server.sql("CREATE EXTENSION byte_unit;", TRIED, database=name)
-    text = "convert_from('\\x%s', getdatabaseencoding())" % "1 Ké".encode("latin1" if encoding == "LATIN1" else "utf8").hex()
+    text = (
+        "convert_from('\\x%s', getdatabaseencoding())"
+        % "1 Ké".encode("latin1" if encoding == "LATIN1" else "utf8").hex()
+    )
     got = server.sql("SET client_encoding = 'UTF8';" * (encoding != "SQL_ASCII"),
                      f"SELECT size_explain({text});", "SELECT '1.5 KiB'::bytesize;", database=name)  # fmt: skip
     assert got == ["the character 'é' is incorrect ('B' or 'b' or no character is expected) (character 4)", "1.5 KiB"]
@@ -238,7 +244,11 @@ def test_upgrade(server):
 def test_no_report_of_valgrind(server):
     """Runs the statements of sql/byte_unit.sql in a backend of one user under valgrind: no report names the extension."""
     need("valgrind")
-    lines = [line for line in read("bindings/postgresql/sql/byte_unit.sql").split("\n") if line[:2] != "--" and line[:1] != "\\"]
+    lines = [
+        line
+        for line in read("bindings/postgresql/sql/byte_unit.sql").split("\n")
+        if line[:2] != "--" and line[:1] != "\\"
+    ]
     statements = re.sub(r"(?<!;)\n\s*", " ", "\n".join(lines))
     folder, log = server.folder / "single", server.folder / "data/valgrind"
     folder.mkdir()
@@ -255,7 +265,11 @@ def test_installation(library, tmp_path):
     words = [path("tools/dev"), "install", "/usr/local", "--postgresql"]
     variables = environment(DESTDIR=tmp_path, PG_CONFIG="/usr/lib/postgresql/15/bin/pg_config")
     output(*words, "--from", library, "--without-command", "--without-sqlite", env=variables)
-    found = {file.name for file in tmp_path.rglob("*") if "postgresql" in str(file) and file.suffix in (".so", ".sql", ".control")}
+    found = {
+        file.name
+        for file in tmp_path.rglob("*")
+        if "postgresql" in str(file) and file.suffix in (".so", ".sql", ".control")
+    }
     assert found == {"byte_unit.so", "byte_unit.control", f"byte_unit--{VERSION}.sql"}
     output(*words, "--uninstall", env=variables)
     assert not [file for file in tmp_path.rglob("*") if not file.is_dir()]

@@ -48,8 +48,8 @@ static Text text_argument(FunctionCallInfo fcinfo, int n)
 typedef size_t ExplainCall(const char *text, size_t len, uint32 flags, char *out, size_t out_len);
 typedef bool PositionCall(const char *text, size_t len, size_t *position);
 
-/* Returns the message of a text that is rejected, as SQLite's size_explain has it: the reason, and the number, from 1, of
- * the wrong character. NULL if the text is not rejected. */
+/* Returns the message of a text that is rejected, as SQLite's size_explain has it: the reason, and the number, from 1,
+ * of the wrong character. NULL if the text is not rejected. */
 static char *message_of(Text text, uint32 flags, ExplainCall *explain, PositionCall *position_of)
 {
     char reason[BYTE_UNIT_BUFFER_SIZE + 1];

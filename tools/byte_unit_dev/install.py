@@ -15,8 +15,8 @@ folder PREFIX, such as /usr/local, but for what --without-sqlite and --without-c
     share/byte_unit/LICENSE, installed    the license, and the list of these files, which --uninstall reads
 
 With --target aarch64-unknown-linux-gnu the library is that of this target, without the command and the extension; the
-shared library needs Debian's aarch64-linux-gnu-gcc. With --postgresql it also builds the extension for PostgreSQL, and puts it where pg_config, or the program that $PG_CONFIG
-names, says; with --uninstall it removes it from there.
+shared library needs Debian's aarch64-linux-gnu-gcc. With --postgresql it also builds the extension for PostgreSQL, and
+puts it where pg_config, or the program that $PG_CONFIG names, says; with --uninstall it removes it from there.
 
 With the variable DESTDIR the files go to $DESTDIR/PREFIX, and name PREFIX: for packages. Without a C compiler ($CC, or
 cc) the shared library and the extension are left out, and a line says so. If something fails, or a signal comes before

@@ -51,7 +51,8 @@ def build_for(target, folder, after_ci):
     if target == WASM:
         archive, kit = folder / "libbyte_unit_wasm64.a", kit_folder()
         proved(*words_after_ci(archive, "--target", target))
-        output(f"{kit}/bin/rattle-link", "--target", target, "--toolchain", f"{kit}/toolchain", "-o", folder / MODULE, archive)
+        words = ["--target", target, "--toolchain", f"{kit}/toolchain", "-o", folder / MODULE, archive]
+        output(f"{kit}/bin/rattle-link", *words)
         archive.unlink()
         return
     proved(*words_after_ci(folder / ARCHIVE, "--target", target))

@@ -33,7 +33,8 @@ PACKAGES = {
     "node": "nodejs", "tsc": "node-typescript", "chromium": "chromium", "chromedriver": "chromium-driver",
     "aarch64-linux-gnu-gcc": "gcc-aarch64-linux-gnu", "qemu-aarch64": "qemu-user",
     "/usr/aarch64-linux-gnu/include/stdio.h": "libc6-dev-arm64-cross",
-    f"{POSTGRESQL_15}/bin/psql": "postgresql-client-15", "make": "make", "setpriv": "util-linux", "valgrind": "valgrind",
+    f"{POSTGRESQL_15}/bin/psql": "postgresql-client-15", "make": "make", "setpriv": "util-linux",
+    "valgrind": "valgrind",
     f"{POSTGRESQL_15}/lib/pgxs/src/makefiles/pgxs.mk": "postgresql-server-dev-15",
 }
 POSTGRESQL = ["gcc", "make", "setpriv", *(need for need in PACKAGES if need.startswith(POSTGRESQL_15))]

@@ -44,7 +44,15 @@ class Server:
         return "nobody" if os.geteuid() == 0 else pwd.getpwuid(os.geteuid()).pw_name
 
     def make(self, *words):
-        words = ["make", "-s", "-C", self.extension, f"PG_CONFIG={self.bin}/pg_config", f"LIBRARY={self.library}", *words]
+        words = [
+            "make",
+            "-s",
+            "-C",
+            self.extension,
+            f"PG_CONFIG={self.bin}/pg_config",
+            f"LIBRARY={self.library}",
+            *words,
+        ]
         return output(*words, env=environment(PGHOST="127.0.0.1", PGPORT=getattr(self, "port", ""), PGUSER="tester"))
 
     def by_user(self, *words, **more):

@@ -1,4 +1,4 @@
-"""Calls from C, Rust, Python, SQLite and PostgreSQL, beside other libraries: each program prints a line for each figure.
+"""Calls from C, Rust, Python, SQLite and PostgreSQL, beside other libraries: each prints a line for each figure.
 
 It has the column and a colon, if that is not the program's, and the row. Rows that differ after ` of ` are one.
 """
