@@ -17,6 +17,7 @@ from byte_unit_dev.model.exact import output_for, size_of, some_line
 from byte_unit_dev.page import page
 
 NARROW_SPACE = "\u202f"
+CALLS = "parse, parseUnit, parseMany, explain, explainUnit, text, adjustedText, approximateText, appropriateUnit"
 
 
 def test_types(javascript):
@@ -41,8 +42,7 @@ def test_lines(javascript, check_drawn, kind):
 def evaluated(javascript, code):
     """Returns what an expression of the package's calls is, as JSON, or the error."""
     script = (f"import * as byteUnit from {json.dumps(str(javascript / 'index.js'))};\n"
-              "const { parse, parseUnit, parseMany, explain, explainUnit, text, adjustedText, approximateText, appropriateUnit }"
-              f" = byteUnit;\nlet found;\ntry {{ found = {code}; }}\n"
+              f"const {{ {CALLS} }} = byteUnit;\nlet found;\ntry {{ found = {code}; }}\n"
               "catch (error) { found = `${error.name}: ${error.message}`; }\n"
               "console.log(JSON.stringify(found, (_, value) => typeof value === 'bigint' ? `${value}n` : value));\n")  # fmt: skip
     return json.loads(output(*NODE, "--input-type=module", "-e", script))
@@ -279,18 +279,12 @@ def test_page_at_three_widths(browser, tmp_path):
 
 def test_contrast(browser):
     """Texts have a contrast of 4.5 and more in both schemes, as WCAG asks at AA."""
-    ratio = """const light = color => { const parts = color.match(/[\\d.]+/g).slice(0, 3).map(n => { const c = n / 255;
-            return c <= 0.04045 ? c / 12.92 : ((c + 0.055) / 1.055) ** 2.4; }); return 0.2126 * parts[0] + 0.7152 * parts[1] + 0.0722 * parts[2]; };
-        const back = element => { for (let at = element; at; at = at.parentElement) { const color = getComputedStyle(at).backgroundColor;
-            if (!/, 0\\)$/.test(color)) return color; } return 'rgb(255, 255, 255)'; };
-        return [...document.querySelectorAll('p, th, td, label, legend, caption, span, button, mark, small, h1, h2')].filter(e => e.textContent.trim() && e.offsetParent)
-            .map(e => { const [a, b] = [light(getComputedStyle(e).color), light(back(e))].sort((x, y) => y - x); return [(a + 0.05) / (b + 0.05), e.outerHTML.slice(0, 80)]; })
-            .filter(([found]) => found < 4.5).slice(0, 3)"""
+    low = read("bindings/js/checks/contrast.js")
     for scheme in ("light", "dark"):
         browser.scheme(scheme)
         for text in ("1.5 GiB", "12 Kiq"):
             typed(browser, text)
-            assert browser.script(ratio) == []
+            assert browser.script(low) == []
 
 
 def test_time_of_a_redraw(browser):
