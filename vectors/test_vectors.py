@@ -4,11 +4,11 @@ import os
 import re
 
 import pytest
-from byte_unit_dev.fixtures import compiled, ended, environment, path, read
+from byte_unit_dev.fixtures import NODE, compiled, ended, environment, path, read
 from byte_unit_dev.model.exact import Rejected, form, size_of
 
 # How many rows each runner has, so that no call is left out unseen.
-BY_MODEL, BY_BINDING = 613, 1141
+BY_MODEL, BY_BINDING, BY_JAVASCRIPT = 613, 1141, 1076
 MODEL_ERRORS = {"no value": "NoValue", "not a number": "NotNumber", "number too long": "NumberTooLong",
                 "out of range": "ExceededBounds", "bad unit": "Unit"}  # fmt: skip
 
@@ -40,13 +40,13 @@ def compare(rows, results, count):
     assert len(asked) == count
 
 
-def compare_program(rows, command, **variables):
+def compare_program(rows, command, count=BY_BINDING, **variables):
     """Compares the results of a program that reads records and writes lines: see bindings/c/checks/vectors.c."""
     records = [" ".join(row.words) + (f' "{row.text}' if row.text is not None else "") for row in rows]
     given = "".join(record + "\0" for record in records).encode()
     status, written, _ = ended(*command, input=given, stderr=None, **variables)
     assert status == 0
-    compare(rows, written.decode().split("\n")[:-1], BY_BINDING)
+    compare(rows, written.decode().split("\n")[:-1], count)
 
 
 def result_of_model(row):
@@ -76,3 +76,11 @@ def test_rust(rows, cargo, rust_package):
 
 def test_python(rows, python):
     compare_program(rows, [python.program, path("vectors/run_python.py")], env=environment())
+
+
+def test_aarch64(rows, aarch64):
+    compare_program(rows, aarch64("checks/vectors.c", standard="gnu11"))
+
+
+def test_javascript(rows, javascript):
+    compare_program(rows, [*NODE, javascript / "checks/vectors.js"], BY_JAVASCRIPT)

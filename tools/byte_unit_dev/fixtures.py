@@ -8,6 +8,7 @@ import re
 import shutil
 import subprocess
 import types
+from pathlib import Path
 
 import hypothesis
 import pytest
@@ -15,11 +16,14 @@ from hypothesis import strategies
 
 from .builds import CONFIG, copied, environment
 from .common import ROOT, call, copy_to, output, path, read, write
+from .libraries import AARCH64, WASM
 from .model.exact import output_for, some_line
 from .needs import DEBIAN_PYTHON, DEBIAN_RUST, PACKAGES, PYTHON_PACKAGE, is_there
 
 # The first cargo of the path, and Debian's.
 CARGOS = list(dict.fromkeys([shutil.which("cargo") or "cargo", "/usr/bin/cargo"]))
+AARCH64_CC, AARCH64_RUN = "aarch64-linux-gnu-gcc", ["qemu-aarch64", "-L", "/usr/aarch64-linux-gnu"]
+NODE = ["node", "--experimental-wasm-memory64"]
 SERDE = [f"{DEBIAN_RUST}/{name}-*" for name in ("serde", "serde_json", "toml")]
 
 
@@ -168,6 +172,32 @@ def python(library, python_package, tmp_path_factory):
     output(DEBIAN_PYTHON, "-m", "venv", "--system-site-packages", folder, env=environment())
     words = [folder / "bin/python", "-m", "pip", "install", "-v", "--no-index", python_package]
     return types.SimpleNamespace(program=words[0], said=output(*words, env=environment(BYTE_UNIT_LIBRARY_DIR=library)))
+
+
+@pytest.fixture(scope="session")
+def javascript(request, tmp_path_factory):
+    """A copy of the package for JavaScript, with the module of WebAssembly."""
+    need("node")
+    package = Path(copied("js", tmp_path_factory.mktemp("js")))
+    words = ["--target", WASM, *["--after-ci"] * request.config.getoption("after_ci")]
+    output(path("tools/make-libraries"), package, *words)
+    return package
+
+
+@pytest.fixture(scope="session")
+def aarch64(request, tmp_path_factory):
+    """Returns the words that run a program of bindings/c on an emulated aarch64, linked with a library for it."""
+    need(AARCH64_CC, AARCH64_RUN[0], f"{AARCH64_RUN[-1]}/include/stdio.h")
+    folder = tmp_path_factory.mktemp("aarch64")
+    words = ["--target", AARCH64, *["--after-ci"] * request.config.getoption("after_ci")]
+    output(path("tools/make-libraries"), folder, *words)
+
+    def program(source, library="libbyte_unit.a", standard="c11"):
+        words = [f"-std={standard}", "-O2", "-Wall", "-Wextra", "-Werror", "-I", folder, path("bindings/c", source)]
+        made = folder / f"{os.path.basename(source)}-{library}"
+        return [*AARCH64_RUN, compiled(AARCH64_CC, made, *words, folder / library, f"-Wl,-rpath,{folder}")]
+
+    return program
 
 
 class Cargo:

@@ -14,6 +14,10 @@ folder PREFIX, such as /usr/local, but for what --without-sqlite and --without-c
     share/man/man3/byte_unit.3      the manual page, also by the name of each call
     share/byte_unit/LICENSE, installed    the license, and the list of these files, which --uninstall reads
 
+With --target aarch64-unknown-linux-gnu the library is that of this target, without the command and the extension; the
+shared library needs Debian's aarch64-linux-gnu-gcc. With --postgresql it also builds the extension for PostgreSQL, and
+puts it where pg_config, or the program that $PG_CONFIG names, says; with --uninstall it removes it from there.
+
 With the variable DESTDIR the files go to $DESTDIR/PREFIX, and name PREFIX: for packages. Without a C compiler ($CC, or
 cc) the shared library and the extension are left out, and a line says so. If something fails, or a signal comes before
 the end, nothing is installed, and one line says why. --uninstall removes the files of the list, and the folders that
@@ -36,19 +40,25 @@ LIST = "share/byte_unit/installed"
 COMMAND = "byte-unit"
 
 
-def run(prefix, *, from_=None, without_sqlite=False, without_command=False, uninstall=False):
+def run(prefix, *, from_=None, without_sqlite=False, without_command=False, postgresql=False, target="",
+        uninstall=False):  # fmt: skip
     prefix = os.path.abspath(prefix)
     if re.search(r'[\x00-\x1f"\\$#]', prefix):
         why = 'a prefix with a control character or one of " \\ $ # cannot be written in byte_unit.pc'
         raise Failure(f"{prefix!r}: {why}")
     root = Path(os.path.normpath(os.environ.get("DESTDIR", "") + prefix))
     if uninstall:
-        return remove_installed(root)
+        return remove_installed(root) or postgresql and extension(root, "uninstall")
     with tempfile.TemporaryDirectory() as folder:
         try:
-            build(Path(folder), from_, not without_command)
+            if target and not from_:
+                libraries.build_for(target, Path(folder), False)
+            else:
+                build(Path(folder), from_, not without_command)
             print(f"installing in {root}", flush=True)
             files = files_of(Path(folder), prefix, [EXTENSION] * without_sqlite)
+            if postgresql:
+                extension(folder, "install")
             put(root, files)
         except (Failure, OSError, KeyboardInterrupt) as error:
             raise Failure(f"nothing is installed: {reason(error)}") from error
@@ -59,6 +69,15 @@ def run(prefix, *, from_=None, without_sqlite=False, without_command=False, unin
         print(f"to run: `ldconfig` as root if the loader reads {folder}, else LD_LIBRARY_PATH={folder}")
     if f"lib/{EXTENSION}" in files:
         print(f"in sqlite3: .load {folder}/sqlite3/byte_unit")
+
+
+def extension(library, action):
+    """Installs or removes the extension for PostgreSQL, with the library of a folder, from a copy of its sources."""
+    with tempfile.TemporaryDirectory() as folder:
+        copy = shutil.copytree(path("bindings/postgresql"), os.path.join(folder, "postgresql"))
+        words = [f"LIBRARY={library}", *[f"PG_CONFIG={os.environ.get('PG_CONFIG')}"] * ("PG_CONFIG" in os.environ)]
+        if shown("make", "-s", *words, action, cwd=copy)[0]:
+            raise Failure(f"make {action} of the extension for PostgreSQL failed: see above")
 
 
 def build(folder, source, with_command):

@@ -6,6 +6,10 @@ link to libbyte_unit.so.VERSION, and sqlite3/byte_unit.so, the extension for SQL
 nothing that other commands of `rt` read. With --after-ci, as in the gate, uses the libraries that `rt ci` has built,
 and does not see what has changed since. With --link proves nothing, and links what is in FOLDER: libbyte_unit.a, with
 byte_unit.h beside it.
+
+With --target, the crate byte_unit_c is proved again for another target, over the same libraries. For
+wasm64-unknown-unknown, FOLDER then has byte_unit.wasm alone, which bindings/js needs; for aarch64-unknown-linux-gnu the
+archive and the header, and the shared library if Debian's aarch64-linux-gnu-gcc is there.
 """
 
 import argparse
@@ -19,6 +23,8 @@ from .common import Failure, call, output, path, read, shown
 ARCHIVE, HEADER, EXTENSION = "libbyte_unit.a", "byte_unit.h", "sqlite3/byte_unit.so"
 # Every x86-64 processor. The default of rt, x86-64-v2, ends a program on the processors qemu64 and kvm64 by SIGILL.
 CPU = "x86-64"
+WASM, AARCH64 = "wasm64-unknown-unknown", "aarch64-unknown-linux-gnu"
+MODULE = "byte_unit.wasm"
 
 
 def existing(folder):
@@ -27,10 +33,42 @@ def existing(folder):
     return Path(folder).resolve()
 
 
-def run(folder: existing, *, after_ci=False, link=False):
+def run(folder: existing, *, after_ci=False, link=False, target=""):
+    if target:
+        build_for(target, folder, after_ci)
+        return
     if not link:
         build(folder, after_ci)
     link_in(folder)
+
+
+def build_for(target, folder, after_ci):
+    """Proves byte_unit_c for another target, and builds what is used there."""
+    if target not in (WASM, AARCH64):
+        raise Failure(f"'{target}' is no target; these are: {WASM} {AARCH64}")
+    if not after_ci:
+        proved("rt", "lib", f"--cpu={CPU}")
+    if target == WASM:
+        archive, kit = folder / "libbyte_unit_wasm64.a", kit_folder()
+        proved(*words_after_ci(archive, "--target", target))
+        words = ["--target", target, "--toolchain", f"{kit}/toolchain", "-o", folder / MODULE, archive]
+        output(f"{kit}/bin/rattle-link", *words)
+        archive.unlink()
+        return
+    proved(*words_after_ci(folder / ARCHIVE, "--target", target))
+    shutil.copy(path("bindings/c", HEADER), folder)
+    link_shared(folder, "aarch64-linux-gnu-gcc")
+
+
+def proved(*words):
+    """Runs a call that proves byte_unit_c, and fails if it does not say so."""
+    status, said = shown(*words, cwd=path("crates/byte_unit_c"))
+    if status or not re.search("^logic=proved ", said, re.M):
+        raise Failure(f"status {status}, or no line that begins with logic=proved: see above")
+
+
+def kit_folder():
+    return os.path.dirname(output("rt", "doc").strip())
 
 
 def build(folder, after_ci=False):
@@ -40,20 +78,17 @@ def build(folder, after_ci=False):
     crate = path("crates/byte_unit_c")
     if not after_ci:
         print("proving byte_unit_c, which takes minutes if only rt ci has proved it and what it needs", flush=True)
-    words = words_after_ci(folder / ARCHIVE) if after_ci else ["rt", "lib", f"--cpu={CPU}"]
-    status, said = shown(*words, cwd=crate)
-    if status or not re.search("^logic=proved ", said, re.M):
-        raise Failure(f"status {status}, or no line that begins with logic=proved: see above")
+    proved(*words_after_ci(folder / ARCHIVE, "--cpu", CPU) if after_ci else ["rt", "lib", f"--cpu={CPU}"])
     if not after_ci:
         shutil.copy(f"{crate}/out/libbyte_unit_c.a", folder / ARCHIVE)
     shutil.copy(path("bindings/c", HEADER), folder)
 
 
-def words_after_ci(archive):
+def words_after_ci(archive, *target):
     """Returns the call that `rt lib` makes, with the libraries that `rt ci` built of its dependencies."""
-    kit = os.path.dirname(output("rt", "doc").strip())
+    kit = kit_folder()
     words = [f"{kit}/bin/rattle", "build", "src/lib.rt", "--crate-name", "byte_unit_c", "--crate-type", "staticlib",
-             "--links", "byte_unit_c=", "--jobs", "2", "--cpu", CPU, "--toolchain", f"{kit}/toolchain", "-o", archive,
+             "--links", "byte_unit_c=", "--jobs", "2", *target, "--toolchain", f"{kit}/toolchain", "-o", archive,
              "--antt-project", f"{kit}/rattle/logic/antt-project.json", "--logic-built", f"{kit}/logic_built"]
     needed = re.search(r"^byte_unit_c staticlib:(.*)", read("crates.txt"), re.M)[1].split()
     for name, at in [("std", f"{kit}/rlibs"), *((name, path("crates", name, "out/rlib")) for name in needed)]:
@@ -77,18 +112,27 @@ def link_in(folder):
     if not shutil.which(cc):
         print(f"skipped: libbyte_unit.so and {EXTENSION}: there is no C compiler {cc}")
         return
-    shared, soname, short = shared_names(folder)
-    linked(cc, folder / shared, f"-Wl,-soname,{soname}", f"-Wl,--version-script={path('bindings/c/byte_unit.map')}",
-           "-Wl,--whole-archive", archive, "-Wl,--no-whole-archive")
-    for name, target in ((soname, shared), (short, soname)):
-        (folder / name).unlink(missing_ok=True)
-        (folder / name).symlink_to(target)
+    link_shared(folder, cc)
     if call(cc, "-E", "-", input="#include <sqlite3ext.h>\n").returncode:
         print(f"skipped: {EXTENSION}: there is no sqlite3ext.h (Debian: libsqlite3-dev)")
         return
     (folder / EXTENSION).parent.mkdir(exist_ok=True)
     linked(cc, folder / EXTENSION, "-std=c99", "-fPIC", "-O2", "-fvisibility=hidden", "-Wall", "-Wextra", "-I", folder,
            path("bindings/sqlite/byte_unit_sqlite.c"), archive, "-Wl,--exclude-libs,ALL")
+
+
+def link_shared(folder, cc):
+    """Links the shared library of the folder's archive, if there is the compiler."""
+    archive = folder / ARCHIVE
+    if not shutil.which(cc):
+        print(f"skipped: libbyte_unit.so: there is no C compiler {cc}")
+        return
+    shared, soname, short = shared_names(folder)
+    linked(cc, folder / shared, f"-Wl,-soname,{soname}", f"-Wl,--version-script={path('bindings/c/byte_unit.map')}",
+           "-Wl,--whole-archive", archive, "-Wl,--no-whole-archive")
+    for name, target in ((soname, shared), (short, soname)):
+        (folder / name).unlink(missing_ok=True)
+        (folder / name).symlink_to(target)
 
 
 def linked(cc, place, *words):

@@ -14,6 +14,7 @@ import sys
 from .common import call
 
 DEBIAN_RUST = "/usr/share/cargo/registry"
+POSTGRESQL_15 = "/usr/lib/postgresql/15"
 DEBIAN_PYTHON, PYTHON_H = "/usr/bin/python3", "/usr/include/python3.*/Python.h"
 # What tests need, and the package that has it. A need is a program; a file, if it begins with a slash; a C header; or a
 # module of Debian's Python.
@@ -29,13 +30,22 @@ PACKAGES = {
     "rustc": "rustc", "/usr/bin/cargo": "cargo", "/usr/bin/rustc": "rustc", "/usr/bin/time": "time",
     "cargo-clippy": "rust-clippy", "cargo-fmt": "rustfmt",
     f"{DEBIAN_RUST}/serde_json-*": "librust-serde-json-dev", f"{DEBIAN_RUST}/serde-*": "librust-serde-dev",
-    f"{DEBIAN_RUST}/toml-*": "librust-toml-dev", "git": "git",
+    f"{DEBIAN_RUST}/toml-*": "librust-toml-dev", "git": "git", f"{POSTGRESQL_15}/bin/initdb": "postgresql-15",
+    "node": "nodejs", "tsc": "node-typescript", "chromium": "chromium", "chromedriver": "chromium-driver",
+    "aarch64-linux-gnu-gcc": "gcc-aarch64-linux-gnu", "qemu-aarch64": "qemu-user",
+    "/usr/aarch64-linux-gnu/include/stdio.h": "libc6-dev-arm64-cross",
+    f"{POSTGRESQL_15}/bin/psql": "postgresql-client-15", "make": "make", "setpriv": "util-linux",
+    "valgrind": "valgrind",
+    f"{POSTGRESQL_15}/lib/pgxs/src/makefiles/pgxs.mk": "postgresql-server-dev-15",
 }
+POSTGRESQL = ["gcc", "make", "setpriv", *(need for need in PACKAGES if need.startswith(POSTGRESQL_15))]
 # What only measurements need.
+POSTGRESQL_UNIT = "/usr/share/postgresql/15/extension/unit.control"
 COMPARED = {
+    POSTGRESQL_UNIT: "postgresql-15-unit",
     f"{DEBIAN_RUST}/rust_decimal-*": "librust-rust-decimal-dev",
     f"{DEBIAN_RUST}/utf8-width-*": "librust-utf8-width-dev",
-    "import humanfriendly": "python3-humanfriendly", "import humanize": "python3-humanize", "valgrind": "valgrind",
+    "import humanfriendly": "python3-humanfriendly", "import humanize": "python3-humanize",
 }
 # The Python package needs CPython 3.11 or later, which has tomllib.
 PYTHON_PACKAGE = [PYTHON_H, "import tomllib", "import setuptools", "import wheel", "import ensurepip", "import pip",

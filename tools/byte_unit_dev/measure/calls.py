@@ -1,4 +1,4 @@
-"""Calls from C, Rust, Python and SQLite, beside other libraries: each program prints a line for each figure.
+"""Calls from C, Rust, Python, SQLite and PostgreSQL, beside other libraries: each prints a line for each figure.
 
 It has the column and a colon, if that is not the program's, and the row. Rows that differ after ` of ` are one.
 """
@@ -7,9 +7,9 @@ import os
 import re
 import tempfile
 
-from .. import builds
+from .. import builds, postgresql
 from ..common import output, path, read
-from ..needs import DEBIAN_PYTHON, PYTHON_PACKAGE, is_there
+from ..needs import DEBIAN_PYTHON, POSTGRESQL, POSTGRESQL_UNIT, PYTHON_PACKAGE, is_there
 from .speed import ONE_PROCESSOR
 
 # The tables: the title of the first column, the other columns, and the form of a figure.
@@ -18,6 +18,7 @@ TABLES = {
     "python": ("Nanoseconds of a call", ["Python", "humanfriendly", "humanize", "`numfmt`", "split, `float`"], ",.0f"),
     "column": ("Nanoseconds of a text in a column", ["A text"], ",.0f"),
     "sqlite": ("SQLite, a million rows", ["Seconds"], ".2f"),
+    "postgresql": ("PostgreSQL, a million rows", ["Seconds of the server"], ".2f"),
 }
 FIGURE = re.compile(r"^(?:(.*?): )?(.+?)(?: of (?!.* of )(.+?))? +([0-9]+(?:\.[0-9]+)?)$", re.M)
 
@@ -52,12 +53,25 @@ def by_sqlite(library):
     return figures
 
 
+def by_postgresql(library):
+    scripts = ["speed.sql", *["speed_unit.sql"] * is_there(POSTGRESQL_UNIT)]
+    script = "".join(read(f"bindings/postgresql/checks/{name}") for name in scripts)
+
+    def figures():
+        with postgresql.running(library) as server:
+            times = re.findall(r"^Time: (\S+) ms", "\n".join(server.sql(script)), re.M)
+        return "".join(f"{name} {float(time) / 1000}\n" for name, time in zip(re.findall(r"; -- (.*)", script), times))
+
+    return figures
+
+
 def programs(given, library, work):
     """Builds the programs. Yields each as a function that returns what it prints, with the column of its figures."""
     ways = [("C", ["cc"], by_c, ("speed", library, work)), ("A text", ["cc"], by_c, ("speed_many", library, work)),
             ("Rust", builds.NEEDS, by_rust, (builds.copied("rust", work), library)),
             ("Python", PYTHON_PACKAGE, by_python, (library, work)),
-            ("Seconds", ["sqlite3", "sqlite3ext.h"], by_sqlite, (library,))]
+            ("Seconds", ["sqlite3", "sqlite3ext.h"], by_sqlite, (library,)),
+            ("Seconds of the server", POSTGRESQL, by_postgresql, (library,))]
     if given.original:
         ways.append(("Original", builds.NEEDS, by_rust, (builds.original(given.original, work), None)))
     for column, needs, make, words in ways:

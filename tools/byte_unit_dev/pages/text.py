@@ -15,7 +15,8 @@ WORDS = {
     "README.md": 800, "CALLING.md": 2800, "CONTRIBUTING.md": 900, "CHANGELOG.md": 900, "docs/GUIDE.md": 3600,
     "docs/PROVED.md": 3000, "docs/DEFINITIONS.md": 2800, "docs/ARCHITECTURE.md": 2000, "docs/DECISIONS.md": 2000,
     "docs/DIFFERENCES.md": 2400, "docs/SPEED.md": 1000, "docs/LINES.md": 900, "vectors/README.md": 300,
-    **{f"{name}/README.md": 700 for name in "command bindings/c bindings/python bindings/rust bindings/sqlite".split()},
+    **{f"{name}/README.md": 700 for name in (
+        "command bindings/c bindings/python bindings/rust bindings/sqlite bindings/postgresql bindings/js".split())},
 }
 # Names of std, the kit, the original crate and other programs, and what programs make.
 OTHERS = set("""
@@ -39,6 +40,9 @@ VERSIONS = [
     ("bindings/c/README.md", "`libbyte_unit.so.{major}`"),
     (C_EXAMPLE, '"version {version}"'),
     (C_EXAMPLE, "BYTE_UNIT_VERSION == {number})"),
+    ("bindings/js/package.json", '"version": "{version}"'),
+    ("bindings/postgresql/byte_unit.control", "default_version = '{version}'\n"),
+    ("bindings/postgresql/Makefile", "DATA = byte_unit--{version}.sql\n"),
     ("bindings/rust/Cargo.toml", '\nversion = "5.2.6"\n'),
     ("bindings/rust/Cargo.toml", '\nlibrary-version = "{version}"\n'),
 ]

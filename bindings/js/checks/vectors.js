@@ -1,0 +1,57 @@
+// Answers test vectors: reads records that end with a zero byte, each a call of byte-unit.txt with its text unescaped,
+// and writes a line for each: the answer, or `-` for a call that the package does not have.
+import { readFileSync, writeFileSync } from "node:fs";
+import * as byteUnit from "../index.js";
+
+const ALIGNS = { "<": "left", "^": "center", ">": "right" }, SIGNS = { "+": "plus", "-": "minus" };
+
+/** Returns the options of a format string of the Rust crate. */
+function spec(word) {
+    const [, align, sign, alternate, width, precision] = /^\{(?::([<^>]?)([+-]?)(#?)(\d*)(?:\.(\d+))?)?\}$/.exec(word);
+    return { align: ALIGNS[align], sign: SIGNS[sign], alternate: alternate === "#",
+        width: width ? Number(width) : undefined, precision: precision ? Number(precision) : undefined };
+}
+
+/** Returns the name and the fields of an error. */
+function errorOf(error) {
+    const name = error.code.replace(/(?:^|_)(.)/g, (_, letter) => letter.toUpperCase());
+    const number = / (\d+(?:\.\d+)?) exceeds/.exec(error.message)?.[1];
+    return name + ({
+        not_number: ` "${error.character}"`,
+        unit: ` "${error.character}" [${error.expected}]${error.alsoExpectNoCharacter ? " end" : ""}`,
+        exceeded_bounds: ` ${number}`,
+    }[error.code] ?? "");
+}
+
+function textOf([, , size, ...more], bits) {
+    if (more.length === 1)
+        return byteUnit.text(BigInt(size), { bits, ...spec(more[0]) });
+    const [how, what, word] = more, options = { bits, ...spec(word) };
+    if (how === "by" && options.precision !== undefined)
+        return byteUnit.approximateText(BigInt(size), { type: what, ...options });
+    const unit = how === "in" ? what : byteUnit.appropriateUnit(BigInt(size), { bits, type: what });
+    return byteUnit.adjustedText(BigInt(size), unit, options);
+}
+
+function answer(words, given) {
+    const bits = words[1] === "bit", ignoreCase = words.includes("uncased");
+    switch (words[0]) {
+        case "parse": return byteUnit.parse(given, { bits, ignoreCase });
+        case "unit": return byteUnit.parseUnit(given, { bits: words[2] === "bits", ignoreCase });
+        case "says": return `"${byteUnit.explain(given, { bits, ignoreCase })}"`;
+        case "text": return `"${textOf(words, bits)}"`;
+        default: return "-";
+    }
+}
+
+const records = readFileSync(0, "utf8").split("\0").slice(0, -1);
+writeFileSync(1, records.map(record => {
+    const [call, text] = record.split(/ ?"(.*)/s), words = call.split(" ");
+    try {
+        return `${answer(words, text)}\n`;
+    } catch (error) {
+        if (!(error instanceof byteUnit.SizeError))
+            throw error;
+        return `${errorOf(error)}\n`;
+    }
+}).join(""));

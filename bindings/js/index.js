@@ -1,0 +1,17 @@
+// Loads byte_unit.wasm beside this file, and exports the calls of the library.
+import { instantiate } from "./library.js";
+
+async function bytesBeside() {
+    const place = new URL("byte_unit.wasm", import.meta.url);
+    if (place.protocol !== "file:")
+        return (await fetch(place)).arrayBuffer();
+    const { readFile } = await import("node:fs/promises");
+    return readFile(place);
+}
+
+const library = await instantiate(await bytesBeside());
+
+export const {
+    version, parse, parseUnit, parseMany, explain, explainUnit, text, adjustedText, approximateText, appropriateUnit,
+} = library;
+export { SizeError, UNITS } from "./library.js";

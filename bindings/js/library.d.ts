@@ -1,0 +1,85 @@
+/** Why a string is no size, or no unit. */
+export type ErrorCode =
+    "no_value" | "not_number" | "number_too_long" | "exceeded_bounds" | "unit" | "not_utf8" | "invalid_argument";
+/** The name of a unit, such as `KiB`, `MB` or `Kb`. */
+export type Unit = string;
+export type UnitType = "binary" | "decimal" | "both";
+
+/** How a string is read. All are false if they are not given. */
+export interface ReadingOptions {
+    /** Sizes are in bits in place of bytes. */
+    bits?: boolean;
+    /** `b` means bytes, too: it has no effect with `bits`. */
+    ignoreCase?: boolean;
+}
+
+export interface SizeReadingOptions extends ReadingOptions {
+    /** `K` and `KB` are by 1024, as `Ki` and `KiB` are. */
+    binary?: boolean;
+}
+
+export interface AdjustedTextOptions {
+    bits?: boolean;
+    /** The number of digits after the point, from 0 to 65535. */
+    precision?: number;
+    /** The least number of columns, up to 65535. */
+    width?: number;
+    sign?: "plus" | "minus";
+    align?: "left" | "center" | "right";
+    alternate?: boolean;
+}
+
+export interface ApproximateTextOptions extends AdjustedTextOptions {
+    /** The units to choose from: `binary` if it is not given. */
+    type?: UnitType;
+}
+
+/** The sizes of strings, `null` for each that is no size, and the code of each: `ok`, or that of its error. */
+export interface Sizes {
+    sizes: (bigint | null)[];
+    codes: ("ok" | ErrorCode)[];
+}
+
+/** The error of a string that is no size, or no unit. */
+export class SizeError extends Error {
+    readonly code: ErrorCode;
+    /** The string. */
+    readonly text: string;
+    /** The character that is wrong, of `not_number` and `unit`. */
+    readonly character: string | null;
+    /** The characters that are expected in its place, of `unit`. */
+    readonly expected: string | null;
+    /** Whether the string could end there, of `unit`. */
+    readonly alsoExpectNoCharacter?: boolean;
+    /** The index in the string of the wrong character, its length if it ends too early, or null if the size is too large. */
+    readonly position: number | null;
+}
+
+/** The names of the 38 units, in the order of their codes. */
+export const UNITS: readonly Unit[];
+
+export interface Library {
+    /** The version of the library: 3000000 is 3.0.0. */
+    readonly version: number;
+    /** Returns the number of bytes, or of bits, that a string represents, rounded up. Throws a SizeError. */
+    parse(string: string, options?: SizeReadingOptions): bigint;
+    /** Returns the unit that a string spells. Throws a SizeError. */
+    parseUnit(string: string, options?: ReadingOptions): Unit;
+    /** Reads strings, each as parse does, and throws no SizeError. */
+    parseMany(strings: readonly string[], options?: SizeReadingOptions): Sizes;
+    /** Returns the message of the error of a string, or null if it is a size. */
+    explain(string: string, options?: SizeReadingOptions): string | null;
+    /** Returns the message of the error of a string, or null if it is a unit. */
+    explainUnit(string: string, options?: ReadingOptions): string | null;
+    /** Returns the exact text of a size with a unit, or its digits if `alternate` is false. */
+    text(size: bigint | number, options?: AdjustedTextOptions): string;
+    /** Returns the text of a size in a unit: all its digits, or rounded to the precision, ties to even. */
+    adjustedText(size: bigint | number, unit: Unit, options?: AdjustedTextOptions): string;
+    /** Returns the text of a size, rounded to one place or to the precision, in the largest unit of a type not above it. */
+    approximateText(size: bigint | number, options?: ApproximateTextOptions): string;
+    /** Returns the largest unit of a type that is not above a size. */
+    appropriateUnit(size: bigint | number, options?: { bits?: boolean; type?: UnitType }): Unit;
+}
+
+/** Compiles the module byte_unit.wasm, and returns the calls of the library over it. */
+export function instantiate(bytes: BufferSource): Promise<Library>;

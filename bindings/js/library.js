@@ -1,0 +1,280 @@
+// The calls of the library over a module of WebAssembly, whose memory is handled here. Sizes are BigInts.
+
+export const UNITS = Object.freeze(["b", "B", ..."KMGTPEZYR"].flatMap(
+    prefix => prefix === "b" || prefix === "B" ? [prefix] : [prefix + "b", prefix + "ib", prefix + "B", prefix + "iB"]));
+const CODES = ["ok", "no_value", "not_number", "number_too_long", "exceeded_bounds", "unit", "not_utf8",
+    "invalid_argument"];
+const TYPES = { binary: 0, decimal: 1, both: 2 };
+const SIGNS = { plus: 1, minus: 2 }, ALIGNS = { left: 1, center: 2, right: 3 };
+const SIZE_LIMIT = 10n ** 30n, LOW = (1n << 64n) - 1n;
+const PAGE = 65536, FIRST_OUT = 256;
+const encoder = new TextEncoder(), decoder = new TextDecoder();
+
+/** The error of a text that is no size, or no unit. */
+export class SizeError extends Error {
+    constructor(message, fields) {
+        super(message);
+        this.name = "SizeError";
+        Object.assign(this, fields);
+    }
+}
+
+/** Returns the flags of options. An option of another type than boolean is a mistake, such as `"no"`. */
+function flagsOf(options, ...allowed) {
+    const bits = { bits: 1, ignoreCase: 2, binary: 8 };
+    let flags = 0;
+    for (const [name, value] of Object.entries(options)) {
+        if (!allowed.includes(name))
+            throw new TypeError(`${name} is no option of this call`);
+        if (name in bits && value !== undefined) {
+            if (typeof value !== "boolean")
+                throw new TypeError(`${name} is ${String(value)}: true or false is expected`);
+            flags |= value ? bits[name] : 0;
+        }
+    }
+    return flags;
+}
+
+/** Returns a number of an option that has to be an integer from `least` to 65535. */
+function countOf(name, value, least) {
+    if (!Number.isInteger(value) || value < least || value > 65535)
+        throw new RangeError(`${name} is ${String(value)}: an integer from ${least} to 65535 is expected`);
+    return value;
+}
+
+/** Returns the place of a choice of an option in a table of codes. */
+function choiceOf(name, value, codes) {
+    if (!Object.hasOwn(codes, value))
+        throw new RangeError(`${name} is ${String(value)}: one of ${Object.keys(codes).join(", ")} is expected`);
+    return codes[value];
+}
+
+function textGiven(value) {
+    if (typeof value !== "string")
+        throw new TypeError(`${String(value)} is no string`);
+    return value;
+}
+
+/** Returns the index in a string, in UTF-16 units, of the byte of its UTF-8 form with an index. */
+function indexOfByte(string, wanted) {
+    let bytes = 0, index = 0;
+    for (const character of string) {
+        if (bytes >= wanted)
+            break;
+        const code = character.codePointAt(0);
+        bytes += code < 0x80 ? 1 : code < 0x800 ? 2 : code < 0x10000 ? 3 : 4;
+        index += character.length;
+    }
+    return index;
+}
+
+async function instanceOf(bytes) {
+    try {
+        return (await WebAssembly.instantiate(bytes, {})).instance;
+    } catch (error) {
+        if (!(error instanceof WebAssembly.CompileError))
+            throw error;
+        throw new Error("byte_unit: this engine takes no WebAssembly with 64-bit memory (memory64); Node 20 needs "
+            + "--experimental-wasm-memory64", { cause: error });
+    }
+}
+
+/** The memory of the module: the areas of the arguments come after its own, and grow with the texts. */
+class Memory {
+    constructor(memory) {
+        this.memory = memory;
+        const base = memory.buffer.byteLength;
+        this.at = { size: base, spec: base + 16, unit: base + 32, position: base + 40, error: base + 64, room: base + 256 };
+        this.reserve(0);
+    }
+
+    /** Makes room for bytes after the fixed areas, and returns where they begin. */
+    reserve(length) {
+        const pages = Math.ceil((this.at.room + length - this.memory.buffer.byteLength) / PAGE);
+        if (pages > 0)
+            this.grow(pages);
+        return this.at.room;
+    }
+
+    /** Grows the memory, by a BigInt as the standard has it, or by a number, as V8 did before it (Node 20). */
+    grow(pages) {
+        try {
+            this.memory.grow(BigInt(pages));
+        } catch (error) {
+            if (!(error instanceof TypeError))
+                throw error;
+            this.memory.grow(pages);
+        }
+    }
+
+    view() {
+        return new DataView(this.memory.buffer);
+    }
+
+    bytes(from, length) {
+        return new Uint8Array(this.memory.buffer, from, length);
+    }
+
+    /** Writes a string as UTF-8, and returns its address and length. */
+    write(string) {
+        const room = this.reserve(3 * string.length + FIRST_OUT);
+        const { written } = encoder.encodeInto(string, this.bytes(room, 3 * string.length));
+        return [BigInt(room), BigInt(written)];
+    }
+
+    writeSize(size) {
+        if (typeof size !== "bigint" && !Number.isSafeInteger(size))
+            throw new TypeError(`${String(size)} is no BigInt, and no integer that a number holds exactly`);
+        const value = BigInt(size);
+        if (value < 0n || value >= SIZE_LIMIT)
+            throw new RangeError(`${value} is no size: it is negative, or 10^30 or more`);
+        this.view().setBigUint64(this.at.size, value & LOW, true);
+        this.view().setBigUint64(this.at.size + 8, value >> 64n, true);
+        return BigInt(this.at.size);
+    }
+
+    readSize(from = this.at.size) {
+        return this.view().getBigUint64(from, true) | this.view().getBigUint64(from + 8, true) << 64n;
+    }
+
+    writeSpec({ precision, width, sign, align, alternate }) {
+        const view = this.view(), at = this.at.spec;
+        view.setUint32(at, precision === undefined ? 0 : countOf("precision", precision, 0), true);
+        view.setUint32(at + 4, width === undefined ? 0 : countOf("width", width, 0), true);
+        view.setUint8(at + 8, precision === undefined ? 0 : 1);
+        view.setUint8(at + 9, alternate ? 1 : 0);
+        view.setUint8(at + 10, sign === undefined ? 0 : choiceOf("sign", sign, SIGNS));
+        view.setUint8(at + 11, align === undefined ? 0 : choiceOf("align", align, ALIGNS));
+        return BigInt(at);
+    }
+
+    /** Returns the text that a call writes to an area and its length, and calls it again if the area is too short. */
+    readText(call, from = this.at.room) {
+        let length = FIRST_OUT, needed = length;
+        do {
+            length = needed;
+            this.reserve(from - this.at.room + length);
+            needed = Number(call(BigInt(from), BigInt(length)));
+        } while (needed > length);
+        return decoder.decode(this.bytes(from, needed));
+    }
+}
+
+/** Compiles the module, and returns the calls of the library over it. */
+export async function instantiate(bytes) {
+    const { exports } = await instanceOf(bytes), memory = new Memory(exports.memory), { at } = memory;
+
+    function explained(call, string, flags) {
+        const [address, length] = memory.write(string);
+        return memory.readText((out, room) => call(address, length, flags, out, room), Number(address + length));
+    }
+
+    /** Returns the error of a string, with what the library says of it. */
+    function errorOf(string, code, flags, ofUnit) {
+        const view = memory.view(), name = CODES[code];
+        const fields = { code: name, text: string, character: null, expected: null, position: null };
+        if (name === "not_number" || name === "unit")
+            fields.character = String.fromCodePoint(view.getUint32(at.error, true));
+        if (name === "unit") {
+            fields.expected = decoder.decode(memory.bytes(at.error + 5, 16)).replace(/\0.*$/s, "");
+            fields.alsoExpectNoCharacter = view.getUint8(at.error + 4) === 1;
+        }
+        const [address, length] = memory.write(string);
+        const where = ofUnit ? exports.byte_unit_unit_error_position : exports.byte_unit_error_position;
+        if (where(address, length, BigInt(at.position)))
+            fields.position = indexOfByte(string, Number(memory.view().getBigUint64(at.position, true)));
+        const message = explained(ofUnit ? exports.byte_unit_explain_unit : exports.byte_unit_explain, string, flags);
+        return new SizeError(message, fields);
+    }
+
+    function sizeOf(string, flags) {
+        const [address, length] = memory.write(string);
+        const call = flags & 8 ? exports.byte_unit_parse_binary_to : exports.byte_unit_parse_to;
+        const code = call(address, length, flags, BigInt(at.size), BigInt(at.error), 1n);
+        if (code !== 0)
+            throw errorOf(string, code, flags, false);
+        return memory.readSize();
+    }
+
+    function unitOf(string, flags) {
+        const [address, length] = memory.write(string);
+        const code = exports.byte_unit_parse_unit_to(address, length, flags, BigInt(at.unit), BigInt(at.error), 1n);
+        if (code !== 0)
+            throw errorOf(string, code, flags, true);
+        return memory.view().getUint32(at.unit, true);
+    }
+
+    function unitCode(unit) {
+        const code = UNITS.indexOf(unit);
+        if (code < 0)
+            throw new RangeError(`${String(unit)} is no name of a unit, such as KiB or MB`);
+        return code;
+    }
+
+    return {
+        version: exports.byte_unit_version(),
+
+        parse(string, options = {}) {
+            return sizeOf(textGiven(string), flagsOf(options, "bits", "ignoreCase", "binary"));
+        },
+
+        parseUnit(string, options = {}) {
+            return UNITS[unitOf(textGiven(string), flagsOf(options, "bits", "ignoreCase"))];
+        },
+
+        parseMany(strings, options = {}) {
+            const flags = flagsOf(options, "bits", "ignoreCase", "binary"), count = strings.length;
+            const encoded = Array.from(strings, string => encoder.encode(textGiven(string)));
+            const total = encoded.reduce((sum, bytes) => sum + bytes.length, 0);
+            const sizesAt = memory.reserve(total + 25 * count + 64), offsetsAt = sizesAt + 16 * count;
+            const codesAt = offsetsAt + 8 * (count + 1), dataAt = codesAt + count, view = memory.view();
+            let end = 0;
+            encoded.forEach((bytes, index) => {
+                memory.bytes(dataAt + end, bytes.length).set(bytes);
+                view.setBigInt64(offsetsAt + 8 * index, BigInt(end), true);
+                end += bytes.length;
+            });
+            view.setBigInt64(offsetsAt + 8 * count, BigInt(end), true);
+            exports.byte_unit_parse_many_to(BigInt(dataAt), BigInt(end), BigInt(offsetsAt), BigInt(count + 1), flags,
+                BigInt(sizesAt), BigInt(count), BigInt(codesAt), BigInt(count));
+            const codes = Array.from(memory.bytes(codesAt, count), code => CODES[code]);
+            return { codes, sizes: codes.map((code, at) => code === "ok" ? memory.readSize(sizesAt + 16 * at) : null) };
+        },
+
+        explain(string, options = {}) {
+            const flags = flagsOf(options, "bits", "ignoreCase", "binary");
+            return explained(exports.byte_unit_explain, textGiven(string), flags) || null;
+        },
+
+        explainUnit(string, options = {}) {
+            const flags = flagsOf(options, "bits", "ignoreCase");
+            return explained(exports.byte_unit_explain_unit, textGiven(string), flags) || null;
+        },
+
+        text(size, options = {}) {
+            const flags = flagsOf(options, "bits", "precision", "width", "sign", "align", "alternate");
+            const number = memory.writeSize(size), spec = memory.writeSpec({ alternate: true, ...options });
+            return memory.readText((out, room) => exports.byte_unit_text(number, flags, spec, out, room));
+        },
+
+        adjustedText(size, unit, options = {}) {
+            const flags = flagsOf(options, "bits", "precision", "width", "sign", "align", "alternate");
+            const number = memory.writeSize(size), spec = memory.writeSpec(options), code = unitCode(unit);
+            return memory.readText((out, room) => exports.byte_unit_adjusted_text(number, flags, code, spec, out, room));
+        },
+
+        approximateText(size, options = {}) {
+            const { type = "binary", precision = 1, ...rest } = options;
+            const flags = flagsOf(options, "bits", "type", "precision", "width", "sign", "align", "alternate");
+            const code = choiceOf("type", type, TYPES);
+            const number = memory.writeSize(size), spec = memory.writeSpec({ precision, ...rest });
+            return memory.readText((out, room) => exports.byte_unit_approximate_text(number, flags, code, spec, out, room));
+        },
+
+        appropriateUnit(size, options = {}) {
+            const flags = flagsOf(options, "bits", "type");
+            const code = choiceOf("type", options.type ?? "binary", TYPES);
+            return UNITS[exports.byte_unit_appropriate_unit(memory.writeSize(size), flags, code)];
+        },
+    };
+}

@@ -1,0 +1,126 @@
+/* Casts from and to the numbers of SQL, and calculations. A product is rounded up to a whole byte, as the number of a
+ * text is; a quotient down, as `Byte::divide` does. */
+#include "bytesize.h"
+
+#include "utils/builtins.h"
+#include "utils/numeric.h"
+
+PG_FUNCTION_INFO_V1(bytesize_from_int8);
+
+Datum bytesize_from_int8(PG_FUNCTION_ARGS)
+{
+    int64 n = PG_GETARG_INT64(0);
+
+    if (n < 0)
+        reject_range();
+    return result_of(size_of((uint128_value)n));
+}
+
+PG_FUNCTION_INFO_V1(bytesize_from_int4);
+
+Datum bytesize_from_int4(PG_FUNCTION_ARGS)
+{
+    return DirectFunctionCall1(bytesize_from_int8, Int64GetDatum(PG_GETARG_INT32(0)));
+}
+
+PG_FUNCTION_INFO_V1(bytesize_to_int8);
+
+Datum bytesize_to_int8(PG_FUNCTION_ARGS)
+{
+    ByteSize size = argument(fcinfo, 0);
+
+    if (size.high != 0 || size.low > PG_INT64_MAX)
+        ereport(ERROR, (errcode(ERRCODE_NUMERIC_VALUE_OUT_OF_RANGE), errmsg("bigint out of range")));
+    PG_RETURN_INT64((int64)size.low);
+}
+
+/* Returns the size of a numeric, rounded up to a whole byte. */
+static Datum from_numeric(Datum number)
+{
+    const char *digits = DatumGetCString(DirectFunctionCall1(numeric_out, number));
+    ByteSize size;
+
+    if (digits[0] == '-')
+        reject_range();
+    if (strchr(digits, '.') != NULL)
+        digits = DatumGetCString(DirectFunctionCall1(numeric_out, DirectFunctionCall1(numeric_ceil, number)));
+    /* NaN and Infinity are no texts of sizes, and each whole number below 10^30 is one. */
+    if (byte_unit_parse(digits, strlen(digits), 0, &size, NULL) != BYTE_UNIT_OK)
+        reject_range();
+    return result_of(size);
+}
+
+static Datum to_numeric(ByteSize size)
+{
+    if (size.high == 0 && size.low <= PG_INT64_MAX)
+        return DirectFunctionCall1(int8_numeric, Int64GetDatum((int64)size.low));
+    return DirectFunctionCall3(numeric_in, CStringGetDatum(bytesize_digits(size)), ObjectIdGetDatum(InvalidOid),
+                               Int32GetDatum(-1));
+}
+
+PG_FUNCTION_INFO_V1(bytesize_from_numeric);
+
+Datum bytesize_from_numeric(PG_FUNCTION_ARGS)
+{
+    return from_numeric(PG_GETARG_DATUM(0));
+}
+
+PG_FUNCTION_INFO_V1(bytesize_to_numeric);
+
+Datum bytesize_to_numeric(PG_FUNCTION_ARGS)
+{
+    return to_numeric(argument(fcinfo, 0));
+}
+
+/* Also the transition and the combination of sum(bytesize), where the first argument is the state, changed in place:
+ * sizes are not negative, so a sum is out of range in every order or in none. */
+PG_FUNCTION_INFO_V1(bytesize_add);
+
+Datum bytesize_add(PG_FUNCTION_ARGS)
+{
+    uint128_value sum = value_of(argument(fcinfo, 0)) + value_of(argument(fcinfo, 1));
+
+    if (!is_size(sum) || AggCheckCallContext(fcinfo, NULL) == 0)
+        return result_in_range(sum);
+    *(ByteSize *)PG_GETARG_POINTER(0) = size_of(sum);
+    return PG_GETARG_DATUM(0);
+}
+
+PG_FUNCTION_INFO_V1(bytesize_subtract);
+
+Datum bytesize_subtract(PG_FUNCTION_ARGS)
+{
+    ByteSize a = argument(fcinfo, 0), b = argument(fcinfo, 1);
+
+    if (compare(a, b) < 0)
+        reject_range();
+    return result_of(size_of(value_of(a) - value_of(b)));
+}
+
+PG_FUNCTION_INFO_V1(bytesize_times_numeric);
+
+Datum bytesize_times_numeric(PG_FUNCTION_ARGS)
+{
+    return from_numeric(DirectFunctionCall2(numeric_mul, to_numeric(argument(fcinfo, 0)), PG_GETARG_DATUM(1)));
+}
+
+PG_FUNCTION_INFO_V1(numeric_times_bytesize);
+
+Datum numeric_times_bytesize(PG_FUNCTION_ARGS)
+{
+    return from_numeric(DirectFunctionCall2(numeric_mul, PG_GETARG_DATUM(0), to_numeric(argument(fcinfo, 1))));
+}
+
+PG_FUNCTION_INFO_V1(bytesize_by_numeric);
+
+Datum bytesize_by_numeric(PG_FUNCTION_ARGS)
+{
+    return from_numeric(DirectFunctionCall2(numeric_div_trunc, to_numeric(argument(fcinfo, 0)), PG_GETARG_DATUM(1)));
+}
+
+PG_FUNCTION_INFO_V1(bytesize_by_bytesize);
+
+Datum bytesize_by_bytesize(PG_FUNCTION_ARGS)
+{
+    return DirectFunctionCall2(numeric_div, to_numeric(argument(fcinfo, 0)), to_numeric(argument(fcinfo, 1)));
+}

@@ -1,0 +1,98 @@
+/* The order of sizes: comparisons, and what btree, hash and BRIN indexes call. */
+#include "bytesize.h"
+
+#include "common/hashfn.h"
+#include "utils/sortsupport.h"
+
+#define COMPARISON(name, operator)                                            \
+    PG_FUNCTION_INFO_V1(name);                                                \
+                                                                              \
+    Datum name(PG_FUNCTION_ARGS)                                              \
+    {                                                                         \
+        PG_RETURN_BOOL(compare(argument(fcinfo, 0), argument(fcinfo, 1)) operator 0); \
+    }
+
+COMPARISON(bytesize_eq, ==)
+COMPARISON(bytesize_ne, !=)
+COMPARISON(bytesize_lt, <)
+COMPARISON(bytesize_le, <=)
+COMPARISON(bytesize_gt, >)
+COMPARISON(bytesize_ge, >=)
+
+PG_FUNCTION_INFO_V1(bytesize_cmp);
+
+Datum bytesize_cmp(PG_FUNCTION_ARGS)
+{
+    PG_RETURN_INT32(compare(argument(fcinfo, 0), argument(fcinfo, 1)));
+}
+
+PG_FUNCTION_INFO_V1(bytesize_smaller);
+
+Datum bytesize_smaller(PG_FUNCTION_ARGS)
+{
+    return PG_GETARG_DATUM(compare(argument(fcinfo, 0), argument(fcinfo, 1)) <= 0 ? 0 : 1);
+}
+
+PG_FUNCTION_INFO_V1(bytesize_larger);
+
+Datum bytesize_larger(PG_FUNCTION_ARGS)
+{
+    return PG_GETARG_DATUM(compare(argument(fcinfo, 0), argument(fcinfo, 1)) >= 0 ? 0 : 1);
+}
+
+PG_FUNCTION_INFO_V1(bytesize_hash);
+
+Datum bytesize_hash(PG_FUNCTION_ARGS)
+{
+    return hash_any((const unsigned char *)PG_GETARG_POINTER(0), sizeof(ByteSize));
+}
+
+PG_FUNCTION_INFO_V1(bytesize_hash_extended);
+
+Datum bytesize_hash_extended(PG_FUNCTION_ARGS)
+{
+    return hash_any_extended((const unsigned char *)PG_GETARG_POINTER(0), sizeof(ByteSize), PG_GETARG_INT64(1));
+}
+
+static int compare_datums(Datum a, Datum b, SortSupport unused)
+{
+    (void)unused;
+    return compare(*(const ByteSize *)DatumGetPointer(a), *(const ByteSize *)DatumGetPointer(b));
+}
+
+static int compare_abbreviated(Datum a, Datum b, SortSupport unused)
+{
+    (void)unused;
+    return (a > b) - (a < b);
+}
+
+/* A number of 64 bits in the order of the sizes: the size itself, but all of 2^64 - 1 and more have the greatest. */
+static Datum abbreviated(Datum original, SortSupport unused)
+{
+    ByteSize size = *(const ByteSize *)DatumGetPointer(original);
+
+    (void)unused;
+    return UInt64GetDatum(size.high == 0 ? size.low : PG_UINT64_MAX);
+}
+
+static bool never_abort(int count, SortSupport unused)
+{
+    (void)count, (void)unused;
+    return false;
+}
+
+PG_FUNCTION_INFO_V1(bytesize_sortsupport);
+
+Datum bytesize_sortsupport(PG_FUNCTION_ARGS)
+{
+    SortSupport sort = (SortSupport)PG_GETARG_POINTER(0);
+
+    sort->comparator = compare_datums;
+    if (sort->abbreviate && sizeof(Datum) == sizeof(uint64)) {
+        sort->comparator = compare_abbreviated;
+        sort->abbrev_converter = abbreviated;
+        sort->abbrev_abort = never_abort;
+        sort->abbrev_full_comparator = compare_datums;
+    }
+    PG_RETURN_VOID();
+}

@@ -1,0 +1,275 @@
+"""Builds the extension for PostgreSQL, and tests it in a cluster of its own on loopback, by a copy of the server."""
+
+import re
+import shutil
+
+import pytest
+from byte_unit_dev import postgresql
+from byte_unit_dev.fixtures import call, environment, need, output, path, read, write
+from byte_unit_dev.model.exact import Rejected, form, size_of, some_line
+from byte_unit_dev.needs import POSTGRESQL
+
+VERSION = read("VERSION").strip()
+TRIED = """CREATE FUNCTION tried(query text) RETURNS text LANGUAGE plpgsql AS $$
+DECLARE result text; detail text;
+BEGIN
+    EXECUTE query INTO result;
+    RETURN result;
+EXCEPTION WHEN OTHERS THEN
+    GET STACKED DIAGNOSTICS detail = PG_EXCEPTION_DETAIL;
+    RETURN replace(SQLSTATE || ' ' || SQLERRM || ': ' || detail, E'\\r', ' ');
+END $$;"""
+
+
+@pytest.fixture(scope="module")
+def server(library):
+    need(*POSTGRESQL)
+    with postgresql.running(library) as started:
+        started.sql(TRIED)
+        yield started
+
+
+def quoted(text):
+    """Returns a text as a constant of SQL."""
+    return "E'" + "".join(c if c.isalnum() and c.isascii() or c in " ." else f"\\U{ord(c):08x}" for c in text) + "'"
+
+
+def tried(expression):
+    return "SELECT tried(" + quoted(f"SELECT {expression}") + ");"
+
+
+def wrong_of(server, rows):
+    """Returns which expressions do not have the result, a pattern, beside them."""
+    got = server.sql(*[tried(expression) for expression, _ in rows])
+    assert len(got) == len(rows)
+    return [(*row, found) for row, found in zip(rows, got) if not re.fullmatch(row[1], found)][:5]
+
+
+def test_installcheck(server):
+    """Runs sql/byte_unit.sql by pg_regress, and compares with expected/byte_unit.out."""
+    assert "All 1 tests passed" in server.make("installcheck")
+
+
+def test_statements_of_the_readme(server):
+    text = "".join(re.findall(r"^```sql\n(.*?)^```$", read("bindings/postgresql/README.md"), re.M | re.S))
+    rows = [(code, shown) for code, shown in re.findall(r"^([^\n]*;)(?: -- ([^\n]*))?$", text, re.M)]
+    server.sql("CREATE DATABASE readme;")
+    got = [
+        call(server.bin / "psql", "-XAtq", "-d", "readme", "-c", code, env=server.variables).stdout for code, _ in rows
+    ]
+    shown = [" ".join(line for line in said.split("\n") if not re.match(r"LINE |\s+\^", line)).strip() for said in got]
+    assert rows and shown == [wanted for _, wanted in rows]
+
+
+def test_shared_rows(server):
+    """Compares the rows that SQLite's extension has to answer, too."""
+    rows = re.findall(r"^([^#\n].*?) = (.*)$", read("bindings/sqlite/checks/shared.txt"), re.M)
+    sized = [(re.sub(r"\b(size_text|size_in|size_pretty)\((\d+)", r"\1(\2::numeric::bytesize", call), answer)
+             for call, answer in rows]  # fmt: skip
+    sized = [(re.sub(r"^(size_(?:parse|try)\(.*\))$", r"coalesce((\1)::numeric::text, 'NULL')", call), answer)
+             for call, answer in sized]  # fmt: skip
+    assert len(rows) > 20 and wrong_of(server, [(call, re.escape(answer)) for call, answer in sized]) == []
+
+
+def test_lines(server, check_drawn):
+    """Compares drawn lines with the exact model: sizes and their texts, or SQLSTATE and message."""
+
+    def row(line):
+        text, size = line.decode(), size_of(line, "byte")
+        expression = f"size_parse(t)::numeric || '|' || t::bytesize FROM (SELECT {quoted(text)} AS t) AS line"
+        if not isinstance(size, Rejected):
+            return expression, re.escape(f"{size}|{form(size, 'byte')}")
+        state = "22003" if size.name == "out of range" else "22P02"
+        reason = size.message[0].upper() + size.message[1:]
+        return expression, rf'{state} invalid input syntax for type bytesize: ".*": {re.escape(reason)}( \(.*\))?\.'
+
+    def wrong(lines):
+        usable = [line for line in lines if b"\0" not in line and b"\n" not in line
+                  and getattr(size_of(line, "byte"), "name", "") != "not text"]  # fmt: skip
+        return usable and wrong_of(server, [row(line) for line in usable])
+
+    check_drawn(some_line, wrong)
+
+
+def expression_of(words, text):
+    """Returns the call of a test vector in SQL, or `None`."""
+    flags = ", 'ignore-case'" * ("uncased" in words)
+    if words[:2] == ["parse", "byte"]:
+        return f"size_parse({quoted(text)}{flags})::numeric"
+    if words[:2] == ["says", "byte"]:
+        return f"regexp_replace(size_explain({quoted(text)}{flags}), ' \\(character \\d+\\)$', '')"
+    if words[:2] != ["text", "byte"]:
+        return None
+    found = re.fullmatch(r"\{(?::(#?)(?:\.(\d+))?)?\}", words[-1])
+    size, places = f"{words[2]}::numeric::bytesize", found and found[2]
+    more = f", {places}" if places else ""
+    if found and len(words) == 4 and found[1]:
+        return f"size_text({size}{more})"
+    if found and not found[1] and words[3] == "in":
+        return f"size_in({size}, '{words[4]}'{more})"
+    if found and not found[1] and words[3] == "by" and places:
+        return f"size_pretty({size}, '{words[4]}'{more})"
+    return None
+
+
+def test_vectors(server):
+    rows = []
+    for line in read("vectors/byte-unit.txt").split("\n"):
+        found = re.fullmatch(r'\S+: ([^"=#]*?) ?("[^"]*")? = (.*)', line)
+        text = found and found[2] and unescaped(found[2][1:-1])
+        if found and "\0" not in (text or ""):
+            call = expression_of(found[1].split(), text)
+            answer = unescaped(found[3])
+            error = {"ExceededBounds": "22003 .*"}.get(answer.split(" ")[0], "22P02 .*")
+            rows += [(call, re.escape(answer.strip('"')) if answer[0] in '0123456789"' else error)] * bool(call)
+    assert len(rows) == 424 and wrong_of(server, rows) == []
+
+
+def unescaped(text):
+    text = re.sub(r"\\\{(\d+)\*(\\u\{[0-9A-Fa-f]+\}|.)\}", lambda m: m[2] * int(m[1]), text, flags=re.S)
+    return re.sub(r"\\u\{([0-9A-Fa-f]+)\}", lambda m: chr(int(m[1], 16)), text)
+
+
+def test_random_pairs_beside_numeric(server):
+    """Compares comparisons, casts, texts, sums, differences, products and quotients of 200,000 pairs with numeric."""
+    got = server.sql(
+        "SELECT setseed(0.5);",
+        "CREATE TEMP TABLE pairs AS SELECT trunc((random() * 1e15)::numeric * power(10::numeric, (random() * 11)::int))"
+        " AS a, trunc((random() * 1e15)::numeric * power(10::numeric, (random() * 11)::int)) AS b,"
+        " trunc((random() * 1000)::numeric, (random() * 3)::int) + 0.001 AS n FROM generate_series(1, 200000);",
+        "INSERT INTO pairs SELECT a, a, n FROM pairs LIMIT 1000;",
+        "SELECT count(*) FROM (SELECT *, a::bytesize AS x, b::bytesize AS y FROM pairs) AS sized WHERE"
+        " (x = y) <> (a = b) OR (x <> y) <> (a <> b) OR (x < y) <> (a < b) OR (x <= y) <> (a <= b) OR (x > y) <> (a > b)"
+        " OR (x >= y) <> (a >= b) OR x::numeric <> a OR x::text::bytesize <> x OR (x + y)::numeric <> a + b"
+        " OR (a >= b AND (x - least(x, y))::numeric <> a - b) OR (x * n)::numeric <> ceil(a * n)"
+        " OR (x / n)::numeric <> div(a, n) OR bytesize_cmp(x, y) <> sign(a - b)"
+        " OR (y > '0 B' AND x / y <> a / b) OR (x = y AND bytesize_hash(x) <> bytesize_hash(y));",
+        "SELECT array_agg(a ORDER BY a) = array_agg(a ORDER BY a::bytesize) FROM pairs;",
+        "SELECT count(DISTINCT a) = count(DISTINCT a::bytesize), div(sum(a), count(*)) = avg(a::bytesize)::numeric,"
+        " sum(a / 1e8) > 0, max(a) = max(a::bytesize)::numeric FROM pairs;",
+        "SELECT count(*) = (SELECT count(*) FROM pairs p JOIN pairs q ON p.a = q.b) FROM pairs p JOIN pairs q"
+        " ON p.a::bytesize = q.b::bytesize;",
+    )  # fmt: skip
+    assert got == ["", "0", "t", "t|t|t|t", "t"]
+
+
+def test_dump_copy_and_logical_decoding(server):
+    values = ["0", "1.5 KiB", "9007199254740993", "999999999999999999999999999999", "123456789"]
+    make = "CREATE TABLE kept(size bytesize); INSERT INTO kept VALUES " + ", ".join(f"('{value}')" for value in values)
+    server.sql("CREATE DATABASE source;", "CREATE DATABASE target;")
+    server.sql("CREATE EXTENSION byte_unit;", make + ";", database="source")
+    dump = output(server.bin / "pg_dump", "source", env=server.variables)
+    server.sql(dump, database="target")
+    whole = ["SELECT size, size::numeric AS number FROM kept ORDER BY size;"]
+    assert server.sql(*whole, database="target") == server.sql(*whole, database="source")
+    file = server.folder / "data/kept.bin"
+    server.sql(f"COPY kept TO '{file}' (FORMAT binary); COPY kept FROM '{file}' (FORMAT binary);", database="source")
+    assert server.sql("SELECT count(*), count(DISTINCT size) FROM kept;", database="source") == ["10|5"]
+    data = file.read_bytes()
+    file.write_bytes(data.replace((10**30 - 1).to_bytes(16, "big"), (10**30).to_bytes(16, "big")))
+    said = call(server.bin / "psql", "-Xc", f"COPY kept FROM '{file}' (FORMAT binary)", "source", env=server.variables)
+    assert "bytesize out of range" in said.stdout
+    got = server.sql("SELECT pg_create_logical_replication_slot('slot', 'test_decoding');",
+                     "INSERT INTO kept VALUES ('1.5 KiB'); SELECT data FROM pg_logical_slot_get_changes('slot', NULL, NULL);",
+                     "SELECT pg_drop_replication_slot('slot');", database="source")  # fmt: skip
+    assert "table public.kept: INSERT: size[bytesize]:'1.5 KiB'" in got
+
+
+def test_workers_agree(server):
+    """Aggregates by 0, 1 and 3 workers, and sums of 10^30 or more, are the same."""
+    server.sql("CREATE TABLE many AS SELECT (x * 1000003::bigint)::bytesize AS size FROM generate_series(1, 200000) AS x;",
+               "CREATE TABLE vast AS SELECT '5 RB'::bytesize AS size FROM generate_series(1, 200000);",
+               "ANALYZE many; ANALYZE vast;")  # fmt: skip
+    found = []
+    for workers in (0, 1, 3):
+        set_up = [f"SET max_parallel_workers_per_gather = {workers}; SET parallel_setup_cost = 0; SET jit = off;",
+                  "SET parallel_tuple_cost = 0; SET min_parallel_table_scan_size = 0;"]  # fmt: skip
+        query = "SELECT sum(size), avg(size), min(size), max(size), count(*) FROM many;"
+        plan = server.sql(*set_up, f"EXPLAIN {query}")
+        assert any(f"Workers Planned: {workers}" in line for line in plan) == (workers > 0)
+        vast = server.sql(*set_up, tried("sum(size) FROM vast"), "SELECT avg(size) FROM vast;")
+        found.append(server.sql(*set_up, query) + vast)
+    total = sum(x * 1000003 for x in range(1, 200001))
+    sizes = [form(size, "byte") for size in (total, total // 200000, 1000003, 200000 * 1000003)]
+    assert found[0][0] == "|".join([*sizes, "200000"]) and found == [found[0]] * 3
+    assert found[0][1].startswith("22003 bytesize out of range")
+
+
+def test_errors_leave_no_memory(server):
+    loop = ("DO $$ BEGIN FOR i IN 1..%d LOOP BEGIN PERFORM ('1 X' || i)::bytesize; EXCEPTION WHEN OTHERS THEN NULL; END;"
+            " END LOOP; END $$;")  # fmt: skip
+    used = "SELECT sum(total_bytes) FROM pg_backend_memory_contexts;"
+    before, after = server.sql(loop % 1000, used, loop % 100000, used)
+    assert int(after) - int(before) < 1 << 20
+
+
+@pytest.mark.parametrize("encoding", ["UTF8", "LATIN1", "SQL_ASCII"])
+def test_encodings(server, encoding):
+    name = f"in_{encoding.lower()}"
+    server.sql(f"CREATE DATABASE {name} ENCODING '{encoding}' TEMPLATE template0;")
+    server.sql("CREATE EXTENSION byte_unit;", TRIED, database=name)
+    text = (
+        "convert_from('\\x%s', getdatabaseencoding())"
+        % "1 Ké".encode("latin1" if encoding == "LATIN1" else "utf8").hex()
+    )
+    got = server.sql("SET client_encoding = 'UTF8';" * (encoding != "SQL_ASCII"),
+                     f"SELECT size_explain({text});", "SELECT '1.5 KiB'::bytesize;", database=name)  # fmt: skip
+    assert got == ["the character 'é' is incorrect ('B' or 'b' or no character is expected) (character 4)", "1.5 KiB"]
+    if encoding == "SQL_ASCII":
+        assert server.sql("SELECT tried($$SELECT size_parse(E'1 \\xff')$$);", database=name)[0].startswith("22021")
+
+
+def test_compiled_expressions(server):
+    """Answers the same where the server compiles expressions with the functions' bitcode inlined, if it can."""
+    query = "SELECT sum(size_parse(x || ' KiB') * 2), count(*) FROM generate_series(1, 10000) AS x;"
+    settings = "SET jit = on; SET jit_above_cost = 0; SET jit_inline_above_cost = 0; SET jit_optimize_above_cost = 0;"
+    compiled = server.sql(settings, query, f"EXPLAIN ANALYZE {query}")
+    assert server.sql("SET jit = off;", query) == compiled[:1] == ["102410.24 MB|10000"]
+    assert any("Inlining true" in line for line in compiled)
+
+
+def test_upgrade(server):
+    """Updates to a version after this one: the sizes stay, and all belongs to the extension."""
+    folder = server.folder / "usr/share/postgresql/15/extension"
+    write(folder / f"byte_unit--{VERSION}--9.9.9.sql", "COMMENT ON TYPE bytesize IS 'updated';\n")
+    server.sql("CREATE DATABASE updated;")
+    got = server.sql(f"CREATE EXTENSION byte_unit VERSION '{VERSION}'; CREATE TABLE kept AS SELECT '1.5 KiB'::bytesize AS s;",
+                     "ALTER EXTENSION byte_unit UPDATE TO '9.9.9';", "SELECT s, obj_description('bytesize'::regtype) FROM kept;",
+                     "SELECT extversion FROM pg_extension WHERE extname = 'byte_unit';", "DROP EXTENSION byte_unit CASCADE;",
+                     "SELECT count(*) FROM pg_proc WHERE proname ~ '^(size_|bytesize)';", database="updated",
+                     stderr=-3)  # fmt: skip
+    assert got == ["1.5 KiB|updated", "9.9.9", "0"]
+
+
+def test_no_report_of_valgrind(server):
+    """Runs the statements of sql/byte_unit.sql in a backend of one user under valgrind: no report names the extension."""
+    need("valgrind")
+    lines = [
+        line
+        for line in read("bindings/postgresql/sql/byte_unit.sql").split("\n")
+        if line[:2] != "--" and line[:1] != "\\"
+    ]
+    statements = re.sub(r"(?<!;)\n\s*", " ", "\n".join(lines))
+    folder, log = server.folder / "single", server.folder / "data/valgrind"
+    folder.mkdir()
+    shutil.chown(folder, server.user())
+    server.by_user(server.bin / "initdb", "-D", folder, "-A", "trust", "-E", "UTF8", "--locale=C", "--no-sync")
+    words = ["valgrind", "--quiet", f"--log-file={log}", server.bin / "postgres", "--single", "-D", folder, "postgres"]
+    said = server.by_user(*words, input=statements)
+    assert said.count('= "1.5 KiB"') >= 5 and "byte_unit" not in log.read_text(encoding="utf-8", errors="replace")
+
+
+def test_installation(library, tmp_path):
+    """`tools/dev install --postgresql` installs what the server needs, and --uninstall removes it."""
+    need(*POSTGRESQL)
+    words = [path("tools/dev"), "install", "/usr/local", "--postgresql"]
+    variables = environment(DESTDIR=tmp_path, PG_CONFIG="/usr/lib/postgresql/15/bin/pg_config")
+    output(*words, "--from", library, "--without-command", "--without-sqlite", env=variables)
+    found = {
+        file.name
+        for file in tmp_path.rglob("*")
+        if "postgresql" in str(file) and file.suffix in (".so", ".sql", ".control")
+    }
+    assert found == {"byte_unit.so", "byte_unit.control", f"byte_unit--{VERSION}.sql"}
+    output(*words, "--uninstall", env=variables)
+    assert not [file for file in tmp_path.rglob("*") if not file.is_dir()]

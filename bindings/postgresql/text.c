@@ -1,0 +1,401 @@
+/* Texts of the type bytesize: input, output, and the functions of SQLite's extension by the same names.
+ *
+ * The library reads UTF-8 and writes ASCII but for the character that a message repeats, so texts are converted from
+ * and to the encoding of the database. Its calls do not allocate, keep no state and never jump: an error of the server
+ * is raised between them alone, and memory of the server is all that a longjmp has to give back.
+ */
+#include "bytesize.h"
+
+#include "libpq/pqformat.h"
+#include "mb/pg_wchar.h"
+#include "utils/builtins.h"
+
+PG_MODULE_MAGIC;
+
+/* Soft errors are from PostgreSQL 16. Before it each error ends the statement. */
+#ifndef ereturn
+#define ereturn(context, result, ...) ereport(ERROR, __VA_ARGS__)
+#endif
+
+enum {
+    GREATEST_PRECISION = 65535,
+    SHOWN = 64 /* bytes of a text that a message repeats */
+};
+
+/* A text and its form in UTF-8, which is the same memory if the two encodings agree. */
+typedef struct Text {
+    const char *shown;
+    int shown_len;
+    const char *at;
+    size_t len;
+} Text;
+
+static Text text_of(const char *shown, int shown_len)
+{
+    const char *at = pg_server_to_any(shown, shown_len, PG_UTF8);
+
+    return (Text){ shown, shown_len, at, at == shown ? (size_t)shown_len : strlen(at) };
+}
+
+static Text text_argument(FunctionCallInfo fcinfo, int n)
+{
+    text *value = PG_GETARG_TEXT_PP(n);
+
+    return text_of(VARDATA_ANY(value), VARSIZE_ANY_EXHDR(value));
+}
+
+/* byte_unit_explain or byte_unit_explain_unit, and the call that says where the error is. */
+typedef size_t ExplainCall(const char *text, size_t len, uint32 flags, char *out, size_t out_len);
+typedef bool PositionCall(const char *text, size_t len, size_t *position);
+
+/* Returns the message of a text that is rejected, as SQLite's size_explain has it: the reason, and the number, from 1,
+ * of the wrong character. NULL if the text is not rejected. */
+static char *message_of(Text text, uint32 flags, ExplainCall *explain, PositionCall *position_of)
+{
+    char reason[BYTE_UNIT_BUFFER_SIZE + 1];
+    size_t len = explain(text.at, text.len, flags, reason, BYTE_UNIT_BUFFER_SIZE), position, character = 1;
+
+    if (len == 0 || len > BYTE_UNIT_BUFFER_SIZE)
+        return NULL;
+    reason[len] = '\0';
+    if (!position_of(text.at, text.len, &position) || position >= text.len)
+        return pg_any_to_server(pstrdup(reason), (int)len, PG_UTF8);
+    for (size_t at = 0; at < position; at++)
+        character += ((unsigned char)text.at[at] & 0xC0) != 0x80;
+    return psprintf("%s (character %zu)", pg_any_to_server(reason, (int)len, PG_UTF8), character);
+}
+
+/* Returns a sentence: the message with a capital letter and a full stop. */
+static char *sentence_of(const char *message)
+{
+    char *sentence = psprintf("%s.", message == NULL ? "the text is not a size" : message);
+
+    sentence[0] = pg_toupper((unsigned char)sentence[0]);
+    return sentence;
+}
+
+static char *shortened(Text text)
+{
+    if (text.shown_len <= SHOWN)
+        return pnstrdup(text.shown, text.shown_len);
+    return psprintf("%.*s..", pg_mbcliplen(text.shown, text.shown_len, SHOWN), text.shown);
+}
+
+static int sqlstate_of(uint32 code)
+{
+    return code == BYTE_UNIT_EXCEEDED_BOUNDS ? ERRCODE_NUMERIC_VALUE_OUT_OF_RANGE : ERRCODE_INVALID_TEXT_REPRESENTATION;
+}
+
+/* Returns the size of a text, or an error of which `soft`, the context of the call, may take account. */
+static Datum parsed(Text text, uint32 flags, fmNodePtr soft)
+{
+    ByteSize size;
+    uint32 code = byte_unit_parse(text.at, text.len, flags, &size, NULL);
+
+    (void)soft;
+    if (code == BYTE_UNIT_OK)
+        return result_of(size);
+    ereturn(soft, (Datum)0,
+            (errcode(sqlstate_of(code)),
+             errmsg("invalid input syntax for type %s: \"%s\"", "bytesize", shortened(text)),
+             errdetail("%s", sentence_of(message_of(text, flags, byte_unit_explain, byte_unit_error_position)))));
+}
+
+/* ---- Input and output. ---- */
+
+PG_FUNCTION_INFO_V1(bytesize_in);
+
+Datum bytesize_in(PG_FUNCTION_ARGS)
+{
+    const char *text = PG_GETARG_CSTRING(0);
+
+    return parsed(text_of(text, (int)strlen(text)), 0, fcinfo->context);
+}
+
+
+/* What to write: a size in `unit`; in the largest unit of `unit_type` not above it, if that is not NO_UNIT; or, if both
+ * are, with the unit that states it exactly. */
+typedef struct Form {
+    ByteSize size;
+    byte_unit_spec spec;
+    uint32 unit, unit_type;
+} Form;
+
+static size_t write_form(const Form *form, char *out, size_t out_len)
+{
+    if (form->unit_type != BYTE_UNIT_NO_UNIT)
+        return byte_unit_approximate_text(form->size, 0, form->unit_type, form->spec, out, out_len);
+    if (form->unit != BYTE_UNIT_NO_UNIT)
+        return byte_unit_adjusted_text(form->size, 0, form->unit, form->spec, out, out_len);
+    return byte_unit_text(form->size, 0, form->spec, out, out_len);
+}
+
+static Form form_of(ByteSize size, bool with_unit)
+{
+    return (Form){ .size = size, .spec = { .alternate = with_unit }, .unit = BYTE_UNIT_NO_UNIT,
+                   .unit_type = BYTE_UNIT_NO_UNIT };
+}
+
+/* Returns the text of a form, zero-terminated, and its length. */
+static char *written(const Form *form, size_t *len)
+{
+    char buffer[BYTE_UNIT_BUFFER_SIZE];
+    char *text;
+
+    *len = write_form(form, buffer, sizeof buffer);
+    if (*len == 0)
+        ereport(ERROR, (errcode(ERRCODE_INTERNAL_ERROR), errmsg("byte_unit wrote no text")));
+    text = palloc(*len + 1);
+    if (*len > sizeof buffer)
+        write_form(form, text, *len);
+    else
+        memcpy(text, buffer, *len);
+    text[*len] = '\0';
+    return text;
+}
+
+char *bytesize_digits(ByteSize size)
+{
+    Form form = form_of(size, false);
+    size_t len;
+
+    return written(&form, &len);
+}
+
+PG_FUNCTION_INFO_V1(bytesize_out);
+
+Datum bytesize_out(PG_FUNCTION_ARGS)
+{
+    Form form = form_of(argument(fcinfo, 0), true);
+    size_t len;
+
+    PG_RETURN_CSTRING(written(&form, &len));
+}
+
+/* The binary form: two integers of 64 bits, the high one first. */
+PG_FUNCTION_INFO_V1(bytesize_recv);
+
+Datum bytesize_recv(PG_FUNCTION_ARGS)
+{
+    StringInfo message = (StringInfo)PG_GETARG_POINTER(0);
+    uint128_value high = (uint64)pq_getmsgint64(message);
+
+    return result_in_range((high << 64) | (uint64)pq_getmsgint64(message));
+}
+
+PG_FUNCTION_INFO_V1(bytesize_send);
+
+Datum bytesize_send(PG_FUNCTION_ARGS)
+{
+    ByteSize size = argument(fcinfo, 0);
+    StringInfoData message;
+
+    pq_begintypsend(&message);
+    pq_sendint64(&message, size.high);
+    pq_sendint64(&message, size.low);
+    PG_RETURN_BYTEA_P(pq_endtypsend(&message));
+}
+
+/* ---- The functions of SQLite's extension, by the same names. ---- */
+
+/* Rejects NULL in an argument that says how: a CHECK is met by NULL, so that NULL there would let all rows pass. */
+static void reject_null(FunctionCallInfo fcinfo, int n, const char *what)
+{
+    if (PG_ARGISNULL(n))
+        ereport(ERROR, (errcode(ERRCODE_NULL_VALUE_NOT_ALLOWED), errmsg("%s cannot be NULL", what)));
+}
+
+static uint32 flag_of(const char *word, size_t len)
+{
+    if (len == strlen("ignore-case") && memcmp(word, "ignore-case", len) == 0)
+        return BYTE_UNIT_IGNORE_CASE;
+    if (len == strlen("binary") && memcmp(word, "binary", len) == 0)
+        return BYTE_UNIT_BINARY_PREFIXES;
+    return 0;
+}
+
+/* Returns the flags in an argument, words separated by spaces, or none if the call has no such argument. */
+static uint32 flags_argument(FunctionCallInfo fcinfo, int n, uint32 allowed)
+{
+    uint32 flags = 0;
+    char *words;
+
+    if (n >= PG_NARGS())
+        return 0;
+    reject_null(fcinfo, n, "flags");
+    words = text_to_cstring(PG_GETARG_TEXT_PP(n));
+    for (const char *word = words; *word != '\0';) {
+        size_t len = strcspn(word, " ");
+        uint32 flag = flag_of(word, len) & allowed;
+
+        if (flag == 0 && len > 0)
+            ereport(ERROR, (errcode(ERRCODE_INVALID_PARAMETER_VALUE),
+                            errmsg("\"%s\" has flags other than %s", words,
+                                   allowed & BYTE_UNIT_BINARY_PREFIXES ? "ignore-case and binary" : "ignore-case")));
+        flags |= flag;
+        word += len + (word[len] == ' ');
+    }
+    return flags;
+}
+
+static const uint32 READING = BYTE_UNIT_IGNORE_CASE | BYTE_UNIT_BINARY_PREFIXES;
+
+PG_FUNCTION_INFO_V1(size_parse);
+
+Datum size_parse(PG_FUNCTION_ARGS)
+{
+    uint32 flags = flags_argument(fcinfo, 1, READING);
+
+    if (PG_ARGISNULL(0))
+        PG_RETURN_NULL();
+    return parsed(text_argument(fcinfo, 0), flags, NULL);
+}
+
+PG_FUNCTION_INFO_V1(size_try);
+
+Datum size_try(PG_FUNCTION_ARGS)
+{
+    uint32 flags = flags_argument(fcinfo, 1, READING);
+    Text text;
+    ByteSize size;
+
+    if (PG_ARGISNULL(0))
+        PG_RETURN_NULL();
+    text = text_argument(fcinfo, 0);
+    if (byte_unit_parse(text.at, text.len, flags, &size, NULL) != BYTE_UNIT_OK)
+        PG_RETURN_NULL();
+    return result_of(size);
+}
+
+PG_FUNCTION_INFO_V1(size_explain);
+
+Datum size_explain(PG_FUNCTION_ARGS)
+{
+    uint32 flags = flags_argument(fcinfo, 1, READING);
+    char *message;
+
+    if (PG_ARGISNULL(0))
+        PG_RETURN_NULL();
+    message = message_of(text_argument(fcinfo, 0), flags, byte_unit_explain, byte_unit_error_position);
+    if (message == NULL)
+        PG_RETURN_NULL();
+    PG_RETURN_TEXT_P(cstring_to_text(message));
+}
+
+static Datum text_result(const Form *form)
+{
+    size_t len;
+    char *text = written(form, &len);
+
+    PG_RETURN_TEXT_P(cstring_to_text_with_len(text, (int)len));
+}
+
+static void set_precision(FunctionCallInfo fcinfo, int n, Form *form)
+{
+    int32 precision;
+
+    if (n >= PG_NARGS())
+        return;
+    reject_null(fcinfo, n, "the precision");
+    precision = PG_GETARG_INT32(n);
+    if (precision < 0 || precision > GREATEST_PRECISION)
+        ereport(ERROR, (errcode(ERRCODE_INVALID_PARAMETER_VALUE),
+                        errmsg("%d is not a precision: an integer from 0 to %d is expected", precision,
+                               GREATEST_PRECISION)));
+    form->spec.has_precision = 1;
+    form->spec.precision = (uint32)precision;
+}
+
+PG_FUNCTION_INFO_V1(size_text);
+
+Datum size_text(PG_FUNCTION_ARGS)
+{
+    Form form;
+
+    if (PG_ARGISNULL(0))
+        PG_RETURN_NULL();
+    form = form_of(argument(fcinfo, 0), true);
+    set_precision(fcinfo, 1, &form);
+    return text_result(&form);
+}
+
+/* Returns the unit of a name. A blank name, which byte_unit_parse_unit takes for B, names none. */
+static uint32 unit_of(Text name, uint32 flags)
+{
+    uint32 unit, code = byte_unit_parse_unit(name.at, name.len, flags, &unit, NULL);
+    ByteSize unused;
+
+    if (byte_unit_parse(name.at, name.len, 0, &unused, NULL) == BYTE_UNIT_NO_VALUE)
+        ereport(ERROR, (errcode(ERRCODE_INVALID_PARAMETER_VALUE),
+                        errmsg("\"%s\" is not a unit such as KiB or MB", shortened(name))));
+    if (code != BYTE_UNIT_OK)
+        ereport(ERROR,
+                (errcode(ERRCODE_INVALID_PARAMETER_VALUE), errmsg("\"%s\" is not a unit", shortened(name)),
+                 errdetail("%s", sentence_of(message_of(name, flags, byte_unit_explain_unit,
+                                                        byte_unit_unit_error_position)))));
+    return unit;
+}
+
+static Datum in_unit(FunctionCallInfo fcinfo, int precision_at, int flags_at)
+{
+    uint32 flags = flags_argument(fcinfo, flags_at, BYTE_UNIT_IGNORE_CASE);
+    Form form;
+
+    if (PG_ARGISNULL(0) || PG_ARGISNULL(1))
+        PG_RETURN_NULL();
+    form = form_of(argument(fcinfo, 0), false);
+    set_precision(fcinfo, precision_at, &form);
+    form.unit = unit_of(text_argument(fcinfo, 1), flags);
+    return text_result(&form);
+}
+
+/* size_in(size, unit [, precision [, flags]]) */
+PG_FUNCTION_INFO_V1(size_in);
+
+Datum size_in(PG_FUNCTION_ARGS)
+{
+    return in_unit(fcinfo, 2, 3);
+}
+
+/* size_in(size, unit, flags) */
+PG_FUNCTION_INFO_V1(size_in_with_flags);
+
+Datum size_in_with_flags(PG_FUNCTION_ARGS)
+{
+    return in_unit(fcinfo, PG_NARGS(), 2);
+}
+
+/* Returns the unit type in an argument, or that of binary units if the call has no such argument. */
+static uint32 unit_type_argument(FunctionCallInfo fcinfo, int n)
+{
+    static const char *const names[] = { "binary", "decimal", "both" };
+    static const uint32 types[] = { BYTE_UNIT_BINARY, BYTE_UNIT_DECIMAL, BYTE_UNIT_BOTH };
+    char *name;
+
+    if (n >= PG_NARGS())
+        return BYTE_UNIT_BINARY;
+    reject_null(fcinfo, n, "the unit type");
+    name = text_to_cstring(PG_GETARG_TEXT_PP(n));
+    for (size_t at = 0; at < lengthof(types); at++)
+        if (strcmp(name, names[at]) == 0)
+            return types[at];
+    ereport(ERROR, (errcode(ERRCODE_INVALID_PARAMETER_VALUE),
+                    errmsg("\"%s\" is not a unit type: binary, decimal or both is expected", name)));
+}
+
+PG_FUNCTION_INFO_V1(size_pretty);
+
+Datum size_pretty(PG_FUNCTION_ARGS)
+{
+    uint32 unit_type = unit_type_argument(fcinfo, 1);
+    Form form;
+
+    if (PG_ARGISNULL(0))
+        PG_RETURN_NULL();
+    form = form_of(argument(fcinfo, 0), false);
+    form.spec.has_precision = 1;
+    form.spec.precision = 1;
+    set_precision(fcinfo, 2, &form);
+    form.unit_type = unit_type;
+    return text_result(&form);
+}

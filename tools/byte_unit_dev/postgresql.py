@@ -1,0 +1,81 @@
+"""A cluster of PostgreSQL 15 on loopback, with the extension, in a folder of its own."""
+
+import contextlib
+import os
+import pwd
+import shutil
+import socket
+import tempfile
+from pathlib import Path
+
+from .builds import environment
+from .common import output, path
+from .needs import POSTGRESQL_15
+
+
+class Server:
+    """A server, run by a user without rights if the tests are root's, from a copy of Debian's files."""
+
+    def __init__(self, folder, library):
+        self.folder, self.library = folder, library
+        for place in ("lib", "share"):
+            shutil.copytree(f"/usr/{place}/postgresql/15", folder / f"usr/{place}/postgresql/15", symlinks=True)
+        self.bin = folder / "usr/lib/postgresql/15/bin"
+        self.extension = Path(shutil.copytree(path("bindings/postgresql"), folder / "extension"))
+        self.make("all", f"PG_CONFIG={POSTGRESQL_15}/bin/pg_config")
+        self.make("install")
+        with socket.socket() as free:
+            free.bind(("127.0.0.1", 0))
+            self.port = str(free.getsockname()[1])
+        self.variables = environment(PGHOST="127.0.0.1", PGPORT=self.port, PGUSER="tester", PGDATABASE="postgres")
+        for name in (folder, folder / "data"):
+            name.mkdir(exist_ok=True)
+            os.chmod(name, 0o755)
+        shutil.chown(folder / "data", self.user())
+        self.by_user(self.bin / "initdb", "-A", "trust", "-U", "tester", "-E", "UTF8", "--locale=C", "--no-sync")
+        settings = ["listen_addresses=127.0.0.1", "unix_socket_directories=", "fsync=off", "wal_level=logical",
+                    "max_worker_processes=8", "jit=off"]  # fmt: skip
+        options = " ".join([f"-p {self.port}", *(f"-c {setting}" for setting in settings)])
+        self.by_user(self.bin / "pg_ctl", "-w", "-l", folder / "data/log", "-o", options, "start")
+        self.sql("CREATE EXTENSION byte_unit;")
+
+    @staticmethod
+    def user():
+        return "nobody" if os.geteuid() == 0 else pwd.getpwuid(os.geteuid()).pw_name
+
+    def make(self, *words):
+        words = [
+            "make",
+            "-s",
+            "-C",
+            self.extension,
+            f"PG_CONFIG={self.bin}/pg_config",
+            f"LIBRARY={self.library}",
+            *words,
+        ]
+        return output(*words, env=environment(PGHOST="127.0.0.1", PGPORT=getattr(self, "port", ""), PGUSER="tester"))
+
+    def by_user(self, *words, **more):
+        become = ["setpriv", "--reuid=nobody", "--regid=nogroup", "--clear-groups"] * (os.geteuid() == 0)
+        return output(*become, *words, env=environment(PGDATA=self.folder / "data"), cwd=self.folder, **more)
+
+    def sql(self, *statements, database="postgres", **more):
+        """Runs statements in one session. Returns the lines of their results."""
+        words = [self.bin / "psql", "-XAtq", "-v", "ON_ERROR_STOP=1", "-d", database, "-f", "-"]
+        return output(*words, env=self.variables, input="\n".join(statements), **more).split("\n")[:-1]
+
+    def stop(self):
+        self.by_user(self.bin / "pg_ctl", "-m", "immediate", "stop")
+
+
+@contextlib.contextmanager
+def running(library):
+    """Yields a Server, which ends with its folder."""
+    folder, server = Path(tempfile.mkdtemp(prefix="byte-unit-postgresql-")), None
+    try:
+        server = Server(folder, os.path.realpath(library))
+        yield server
+    finally:
+        if server:
+            server.stop()
+        shutil.rmtree(folder, ignore_errors=True)
