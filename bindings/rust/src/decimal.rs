@@ -99,7 +99,7 @@ impl Decimal {
 pub(crate) fn size_of(number: Decimal, unit: Unit, kind: Kind) -> Option<u128> {
     let mut text = DecimalText::of(number);
     text.write_str(unit.as_str()).ok()?;
-    library::parse(text.as_str(), kind, false).ok()
+    library::parse(text.as_str(), kind, false, |size| size).ok()
 }
 
 /// The text of a decimal, with capacity for a unit after it: at most 34 digits, a point, 28 digits and 3 letters.

@@ -88,6 +88,37 @@ pub enum ParseError {
     Unit(UnitParseError),
 }
 
+/// The error of a text in a column.
+///
+/// # Examples
+///
+/// ```
+/// use byte_unit::Byte;
+///
+/// let sizes: Result<Vec<Byte>, _> = Byte::parse_many(["1 KB", "x"], false).collect();
+/// assert_eq!(sizes.unwrap_err().to_string(), "row 1: the character 'x' is not a number");
+/// ```
+#[derive(Debug, Clone, Copy, PartialEq, Eq)]
+pub struct RowError {
+    /// The row of the text, from 0.
+    pub row: usize,
+    /// Why the text is no size.
+    pub error: ParseError,
+}
+
+/// The error of a column whose offsets do not fit its data, or whose buffers do not fit its number of texts.
+///
+/// # Examples
+///
+/// ```
+/// use byte_unit::{BuffersError, Byte};
+///
+/// let parsed = Byte::parse_buffers(b"1 KB", &[0i32, 5], false, &mut [Byte::MIN], &mut [0]);
+/// assert_eq!(parsed, Err(BuffersError));
+/// ```
+#[derive(Debug, Clone, Copy, PartialEq, Eq)]
+pub struct BuffersError;
+
 /// The error of a buffer that is too short for a text: the length that the text needs.
 ///
 /// # Examples
@@ -184,6 +215,18 @@ impl Display for ParseError {
     }
 }
 
+impl Display for RowError {
+    fn fmt(&self, f: &mut Formatter<'_>) -> fmt::Result {
+        write!(f, "row {}: {}", self.row, self.error)
+    }
+}
+
+impl Display for BuffersError {
+    fn fmt(&self, f: &mut Formatter<'_>) -> fmt::Result {
+        f.write_str("the offsets do not fit the data, or the buffers the number of texts")
+    }
+}
+
 impl Display for InexactFloatError {
     fn fmt(&self, f: &mut Formatter<'_>) -> fmt::Result {
         f.write_str("the float is negative, too large, or not exact in 28 decimal places")
@@ -198,12 +241,17 @@ impl Display for Needed {
 
 #[cfg(any(feature = "std", core_error))]
 mod error_trait {
-    use super::{Error, ExceededBoundsError, InexactFloatError, Needed, ParseError, UnitParseError, ValueParseError};
+    use super::{
+        BuffersError, Error, ExceededBoundsError, InexactFloatError, Needed, ParseError, RowError, UnitParseError,
+        ValueParseError,
+    };
 
     impl Error for ExceededBoundsError {}
     impl Error for ValueParseError {}
     impl Error for UnitParseError {}
     impl Error for ParseError {}
+    impl Error for RowError {}
+    impl Error for BuffersError {}
     impl Error for InexactFloatError {}
     impl Error for Needed {}
 }

@@ -31,8 +31,8 @@
 //!
 //! # Without std
 //!
-//! No call allocates. Without the feature `std`, the package needs `core` alone; the errors then implement
-//! `core::error::Error` from rustc 1.81 on.
+//! No call allocates but `approximate_text`, which the feature `std` has. Without that feature, the package needs `core`
+//! alone; the errors then implement `core::error::Error` from rustc 1.81 on.
 #![no_std]
 #![warn(missing_docs)]
 
@@ -43,6 +43,8 @@ extern crate std;
 mod size;
 #[macro_use]
 mod methods;
+#[macro_use]
+mod many;
 #[macro_use]
 mod adjusted;
 #[macro_use]
@@ -69,7 +71,10 @@ pub use bit::{AdjustedBit, Bit};
 pub use byte::{AdjustedByte, Byte};
 pub use core::num::TryFromIntError;
 pub use decimal::Decimal;
-pub use errors::{ExceededBoundsError, InexactFloatError, Needed, ParseError, UnitParseError, ValueParseError};
+pub use errors::{
+    BuffersError, ExceededBoundsError, InexactFloatError, Needed, ParseError, RowError, UnitParseError, ValueParseError,
+};
+pub use many::Offset;
 pub use spec::{Align, FormatSpec, Sign};
 pub use unit::{Unit, UnitType};
 

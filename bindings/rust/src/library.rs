@@ -1,5 +1,7 @@
 //! The calls of the library, made safe. All `unsafe` of the calls is here.
 
+use core::mem::MaybeUninit;
+
 use crate::decimal::Decimal;
 use crate::errors::{ParseError, UnitParseError, ValueParseError};
 use crate::spec::FormatSpec;
@@ -76,19 +78,48 @@ impl From<FormatSpec> for sys::Spec {
 // SAFETY, of each call below: the declarations of `sys` are those of the header; each pointer comes from a reference
 // that is borrowed for the call, with its length; what is written is borrowed exclusively.
 
-/// Parses a size.
-pub(crate) fn parse(text: &str, kind: Kind, ignore_case: bool) -> Result<u128, ParseError> {
-    let (mut size, mut error) = (sys::Number::default(), sys::Error::default());
-    let flags = kind.flag() | case_flag(ignore_case);
-    let code = unsafe { sys::byte_unit_parse_to(text.as_ptr(), text.len(), flags, &mut size, &mut error, 1) };
+/// A call that parses a size.
+type ParseCall = unsafe extern "C" fn(*const u8, usize, u32, *mut sys::Number, *mut sys::Error, usize) -> u32;
+
+/// Parses a size, from which `make` makes the result.
+#[inline]
+pub(crate) fn parse<T>(text: &str, kind: Kind, ignore_case: bool, make: fn(u128) -> T) -> Result<T, ParseError> {
+    parse_by(sys::byte_unit_parse_to, text, kind.flag() | case_flag(ignore_case), make)
+}
+
+/// Parses a size whose decimal prefixes mean binary ones.
+#[inline]
+pub(crate) fn parse_binary<T>(text: &str, kind: Kind, ignore_case: bool, make: fn(u128) -> T) -> Result<T, ParseError> {
+    let flags = kind.flag() | case_flag(ignore_case) | sys::BYTE_UNIT_BINARY_PREFIXES;
+    parse_by(sys::byte_unit_parse_binary_to, text, flags, make)
+}
+
+/// Inlined, so that the size or the parts of the error of a unit are in registers, and the result is written once.
+#[inline(always)]
+fn parse_by<T>(call: ParseCall, text: &str, flags: u32, make: fn(u128) -> T) -> Result<T, ParseError> {
+    let (mut size, mut error) = (MaybeUninit::uninit(), MaybeUninit::uninit());
+    let code = unsafe { call(text.as_ptr(), text.len(), flags, size.as_mut_ptr(), error.as_mut_ptr(), 1) };
+    // SAFETY, of both: with this code the call has written what is read.
     match code {
-        sys::BYTE_UNIT_OK => Ok(size.into()),
-        sys::BYTE_UNIT_NO_VALUE => Err(ValueParseError::NoValue.into()),
-        sys::BYTE_UNIT_NOT_NUMBER => Err(ValueParseError::NotNumber(character_of(&error)).into()),
-        sys::BYTE_UNIT_NUMBER_TOO_LONG => Err(ValueParseError::NumberTooLong.into()),
-        sys::BYTE_UNIT_EXCEEDED_BOUNDS => Err(ValueParseError::ExceededBounds(error.number.into()).into()),
-        // The other codes are of bytes that are not UTF-8 and of unknown flags.
-        _ => Err(unit_error(&error).into()),
+        sys::BYTE_UNIT_OK => Ok(make(unsafe { size.assume_init() }.into())),
+        sys::BYTE_UNIT_UNIT => Err(ParseError::Unit(unit_error(unsafe { error.assume_init_ref() }))),
+        _ => Err(ParseError::Value(value_error(code, &error))),
+    }
+}
+
+/// Returns the error with a code. The codes that are not matched have no details: they are `NO_VALUE`, and those of bytes
+/// that are not UTF-8 and of unknown flags, which this package does not pass.
+#[cold]
+#[inline(never)]
+fn value_error(code: u32, error: &MaybeUninit<sys::Error>) -> ValueParseError {
+    // SAFETY, of both: with this code the call has written the error.
+    match code {
+        sys::BYTE_UNIT_NOT_NUMBER => ValueParseError::NotNumber(character_of(unsafe { error.assume_init_ref() })),
+        sys::BYTE_UNIT_NUMBER_TOO_LONG => ValueParseError::NumberTooLong,
+        sys::BYTE_UNIT_EXCEEDED_BOUNDS => {
+            ValueParseError::ExceededBounds(unsafe { error.assume_init_ref() }.number.into())
+        }
+        _ => ValueParseError::NoValue,
     }
 }
 
@@ -104,6 +135,51 @@ pub(crate) fn parse_unit(text: &str, ignore_case: bool, prefer_byte: bool) -> Re
     }
 }
 
+/// A call that finds where a string is wrong.
+type PositionCall = unsafe extern "C" fn(*const u8, usize, *mut usize) -> bool;
+
+/// Returns where a string that is no size is wrong.
+pub(crate) fn error_position(text: &str) -> Option<usize> {
+    position_by(sys::byte_unit_error_position, text)
+}
+
+/// Returns where a string that is no unit is wrong.
+pub(crate) fn unit_error_position(text: &str) -> Option<usize> {
+    position_by(sys::byte_unit_unit_error_position, text)
+}
+
+fn position_by(call: PositionCall, text: &str) -> Option<usize> {
+    let mut position = 0;
+    unsafe { call(text.as_ptr(), text.len(), &mut position) }.then_some(position)
+}
+
+/// A type of sizes whose layout in memory is that of `sys::Number`.
+///
+/// # Safety
+///
+/// Each number below 10^30 is one.
+pub(crate) unsafe trait Size {}
+
+/// The call that parses many texts with offsets of a type.
+pub(crate) type ManyCall<O> =
+    unsafe extern "C" fn(*const u8, usize, *const O, usize, u32, *mut sys::Number, usize, *mut u8, usize) -> u32;
+
+/// Parses the texts of a column, and returns whether its parts fit each other.
+pub(crate) fn parse_many<O, T: Size>(
+    call: ManyCall<O>,
+    (data, offsets): (&[u8], &[O]),
+    flags: u32,
+    sizes: &mut [T],
+    codes: &mut [u8],
+) -> bool {
+    let (at, len) = (sizes.as_mut_ptr().cast(), sizes.len());
+    let (codes_at, codes_len) = (codes.as_mut_ptr(), codes.len());
+    let code = unsafe {
+        call(data.as_ptr(), data.len(), offsets.as_ptr(), offsets.len(), flags, at, len, codes_at, codes_len)
+    };
+    code == sys::BYTE_UNIT_OK
+}
+
 /// Writes the text of a size, if it fits, and returns its length.
 pub(crate) fn text(size: u128, kind: Kind, spec: FormatSpec, out: &mut [u8]) -> usize {
     unsafe { sys::byte_unit_text(size.into(), kind.flag(), spec.into(), out.as_mut_ptr(), out.len()) }
@@ -113,6 +189,12 @@ pub(crate) fn text(size: u128, kind: Kind, spec: FormatSpec, out: &mut [u8]) -> 
 pub(crate) fn adjusted_text(size: u128, kind: Kind, unit: Unit, spec: FormatSpec, out: &mut [u8]) -> usize {
     let (flags, unit) = (kind.flag(), unit as u32);
     unsafe { sys::byte_unit_adjusted_text(size.into(), flags, unit, spec.into(), out.as_mut_ptr(), out.len()) }
+}
+
+/// Writes the text of a size in the largest unit of the type, if it fits, and returns its length.
+#[cfg(feature = "std")]
+pub(crate) fn approximate_text(size: u128, kind: Kind, unit_type: UnitType, spec: FormatSpec, out: &mut [u8]) -> usize {
+    adjusted_text(size, kind, appropriate_unit(size, kind, unit_type), spec, out)
 }
 
 /// Returns the largest unit of the kind and of the type that is not above the size, or the kind's own.
@@ -143,7 +225,7 @@ pub(crate) fn recoverable_unit(size: u128, kind: Kind, either: bool, precision: 
     }
 }
 
-fn case_flag(ignore_case: bool) -> u32 {
+pub(crate) fn case_flag(ignore_case: bool) -> u32 {
     if ignore_case {
         sys::BYTE_UNIT_IGNORE_CASE
     } else {
@@ -152,7 +234,9 @@ fn case_flag(ignore_case: bool) -> u32 {
 }
 
 fn character_of(error: &sys::Error) -> char {
-    char::from_u32(error.character).unwrap_or(char::REPLACEMENT_CHARACTER)
+    debug_assert!(char::from_u32(error.character).is_some());
+    // SAFETY: the library is proved to write the code point of a character.
+    unsafe { char::from_u32_unchecked(error.character) }
 }
 
 fn unit_error(error: &sys::Error) -> UnitParseError {
@@ -163,16 +247,39 @@ fn unit_error(error: &sys::Error) -> UnitParseError {
     }
 }
 
-/// Returns the list that the bytes spell, up to the first zero, if it is one that errors name.
-fn expected_characters(bytes: &[u8; 16]) -> &'static [char] {
-    match bytes {
-        b"BKMGTPEZYR\0\0\0\0\0\0" => &['B', 'K', 'M', 'G', 'T', 'P', 'E', 'Z', 'Y', 'R'],
-        [b'B', b'b', 0, ..] => &['B', 'b'],
-        [b'B', 0, ..] => &['B'],
-        [b'b', 0, ..] => &['b'],
-        [b'i', 0, ..] => &['i'],
-        [b't', 0, ..] => &['t'],
-        [b's', 0, ..] => &['s'],
-        _ => &[],
+/// The lists of characters that errors name as expected, but for the empty one.
+#[rustfmt::skip]
+const EXPECTED: [&[char]; 7] = [
+    &['B', 'K', 'M', 'G', 'T', 'P', 'E', 'Z', 'Y', 'R'],
+    &['B', 'b'],
+    &['B'],
+    &['b'],
+    &['i'],
+    &['t'],
+    &['s'],
+];
+
+/// The lists, each at the place of its first two characters, and the empty list elsewhere.
+static PLACED: [&[char]; 8] = {
+    let mut placed: [&[char]; 8] = [&[]; 8];
+    let mut at = 0;
+    while at < EXPECTED.len() {
+        let list = EXPECTED[at];
+        let second = if list.len() > 1 { list[1] as u8 } else { 0 };
+        let place = place_of(list[0] as u8, second);
+        assert!(place > 0 && placed[place].is_empty(), "two lists have one place: `place_of` needs another factor");
+        placed[place] = list;
+        at += 1;
     }
+    placed
+};
+
+/// Returns a number below 8: another one for each list, and 0 for the empty list.
+const fn place_of(first: u8, second: u8) -> usize {
+    (u16::from_le_bytes([first, second]).wrapping_mul(1637) >> 13) as usize
+}
+
+/// Returns the list that the bytes spell, up to the first zero, which is one that errors name.
+fn expected_characters(bytes: &[u8; 16]) -> &'static [char] {
+    PLACED[place_of(bytes[0], bytes[1])]
 }

@@ -147,8 +147,49 @@ macro_rules! size_methods {
             }
         }
 
+        /// Parsing.
+        impl $Size {
+            /// Returns the index in bytes of the first wrong character of a string that `parse_str` rejects: no size can
+            /// have it there. If the string ends too early, it is the index of its end, before white space there.
+            ///
+            /// Returns `None` if the string is accepted, or if only its size is too large. The index is the same for
+            /// `parse_str_binary`, and does not depend on the case of `b`.
+            ///
+            /// # Examples
+            ///
+            /// ```
+            #[doc = concat!("use byte_unit::", stringify!($Size), ";")]
+            ///
+            #[doc = concat!("assert_eq!(", stringify!($Size), "::error_position(\"1.5 Kix\"), Some(6));")]
+            #[doc = concat!("assert_eq!(", stringify!($Size), "::error_position(\"  1.\"), Some(4));")]
+            #[doc = concat!("assert_eq!(", stringify!($Size), "::error_position(\"1.5 Ki\"), None);")]
+            /// ```
+            pub fn error_position<S: AsRef<str>>(s: S) -> Option<usize> {
+                $crate::library::error_position(s.as_ref())
+            }
+        }
+
         /// Texts.
         impl $Size {
+            /// Returns the text of the size in the largest unit of the type that is not above it, rounded to `precision`
+            /// digits after the point, ties to even, as [`get_appropriate_unit`](Self::get_appropriate_unit) formats it
+            /// with this precision. If there is no such unit, it has all digits in
+            #[doc = concat!("`", stringify!($Size), "`'s own, `B` or `b`.")]
+            ///
+            /// # Examples
+            ///
+            /// ```
+            #[doc = concat!("use byte_unit::{", stringify!($Size), ", UnitType};")]
+            ///
+            #[doc = concat!("let size = ", stringify!($Size), "::from_u64(123_456_789);")]
+            /// assert!(size.approximate_text(UnitType::Binary, 1).starts_with("117.7 Mi"));
+            /// assert!(size.approximate_text(UnitType::Decimal, 2).starts_with("123.46 M"));
+            /// ```
+            #[cfg(feature = "std")]
+            pub fn approximate_text(self, unit_type: $crate::UnitType, precision: u16) -> std::string::String {
+                $crate::text::approximate_text(self.0, $kind, unit_type, precision)
+            }
+
             /// Writes the text of the size to the beginning of `out`, and returns it.
             ///
             /// # Errors
@@ -188,7 +229,7 @@ macro_rules! size_methods {
 
             /// Parses a size, with the case of `b`.
             fn from_str(s: &str) -> Result<Self, Self::Err> {
-                $crate::library::parse(s, $kind, false).map(Self)
+                $crate::library::parse(s, $kind, false, Self)
             }
         }
     };

@@ -15,6 +15,7 @@ macro_rules! size_type {
         /// # Ok::<(), byte_unit::ParseError>(())
         /// ```
         #[derive(Debug, Clone, Copy, PartialOrd, Ord, PartialEq, Eq, Hash, Default)]
+        #[repr(transparent)]
         pub struct $Size(u128);
 
         /// Constructors.

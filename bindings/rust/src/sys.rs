@@ -43,18 +43,24 @@ pub const BYTE_UNIT_BYTES: u32 = 0;
 pub const BYTE_UNIT_BITS: u32 = 1;
 pub const BYTE_UNIT_IGNORE_CASE: u32 = 2;
 pub const BYTE_UNIT_EITHER_KIND: u32 = 4;
-// No call of the package has it yet.
-#[allow(dead_code)]
 pub const BYTE_UNIT_BINARY_PREFIXES: u32 = 8;
 
 pub const BYTE_UNIT_OK: u32 = 0;
-pub const BYTE_UNIT_NO_VALUE: u32 = 1;
 pub const BYTE_UNIT_NOT_NUMBER: u32 = 2;
 pub const BYTE_UNIT_NUMBER_TOO_LONG: u32 = 3;
 pub const BYTE_UNIT_EXCEEDED_BOUNDS: u32 = 4;
+pub const BYTE_UNIT_UNIT: u32 = 5;
 
 extern "C" {
     pub fn byte_unit_parse_to(
+        text: *const u8,
+        len: usize,
+        flags: u32,
+        size: *mut Number,
+        error: *mut Error,
+        error_len: usize,
+    ) -> u32;
+    pub fn byte_unit_parse_binary_to(
         text: *const u8,
         len: usize,
         flags: u32,
@@ -70,6 +76,30 @@ extern "C" {
         error: *mut Error,
         error_len: usize,
     ) -> u32;
+    pub fn byte_unit_parse_many_to(
+        data: *const u8,
+        data_len: usize,
+        offsets: *const i64,
+        offsets_len: usize,
+        flags: u32,
+        sizes: *mut Number,
+        sizes_len: usize,
+        codes: *mut u8,
+        codes_len: usize,
+    ) -> u32;
+    pub fn byte_unit_parse_many_32_to(
+        data: *const u8,
+        data_len: usize,
+        offsets: *const i32,
+        offsets_len: usize,
+        flags: u32,
+        sizes: *mut Number,
+        sizes_len: usize,
+        codes: *mut u8,
+        codes_len: usize,
+    ) -> u32;
+    pub fn byte_unit_error_position(text: *const u8, len: usize, position: *mut usize) -> bool;
+    pub fn byte_unit_unit_error_position(text: *const u8, len: usize, position: *mut usize) -> bool;
     pub fn byte_unit_text(size: Number, flags: u32, spec: Spec, out: *mut u8, out_len: usize) -> usize;
     pub fn byte_unit_adjusted_text(
         size: Number,

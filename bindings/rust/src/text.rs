@@ -41,6 +41,25 @@ pub(crate) fn nearest_float(size: u128, kind: Kind, unit: Unit) -> f64 {
     number_of(text).parse().unwrap_or_default()
 }
 
+/// Returns the text of a size in the largest unit of the type, rounded.
+#[cfg(feature = "std")]
+pub(crate) fn approximate_text(
+    size: u128,
+    kind: Kind,
+    unit_type: crate::UnitType,
+    precision: u16,
+) -> std::string::String {
+    let spec = FormatSpec { precision: Some(precision), ..FormatSpec::PLAIN };
+    let mut out = std::vec![0; TEXT_LEN];
+    let len = library::approximate_text(size, kind, unit_type, spec, &mut out);
+    if len > out.len() {
+        out.resize(len, 0);
+        library::approximate_text(size, kind, unit_type, spec, &mut out);
+    }
+    out.truncate(len);
+    std::string::String::from_utf8(out).unwrap_or_default()
+}
+
 /// Returns the text that a call wrote to the beginning of `out`, or the length that it needs.
 pub(crate) fn written(out: &[u8], len: usize) -> Result<&str, Needed> {
     match out.get(..len) {

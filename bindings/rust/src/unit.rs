@@ -122,6 +122,24 @@ impl Unit {
         library::parse_unit(s.as_ref(), ignore_case, prefer_byte)
     }
 
+    /// Returns the index in bytes of the first wrong character of a string that [`Unit::parse_str`] rejects: no unit can
+    /// have it there. If the string ends too early, it is the index of its end, before white space there.
+    ///
+    /// Returns `None` if the string is a unit. The index does not depend on the options of `parse_str`.
+    ///
+    /// # Examples
+    ///
+    /// ```
+    /// use byte_unit::Unit;
+    ///
+    /// assert_eq!(Unit::error_position("Kix"), Some(2));
+    /// assert_eq!(Unit::error_position(" bi "), Some(3));
+    /// assert_eq!(Unit::error_position("Kib"), None);
+    /// ```
+    pub fn error_position<S: AsRef<str>>(s: S) -> Option<usize> {
+        library::unit_error_position(s.as_ref())
+    }
+
     /// Returns the number of bits in the unit.
     ///
     /// # Examples

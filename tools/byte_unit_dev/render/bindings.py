@@ -29,13 +29,6 @@ def expected():
     return [re.findall(r"'(\w)'", row) for row in re.findall(r"\[[^\]]+\]", line_of(body))]
 
 
-def pattern(characters):
-    """Returns the pattern of a list in sixteen bytes that end in zeros; `rustfmt` breaks a longer one of bytes."""
-    if len(characters) > 2:
-        return 'b"%s"' % "".join(characters).ljust(16, "0").replace("0", "\\0")
-    return "[%s, 0, ..]" % ", ".join(f"b'{c}'" for c in characters)
-
-
 def constants():
     """Returns the names and units of the constants of each paragraph that has any, in lines."""
     for paragraph in source(CONSTANTS).text.split("\n\n"):
@@ -56,6 +49,6 @@ def made():
         (r"^pub\(crate\) const UNITS: ", r",\n\];", f"[Unit; {2 + 4 * len(prefixes())}] = [\n{units}"))
     yield f"{RUST}/constants.rs", with_parts(
         f"{RUST}/constants.rs", (r"constants! \{ @units \$Size \$kind,\n", r"\n        \}", ",\n".join(constants())))
-    arms = "".join(f"        {pattern(row)} => &[{', '.join(map(repr, row))}],\n" for row in expected())
+    lists = ["    &[%s]," % ", ".join(map(repr, row)) for row in expected()]
     yield f"{RUST}/library.rs", with_parts(
-        f"{RUST}/library.rs", (r"match bytes \{\n", r"        _ => &\[\]", arms))
+        f"{RUST}/library.rs", (r"^const EXPECTED: ", r"\n\];", f"[&[char]; {len(lists)}] = [\n" + "\n".join(lists)))
