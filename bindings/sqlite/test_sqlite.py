@@ -7,11 +7,14 @@ from itertools import islice
 
 import pytest
 from byte_unit_dev.fixtures import call, compiled, need, output, path, read
-from byte_unit_dev.model.exact import UNITS, Rejected, form, size_of, some_line, value_of
+from byte_unit_dev.model.exact import (SIZE_LIMIT, UNITS, WHITE_SPACE, WHOLE_LIMIT, Rejected, form, size_of, some_line,
+                                       value_of)  # fmt: skip
 
 WARNINGS = ["-Wall", "-Wextra", "-Wpedantic", "-Wconversion", "-Wshadow", "-Werror"]
 SANITIZED = ["-g", "-fsanitize=address,undefined", "-fno-sanitize-recover=all"]
 GREATEST = 2**63 - 1
+# The longest beginning of a spelling of a unit.
+BEGINNING = re.compile("(?ai:([KMGTPEZYR]i?)?(b(i(ts?)?)?)?)")
 
 
 def extension(compiler, library, folder, *flags):
@@ -80,12 +83,31 @@ def wrong_of(sql, rows):
     return differing[:5] + list(lines)[:5]
 
 
+def wrong_place(text):
+    """Returns the index of the first character that no size has there, of a text that is not in the grammar."""
+    start = len(text) - len(text.lstrip(WHITE_SPACE))
+    digits, point, places = re.match(r"([0-9]*)(\.?)([0-9]*)", text.strip(WHITE_SPACE)).groups()
+    whole = sum(1 for at in range(len(digits)) if int(digits[: at + 1]) < WHOLE_LIMIT)
+    if not digits or whole < len(digits):
+        return start + whole
+    if point and not 1 <= len(places) <= 28:
+        return start + whole + 1 + min(len(places), 28)
+    rest = text.strip(WHITE_SPACE)[len(digits + point + places) :]
+    return start + len(digits + point + places) + len(rest) - len(rest.lstrip(" ")) + BEGINNING.match(rest.lstrip(" ")).end()
+
+
+def explained(line, size):
+    """Returns the message of a line that the model rejects, with the place."""
+    named = size.name in ("not text", "out of range")
+    return size.message + ("" if named else f" (character {wrong_place(line.decode()) + 1})")
+
+
 @pytest.mark.parametrize("kind, flags", [("byte", ""), ("bit", ", 'bits'")])
 def test_lines(sql, check_drawn, kind, flags):
     def row(line):
         size = size_of(line, kind)
         if isinstance(size, Rejected):
-            shown = rf"error: '.*'(\.\.)? is not a size: {re.escape(size.message)}"
+            shown = rf"error: '.*'(\.\.)? is not a size: {re.escape(explained(line, size))}"
         elif size <= GREATEST:
             shown = re.escape(f"{size}|{form(size, kind)}|1")
         else:
@@ -98,7 +120,11 @@ def test_lines(sql, check_drawn, kind, flags):
 
 def test_explanations(sql, check_drawn):
     def row(line):
-        return f"SELECT size_explain({quoted(line)});", [re.escape(getattr(size_of(line, "byte"), "message", ""))]
+        size = size_of(line, "byte")
+        shown = explained(line, size) if isinstance(size, Rejected) else ""
+        tried = size if shown == "" and size <= GREATEST else ""
+        return (f"SELECT size_explain(t), size_try(t) FROM (SELECT {quoted(line)} AS t);",
+                [re.escape(f"{shown}|{tried}")])  # fmt: skip
 
     check_drawn(some_line, lambda lines: wrong_of(sql, [row(line) for line in lines]))
 
@@ -114,6 +140,24 @@ def some_conversion(rng):
 
 def test_sizes_in_units(sql, check_drawn):
     check_drawn(some_conversion, lambda rows: wrong_of(sql, rows))
+
+
+def some_sum(rng):
+    """Returns a statement that adds random sizes, in all and in windows of two, and what it prints."""
+    greatest = rng.choice([10**6, 2**63, 10**30, 10**30])
+    sizes = [rng.choice([None, rng.randrange(rng.choice([2, greatest]))]) for _ in range(rng.randrange(1, 6))]
+    rows = ", ".join(f"({at}, {'NULL' if size is None else repr(str(size))})" for at, size in enumerate(sizes))
+    sums = [sum(size or 0 for size in part) if any(size is not None for size in part) else "-"
+            for part in (sizes, *(sizes[max(0, at - 1) : at + 1] for at in range(len(sizes))))]  # fmt: skip
+    wrong = any(one != "-" and one >= SIZE_LIMIT for one in sums)
+    shown = "error: the sum of the sizes is 10^30 or more" if wrong else " ".join(map(str, sums))
+    return (f"WITH t(n, s) AS (VALUES {rows}) SELECT ifnull(size_sum(s), '-') || ' ' || (SELECT group_concat(one, ' ') FROM"
+            f" (SELECT ifnull(size_sum(s) OVER (ORDER BY n ROWS 1 PRECEDING), '-') AS one FROM t)) FROM t;",
+            [re.escape(shown)])  # fmt: skip
+
+
+def test_sums(sql, check_drawn):
+    check_drawn(some_sum, lambda rows: wrong_of(sql, rows))
 
 
 @pytest.mark.parametrize("encoding", ["UTF-8", "UTF-16"])

@@ -103,11 +103,12 @@ static void with_zero_bytes(sqlite3 *db)
 {
     with_text(db, "SELECT size_parse(?)", "12", 2, "12");
     with_text(db, "SELECT size_parse(?)", "12", 1, "1");
-    with_text(db, "SELECT size_parse(?)", "", 0, "'' is not a size: no value can be found");
+    with_text(db, "SELECT size_parse(?)", "", 0, "'' is not a size: no value can be found (character 1)");
     with_text(db, "SELECT size_explain(?) IS NULL", "1\0K", 3, "0");
     with_text(db, "SELECT size_text(1, ?)", "bits\0", 5, "'bits\\0' has flags other than 'bits'");
     with_text(db, "SELECT size_in(1, ?)", "KB\0", 3,
-              "'KB\\0' is not a unit: the character '\\0' is incorrect ('i' or no character is expected)");
+              "'KB\\0' is not a unit: the character '\\0' is incorrect ('i' or no character is expected)"
+              " (character 3)");
     with_text(db, "SELECT size_in(1, ?)", "", 0, "'' is not a unit such as 'KiB' or 'MB'");
     with_text(db, "SELECT size_in(1, ?)", "\xc2\x85\xe3\x80\x80", 5,
               "'\\u{85}\xe3\x80\x80' is not a unit such as 'KiB' or 'MB'");
@@ -133,6 +134,15 @@ static const char *const statements[] = {
     "SELECT size_text(-1)",
     "SELECT size_text(1536, 70000)",
     "SELECT size_text('1536')",
+    "SELECT size_text('1.5 KiB')",
+    "SELECT size_try('10m', 'binary')",
+    "SELECT size_try('12 Kiq')",
+    "SELECT size_pretty(1536, 'decimal', 9000)",
+    "SELECT size_pretty(1536, 'x')",
+    "SELECT size_sum(column1, 'bits') FROM (VALUES ('1 KB'), (9223372036854775807))",
+    "SELECT size_sum(column1) FROM (VALUES ('999 RB'), ('999 RB'))",
+    "SELECT group_concat(s) FROM (SELECT size_sum(column1) OVER (ROWS 1 PRECEDING) AS s"
+    " FROM (VALUES ('1 KB'), ('900 RB'), ('1 YB')))",
     "SELECT length(size_in(1536, 'KiB', 9000))",
     "SELECT size_in(1536, 'MB', 2, 'bits')",
     "SELECT size_in(1536, 'Mx')",

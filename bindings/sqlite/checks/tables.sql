@@ -13,11 +13,11 @@ INSERT INTO quotas VALUES ('a', '1.5 KiB'), ('b', '1 MB'), ('c', 12);
 INSERT INTO checked VALUES ('12 Kiq'); -- error: CHECK constraint failed: size_explain(quota) IS NULL
 INSERT INTO checked VALUES (x'3132'); -- error: CHECK constraint failed: size_explain(quota) IS NULL
 INSERT INTO checked VALUES ('1 KB'), (''); -- error: CHECK constraint failed: size_explain(quota) IS NULL
-INSERT INTO quotas VALUES ('d', '-1'); -- error: '-1' is not a size: the character '-' is not a number
+INSERT INTO quotas VALUES ('d', '-1'); -- error: '-1' is not a size: the character '-' is not a number (character 1)
 INSERT INTO quotas VALUES ('d', '10 EB'); -- error: '10 EB' is 10000000000000000000 bytes, above the greatest INTEGER, 9223372036854775807
 INSERT INTO quotas VALUES ('d', '1536'); -- error: UNIQUE constraint failed: quotas.quota
-UPDATE quotas SET quota = '' WHERE name = 'a'; -- error: '' is not a size: no value can be found
-INSERT INTO stored VALUES ('2 KB'), ('-1'); -- error: '-1' is not a size: the character '-' is not a number
+UPDATE quotas SET quota = '' WHERE name = 'a'; -- error: '' is not a size: no value can be found (character 1)
+INSERT INTO stored VALUES ('2 KB'), ('-1'); -- error: '-1' is not a size: the character '-' is not a number (character 1)
 INSERT INTO checked VALUES (NULL), ('1 KB');
 SELECT count(*) FROM checked; -- 2
 INSERT INTO stored VALUES (NULL), ('2 KB');
@@ -38,3 +38,20 @@ SELECT name FROM quotas WHERE quota = '1000 KB' COLLATE SIZE; -- b
 SELECT min(quota COLLATE SIZE), max(quota COLLATE SIZE) FROM quotas; -- 12|1 MB
 SELECT name FROM quotas WHERE size_parse(quota) < 2000 ORDER BY 1; -- a
 -- c
+/* A table of quotas that are read by 1024, with the usage that was reported as texts, some of which are no sizes. */
+CREATE TABLE users(
+    name TEXT PRIMARY KEY, quota TEXT NOT NULL CHECK (size_explain(quota, 'binary') IS NULL),
+    bytes INTEGER AS (size_parse(quota, 'binary')), used TEXT);
+INSERT INTO users VALUES ('ann', '10m', '9 MB'), ('bob', '512K', '1,5 MB'), ('eve', '2G', '3 GB'), ('joe', '1G', NULL);
+INSERT INTO users VALUES ('kim', '10mo', NULL); -- error: '10mo' is not a size: the character 'o' is incorrect ('B' or 'b' or no character is expected) (character 4)
+SELECT name, size_pretty(bytes), size_pretty(size_try(used), 'decimal', 0) FROM users; -- ann|10.0 MiB|9 MB
+-- bob|512.0 KiB|
+-- eve|2.0 GiB|3 GB
+-- joe|1.0 GiB|
+SELECT name, size_explain(used) FROM users WHERE size_try(used) IS NULL AND used IS NOT NULL; -- bob|the character ',' is incorrect ('B', 'K', 'M', 'G', 'T', 'P', 'E', 'Z', 'Y' or 'R' or no character is expected) (character 2)
+SELECT name FROM users WHERE size_try(used) > bytes; -- eve
+SELECT size_pretty(size_sum(quota, 'binary'), 'binary', 2) FROM users; -- 3.01 GiB
+SELECT name, size_sum(quota, 'binary') OVER (ORDER BY bytes) FROM users; -- bob|524288
+-- ann|11010048
+-- joe|1084751872
+-- eve|3232235520

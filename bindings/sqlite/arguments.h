@@ -1,0 +1,325 @@
+/* The messages and the arguments of the functions in byte_unit_sqlite.c, which includes this file once. */
+#ifndef BYTE_UNIT_SQLITE_ARGUMENTS_H
+#define BYTE_UNIT_SQLITE_ARGUMENTS_H
+
+#include <sqlite3ext.h>
+SQLITE_EXTENSION_INIT3
+
+#include "byte_unit.h"
+
+#include <string.h>
+
+enum {
+    GREATEST_PRECISION = 65535,
+    SHOWN = 64, /* bytes of a text that a message repeats */
+    UNIT_FLAGS = BYTE_UNIT_BITS | BYTE_UNIT_IGNORE_CASE,
+    SIZE_FLAGS = UNIT_FLAGS | BYTE_UNIT_BINARY_PREFIXES
+};
+
+struct text {
+    const char *at;
+    size_t len;
+};
+
+/* What size_text and size_in write: a size in the unit, or in the one that fits it if that is BYTE_UNIT_NO_UNIT. */
+struct form {
+    byte_unit_number size;
+    byte_unit_spec spec;
+    uint32_t unit;
+    uint32_t flags;
+};
+
+/* ---- Messages: each names the value and the reason. ---- */
+
+/* Appends a control character as the library's messages have it: \n, or \u{1f}. */
+static void append_control(sqlite3_str *out, unsigned code)
+{
+    static const char names[] = "\0\t\n\r", letters[] = "0tnr";
+    const char *name = memchr(names, (int)code, sizeof names - 1);
+
+    if (name != NULL)
+        sqlite3_str_appendf(out, "\\%c", letters[name - names]);
+    else
+        sqlite3_str_appendf(out, "\\u{%x}", code);
+}
+
+/* Returns whether a control character past ASCII, U+0080 to U+009F, is at this place of UTF-8. */
+static bool is_wide_control(struct text text, size_t at)
+{
+    return text.len - at >= 2 && (unsigned char)text.at[at] == 0xC2 && (unsigned char)text.at[at + 1] < 0xA0;
+}
+
+/* Appends at most SHOWN bytes of a text between quotes, in whole characters. Control characters are escaped, and so
+ * is, as \xff, each byte that is not ASCII if the text is not UTF-8. */
+static void append_quoted(sqlite3_str *out, struct text text, bool is_utf8)
+{
+    size_t shown = text.len;
+
+    if (shown > SHOWN)
+        for (shown = SHOWN; shown > SHOWN - 3 && ((unsigned char)text.at[shown] & 0xC0) == 0x80;)
+            shown--;
+    sqlite3_str_appendchar(out, 1, '\'');
+    for (size_t at = 0; at < shown; at++) {
+        unsigned char byte = (unsigned char)text.at[at];
+        if (byte < 0x20 || byte == 0x7F)
+            append_control(out, byte);
+        else if (is_utf8 && is_wide_control(text, at))
+            append_control(out, (unsigned char)text.at[++at]);
+        else if (byte >= 0x80 && !is_utf8)
+            sqlite3_str_appendf(out, "\\x%02x", byte);
+        else
+            sqlite3_str_appendchar(out, 1, text.at[at]);
+    }
+    sqlite3_str_appendall(out, shown < text.len ? "'.." : "'");
+}
+
+/* Returns the text of a value. `at` is NULL if the value is NULL or if there is no memory. */
+static struct text text_of(sqlite3_value *value)
+{
+    const char *at = (const char *)sqlite3_value_text(value);
+    struct text text = { at, at == NULL ? 0 : (size_t)sqlite3_value_bytes(value) };
+
+    return text;
+}
+
+static uint32_t parse(struct text text, uint32_t flags, byte_unit_number *size)
+{
+    return byte_unit_parse(text.at, text.len, flags, size, NULL);
+}
+
+static int compare_numbers(byte_unit_number a, byte_unit_number b)
+{
+    if (a.high != b.high)
+        return a.high < b.high ? -1 : 1;
+    return (a.low > b.low) - (a.low < b.low);
+}
+
+static void append_value(sqlite3_str *out, sqlite3_value *value)
+{
+    int type = sqlite3_value_type(value);
+    byte_unit_number unused;
+
+    if (type == SQLITE_NULL)
+        sqlite3_str_appendall(out, "NULL");
+    else if (type == SQLITE_INTEGER)
+        sqlite3_str_appendf(out, "%lld", sqlite3_value_int64(value));
+    else if (type == SQLITE_FLOAT)
+        sqlite3_str_appendf(out, "the REAL value %!.15g", sqlite3_value_double(value));
+    else if (type == SQLITE_BLOB)
+        sqlite3_str_appendf(out, "a BLOB of length %d", sqlite3_value_bytes(value));
+    else
+        append_quoted(out, text_of(value), parse(text_of(value), 0, &unused) != BYTE_UNIT_NOT_UTF8);
+}
+
+/* Ends a message and returns it, as the error of the call or as its result. */
+static void return_message(sqlite3_context *context, sqlite3_str *message, bool is_error)
+{
+    int len = sqlite3_str_length(message);
+    char *text = sqlite3_str_finish(message);
+
+    if (text == NULL) {
+        sqlite3_result_error_nomem(context);
+    } else if (is_error) {
+        sqlite3_result_error(context, text, len);
+        sqlite3_free(text);
+    } else {
+        sqlite3_result_text(context, text, len, sqlite3_free);
+    }
+}
+
+/* Returns a message: the value, and the reason. */
+static void return_reason(sqlite3_context *context, sqlite3_value *value, const char *reason, bool is_error)
+{
+    sqlite3_str *message = sqlite3_str_new(sqlite3_context_db_handle(context));
+
+    append_value(message, value);
+    sqlite3_str_appendall(message, reason);
+    return_message(context, message, is_error);
+}
+
+static bool reject(sqlite3_context *context, sqlite3_value *value, const char *reason)
+{
+    return_reason(context, value, reason, true);
+    return false;
+}
+
+static void reject_type(sqlite3_context *context, sqlite3_value *value, bool is_error)
+{
+    return_reason(context, value, " is not a size: TEXT or an INTEGER is expected", is_error);
+}
+
+/* What a text should be, and the calls of the library that say why it is not, and where. */
+struct grammar {
+    const char *what;
+    size_t (*explain)(const char *text, size_t len, uint32_t flags, char *out, size_t out_len);
+    bool (*error_position)(const char *text, size_t len, size_t *position);
+};
+
+static const struct grammar sizes = { "a size", byte_unit_explain, byte_unit_error_position };
+static const struct grammar units = { "a unit", byte_unit_explain_unit, byte_unit_unit_error_position };
+
+/* Appends why a text is rejected, and the character where it is wrong: 1 is the first. Appends nothing if it is not. */
+static void append_reason(sqlite3_str *out, struct text text, uint32_t flags, const struct grammar *grammar)
+{
+    char reason[BYTE_UNIT_BUFFER_SIZE];
+    size_t len = grammar->explain(text.at, text.len, flags, reason, sizeof reason), position, character = 1;
+
+    sqlite3_str_append(out, reason, len <= sizeof reason ? (int)len : 0);
+    if (len == 0 || !grammar->error_position(text.at, text.len, &position))
+        return;
+    for (size_t at = 0; at < position; at++)
+        character += ((unsigned char)text.at[at] & 0xC0) != 0x80;
+    sqlite3_str_appendf(out, " (character %llu)", (unsigned long long)character);
+}
+
+/* Returns the error of a text that the library rejects with this code: the text, what it is not, and the reason. */
+static void reject_text(sqlite3_context *context, struct text text, uint32_t flags, uint32_t code,
+                        const struct grammar *grammar)
+{
+    sqlite3_str *message = sqlite3_str_new(sqlite3_context_db_handle(context));
+
+    append_quoted(message, text, code != BYTE_UNIT_NOT_UTF8);
+    sqlite3_str_appendf(message, " is not %s: ", grammar->what);
+    append_reason(message, text, flags, grammar);
+    return_message(context, message, true);
+}
+
+/* Appends the digits of a size. */
+static void append_digits(sqlite3_str *out, byte_unit_number size)
+{
+    byte_unit_spec digits_only = { 0 };
+    char digits[BYTE_UNIT_BUFFER_SIZE];
+    size_t len = byte_unit_text(size, 0, digits_only, digits, sizeof digits);
+
+    sqlite3_str_append(out, digits, len <= sizeof digits ? (int)len : 0);
+}
+
+/* ---- Arguments. Each function returns false if the argument is invalid, and then the call has failed. ---- */
+
+static bool get_text(sqlite3_context *context, sqlite3_value *value, struct text *text)
+{
+    *text = text_of(value);
+    if (text->at == NULL)
+        sqlite3_result_error_nomem(context);
+    return text->at != NULL;
+}
+
+/* Returns the flag with a name, and 0 if there is none. */
+static uint32_t flag_of(const char *word, size_t len)
+{
+    static const struct {
+        const char *name;
+        uint32_t flag;
+    } flags[] = { { "bits", BYTE_UNIT_BITS },
+                  { "ignore-case", BYTE_UNIT_IGNORE_CASE },
+                  { "binary", BYTE_UNIT_BINARY_PREFIXES } };
+
+    for (size_t at = 0; at < sizeof flags / sizeof *flags; at++)
+        if (strlen(flags[at].name) == len && memcmp(flags[at].name, word, len) == 0)
+            return flags[at].flag;
+    return 0;
+}
+
+/* Gets the flags in a text of words. Returns false if one of them is not in `allowed`. */
+static bool flags_in(struct text words, uint32_t allowed, uint32_t *flags)
+{
+    for (size_t begin = 0, end; begin < words.len; begin = end + 1) {
+        for (end = begin; end < words.len && words.at[end] != ' ';)
+            end++;
+        uint32_t flag = flag_of(words.at + begin, end - begin) & allowed;
+        if (flag == 0 && end > begin)
+            return false;
+        *flags |= flag;
+    }
+    return true;
+}
+
+static bool get_flags(sqlite3_context *context, sqlite3_value *value, uint32_t allowed, uint32_t *flags)
+{
+    struct text words;
+
+    if (sqlite3_value_type(value) != SQLITE_TEXT)
+        return reject(context, value, " is not a text of flags");
+    if (!get_text(context, value, &words))
+        return false;
+    if (flags_in(words, allowed, flags))
+        return true;
+    return reject(context, value, allowed == SIZE_FLAGS   ? " has flags other than 'bits', 'ignore-case' and 'binary'"
+                                  : allowed == UNIT_FLAGS ? " has flags other than 'bits' and 'ignore-case'"
+                                                          : " has flags other than 'bits'");
+}
+
+static bool is_digits(struct text text)
+{
+    size_t at = 0;
+
+    while (at < text.len && text.at[at] >= '0' && text.at[at] <= '9')
+        at++;
+    return at > 0 && at == text.len;
+}
+
+/* Gets a number: an INTEGER, or the digits of one, which size_sum returns if it is too large for that. */
+static bool get_size(sqlite3_context *context, sqlite3_value *value, byte_unit_number *size)
+{
+    sqlite3_int64 n = sqlite3_value_int64(value);
+    struct text digits = { "", 0 };
+    uint32_t code;
+
+    if (sqlite3_value_type(value) == SQLITE_INTEGER) {
+        size->low = (uint64_t)n;
+        size->high = 0;
+        return n >= 0 || reject(context, value, " is not a size: it is negative");
+    }
+    if (sqlite3_value_type(value) == SQLITE_TEXT && !get_text(context, value, &digits))
+        return false;
+    if (!is_digits(digits))
+        return reject(context, value, " is not an INTEGER such as size_parse returns");
+    code = parse(digits, 0, size);
+    if (code != BYTE_UNIT_OK)
+        reject_text(context, digits, 0, code, &sizes);
+    return code == BYTE_UNIT_OK;
+}
+
+/* Gets a unit. A blank text, which byte_unit_parse_unit takes for B, names none. */
+static bool get_unit(sqlite3_context *context, sqlite3_value *value, uint32_t flags, uint32_t *unit)
+{
+    struct text name = { "", 0 };
+    byte_unit_number unused;
+    uint32_t code;
+
+    if (sqlite3_value_type(value) == SQLITE_TEXT && !get_text(context, value, &name))
+        return false;
+    if (parse(name, 0, &unused) == BYTE_UNIT_NO_VALUE)
+        return reject(context, value, " is not a unit such as 'KiB' or 'MB'");
+    code = byte_unit_parse_unit(name.at, name.len, flags, unit, NULL);
+    if (code != BYTE_UNIT_OK)
+        reject_text(context, name, flags, code, &units);
+    return code == BYTE_UNIT_OK;
+}
+
+static bool get_precision(sqlite3_context *context, sqlite3_value *value, byte_unit_spec *spec)
+{
+    sqlite3_int64 precision = sqlite3_value_int64(value);
+
+    if (sqlite3_value_type(value) != SQLITE_INTEGER || precision < 0 || precision > GREATEST_PRECISION)
+        return reject(context, value, " is not a precision: an INTEGER from 0 to 65535 is expected");
+    spec->has_precision = 1;
+    spec->precision = (uint32_t)precision;
+    return true;
+}
+
+/* Gets the arguments at the end: a precision, unless the first of them is TEXT, and flags. */
+static bool get_options(sqlite3_context *context, int count, sqlite3_value **values, uint32_t allowed,
+                        struct form *form)
+{
+    int at = 0;
+
+    if (at < count && sqlite3_value_type(values[at]) != SQLITE_TEXT
+        && !get_precision(context, values[at++], &form->spec))
+        return false;
+    if (at < count && !get_flags(context, values[at++], allowed, &form->flags))
+        return false;
+    return at == count || reject(context, values[at], " is after the flags, where no argument is expected");
+}
+
+#endif
