@@ -21,11 +21,13 @@ struct text {
     size_t len;
 };
 
-/* What size_text and size_in write: a size in the unit, or in the one that fits it if that is BYTE_UNIT_NO_UNIT. */
+/* What is written: a size in the unit, or in a unit of the type, by this call, or as byte_unit_text does if it is NULL. */
 struct form {
+    size_t (*write)(byte_unit_number size, uint32_t flags, uint32_t unit_or_type, byte_unit_spec spec, char *out,
+                    size_t out_len);
     byte_unit_number size;
     byte_unit_spec spec;
-    uint32_t unit;
+    uint32_t unit_or_type;
     uint32_t flags;
 };
 

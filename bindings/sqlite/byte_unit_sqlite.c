@@ -209,9 +209,11 @@ static void sum_value(sqlite3_context *context)
 /* Writes a text as the calls of byte_unit.h do. */
 static size_t write_form(const struct form *form, char *out, size_t out_len)
 {
-    if (form->unit == BYTE_UNIT_NO_UNIT)
-        return byte_unit_text(form->size, form->flags & BYTE_UNIT_BITS, form->spec, out, out_len);
-    return byte_unit_adjusted_text(form->size, form->flags & BYTE_UNIT_BITS, form->unit, form->spec, out, out_len);
+    uint32_t flags = form->flags & BYTE_UNIT_BITS;
+
+    if (form->write == NULL)
+        return byte_unit_text(form->size, flags, form->spec, out, out_len);
+    return form->write(form->size, flags, form->unit_or_type, form->spec, out, out_len);
 }
 
 static void return_form(sqlite3_context *context, const struct form *form)
@@ -232,7 +234,7 @@ static void return_form(sqlite3_context *context, const struct form *form)
 
 static void size_text(sqlite3_context *context, int argc, sqlite3_value **argv)
 {
-    struct form form = { .spec = { .alternate = 1 }, .unit = BYTE_UNIT_NO_UNIT };
+    struct form form = { .spec = { .alternate = 1 } };
 
     if (sqlite3_value_type(argv[0]) != SQLITE_NULL && get_size(context, argv[0], &form.size)
         && get_options(context, argc - 1, argv + 1, BYTE_UNIT_BITS, &form))
@@ -241,11 +243,11 @@ static void size_text(sqlite3_context *context, int argc, sqlite3_value **argv)
 
 static void size_in(sqlite3_context *context, int argc, sqlite3_value **argv)
 {
-    struct form form = { .unit = BYTE_UNIT_NO_UNIT };
+    struct form form = { .write = byte_unit_adjusted_text };
 
     if (sqlite3_value_type(argv[0]) != SQLITE_NULL && sqlite3_value_type(argv[1]) != SQLITE_NULL
         && get_size(context, argv[0], &form.size) && get_options(context, argc - 2, argv + 2, UNIT_FLAGS, &form)
-        && get_unit(context, argv[1], form.flags, &form.unit))
+        && get_unit(context, argv[1], form.flags, &form.unit_or_type))
         return_form(context, &form);
 }
 
@@ -265,16 +267,13 @@ static bool get_type(sqlite3_context *context, sqlite3_value *value, uint32_t *t
 
 static void size_pretty(sqlite3_context *context, int argc, sqlite3_value **argv)
 {
-    struct form form = { .spec = { .precision = 1, .has_precision = 1 } };
-    uint32_t type = BYTE_UNIT_BINARY;
+    struct form form = { .write = byte_unit_approximate_text, .spec = { .precision = 1, .has_precision = 1 } };
 
-    if (sqlite3_value_type(argv[0]) == SQLITE_NULL || !get_size(context, argv[0], &form.size)
-        || (argc > 1 && !get_type(context, argv[1], &type))
-        || (argc > 2 && !get_precision(context, argv[2], &form.spec))
-        || (argc > 3 && !get_flags(context, argv[3], BYTE_UNIT_BITS, &form.flags)))
-        return;
-    form.unit = byte_unit_appropriate_unit(form.size, form.flags, type);
-    return_form(context, &form);
+    if (sqlite3_value_type(argv[0]) != SQLITE_NULL && get_size(context, argv[0], &form.size)
+        && (argc < 2 || get_type(context, argv[1], &form.unit_or_type))
+        && (argc < 3 || get_precision(context, argv[2], &form.spec))
+        && (argc < 4 || get_flags(context, argv[3], BYTE_UNIT_BITS, &form.flags)))
+        return_form(context, &form);
 }
 
 /* ---- The collation: sizes by their numbers of bytes, then the texts that are not sizes by their bytes. ---- */

@@ -32,6 +32,10 @@ fn parsing() {
     }
     check("ignoring case", Byte::parse_str("9 b", true).unwrap(), "9");
     check("in bits", Bit::parse_str("1.5 KB").unwrap(), "12000");
+    check("by 1024", Byte::parse_str_binary("10m", false).unwrap(), "10485760");
+    check("wrong at", Byte::error_position("1 byte").unwrap(), "3");
+    let sizes: Result<Vec<Byte>, _> = Byte::parse_many(["1 KB", "x"], false).collect();
+    check("a column", sizes.unwrap_err(), "row 1: the character 'x' is not a number");
     let error = Byte::parse_str("x", false).unwrap_err();
     assert_eq!(error, ParseError::Value(ValueParseError::NotNumber('x')));
 }
@@ -51,6 +55,7 @@ fn choosing_units() {
     check("exact to two places", format!("{number} {unit}"), "50.84 MB");
     let binary: AdjustedByte = size.get_appropriate_unit(UnitType::Binary);
     check("all digits", binary, "48.48480224609375 MiB");
+    check("about", size.approximate_text(UnitType::Binary, 1), "48.5 MiB");
     check("two digits", format!("{binary:.2}"), "48.48 MiB");
     check("in twelve columns", format!("{binary:>12.2}"), "   48.48 MiB");
 }

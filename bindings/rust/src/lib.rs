@@ -29,6 +29,14 @@
 //! An adjusted size always has its unit: `{}` is all its digits, `{:.2}` is rounded to two places, ties to even, and
 //! `{:#.2}` to at most two, ties up, without trailing zeros. With a unit, the padding is always spaces.
 //!
+//! # More than the original
+//!
+//! - `parse_str_binary` reads sizes of programs for which `K` is 1024, such as `10m`.
+//! - `error_position` returns where a string is wrong.
+//! - `parse_many` and `parse_buffers` parse columns.
+//! - `approximate_text` rounds a size for people: `117.7 MiB`.
+//! - `write_text` writes to a buffer.
+//!
 //! # Without std
 //!
 //! No call allocates but `approximate_text`, which the feature `std` has. Without that feature, the package needs `core`

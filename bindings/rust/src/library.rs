@@ -194,7 +194,8 @@ pub(crate) fn adjusted_text(size: u128, kind: Kind, unit: Unit, spec: FormatSpec
 /// Writes the text of a size in the largest unit of the type, if it fits, and returns its length.
 #[cfg(feature = "std")]
 pub(crate) fn approximate_text(size: u128, kind: Kind, unit_type: UnitType, spec: FormatSpec, out: &mut [u8]) -> usize {
-    adjusted_text(size, kind, appropriate_unit(size, kind, unit_type), spec, out)
+    let (flags, unit_type) = (kind.flag(), unit_type as u32);
+    unsafe { sys::byte_unit_approximate_text(size.into(), flags, unit_type, spec.into(), out.as_mut_ptr(), out.len()) }
 }
 
 /// Returns the largest unit of the kind and of the type that is not above the size, or the kind's own.

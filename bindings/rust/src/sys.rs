@@ -109,6 +109,15 @@ extern "C" {
         out: *mut u8,
         out_len: usize,
     ) -> usize;
+    #[cfg(feature = "std")]
+    pub fn byte_unit_approximate_text(
+        size: Number,
+        flags: u32,
+        unit_type: u32,
+        spec: Spec,
+        out: *mut u8,
+        out_len: usize,
+    ) -> usize;
     pub fn byte_unit_appropriate_unit(size: Number, flags: u32, unit_type: u32) -> u32;
     pub fn byte_unit_exact_unit(size: Number, flags: u32, count: *mut Number) -> u32;
     pub fn byte_unit_recoverable_unit(size: Number, flags: u32, precision: usize, count: *mut Decimal) -> u32;
