@@ -50,14 +50,14 @@ pub(crate) fn approximate_text(
     precision: u16,
 ) -> std::string::String {
     let spec = FormatSpec { precision: Some(precision), ..FormatSpec::PLAIN };
-    let mut out = std::vec![0; TEXT_LEN];
+    let mut out = [0; TEXT_LEN];
     let len = library::approximate_text(size, kind, unit_type, spec, &mut out);
-    if len > out.len() {
-        out.resize(len, 0);
-        library::approximate_text(size, kind, unit_type, spec, &mut out);
+    if let Ok(text) = written(&out, len) {
+        return text.into();
     }
-    out.truncate(len);
-    std::string::String::from_utf8(out).unwrap_or_default()
+    let mut long = std::vec![0; len];
+    library::approximate_text(size, kind, unit_type, spec, &mut long);
+    std::string::String::from_utf8(long).unwrap_or_default()
 }
 
 /// Returns the text that a call wrote to the beginning of `out`, or the length that it needs.
