@@ -21,7 +21,7 @@ struct text {
     size_t len;
 };
 
-/* What is written: a size in the unit, or in a unit of the type, by this call, or as byte_unit_text does if it is NULL. */
+/* What is written: a size in the unit, or in one of the type, by this call, or as byte_unit_text does if it is NULL. */
 struct form {
     size_t (*write)(byte_unit_number size, uint32_t flags, uint32_t unit_or_type, byte_unit_spec spec, char *out,
                     size_t out_len);

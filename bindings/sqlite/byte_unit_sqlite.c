@@ -126,38 +126,49 @@ static void size_explain(sqlite3_context *context, int argc, sqlite3_value **arg
 
 /* ---- The sum. ---- */
 
-/* A sum in three words: a window may add rows before it takes others away, and so exceed the limit of sizes. */
+/* The exact sum of `count` sizes: `rest`, which is below the limit of sizes, and `limits` times the limit, since a
+ * window may add rows before it takes others away. */
 struct total {
-    uint64_t words[3]; /* from the lowest on */
+    byte_unit_number rest;
+    uint64_t limits;
     uint64_t count;
 };
 
+static const byte_unit_number limit = BYTE_UNIT_SIZE_LIMIT_INIT;
+
+static byte_unit_number plus(byte_unit_number a, byte_unit_number b)
+{
+    uint64_t low = a.low + b.low;
+    byte_unit_number sum = { low, a.high + b.high + (low < b.low) };
+
+    return sum;
+}
+
+static byte_unit_number minus(byte_unit_number a, byte_unit_number b)
+{
+    byte_unit_number difference = { a.low - b.low, a.high - b.high - (a.low < b.low) };
+
+    return difference;
+}
+
 static void add(struct total *total, byte_unit_number size)
 {
-    const uint64_t words[] = { size.low, size.high, 0 };
-    uint64_t carry = 0;
-
-    for (int at = 0; at < 3; at++) {
-        uint64_t with_carry = total->words[at] + carry;
-        carry = with_carry < carry;
-        total->words[at] = with_carry + words[at];
-        carry |= total->words[at] < words[at];
-    }
     total->count++;
+    total->rest = plus(total->rest, size);
+    if (compare_numbers(total->rest, limit) >= 0) {
+        total->rest = minus(total->rest, limit);
+        total->limits++;
+    }
 }
 
 static void subtract(struct total *total, byte_unit_number size)
 {
-    const uint64_t words[] = { size.low, size.high, 0 };
-    uint64_t borrow = 0;
-
-    for (int at = 0; at < 3; at++) {
-        uint64_t with_borrow = total->words[at] - borrow;
-        borrow = total->words[at] < borrow;
-        total->words[at] = with_borrow - words[at];
-        borrow |= with_borrow < words[at];
-    }
     total->count--;
+    if (compare_numbers(total->rest, size) < 0) {
+        total->rest = plus(total->rest, limit);
+        total->limits--;
+    }
+    total->rest = minus(total->rest, size);
 }
 
 static void change_sum(sqlite3_context *context, int argc, sqlite3_value **argv,
@@ -185,21 +196,17 @@ static void sum_inverse(sqlite3_context *context, int argc, sqlite3_value **argv
 /* Returns NULL if there is no size, and an INTEGER, or the digits of a sum that is too large for one. */
 static void sum_value(sqlite3_context *context)
 {
-    static const byte_unit_number limit = BYTE_UNIT_SIZE_LIMIT_INIT;
     const struct total *total = sqlite3_aggregate_context(context, 0);
-    byte_unit_number sum;
 
     if (total == NULL || total->count == 0)
         return;
-    sum.low = total->words[0];
-    sum.high = total->words[1];
-    if (total->words[2] != 0 || compare_numbers(sum, limit) >= 0) {
+    if (total->limits > 0) {
         sqlite3_result_error(context, "the sum of the sizes is 10^30 or more", -1);
-    } else if (is_integer(sum)) {
-        sqlite3_result_int64(context, (sqlite3_int64)sum.low);
+    } else if (is_integer(total->rest)) {
+        sqlite3_result_int64(context, (sqlite3_int64)total->rest.low);
     } else {
         sqlite3_str *digits = sqlite3_str_new(sqlite3_context_db_handle(context));
-        append_digits(digits, sum);
+        append_digits(digits, total->rest);
         return_message(context, digits, false);
     }
 }

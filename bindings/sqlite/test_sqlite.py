@@ -93,7 +93,8 @@ def wrong_place(text):
     if point and not 1 <= len(places) <= 28:
         return start + whole + 1 + min(len(places), 28)
     rest = text.strip(WHITE_SPACE)[len(digits + point + places) :]
-    return start + len(digits + point + places) + len(rest) - len(rest.lstrip(" ")) + BEGINNING.match(rest.lstrip(" ")).end()
+    unit = rest.lstrip(" ")
+    return start + len(digits + point + places) + len(rest) - len(unit) + BEGINNING.match(unit).end()
 
 
 def explained(line, size):
@@ -143,17 +144,20 @@ def test_sizes_in_units(sql, check_drawn):
 
 
 def some_sum(rng):
-    """Returns a statement that adds random sizes, in all and in windows of two, and what it prints."""
+    """Returns a statement that adds random sizes, in all or for each row in a window, and what it prints. Of the last
+    window SQLite adds a row that it takes away again."""
     greatest = rng.choice([10**6, 2**63, 10**30, 10**30])
     sizes = [rng.choice([None, rng.randrange(rng.choice([2, greatest]))]) for _ in range(rng.randrange(1, 6))]
     rows = ", ".join(f"({at}, {'NULL' if size is None else repr(str(size))})" for at, size in enumerate(sizes))
-    sums = [sum(size or 0 for size in part) if any(size is not None for size in part) else "-"
-            for part in (sizes, *(sizes[max(0, at - 1) : at + 1] for at in range(len(sizes))))]  # fmt: skip
+    frames = [(None, 0, 9), ("1 PRECEDING", -1, 1), ("BETWEEN 1 FOLLOWING AND 2 FOLLOWING", 1, 3)]
+    frame, first, past = rng.choice(frames)
+    parts = [sizes[max(0, at + first) : at + past] for at in range(len(sizes) if frame else 1)]
+    sums = [sum(size or 0 for size in part) if any(size is not None for size in part) else "-" for part in parts]
     wrong = any(one != "-" and one >= SIZE_LIMIT for one in sums)
     shown = "error: the sum of the sizes is 10^30 or more" if wrong else " ".join(map(str, sums))
-    return (f"WITH t(n, s) AS (VALUES {rows}) SELECT ifnull(size_sum(s), '-') || ' ' || (SELECT group_concat(one, ' ') FROM"
-            f" (SELECT ifnull(size_sum(s) OVER (ORDER BY n ROWS 1 PRECEDING), '-') AS one FROM t)) FROM t;",
-            [re.escape(shown)])  # fmt: skip
+    over = f" OVER (ORDER BY n ROWS {frame})" if frame else ""
+    return (f"WITH t(n, s) AS (VALUES {rows}) SELECT group_concat(one, ' ') FROM (SELECT ifnull(size_sum(s){over}, '-')"
+            " AS one FROM t);", [re.escape(shown)])  # fmt: skip
 
 
 def test_sums(sql, check_drawn):

@@ -32,8 +32,8 @@ impl Bit {
         library::parse(s.as_ref(), Kind::Bit, false, Bit)
     }
 
-    /// Parses a size from a string, as [`Bit::parse_str`] does, except that a decimal prefix means the binary one: `K`,
-    /// `Kb` and `k` are by 1024, as `Ki` and `Kib` are.
+    /// Parses a size from a string, as [`Bit::parse_str`] does, except that a decimal prefix means the binary one:
+    /// `K`, `Kb` and `k` are by 1024, as `Ki` and `Kib` are.
     ///
     /// # Errors
     ///

@@ -34,8 +34,8 @@ impl Byte {
         library::parse(s.as_ref(), Kind::Byte, ignore_case, Byte)
     }
 
-    /// Parses a size from a string, as [`Byte::parse_str`] does, except that a decimal prefix means the binary one: `K`,
-    /// `KB` and `k` are by 1024, as `Ki` and `KiB` are.
+    /// Parses a size from a string, as [`Byte::parse_str`] does, except that a decimal prefix means the binary one:
+    /// `K`, `KB` and `k` are by 1024, as `Ki` and `KiB` are.
     ///
     /// So the sizes of other programs are read as they mean them: `10m` of nginx, `512m` of docker, `128MB` of
     /// PostgreSQL, `1.5K` of `du -h`.

@@ -39,8 +39,8 @@
 //!
 //! # Without std
 //!
-//! No call allocates but `approximate_text`, which the feature `std` has. Without that feature, the package needs `core`
-//! alone; the errors then implement `core::error::Error` from rustc 1.81 on.
+//! No call allocates but `approximate_text`, which the feature `std` has. Without that feature, the package needs
+//! `core` alone; the errors then implement `core::error::Error` from rustc 1.81 on.
 #![no_std]
 #![warn(missing_docs)]
 

@@ -71,7 +71,9 @@ macro_rules! column_methods {
             )]
             /// assert_eq!(all, Err(error));
             /// ```
-            pub fn parse_many<I>(texts: I $(, $ignore_case: bool)?) -> impl Iterator<Item = Result<Self, $crate::RowError>>
+            pub fn parse_many<I>(
+                texts: I $(, $ignore_case: bool)?
+            ) -> impl Iterator<Item = Result<Self, $crate::RowError>>
             where
                 I: IntoIterator,
                 I::Item: AsRef<str>,
@@ -107,12 +109,13 @@ macro_rules! column_methods {
                 })
             }
 
-            /// Parses the texts of a column in Arrow's layout by one call: text `i` is `data[offsets[i]..offsets[i + 1]]`,
-            /// so there is one offset more than texts. Returns the number of texts that are no sizes.
+            /// Parses the texts of a column in Arrow's layout by one call: text `i` is
+            /// `data[offsets[i]..offsets[i + 1]]`, so there is one offset more than texts. Returns the number of texts
+            /// that are no sizes.
             ///
-            /// Writes the size of each text to `sizes`, and zero to `codes`; of a text that is none, zero to `sizes`, and
-            /// to `codes` the reason: 1 no value, 2 not a number, 3 a number that is too long, 4 a size that is too
-            /// large, 5 a bad unit, 6 bytes that are not UTF-8.
+            /// Writes the size of each text to `sizes`, and zero to `codes`; of a text that is none, zero to `sizes`,
+            /// and to `codes` the reason: 1 no value, 2 not a number, 3 a number that is too long, 4 a size that is
+            /// too large, 5 a bad unit, 6 bytes that are not UTF-8.
             ///
             /// # Errors
             ///

@@ -149,8 +149,8 @@ macro_rules! size_methods {
 
         /// Parsing.
         impl $Size {
-            /// Returns the index in bytes of the first wrong character of a string that `parse_str` rejects: no size can
-            /// have it there. If the string ends too early, it is the index of its end, before white space there.
+            /// Returns the index in bytes of the first wrong character of a string that `parse_str` rejects: no size
+            /// can have it there. If the string ends too early, it is the index of its end, before white space there.
             ///
             /// Returns `None` if the string is accepted, or if only its size is too large. The index is the same for
             /// `parse_str_binary`, and does not depend on the case of `b`.
@@ -171,9 +171,10 @@ macro_rules! size_methods {
 
         /// Texts.
         impl $Size {
-            /// Returns the text of the size in the largest unit of the type that is not above it, rounded to `precision`
-            /// digits after the point, ties to even, as [`get_appropriate_unit`](Self::get_appropriate_unit) formats it
-            /// with this precision. If there is no such unit, it has all digits in
+            /// Returns the text of the size in the largest unit of the type that is not above it, rounded to
+            /// `precision` digits after the point, ties to even, as
+            /// [`get_appropriate_unit`](Self::get_appropriate_unit) formats it with this precision. If there is no such
+            /// unit, it has all digits in
             #[doc = concat!("`", stringify!($Size), "`'s own, `B` or `b`.")]
             ///
             /// # Examples
