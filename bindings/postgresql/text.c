@@ -49,7 +49,7 @@ typedef size_t ExplainCall(const char *text, size_t len, uint32 flags, char *out
 typedef bool PositionCall(const char *text, size_t len, size_t *position);
 
 /* Returns the message of a text that is rejected, as SQLite's size_explain has it: the reason, and the number, from 1,
- * of the wrong character. NULL if the text is not rejected. */
+ * of the wrong character, one past the last if the text ends too early. NULL if the text is not rejected. */
 static char *message_of(Text text, uint32 flags, ExplainCall *explain, PositionCall *position_of)
 {
     char reason[BYTE_UNIT_BUFFER_SIZE + 1];
@@ -58,7 +58,7 @@ static char *message_of(Text text, uint32 flags, ExplainCall *explain, PositionC
     if (len == 0 || len > BYTE_UNIT_BUFFER_SIZE)
         return NULL;
     reason[len] = '\0';
-    if (!position_of(text.at, text.len, &position) || position >= text.len)
+    if (!position_of(text.at, text.len, &position))
         return pg_any_to_server(pstrdup(reason), (int)len, PG_UTF8);
     for (size_t at = 0; at < position; at++)
         character += ((unsigned char)text.at[at] & 0xC0) != 0x80;

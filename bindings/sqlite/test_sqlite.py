@@ -193,6 +193,12 @@ def test_statements(sql, name):
     assert rows and wrong_of(sql, rows) == []
 
 
+def test_rows_that_postgresql_shares(sql):
+    rows = re.findall(r"^([^#\n].*?) = (.*)$", read("bindings/sqlite/checks/shared.txt"), re.M)
+    calls = [(f"SELECT coalesce({call}, 'NULL');", [re.escape(answer)]) for call, answer in rows]
+    assert len(rows) > 20 and wrong_of(sql, calls) == []
+
+
 def test_sqlite3_of_python(sql):
     if not hasattr(sqlite3.Connection, "enable_load_extension"):
         pytest.skip("a Python whose sqlite3 loads extensions is missing (Debian: python3)")
