@@ -41,6 +41,7 @@ pub use Rattle.byte_unit_format.specs.Plain
 pub use Rattle.byte_unit_format.specs.Layout
 pub use Rattle.byte_unit_format.specs.Forms
 pub use Rattle.byte_unit_format.specs.NamedSpecs
+pub use Rattle.byte_unit_format.specs.BinaryString
 pub use Rattle.byte_unit_format.specs.Adjusted
 pub use Rattle.byte_unit_choice.specs.AdjustedSize
 pub use Rattle.byte_unit_choice.specs.ParsedAdjusted

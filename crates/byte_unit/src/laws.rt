@@ -21,7 +21,7 @@ pub use byte_unit_choice::laws::{
     more_places_give_no_smaller_unit, number_times_unit_is_size, sizes_are_exact_by_powers,
 };
 pub use byte_unit_format::laws::{
-    adjusted_string_reads_back, expansions_end, layout_fills_width,
+    adjusted_string_reads_back, binary_string_reads_back, expansions_end, layout_fills_width,
     named_specs_set_no_other_option, old_meanings_stay, places_of_size, plain_form_fills_width,
     plain_form_reads_back, shown_adjusted_size_is_plain_form, shown_size_is_plain_form,
     size_form_reads_back, size_has_one_adjusted_form, size_has_one_form, size_string_reads_back,

@@ -2,6 +2,7 @@ pub mod NamedSpecs
 pub mod WrittenForms
 pub mod TextParts
 pub mod ReadBack
+pub mod BinaryStrings
 pub mod AdjustedForms
 pub mod AdjustedLengths
 pub mod ShownForms

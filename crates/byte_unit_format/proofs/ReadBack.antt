@@ -1,12 +1,12 @@
 -- A formatted size is read as the size, and what the string of an adjusted size is read as.
 use Rattle.std.proofs.Common.{◌≡◌, ℕ, zero, suc, ◌<◌, List, [], ◌∷◌, ◌++◌, refl, arith, ◌≢◌, ◌+◌, ◌-◌, ◌*◌, ◌/◌, ◌%◌}
 use Rattle.std.proofs.Common.{◌≤◌, ⊎_elim, inl, inr, length, rules, sym, ap, ◌∙◌, Bool, false, append-nil, append_assoc}
-use Rattle.std.proofs.Common.{◌^◌}
+use Rattle.std.proofs.Common.{◌^◌, subst}
 use Rattle.std.specs.Str.{skip_leading_whitespace, drop_trailing_whitespace, IsAscii}
 use Rattle.std.proofs.lemmas.Str.{chars-IsAscii, IsAscii-append}
 use Rattle.std.proofs.lemmas.Str.Ascii.{IsAscii-from_all}
 use Rattle.std.proofs.lemmas.List.Elements.{All-replicate}
-use Rattle.byte_unit_base.specs.SizeText.{trim_of}
+use Rattle.byte_unit_base.specs.SizeText.{trim_of, IsSizeText}
 use Rattle.byte_unit_base.proofs.Trim.{StartsWithoutSpace, EndsWithoutSpace, keep_last}
 use Rattle.byte_unit_format.specs.Plain.{spaces, plus_of, plain, plain_padding, plain_left_padding}
 use Rattle.std.specs.Fmt.{decimal}
@@ -37,7 +37,7 @@ use Rattle.byte_unit_base.specs.Kinds.{bits_in, counts_bits, own_unit, flags_for
 use Rattle.byte_unit_base.specs.LeastOfKind.{IsLeastOf}
 use Rattle.byte_unit_base.specs.Accepted.{IsAccepted, IsRejected}
 use Rattle.byte_unit_format.specs.Layout.{layout, layout_padding, layout_left_padding, gap_of}
-use Rattle.byte_unit_format.specs.Forms.{places_of}
+use Rattle.byte_unit_format.specs.Forms.{places_of, IsSizeForm}
 use Rattle.byte_unit_format.specs.FormLaws.{SizeFormReadsBack, PlainFormReadsBack, AdjustedStringReadsBack, FitsDecimal}
 use Rattle.byte_unit_base.proofs.NumberTexts.{fixed_point_of, number_text, number_start, number_ascii, decimal_ascii}
 use Rattle.byte_unit_base.proofs.NumberTexts.{whole_text, IsBounded, starts_with_digit}
@@ -98,7 +98,8 @@ own_says Bit ignore_case bit has is_bit = refl
 pub case_counts : (kind : Kind) → (flags_for kind false).ignore_case ≡ false
 case_counts kind = grind arith
 
-IsLeastOf-exact : (kind : Kind) (number size : ℕ) (unit : Shape) → number * bits unit ≡ size * bits_in kind * scale
+-- The size that a number of units is exactly is the least one.
+pub IsLeastOf-exact : (kind : Kind) (number size : ℕ) (unit : Shape) → number * bits unit ≡ size * bits_in kind * scale
     → IsLeastOf kind number unit size
 IsLeastOf-exact kind number size unit exact =
     record { has = grind (arith, exact); least = λ other covers. grind (arith, exact, covers) }
@@ -140,19 +141,33 @@ trimmed_layout spec e unit bounded known =
           ∙ trim_between before 0 (number ++ behind) starts ends ascii,
     )
 
--- A decimal of at most 28 digits after the point that is the size in a unit of its kind, formatted with the unit, is
--- accepted as the size.
+-- A decimal of at most 28 digits after the point, formatted with a unit, is the text of that number of the unit.
+pub layout_is_size :
+    (kind : Kind) (ignore_case : Bool) (spec : FormatSpec) (e : Finite) (unit : Shape) → IsBounded e
+    → length e.digits ≤ places_of_decimal → IsKnown unit → SaysKind (flags_for kind ignore_case) unit.bit
+    → IsSizeText current (flags_for kind ignore_case) (trim_of (layout (text_of e) (unit_name_in current unit) spec))
+    (fixed_point_of e.whole e.digits) unit
+layout_is_size kind ignore_case spec e unit bounded few known says =
+    let text = (trimmed_layout spec e unit bounded known.known).1 in
+    let number = number_text e.whole e.digits bounded.small few bounded.bound in
+    let spelled = name_spells (flags_for kind ignore_case) unit known says in
+    search (rules, text, number, spelled)
+
+-- If that number of the unit is the size, the text is accepted as the size.
 pub layout_accepted :
     (kind : Kind) (ignore_case : Bool) (size : ℕ) (spec : FormatSpec) (e : Finite) (unit : Shape) → IsBounded e
     → length e.digits ≤ places_of_decimal → IsKnown unit → SaysKind (flags_for kind ignore_case) unit.bit
     → fixed_point_of e.whole e.digits * bits unit ≡ size * bits_in kind * scale → size < current.size_limit
     → IsAccepted kind ignore_case (layout (text_of e) (unit_name_in current unit) spec) size
-layout_accepted kind ignore_case size spec e unit bounded few known says exact below =
-    let text = (trimmed_layout spec e unit bounded known.known).1 in
-    let number = number_text e.whole e.digits bounded.small few bounded.bound in
-    let spelled = name_spells (flags_for kind ignore_case) unit known says in
-    let is_least = IsLeastOf-exact kind (fixed_point_of e.whole e.digits) size unit exact in
-    search (rules, text, number, spelled, is_least)
+layout_accepted kind ignore_case size spec e unit bounded few known says exact below = record {
+  number = fixed_point_of e.whole e.digits;
+  is_read = record {
+    unit = unit;
+    is_size = layout_is_size kind ignore_case spec e unit bounded few known says;
+    is_least = IsLeastOf-exact kind (fixed_point_of e.whole e.digits) size unit exact;
+  };
+  below = below;
+}
 
 -- A size has fewer than 8 * 10^30 bits.
 pub bits_of_size_bound : (kind : Kind) (size : ℕ) → size < current.size_limit → size * bits_in kind < bits_limit
@@ -172,9 +187,12 @@ recovered_name kind ignore_case size precision unit (inr own) = rw own.1 (
   own_says kind ignore_case (counts_bits kind) (own_kind kind),
 )
 
--- A size formatted with a unit is read as the size.
-pub size_form_reads_back : SizeFormReadsBack
-size_form_reads_back kind size spec ignore_case text below form =
+-- A size formatted with a unit is the text of its number of its unit.
+pub form_is_size :
+    (kind : Kind) (size : ℕ) (spec : FormatSpec) (ignore_case : Bool) (text : List ℕ) → size < current.size_limit
+    → (form : IsSizeForm kind size spec text)
+    → IsSizeText current (flags_for kind ignore_case) (trim_of text) form.number form.unit
+form_is_size kind size spec ignore_case text below form =
     let e = trim_expansion (at_places places_of_decimal form.number) in
     let short = ShortOf-shortened form.number places_of_decimal in
     let bound : e.whole < whole_limit = omega (
@@ -186,9 +204,22 @@ size_form_reads_back kind size spec ignore_case text below form =
     let number : fixed_point_of e.whole e.digits ≡ form.number =
     omega (arith, short.scaled_is, ap (λ n. e.whole * n) (pow10_times_rest (length e.digits) short.few)) in
     let named = recovered_name kind ignore_case size (places_of spec.precision) form.unit form.is_recovered in
-    let exact = ap (λ number. number * bits form.unit) number ∙ form.number_is in
-    rw form.text_is (layout_accepted kind ignore_case size spec e form.unit
-    (record { small = short.small; bound = bound }) short.few named.0 named.1 exact below)
+    let is_size = layout_is_size kind ignore_case spec e form.unit (record { small = short.small; bound = bound })
+    short.few named.0 named.1 in
+    subst (λ number. IsSizeText current (flags_for kind ignore_case) (trim_of text) number form.unit) number
+    (rw form.text_is is_size)
+
+-- A size formatted with a unit is read as the size.
+pub size_form_reads_back : SizeFormReadsBack
+size_form_reads_back kind size spec ignore_case text below form = record {
+  number = form.number;
+  is_read = record {
+    unit = form.unit;
+    is_size = form_is_size kind size spec ignore_case text below form;
+    is_least = IsLeastOf-exact kind form.number size form.unit form.number_is;
+  };
+  below = below;
+}
 
 no_plus : (sign : Sign) → sign ≢ Plus → plus_of sign ≡ []
 no_plus sign other = grind arith
@@ -213,9 +244,11 @@ no_unit : (kind : Kind) (ignore_case : Bool) → Spells current (flags_for kind 
 no_unit Byte ignore_case = inl record { count_is = inl (refl, refl); power_is = refl; binary_is = refl }
 no_unit Bit ignore_case = inl record { count_is = inl (refl, refl); power_is = refl; binary_is = refl }
 
--- A size formatted as digits without a plus sign is read as the size.
-pub plain_form_reads_back : PlainFormReadsBack
-plain_form_reads_back kind size spec ignore_case below sign =
+-- A size formatted as digits without a plus sign is the text of that number of the base unit.
+pub digits_are_size :
+    (kind : Kind) (size : ℕ) (spec : FormatSpec) (ignore_case : Bool) → size < current.size_limit → spec.sign ≢ Plus
+    → IsSizeText current (flags_for kind ignore_case) (trim_of (plain size spec)) (size * scale) (own_unit kind)
+digits_are_size kind size spec ignore_case below sign =
     let bound : size < whole_limit = omega (arith, below) in
     let pad = plain_padding size spec in
     let before = plain_left_padding spec.align pad in
@@ -224,23 +257,32 @@ plain_form_reads_back kind size spec ignore_case below sign =
     ∙ (ap trim_of (append_assoc (spaces before) (decimal size) (spaces (pad - before)))
     ∙ trim_between before (pad - before) (decimal size) (starts_with_digit (decimal size) (whole_text size bound).0)
     (decimal_end size bound) (decimal_ascii size bound)) in
-    let own = ap (λ bits. (size * scale) * bits) (own_bits kind) in
     record {
-      number = size * scale;
-      is_read = record {
-        unit = own_unit kind;
-        is_size = record {
-          number_part = decimal size;
-          spaces = 0;
-          unit_part = [];
-          text_is = trims ∙ sym (append-nil (decimal size));
-          number_is = inl (size, whole_text size bound, refl);
-          unit_is = no_unit kind ignore_case;
-        };
-        is_least = IsLeastOf-exact kind (size * scale) size (own_unit kind) (omega (arith, own));
-      };
-      below = below;
+      number_part = decimal size;
+      spaces = 0;
+      unit_part = [];
+      text_is = trims ∙ sym (append-nil (decimal size));
+      number_is = inl (size, whole_text size bound, refl);
+      unit_is = no_unit kind ignore_case;
     }
+
+-- A number of the base unit is that size.
+pub IsLeastOf-own : (kind : Kind) (size : ℕ) → IsLeastOf kind (size * scale) (own_unit kind) size
+IsLeastOf-own kind size =
+    let own = ap (λ bits. (size * scale) * bits) (own_bits kind) in
+    IsLeastOf-exact kind (size * scale) size (own_unit kind) (omega (arith, own))
+
+-- A size formatted as digits without a plus sign is read as the size.
+pub plain_form_reads_back : PlainFormReadsBack
+plain_form_reads_back kind size spec ignore_case below sign = record {
+  number = size * scale;
+  is_read = record {
+    unit = own_unit kind;
+    is_size = digits_are_size kind size spec ignore_case below sign;
+    is_least = IsLeastOf-own kind size;
+  };
+  below = below;
+}
 
 whole_not_above : (num den : ℕ) (e : Finite) → 1 ≤ den → IsExpansion num den e → e.whole ≤ num
 whole_not_above num den e some expansion = le_of_mul-le-mul_right {k = 10 ^ length e.digits}

@@ -12,4 +12,5 @@ pub mod UnitFraction
 pub mod FewPlaces
 pub mod WithDigits
 pub mod FormLaws
+pub mod BinaryString
 pub mod VersionLaws

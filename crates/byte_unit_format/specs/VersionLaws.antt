@@ -1,4 +1,4 @@
--- What stays as in the first version of the grammar, for callers with stored strings and printed sizes.
+-- What stays as in the first version, for stored strings and printed sizes.
 use Rattle.std.specs.Prelude.{◌↔◌, ℕ, ◌<◌, ◌≤◌, Bool, List, length}
 use Rattle.byte_unit_base.specs.Shape.{Shape}
 use Rattle.byte_unit_base.specs.Version.{first_version, current}

@@ -9,6 +9,7 @@ ghost use Rattle.byte_unit_format.specs.FormLaws.{SizeHasOneForm, SizeHasOneAdju
 ghost use Rattle.byte_unit_format.specs.FormLaws.{ShownSizeIsPlainForm, ShownAdjustedSizeIsPlainForm};
 ghost use Rattle.byte_unit_format.specs.FormLaws.{PlainFormFillsWidth, LayoutFillsWidth};
 ghost use Rattle.byte_unit_format.specs.FormLaws.{PlacesOfSize, ZeroTakesNoPlaces, ExpansionsEnd};
+ghost use Rattle.byte_unit_format.specs.BinaryString.{BinaryStringReadsBack};
 ghost use Rattle.byte_unit_format.specs.VersionLaws.{AcceptedTextsStay, AdjustedFormsStay, AppropriateUnitsStay};
 ghost use Rattle.byte_unit_format.specs.VersionLaws.{SizeFormsStay};
 ghost use Rattle.byte_unit_format.specs.NamedSpecs.{plain_spec, alternate_spec};
@@ -31,7 +32,12 @@ pub fn size_string_reads_back()
     ensures { SizeStringReadsBack }
 {}
 
-/// States that a size has one form with a unit under each spec, in each version of the grammar.
+/// States that the string for the binary reading round-trips, in either reading. `ignore_case` changes nothing.
+pub fn binary_string_reads_back()
+    ensures { BinaryStringReadsBack }
+{}
+
+/// States that a size has one form with a unit under each spec, in each version.
 #[tactic(auto, using(crate::proofs::WrittenForms::has_one_form))]
 pub fn size_has_one_form()
     ensures { SizeHasOneForm }
@@ -60,14 +66,14 @@ pub fn plain_form_fills_width()
     ensures { PlainFormFillsWidth }
 {}
 
-/// States that a number with its unit is as long as the width, or as number, spaces and name if these are longer.
+/// States that a number with its unit is as long as the width, or as number, spaces and name if longer.
 #[tactic(auto, using(crate::proofs::Widths::layout_fills_width))]
 pub fn layout_fills_width()
     ensures { LayoutFillsWidth }
 {}
 
-/// States that the string of an adjusted size is parsed as the size that it shows if it has at most 28 digits after the
-/// point, and is else rejected at its 29th digit.
+/// States that the string of an adjusted size is parsed as its size if it has at most 28 digits after the point, and
+/// else rejected at the 29th.
 #[tactic(auto, using(crate::proofs::ReadBack::adjusted_string_reads_back))]
 pub fn adjusted_string_reads_back()
     ensures { AdjustedStringReadsBack }
@@ -81,7 +87,7 @@ pub fn places_of_size()
     ensures zero { ZeroTakesNoPlaces }
 {}
 
-/// States that a size in a unit has at most 93 places, and a size in bytes at most 90.
+/// States that a size in a unit has at most 93 places, a size in bytes at most 90.
 #[tactic(auto, using(crate::proofs::ShortExpansions::expansions_end))]
 pub fn expansions_end()
     ensures { ExpansionsEnd }
@@ -99,7 +105,7 @@ pub fn old_meanings_stay()
     ensures adjusted_forms { AdjustedFormsStay }
 {}
 
-/// States that `FormatSpec::PLAIN` sets no option, and `FormatSpec::ALTERNATE` none but the alternate form.
+/// States that `FormatSpec::PLAIN` sets no option, `FormatSpec::ALTERNATE` only the alternate form.
 pub fn named_specs_set_no_other_option()
     ensures plain { FormatSpec.PLAIN ≡ plain_spec }
     ensures alternate { FormatSpec.ALTERNATE ≡ alternate_spec }

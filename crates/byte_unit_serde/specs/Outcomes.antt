@@ -92,10 +92,15 @@ IsListError {A} {F} {E} {M} Means gives stays begin_returns next_returns Reading
     × ReadsString Means gives looked new value × refuses new error)
     ⊎ (2 ^ 64 - 1 ≤ length values)))
 
+-- A string of the size of this form is written.
+abbrev pub WritingSizeAs :
+    {S E : Type 0} → (ℕ → List ℕ → Type 0) → (List ℕ → Returns S Unit E) → ℕ → Returns S Unit E
+WritingSizeAs IsForm str_returns size old result new =
+    (form : List ℕ) × IsForm size form × (IsUtf8 form → str_returns form old result new)
+
 -- The string of the size is written: its text with a unit.
 abbrev pub WritingSize : {S E : Type 0} → Kind → (List ℕ → Returns S Unit E) → ℕ → Returns S Unit E
-WritingSize kind str_returns size old result new =
-    (form : List ℕ) × IsText kind size alternate_spec form × (IsUtf8 form → str_returns form old result new)
+WritingSize kind = WritingSizeAs (λ size. IsText kind size alternate_spec)
 
 -- The value is written, or nothing for `None`.
 abbrev pub WritingOption :

@@ -1,4 +1,4 @@
--- What is written for a size or a unit, and what is read as one.
+-- What is written for a size or a unit, and read as one.
 use Rattle.std.specs.Prelude.{◌≡◌, ℕ, List, [], ◌∷◌, Option, Some, None, true, false}
 use Rattle.serde.specs.Event.{Event, Log, Logs, text, nothing, seq_begins, seq_ends}
 use Rattle.serde.specs.Steps.{Gives, Begins, Stays}
@@ -12,9 +12,13 @@ use Rattle.byte_unit.specs.NamedSpecs.{alternate_spec}
 use Rattle.byte_unit.specs.declared.Kind.{Kind}
 use Rattle.byte_unit.specs.declared.Unit.{Unit as UnitName}
 
+-- One string is written: a text of the size of this form.
+abbrev pub WritesSizeAs : (ℕ → List ℕ → Type 0) → ℕ → Log → Log → Type 0
+WritesSizeAs IsForm size old new = (form : List ℕ) × IsForm size form × Logs old new (text form)
+
 -- One string is written: the text of the size with its unit.
 abbrev pub WritesSize : Kind → ℕ → Log → Log → Type 0
-WritesSize kind size old new = (form : List ℕ) × IsText kind size alternate_spec form × Logs old new (text form)
+WritesSize kind = WritesSizeAs (λ size. IsText kind size alternate_spec)
 
 -- One string is written: the name of the unit.
 abbrev pub WritesUnit : UnitName → Log → Log → Type 0

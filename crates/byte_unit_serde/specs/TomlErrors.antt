@@ -1,4 +1,4 @@
--- The errors of sizes and units that are read from TOML strings.
+-- The errors of sizes and units from TOML strings.
 use Rattle.std.specs.Prelude.{ℕ, List, Option, Some, codes}
 use Rattle.byte_unit.specs.FaultText.{parse_text, unit_text}
 use Rattle.byte_unit.specs.JsonReading.{JsonErrors}

@@ -1,11 +1,12 @@
 // Rendered from crates/byte_unit_serde/src/byte.rt. Do not edit.
 //! A size in bits as a string, for `#[serde(with = "byte_unit_serde::bit")]`.
 
-ghost use Rattle.std.specs.Prelude.{false, IfOk, OnOk};
+ghost use Rattle.std.specs.Prelude.{◌≡◌, false, None, IfOk, OnOk};
 ghost use Rattle.byte_unit.specs.Accepted.{IsAccepted};
+ghost use Rattle.byte_unit.specs.Forms.{IsText};
 ghost use Rattle.byte_unit.specs.declared.Kind.TheVariants.{Bit as InBits};
-ghost use Rattle.byte_unit_serde.specs.Outcomes.{ReadingSize, WritingSize};
-ghost use Rattle.byte_unit_serde.specs.Serialized.{ReadsString, WritesSize};
+ghost use Rattle.byte_unit_serde.specs.Outcomes.{ReadingSize, WritingSize, WritingSizeAs};
+ghost use Rattle.byte_unit_serde.specs.Serialized.{ReadsString, WritesSize, WritesSizeAs};
 
 use crate::messages::size_message;
 use crate::strings::{DeserializeString, SerializeString};
@@ -24,9 +25,20 @@ pub fn serialize<S: Sink>(size: &Bit, out: &mut S) -> Result<(), S::Error>
         (WritesSize InBits size.now (S.written out.old) (S.written out.new)) }
     ensures exact { WritingSize InBits S.str_returns size.now out.old result out.new }
 {
+    write_as(size, FormatSpec::ALTERNATE, out)
+}
+
+/// Writes the text of the size by the spec, which has no width, as a string. Does not allocate.
+pub(crate) fn write_as<S: Sink>(size: &Bit, spec: FormatSpec, out: &mut S) -> Result<(), S::Error>
+    requires { spec.width ≡ None }
+    ensures written { OnOk result
+        (WritesSizeAs (λ size. IsText InBits size spec) size.now (S.written out.old) (S.written out.new)) }
+    ensures exact { WritingSizeAs (λ size. IsText InBits size spec)
+        S.str_returns size.now out.old result out.new }
+{
     // As long as the longest text without a width.
     let mut bytes = [0; 37];
-    let len = size.write_text(FormatSpec::ALTERNATE, &mut bytes);
+    let len = size.write_text(spec, &mut bytes);
     match std::str::from_utf8(&bytes[..len]) {
         Ok(text) => out.write_str(text),
         Err(_) => Err(out.custom("not UTF-8")),
@@ -52,12 +64,14 @@ pub fn deserialize<'de, F: Source>(
 }
 
 impl SerializeString for Bit {
+    type Value = Bit;
+
     ghost writes = { WritesSize InBits };
 
     ghost writing = { WritingSize InBits };
 
-    fn serialize_string<S: Sink>(&self, out: &mut S) -> Result<(), S::Error> {
-        serialize(self, out)
+    fn serialize_string<S: Sink>(size: &Bit, out: &mut S) -> Result<(), S::Error> {
+        serialize(size, out)
     }
 }
 

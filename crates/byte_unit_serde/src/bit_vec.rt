@@ -24,7 +24,7 @@ pub fn serialize<S: Sink>(sizes: &Vec<Bit>, out: &mut S) -> Result<(), S::Error>
     ensures exact { WritingList S.begin_returns S.end_returns (WritingSize InBits S.str_returns)
         sizes.now.items out.old result out.new }
 {
-    lists::serialize(sizes, out)
+    lists::serialize::<Bit, S>(sizes, out)
 }
 
 /// Reads a sequence of strings, each as [`crate::bit::deserialize`] does.

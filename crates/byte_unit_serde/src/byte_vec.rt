@@ -23,7 +23,7 @@ pub fn serialize<S: Sink>(sizes: &Vec<Byte>, out: &mut S) -> Result<(), S::Error
     ensures exact { WritingList S.begin_returns S.end_returns (WritingSize InBytes S.str_returns)
         sizes.now.items out.old result out.new }
 {
-    lists::serialize(sizes, out)
+    lists::serialize::<Byte, S>(sizes, out)
 }
 
 /// Reads a sequence of strings, each as [`crate::byte::deserialize`] does.

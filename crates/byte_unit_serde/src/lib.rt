@@ -4,13 +4,16 @@
 pub mod bit;
 pub mod bit_vec;
 pub mod byte;
+pub mod byte_binary;
 pub mod byte_ignore_case;
 pub mod byte_vec;
+pub mod byte_vec_binary;
 pub mod byte_vec_ignore_case;
 mod lists;
 mod messages;
 pub mod optional_bit;
 pub mod optional_byte;
+pub mod optional_byte_binary;
 pub mod optional_byte_ignore_case;
 pub mod optional_unit;
 mod options;

@@ -10,23 +10,23 @@ use crate::{Sink, Source};
 use serde::Deserializer;
 use std::alloc::Global;
 
-/// Writes a sequence of the strings of the values. Does not allocate.
+/// Writes a sequence of the strings of the values, each as `W` does. Does not allocate.
 ///
 /// # Errors
 ///
 /// Returns the format's error if the format cannot write it.
-pub(crate) fn serialize<T: SerializeString, S: Sink>(
-    values: &Vec<T>,
+pub(crate) fn serialize<W: SerializeString, S: Sink>(
+    values: &Vec<W::Value>,
     out: &mut S,
 ) -> Result<(), S::Error>
     ensures written { OnOk result
-        (WritesSeq T.writes values.now.items (S.written out.old) (S.written out.new)) }
-    ensures exact { WritingList S.begin_returns S.end_returns (T.writing S.str_returns)
+        (WritesSeq W.writes values.now.items (S.written out.old) (S.written out.new)) }
+    ensures exact { WritingList S.begin_returns S.end_returns (W.writing S.str_returns)
         values.now.items out.old result out.new }
 {
     out.begin_list(values.len())?;
     for item in values {
-        item.serialize_string(out)?;
+        W::serialize_string(item, out)?;
     }
     out.end_list()
 }

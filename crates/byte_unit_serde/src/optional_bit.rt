@@ -24,7 +24,7 @@ pub fn serialize<S: Sink>(size: &Option<Bit>, out: &mut S) -> Result<(), S::Erro
     ensures exact { WritingOption S.none_returns (WritingSize InBits S.str_returns)
         size.now out.old result out.new }
 {
-    options::serialize(size, out)
+    options::serialize::<Bit, S>(size, out)
 }
 
 /// Reads nothing, or a string as [`crate::bit::deserialize`] does.

@@ -23,7 +23,7 @@ pub fn serialize<S: Sink>(size: &Option<Byte>, out: &mut S) -> Result<(), S::Err
     ensures exact { WritingOption S.none_returns (WritingSize InBytes S.str_returns)
         size.now out.old result out.new }
 {
-    options::serialize(size, out)
+    options::serialize::<Byte, S>(size, out)
 }
 
 /// Reads nothing, or a string as [`crate::byte::deserialize`] does.

@@ -22,7 +22,7 @@ pub fn serialize<S: Sink>(value: &Option<Unit>, out: &mut S) -> Result<(), S::Er
     ensures exact { WritingOption S.none_returns (λ unit. S.str_returns (unit_name unit))
         value.now out.old result out.new }
 {
-    options::serialize(value, out)
+    options::serialize::<Unit, S>(value, out)
 }
 
 /// Reads nothing, or a string as [`crate::unit::deserialize`] does.

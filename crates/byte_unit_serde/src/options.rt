@@ -10,22 +10,22 @@ use crate::{Sink, Source};
 use serde::Deserializer;
 use std::alloc::Global;
 
-/// Writes the string of the value, or nothing. Does not allocate.
+/// Writes the string of the value as `W` does, or nothing. Does not allocate.
 ///
 /// # Errors
 ///
 /// Returns the format's error if the format cannot write it.
-pub(crate) fn serialize<T: SerializeString, S: Sink>(
-    value: &Option<T>,
+pub(crate) fn serialize<W: SerializeString, S: Sink>(
+    value: &Option<W::Value>,
     out: &mut S,
 ) -> Result<(), S::Error>
     ensures written { OnOk result
-        (WritesOption T.writes value.now (S.written out.old) (S.written out.new)) }
-    ensures exact { WritingOption S.none_returns (T.writing S.str_returns)
+        (WritesOption W.writes value.now (S.written out.old) (S.written out.new)) }
+    ensures exact { WritingOption S.none_returns (W.writing S.str_returns)
         value.now out.old result out.new }
 {
     match value {
-        Some(value) => value.serialize_string(out),
+        Some(value) => W::serialize_string(value, out),
         None => out.write_none(),
     }
 }

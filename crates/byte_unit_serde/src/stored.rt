@@ -23,13 +23,13 @@ use std::alloc::Global;
 #[derive(Clone, Copy, Debug, PartialEq, Eq)]
 pub struct Stored<T>(pub T);
 
-impl<T: SerializeString> Described for Stored<T> {
+impl<T: SerializeString<Value = T>> Described for Stored<T> {
     ghost writes = { λ stored. T.writes stored.0 };
 }
 
-impl<T: SerializeString> Serialize for Stored<T> {
+impl<T: SerializeString<Value = T>> Serialize for Stored<T> {
     fn serialize<S: Serializer>(&self, out: &mut S) -> Result<(), S::Error> {
-        self.0.serialize_string(out)
+        T::serialize_string(&self.0, out)
     }
 }
 

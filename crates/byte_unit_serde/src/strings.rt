@@ -1,4 +1,4 @@
-//! What is stored as a string: how it is written, and the ways to read it.
+//! The ways to write and to read a value that is stored as a string.
 
 ghost use Rattle.std.specs.Prelude.{ℕ, List, IfOk, OnOk};
 ghost use Rattle.serde.specs.Event.{Log};
@@ -9,17 +9,20 @@ use crate::{Sink, Source};
 use serde::Deserializer;
 use std::alloc::Global;
 
-/// A value that is written as a string.
+/// A way to write a value as a string.
 pub trait SerializeString {
+    /// The type of the value.
+    type Value;
+
     // What is written for the value.
-    ghost writes: { Self → Log → Log → Type 0 };
+    ghost writes: { Self.Value → Log → Log → Type 0 };
     // What is returned, by what the call that writes a string returned.
-    ghost writing: { {D E : Type 0} → (List ℕ → Returns D Unit E) → Self → Returns D Unit E };
+    ghost writing: { {D E : Type 0} → (List ℕ → Returns D Unit E) → Self.Value → Returns D Unit E };
 
     /// Writes the string of the value.
-    fn serialize_string<S: Sink>(&self, out: &mut S) -> Result<(), S::Error>
-        ensures written { OnOk result (writes self.now (S.written out.old) (S.written out.new)) }
-        ensures exact { writing S.str_returns self.now out.old result out.new };
+    fn serialize_string<S: Sink>(value: &Self::Value, out: &mut S) -> Result<(), S::Error>
+        ensures written { OnOk result (writes value.now (S.written out.old) (S.written out.new)) }
+        ensures exact { writing S.str_returns value.now out.old result out.new };
 }
 
 /// A way to read a value from a string.

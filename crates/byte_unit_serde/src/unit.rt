@@ -42,12 +42,14 @@ pub fn deserialize<'de, F: Source>(
 }
 
 impl SerializeString for Unit {
+    type Value = Unit;
+
     ghost writes = { WritesUnit };
 
     ghost writing = { λ str_returns unit. str_returns (unit_name unit) };
 
-    fn serialize_string<S: Sink>(&self, out: &mut S) -> Result<(), S::Error> {
-        serialize(self, out)
+    fn serialize_string<S: Sink>(unit: &Unit, out: &mut S) -> Result<(), S::Error> {
+        serialize(unit, out)
     }
 }
 

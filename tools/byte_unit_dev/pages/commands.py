@@ -14,6 +14,7 @@ LINES_PROGRAM = "crates/byte_unit_lines/out/byte_unit_lines"
 COMMAND_PROGRAM = "crates/byte_unit_cli/out/byte_unit_cli"
 EXAMPLE, LITERAL = "crates/example_first", "crates/byte_unit_uses/src/literal.rt"
 FORMATS = "crates/byte_unit_tests/src/tests/format_strings.rt"
+PROGRAMS = "crates/byte_unit_tests/src/tests/programs.rt"
 
 
 def shell(command, folder, words=("bash", "-euo", "pipefail", "-c"), env=None):
@@ -96,7 +97,14 @@ def guide():
     tested = re.findall(r'\(\s*"(\{[^"]*\})",[^"]+,\s*"([^"]+)",\s*"([^"]+)",?\s*\)', read(FORMATS))
     if not rows or rows != tested:
         wrong.append(f"{GUIDE}: the format strings are\n{rows}\nbut those of {FORMATS}\n{tested}")
-    return wrong, f"{len(listed)} programs are the examples, {len(rows)} format strings those of the test"
+    plain = re.sub(r"\[(.*?)\]\(.*?\)", r"\1", page)
+    sizes = [(name.replace("`", ""), size, number.replace(",", ""), call) for name, size, number, call in
+             re.findall(r"^(.*) \| `(.+)` \| ([\d,]+) \| `([\w:]+)`$", plain, re.M)]  # fmt: skip
+    read_so = [(name, size, number.replace("_", ""), call) for name, size, number, call in
+               re.findall(r'^    \("(.+)", "(.+)", ([\d_]+), "([\w:]+)"\),$', read(PROGRAMS), re.M)]  # fmt: skip
+    if not sizes or sizes != read_so:
+        wrong.append(f"{GUIDE}: the sizes of programs are\n{sizes}\nbut those of {PROGRAMS}\n{read_so}")
+    return wrong, f"{len(listed)} programs are the examples, {len(rows)} format strings and {len(sizes)} sizes of tests"
 
 
 def command():

@@ -2,7 +2,7 @@
 use super::asserting::assert_is;
 use super::error_texts::assert_error;
 use byte_unit::Byte;
-use serde::{Deserialize, Serialize};
+use serde::{Deserialize, DeserializeOwned, Serialize};
 use std::alloc::{AllocError, Global};
 use std::process::Abort;
 
@@ -28,6 +28,25 @@ const SIZES: &[(&str, u64, &str)] = &rows! {
     (" 2g ", 2_000_000_000, "2 GB"),
 };
 
+/// Settings with a size, an optional size and a list of sizes.
+pub trait Sizes {
+    /// Returns the size and the optional size.
+    fn single(&self) -> (Byte, Option<Byte>);
+
+    /// Returns the list.
+    fn parts(&self) -> &[Byte];
+}
+
+impl Sizes for Settings {
+    fn single(&self) -> (Byte, Option<Byte>) {
+        (self.size, self.limit)
+    }
+
+    fn parts(&self) -> &[Byte] {
+        self.parts.as_slice()
+    }
+}
+
 /// Returns the JSON text of settings in which each size is this string.
 fn json_of(alloc: Global, text: &str) -> Result<String, AllocError> {
     format!(in alloc;
@@ -41,28 +60,49 @@ fn document_of(alloc: Global, text: &str) -> Result<String, AllocError> {
 }
 
 /// Asserts that each size of settings is of this number of bytes.
-fn assert_sizes(rt: &impl Abort, read: &Settings, number: u64) {
+fn assert_sizes<T: Sizes>(rt: &impl Abort, read: &T, number: u64) {
     let size = Byte::from_u64(number);
-    assert_is(rt, (read.size, read.limit), (size, Some(size)));
-    assert_is(rt, read.parts.as_slice(), [size, size].as_slice());
+    assert_is(rt, read.single(), (size, Some(size)));
+    assert_is(rt, read.parts(), [size, size].as_slice());
+}
+
+/// Asserts that settings are read in which each size is a string, and returns the settings from JSON and from TOML.
+pub fn assert_read<T: Sizes + DeserializeOwned>(
+    rt: &impl Abort,
+    alloc: Global,
+    text: &str,
+    number: u64,
+) -> (T, T) {
+    let json = json_of(alloc, text).expect(rt, "memory");
+    let value = serde_json::Value::from_str(alloc, json.as_str()).expect(rt, "a value");
+    let from_json: T = serde_json::from_value(alloc, value).expect(rt, text);
+    assert_sizes(rt, &from_json, number);
+    let document = document_of(alloc, text).expect(rt, "memory");
+    let from_toml: T = toml::from_str(alloc, document.as_str()).expect(rt, text);
+    assert_sizes(rt, &from_toml, number);
+    (from_json, from_toml)
+}
+
+/// Asserts that settings are read in which each size is a string, and written with other strings.
+pub fn assert_read_and_written<T: Sizes + Serialize + DeserializeOwned + Drop>(
+    rt: &impl Abort,
+    alloc: Global,
+    row: &(&str, u64, &str),
+) {
+    let (text, number, shown) = row;
+    let (from_json, from_toml): (T, T) = assert_read(rt, alloc, text, *number);
+    let written = serde_json::to_string(alloc, &from_json).expect(rt, "JSON");
+    let wanted = json_of(alloc, shown).expect(rt, "memory");
+    assert_is(rt, written.as_str(), wanted.as_str());
+    let written = toml::to_string(alloc, &from_toml).expect(rt, "TOML");
+    let wanted = document_of(alloc, shown).expect(rt, "memory");
+    assert_is(rt, written.as_str(), wanted.as_str());
 }
 
 #[test]
 fn case_is_ignored(rt: HostRuntime) {
-    let alloc = rt.alloc();
-    for (text, number, shown) in SIZES {
-        let json = json_of(alloc, text).expect(&rt, "memory");
-        let read: Settings = serde_json::from_str(alloc, json.as_str()).expect(&rt, text);
-        assert_sizes(&rt, &read, *number);
-        let written = serde_json::to_string(alloc, &read).expect(&rt, "JSON");
-        let wanted = json_of(alloc, shown).expect(&rt, "memory");
-        assert_is(&rt, written.as_str(), wanted.as_str());
-        let document = document_of(alloc, text).expect(&rt, "memory");
-        let read: Settings = toml::from_str(alloc, document.as_str()).expect(&rt, text);
-        assert_sizes(&rt, &read, *number);
-        let written = toml::to_string(alloc, &read).expect(&rt, "TOML");
-        let wanted = document_of(alloc, shown).expect(&rt, "memory");
-        assert_is(&rt, written.as_str(), wanted.as_str());
+    for row in SIZES {
+        assert_read_and_written::<Settings>(&rt, rt.alloc(), row);
     }
 }
 

@@ -12,7 +12,7 @@ returns-in_err-begin_list-clause-exact g c =
 pub returns-in_err-serialize_string-clause-exact : goal.returns-in_err-serialize_string-clause-exact
 returns-in_err-serialize_string-clause-exact g c =
     let values = c.deref-item-items.result.now in
-    let Writing = g.T.SerializeString.writing g.S.Sink.str_returns in
+    let Writing = g.W.SerializeString.writing g.S.Sink.str_returns in
     let begun : c.len.result ≡ length c.args.values.now.items = search rules in
     let before = subst (λ rest. Continues Writing g.S.Sink.end_returns values rest c.begin_list.new.self c.loop-item.out)
     (drop_value values c.loop-item.item-index c.item-item.result c.loop-item-test.true c.item-item.is)
@@ -31,12 +31,12 @@ returns-in_err-serialize_string-clause-exact g c =
 pub loop-item-preserved : goal.loop-item-preserved
 loop-item-preserved g c =
     let values = c.deref-item-items.result.now in
-    let Writing = g.T.SerializeString.writing g.S.Sink.str_returns in
+    let Writing = g.W.SerializeString.writing g.S.Sink.str_returns in
     let before = subst (λ rest. Continues Writing g.S.Sink.end_returns values rest c.begin_list.new.self c.loop-item.out)
     (drop_value values c.loop-item.item-index c.item-item.result c.loop-item-test.true c.item-item.is)
     c.loop-item.invariant.1 in
     let wrote : Writing c.item-item.result c.loop-item.out (Ok tt) c.serialize_string.new.out = search rules in (
-      WritesEach-more g.T.SerializeString.writes _ _ _ _ _ _ c.loop-item-test.true c.item-item.is c.loop-item.invariant.0
+      WritesEach-more g.W.SerializeString.writes _ _ _ _ _ _ c.loop-item-test.true c.item-item.is c.loop-item.invariant.0
           c.in_ok-serialize_string.ensures.written,
       continues_more Writing g.S.Sink.end_returns values _ c.item-item.result c.begin_list.new.self c.loop-item.out
           c.serialize_string.new.out before wrote,
@@ -45,14 +45,14 @@ loop-item-preserved g c =
 pub returns-clause-written : goal.returns-clause-written
 returns-clause-written g c =
     on_ok_weaker c.end_list.result
-    (WritesSeq-ends g.T.SerializeString.writes _ _ _ c.len.result _ _ _ _ c.deref-item-items.ensures.value (search rules)
+    (WritesSeq-ends g.W.SerializeString.writes _ _ _ c.len.result _ _ _ _ c.deref-item-items.ensures.value (search rules)
     c.loop-item-test.false c.in_ok-begin_list.ensures.written c.loop-item.invariant.0)
     c.end_list.ensures.written
 
 pub returns-clause-exact : goal.returns-clause-exact
 returns-clause-exact g c =
     let values = c.deref-item-items.result.now in
-    let Writing = g.T.SerializeString.writing g.S.Sink.str_returns in
+    let Writing = g.W.SerializeString.writing g.S.Sink.str_returns in
     let begun : c.len.result ≡ length c.args.values.now.items = search rules in
     let ended = continues_end Writing g.S.Sink.end_returns values c.loop-item.item-index c.begin_list.new.self
     c.loop-item.out c.end_list.new.self c.end_list.result c.loop-item.invariant.1 c.loop-item-test.false

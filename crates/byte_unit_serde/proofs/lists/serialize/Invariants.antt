@@ -6,7 +6,7 @@ use Rattle.byte_unit_serde.proofs.lists.serialize.Given as goal
 
 abbrev pub invariant-loop-item : goal.invariant-loop-item
 invariant-loop-item g l =
-    WritesEach g.T.SerializeString.writes (take l.item-index l.item-items) (g.S.Serializer.written l.initial.out)
+    WritesEach g.W.SerializeString.writes (take l.item-index l.item-items) (g.S.Serializer.written l.initial.out)
     (g.S.Serializer.written l.out)
-    × Continues (g.T.SerializeString.writing g.S.Sink.str_returns) g.S.Sink.end_returns l.item-items
+    × Continues (g.W.SerializeString.writing g.S.Sink.str_returns) g.S.Sink.end_returns l.item-items
     (drop l.item-index l.item-items) l.initial.out l.out

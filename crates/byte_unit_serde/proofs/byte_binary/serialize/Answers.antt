@@ -1,0 +1,9 @@
+-- A text by the spec that `spec_of` returns is the string to store.
+use Rattle.std.proofs.lemmas.Result.{on_ok_weaker}
+use Rattle.byte_unit_serde.proofs.byte_binary.serialize.Goals as goal
+
+pub returns-clause-written : goal.returns-clause-written
+returns-clause-written g c =
+    on_ok_weaker c.write_as.result
+    (λ wrote. (wrote.0, c.spec_of.ensures.string wrote.0 wrote.1, wrote.2))
+    c.write_as.ensures.written
