@@ -7,7 +7,7 @@ use Rattle.byte_unit_base.specs.Version.{current}
 use Rattle.byte_unit_base.specs.BinaryReading.{binary_of, IsBinaryAccepted}
 use Rattle.byte_unit_base.specs.Kinds.{own_unit}
 use Rattle.byte_unit_base.specs.LeastOfKind.{IsLeastOf}
-use Rattle.byte_unit_base.specs.Choice.{IsRecoveredIn}
+use Rattle.byte_unit_choice.specs.Choice.{IsRecoveredIn}
 use Rattle.byte_unit_base.specs.declared.kind.Kind.{Kind}
 use Rattle.byte_unit_format.specs.Forms.{IsText, IsSizeForm, default_precision}
 use Rattle.byte_unit_format.specs.NamedSpecs.{plain_spec, alternate_spec}

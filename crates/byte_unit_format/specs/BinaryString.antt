@@ -4,7 +4,7 @@ use Rattle.byte_unit_base.specs.Shape.{Shape}
 use Rattle.byte_unit_base.specs.Version.{current}
 use Rattle.byte_unit_base.specs.Accepted.{IsAccepted}
 use Rattle.byte_unit_base.specs.BinaryReading.{IsBinaryAccepted}
-use Rattle.byte_unit_base.specs.Choice.{IsRecoveredIn}
+use Rattle.byte_unit_choice.specs.Choice.{IsRecoveredIn}
 use Rattle.byte_unit_base.specs.declared.kind.Kind.{Kind}
 use Rattle.byte_unit_format.specs.Forms.{IsText, default_precision}
 use Rattle.byte_unit_format.specs.NamedSpecs.{plain_spec, alternate_spec}
