@@ -41,9 +41,9 @@ Exit status:
 /// Returns the command, with its options.
 ///
 /// The contract says what clap's parser reads of it: the name and the letter of each option, whether it takes a value,
-/// and which numbers are values. It does not say, and tests do, that `--ignore-case` excludes `--bits`, that `--field`
-/// needs `--delimiter`, that a number after `--header` needs `=`, that `--padding` takes a value with a hyphen, and the
-/// texts of the help and the version.
+/// and which numbers are values; and that the last of an option that is given twice holds. It does not say, and tests do,
+/// that `--ignore-case` excludes `--bits` and `--blanks` excludes `--delimiter`, that a number after `--header` needs `=`,
+/// that `--padding` and `--field` take a value with a hyphen, and the texts of the help and the version.
 ///
 /// # Errors
 ///
@@ -56,14 +56,23 @@ pub fn command<'a>(alloc: Global) -> Result<Command<'a>, AllocError>
         .version("3.0.0")
         .about("Converts sizes in bytes or bits, exactly: operands, or standard input.")
         .override_usage("byte-unit [OPTION].. [SIZE]..")
-        .after_help(AFTER_HELP);
+        .after_help(AFTER_HELP)
+        .args_override_self(true);
     command
         .arg(flag(alloc, "bits", "sizes are bits, not bytes"))?
         .arg(ignore_case(alloc)?)?
+        .arg(value(
+            alloc,
+            "from",
+            "PREFIXES",
+            "what K, M, .. mean in sizes: see below",
+        ))?
         .arg(value(alloc, "to", "UNIT", "convert to this unit or form"))?
         .arg(precision(alloc))?
+        .arg(human_readable(alloc))?
         .arg(delimiter(alloc))?
-        .arg(fields(alloc)?)?
+        .arg(blanks(alloc)?)?
+        .arg(fields(alloc))?
         .arg(header(alloc))?
         .arg(padding(alloc))?
         .arg(value(alloc, "invalid", "MODE", modes))?
@@ -116,6 +125,13 @@ fn precision<'a>(alloc: Global) -> Arg<'a>
         .value_parser(value_parser!(u16))
 }
 
+/// Returns the option for sizes that people read.
+fn human_readable<'a>(alloc: Global) -> Arg<'a>
+    ensures { line.IsArg line.human_readable result }
+{
+    flag(alloc, "human-readable", "as --to=auto -p 1").short('H')
+}
+
 /// Returns the option for the delimiter.
 fn delimiter<'a>(alloc: Global) -> Arg<'a>
     ensures { line.IsArg line.delimiter result }
@@ -124,16 +140,24 @@ fn delimiter<'a>(alloc: Global) -> Arg<'a>
     value(alloc, "delimiter", "C", help).short('d')
 }
 
-/// Returns the option for the fields.
+/// Returns the option that separates fields by blanks.
 ///
 /// # Errors
 ///
 /// Returns `AllocError` if allocation fails.
-fn fields<'a>(alloc: Global) -> Result<Arg<'a>, AllocError>
-    ensures { IfOk result (line.IsArg line.fields) }
+fn blanks<'a>(alloc: Global) -> Result<Arg<'a>, AllocError>
+    ensures { IfOk result (line.IsArg line.blanks) }
+{
+    let help = "fields are separated by blanks, as those of ls -l";
+    flag(alloc, "blanks", help).conflicts_with("delimiter")
+}
+
+/// Returns the option for the fields.
+fn fields<'a>(alloc: Global) -> Arg<'a>
+    ensures { line.IsArg line.fields result }
 {
     let help = "convert these fields [default: 1]";
-    value(alloc, "field", "FIELDS", help).requires_arg("delimiter")
+    value(alloc, "field", "FIELDS", help).allow_hyphen_values(true)
 }
 
 /// Returns the option for the width.
