@@ -128,6 +128,8 @@ def words_of(rng, name, text):
     option = OPTIONS[name]
     if text == option.alone and (text == "" or happens(rng, 70)):
         return [f"-{option.letter}" if option.letter and happens(rng, 70) else f"--{name}"]
+    if text == "":
+        return rng.choice([[f"--{name}="], [f"--{name}", ""], [f"-{option.letter}" if option.letter else f"--{name}", ""]])
     apart = option.alone is None and text and (text[0] != "-" or name in ("padding", "field")) and happens(rng, 40)
     if not option.letter or happens(rng, 50):
         return [f"--{name}", text] if apart else [f"--{name}={text}"]
@@ -240,7 +242,8 @@ def some_call(rng):
         wrong = [[f"--{name}={text}"]]
         texts.pop(name, None)
     groups = in_some_order(rng, [words_of(rng, name, text) for name, text in texts.items()] + wrong)
-    for name in rng.sample(sorted(texts), len(texts) and happens(rng, 20)):  # The last of an option holds.
+    if texts and happens(rng, 20):  # The last of an option holds.
+        name = rng.choice(sorted(texts))
         groups.insert(0, words_of(rng, name, DRAWN[name].text(rng, texts)))
     if make > 14:
         fields = some_records(rng, options, rng.choice([1, 1, 2, 5, 12]), rng.choice([0, 5, 30]))

@@ -188,12 +188,10 @@ class Run:
     def record(self, record, data):
         """Returns what is written for a record, without its end byte."""
         mark, place = self.options.delimiter, f"{self.word} {record}"
-        if mark is None:
-            return self.convert(place, data)
-        return mark.join(
-            self.convert(f"{place}: field {number}", part)
+        return (mark or b"").join(
+            self.convert(f"{place}: field {number}" if mark else place, part)
             if any(first <= number <= last for first, last in self.options.field) else part
-            for number, part in enumerate(data.split(mark), 1))
+            for number, part in enumerate(data.split(mark) if mark else [data], 1))
 
     def result(self, records, header, unread):
         written = []

@@ -150,7 +150,7 @@ FIELDS = [
     (["-d", ",", "--field", "-2"], b"1000,1000,1000\n", b"1 KB,1 KB,1000\n"),
     (["-d", "", "--field=1"], b"1000\n", b"1 KB\n"), (["-d", "", "--field=2"], b"1K,2K\n", b"1K,2K\n"),
     (["--delimiter=", "--invalid=warn"], b"1K,2K\n", b"1K,2K\n", 0,
-     told("line 1: '1K,2K'", unit(",", "('i', 'B' or 'b' or no character is expected)"))),
+     told("line 1: '1K,2K'", unit(",", "('B' or 'b' or no character is expected)"))),
     ("-d , --field=3", b"x,y\n1,2\n", b"x,y\n1,2\n"), ("-d , --field=18446744073709551615", b"x,y\n", b"x,y\n"),
     ("-d , --field=1-1", b"1024,1024\n", b"1 KiB,1024\n"), ("-d , --field=-", b"1024,1024\n", b"1 KiB,1 KiB\n"),
     ("-d , --field=3,1,1-2", b"1024,1024,1024,1024\n", b"1 KiB,1 KiB,1 KiB,1024\n"),

@@ -10,9 +10,12 @@ use std::alloc::{AllocError, Global};
 /// The units, the examples and the statuses at the end of the help. No line has more than 80 columns.
 const AFTER_HELP: &str = "\
 A SIZE is a number and a unit, such as 1.5 GiB, 100MB or 4096. A unit is a
-prefix, a suffix, or both. K, M, G, T, P, E, Z, Y and R are powers of 1000;
-Ki, Mi .. Ri are powers of 1024. B is bytes; b, bit and bits are bits.
-Without a suffix, sizes are bytes, or bits with --bits.
+prefix, a suffix, or both. K, M, G, T, P, E, Z, Y and R are powers of 1000, or
+of 1024 with --from=iec; Ki, Mi .. Ri are powers of 1024. B is bytes; b, bit
+and bits are bits. Without a suffix, sizes are bytes, or bits with --bits.
+
+The programs du, df and ls with -h mean 1024 by K: use --from=iec. PREFIXES is
+iec, or one of auto, si and iec-i, with which K is 1000.
 
 UNIT is such a unit, or one of these words:
   exact  the largest unit, not above the size, that represents it exactly with
@@ -23,11 +26,13 @@ UNIT is such a unit, or one of these words:
   iec    the largest binary unit that is not above the size
   auto   the larger of these two
 
-FIELDS is a list such as 2, 1,3 or 2-, as of cut.
+FIELDS is a list such as 2, 1,3, 2- or -3, as of cut.
 
 Examples:
   byte-unit '1.5 GiB' 100MB
-  du -sb * | byte-unit -d '\\t' --to=iec -p 1
+  du -h | byte-unit -d '\\t' --from=iec --to=plain
+  du -sb * | byte-unit -d '\\t' -H
+  ls -l | byte-unit --blanks --field=5 --header -H
   byte-unit --total < sizes
   byte-unit --max='20 GB' < sizes > /dev/null
 
@@ -65,7 +70,7 @@ pub fn command<'a>(alloc: Global) -> Result<Command<'a>, AllocError>
             alloc,
             "from",
             "PREFIXES",
-            "what K, M, .. mean in sizes: see below",
+            "iec: K, M, .. in sizes are powers of 1024",
         ))?
         .arg(value(alloc, "to", "UNIT", "convert to this unit or form"))?
         .arg(precision(alloc))?
@@ -148,7 +153,7 @@ fn delimiter<'a>(alloc: Global) -> Arg<'a>
 fn blanks<'a>(alloc: Global) -> Result<Arg<'a>, AllocError>
     ensures { IfOk result (line.IsArg line.blanks) }
 {
-    let help = "fields are separated by blanks, as those of ls -l";
+    let help = "fields are separated by blanks, as in ls -l";
     flag(alloc, "blanks", help).conflicts_with("delimiter")
 }
 
