@@ -25,7 +25,7 @@ _byte_unit() {
         ;;
     esac
     if [[ $cur == -* ]]; then
-        mapfile -t COMPREPLY < <(compgen -W '--bits --ignore-case --from= --to= --precision= --human-readable
+        mapfile -t COMPREPLY < <(compgen -W '--bits --ignore-case --from= --to= --no-unit --suffix= --precision= --human-readable
             --delimiter= --blanks --field= --header --padding= --invalid= --total --max= --min= --zero-terminated --help --version' -- "$cur")
         if [[ ${#COMPREPLY[@]} == 1 && ${COMPREPLY[0]} == *= ]]; then
             compopt -o nospace

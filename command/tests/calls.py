@@ -95,6 +95,8 @@ DRAWN = {
     "human-readable": Drawn(15),
     "from": Drawn(40, lambda rng, texts: rng.choice(["auto", "si", "iec", "iec", "iec", "iec-i"]), ("", "IEC", "iec")),
     "to": Drawn(70, some_to, ("", " ", "K", "mi", "kb", "bi", "BIT", "bits")),
+    "no-unit": Drawn(15, needs="to"),
+    "suffix": Drawn(15, lambda rng, texts: rng.choice(["/s", "ps", "B", " ", "", "-", "=", "\u00e9", "5", "x" * 90])),
     "precision": Drawn(50, some_precision),
     "delimiter": Drawn(50, lambda rng, texts: rng.choice([*DELIMITERS * 4, "", *map(chr, range(1, 128))]),
                        (",,", "\\n")),
@@ -130,7 +132,7 @@ def words_of(rng, name, text):
         return [f"-{option.letter}" if option.letter and happens(rng, 70) else f"--{name}"]
     if text == "":
         return rng.choice([[f"--{name}="], [f"--{name}", ""], [f"-{option.letter}" if option.letter else f"--{name}", ""]])
-    apart = option.alone is None and text and (text[0] != "-" or name in ("padding", "field")) and happens(rng, 40)
+    apart = option.alone is None and text and (text[0] != "-" or name in ("padding", "field", "suffix")) and happens(rng, 40)
     if not option.letter or happens(rng, 50):
         return [f"--{name}", text] if apart else [f"--{name}={text}"]
     if apart:
@@ -194,7 +196,8 @@ def good_field(rng, options):
     if happens(rng, 3):
         return (" " * rng.choice([0, 1, 40, 90]) + "0" * rng.choice([0, 1, 70, 300]) + "1.5 KB").encode()
     number = str(rng.randrange(10 ** rng.choice([1, 3, 5, 9]))) + rng.choice(["", ".5", ".25", ".125"])
-    return (number + " " * rng.randrange(2) + some_unit(rng, SUFFIXES)).encode()
+    suffix = options.suffix * (happens(rng, 90) if options.suffix else 0)
+    return (number + " " * rng.randrange(2) + some_unit(rng, SUFFIXES) + suffix).encode()
 
 
 def some_records(rng, options, number, odd):
@@ -235,7 +238,8 @@ def some_call(rng):
     make, texts, wrong = rng.randrange(20), {}, []
     for name, drawn in DRAWN.items():
         if drawn.without not in texts and drawn.needs in ("", *texts) and happens(rng, drawn.percent):
-            texts[name] = drawn.text(rng, texts)
+            if name != "no-unit" or texts["to"] not in set(FORMS) - {"plain"}:
+                texts[name] = drawn.text(rng, texts)
     options = options_of(texts)
     if make == 19:
         name, text = some_wrong_value(rng, texts)
@@ -244,7 +248,7 @@ def some_call(rng):
     groups = in_some_order(rng, [words_of(rng, name, text) for name, text in texts.items()] + wrong)
     if texts and happens(rng, 20):  # The last of an option holds.
         name = rng.choice(sorted(texts))
-        groups.insert(0, words_of(rng, name, DRAWN[name].text(rng, texts)))
+        groups.insert(0, words_of(rng, name, DRAWN[name].text(rng, {**texts, "to": "plain"})))
     if make > 14:
         fields = some_records(rng, options, rng.choice([1, 1, 2, 5, 12]), rng.choice([0, 5, 30]))
         operands = [rng.choice(["1KB\n", "\n", "1\n2"]) * happens(rng, 10) + field.decode(errors="replace")

@@ -73,7 +73,7 @@ def read(data, options):
 
 
 def limit(text, options):
-    size = read(text.encode(), options)
+    size = read(text.encode(), options)  # Without a suffix.
     if isinstance(size, Rejected):
         raise Wrong(size.message)
     return size
@@ -102,6 +102,10 @@ OPTIONS = {
     "from": Option("", "auto", lambda text, options: checked(
         text, text in ("auto", "si", "iec", "iec-i"), "not auto, si, iec or iec-i"), None),
     "to": Option("", lambda options: "auto" if options.human_readable else "exact", form, None),
+    "no-unit": Option("", False, lambda text, options: checked(
+        True, options.to == "plain" or options.to not in FORMS,
+        "needs --to=plain or --to with a unit, such as --to=MiB", False)),
+    "suffix": Option("", "", lambda text, options: text, None),
     "precision": Option("p", lambda options: 1 if options.human_readable else None, lambda text, options: checked(
         int(text), int(text) <= 28 or options.to != "exact", "above 28 in the form exact", False), None),
     "delimiter": Option("d", None, lambda text, options: checked(
@@ -150,6 +154,19 @@ def options_of(texts):
     return options
 
 
+# The beginnings of numbers with a unit, with any digits.
+VIABLE = re.compile(r"(?ai)[0-9]*|[0-9]+\.[0-9]*|[0-9]+(\.[0-9]+)? *([KMGTPEZYR]i?)?(b(i(ts?)?)?)?")
+
+
+def character(text, message):
+    """Returns which character of a text is wrong, for a message that names one; nothing if the text ends there."""
+    rest = text.lstrip(WHITE_SPACE).rstrip(WHITE_SPACE)
+    first = next((at for at in range(len(rest)) if not VIABLE.fullmatch(rest[: at + 1])), None)
+    if first is None or not message.startswith("the character '"):
+        return ""
+    return f" (character {len(text) - len(text.lstrip(WHITE_SPACE)) + first + 1})"
+
+
 class Aborted(Exception):
     """A field is not a size, and the run ends before its record."""
 
@@ -167,14 +184,17 @@ class Run:
     def shown(self, size):
         options = self.options
         text = text_of(size, options.kind, options.ignore_case, options.to, options.precision)
-        return (text.ljust(-options.padding) if options.padding < 0 else text.rjust(options.padding)).encode()
+        text = ((text.split(" ")[0] if options.no_unit else text) + options.suffix).encode()
+        return text.ljust(-options.padding) if options.padding < 0 else text.rjust(options.padding)
 
     def convert(self, place, data):
         options, named = self.options, f"{place}: {quoted(data)}"
-        size = read(data, options)
+        text = data.removesuffix(options.suffix.encode())
+        size = read(text, options)
         if isinstance(size, Rejected):
             if options.invalid != "ignore":
-                self.tell(f"{named}: {size.message.removeprefix('the text is ')}", 0 if options.invalid == "warn" else 2)
+                where = character(text.decode(errors="replace"), size.message)
+                self.tell(f"{named}: {size.message.removeprefix('the text is ')}{where}", 0 if options.invalid == "warn" else 2)
             if options.invalid == "abort":
                 raise Aborted
             return data

@@ -141,6 +141,12 @@ WRONG = {
     "--bits --max in bytes": ("max", lambda size, case: size // 8 if case.options.bits else size),
     "--bits --min in bytes": ("min", lambda size, case: size // 8 if case.options.bits else size),
     "-i not for --max": ("max", in_bits),
+    "the suffix is kept": ("suffix", lambda suffix, case: ""),
+    "the number of a byte for that of a character": ("messages", replaced(
+        rb"\(character [0-9]+\)", lambda found: found[0][:-1] + b"0)")),
+    "the number of a character of the line": ("messages", lambda text, case: re.sub(
+        rb"\(character ([0-9]+)\)", lambda found: b"(character %d)" % (int(found[1]) + bool(case.value("delimiter", None))), text)),
+    "no number of a character": ("messages", replaced(rb" \(character [0-9]+\)", b"")),
     "--from=iec ignored": ("from", lambda prefixes, case: "auto"),
     "--from=iec for every word": ("from", lambda prefixes, case: "iec"),
     "--max not by --from": ("max", lambda size, case: limit(

@@ -1,11 +1,12 @@
 -- Lemmas: what the parser has returned for a field.
-use Rattle.std.proofs.Common.{◌≡◌, ℕ, Bool, true, false, List, Option, Some, Result, Ok, Err, inr, sym, subst}
+use Rattle.std.proofs.Common.{◌≡◌, ℕ, Bool, true, false, List, [], Option, None, Some, Result, Ok, Err, inr, sym, subst}
+use Rattle.std.specs.Prelude.{IfSome, IfNone}
 use Rattle.std.specs.Str.{IsUtf8}
 use Rattle.byte_unit.specs.Errors.{size_fault}
 use Rattle.byte_unit.specs.Fault.{Fault}
 use Rattle.byte_unit.specs.declared.Kind.{Kind}
 use Rattle.byte_unit.specs.declared.ParseError.{ParseError}
-use Rattle.byte_unit_command.specs.Field.{IsNoSize, ignores_case}
+use Rattle.byte_unit_command.specs.Field.{IsSize, IsNoSize, IsSizeText, IsNoSizeText, ignores_case, without_suffix}
 use Rattle.byte_unit_command.specs.declared.options.Options.{Options}
 use Rattle.byte_unit_command.specs.Prefixes.{IsAcceptedBy, IsRejectedBy, IsReadingBy, IsBytesReadingBy}
 
@@ -37,7 +38,7 @@ fault-of false kind ignore_case field error reading = reading.fault
 pub no-size-of : (options : Options) (field : List ℕ) (binary : Bool) (kind : Kind)
     {answer : Option (Result ℕ ParseError)} {found : Result ℕ ParseError} {error : ParseError}
     → options.binary ≡ binary → options.kind ≡ kind → answer ≡ Some found → found ≡ Err error
-    → IsBytesReadingBy binary kind (ignores_case kind options.ignore_case) field answer → IsNoSize options field
+    → IsBytesReadingBy binary kind (ignores_case kind options.ignore_case) field answer → IsNoSizeText options field
 no-size-of options field binary kind {error} binary_is kind_is answer_is found_is reading =
     let case : Kind → Bool = λ kind. ignores_case kind options.ignore_case in
     let read = reading-of binary kind (case kind) field answer_is found_is reading in
@@ -45,3 +46,19 @@ no-size-of options field binary kind {error} binary_is kind_is answer_is found_i
     λ binary kind. IsUtf8 field × ((fault : Fault) × IsRejectedBy binary kind (case kind) field fault) in
     let here : Of binary kind = (read.0, (_, fault-of binary kind (case kind) field error read.1)) in
     inr (subst (λ binary. Of binary options.kind) (sym binary_is) (subst (λ kind. Of binary kind) (sym kind_is) here))
+
+-- a number that stands for a size, or for none, without a suffix
+pub found-size : (options : Options) (field : List ℕ) → options.suffix.now ≡ [] → (size no_size : ℕ)
+    (result : Option ℕ) → (¬ (size ≡ no_size) → IsSizeText options field size)
+    → IfSome result (λ n. (n ≡ size) × ¬ (size ≡ no_size)) → IfSome result (IsSize options field)
+found-size options field empty size no_size None is found = tt
+found-size options field empty size no_size (Some n) is found =
+    subst (λ n. IsSize options field n) (sym found.0)
+    (subst (λ suffix. IsSizeText options (without_suffix suffix field) size) (sym empty) (is found.1))
+
+pub found-none : (options : Options) (field : List ℕ) → options.suffix.now ≡ [] → (size no_size : ℕ)
+    (result : Option ℕ) → (size ≡ no_size → IsNoSizeText options field) → IfNone result (size ≡ no_size)
+    → IfNone result (IsNoSize options field)
+found-none options field empty size no_size None is found =
+    subst (λ suffix. IsNoSizeText options (without_suffix suffix field)) (sym empty) (is found)
+found-none options field empty size no_size (Some n) is found = tt

@@ -1,7 +1,7 @@
 -- Lemmas: fields and records about which there is no message.
 use Rattle.std.proofs.Common.{◌≡◌, ℕ, ◌+◌, ◌-◌, Bool, true, false, ◌||◌, List, [], ◌∷◌, ◌++◌, length, inl, inr}
 use Rattle.std.proofs.Common.{refl, sym, ap, subst, ◌∙◌, arith}
-use Rattle.byte_unit_command.specs.Field.{IsSize, IsNoSize, ignores_case}
+use Rattle.byte_unit_command.specs.Field.{IsSize, IsNoSize, ignores_case, without_suffix}
 use Rattle.byte_unit_command.specs.Fields.{IsChosen}
 use Rattle.byte_unit_command.specs.Laws.{TextsAreSizesOrNot}
 use Rattle.byte_unit_command.specs.Messages.{AreFieldMessages, AreLimitMessages, AreMessagesOfFields, AreRecordMessages}
@@ -23,12 +23,13 @@ no_size_is_rejected : TextsAreSizesOrNot → (options : Options) (field : List �
     → IsNoSize options field → ⊥
 no_size_is_rejected law options field n is (inl no_text) = no_text is.0
 no_size_is_rejected law options field n is (inr rejects) =
-    (law options.binary options.kind (ignores_case options.kind options.ignore_case) field).not_both n rejects.1.0 is.1 rejects.1.1
+    (law options.binary options.kind (ignores_case options.kind options.ignore_case) (without_suffix options.suffix.now
+    field)).not_both n rejects.1.0 is.1 rejects.1.1
 
 module _ (options : Options) (word : List ℕ) (place number : ℕ) (field : List ℕ) where
   -- a message is not empty
   IsMessage-some : (reason : FieldError) → IsMessage options word place number field reason [] → ⊥
-  IsMessage-some reason (words, are, is) = cc
+  IsMessage-some reason (words, character, are, place, is) = cc
 
   IsMessageIf-none : (told : Bool) (reason : FieldError) (text : List ℕ) → text ≡ []
       → IsMessageIf told options word place number field reason text → told ≡ false
@@ -48,7 +49,8 @@ module _ (options : Options) (word : List ℕ) (place number : ℕ) (field : Lis
       ≡ false
   within-untold law n is_rejected chosen is (other not _ _) = absurd (not chosen)
   within-untold law n is_rejected chosen is (size same _ also _ messages) =
-      let one = (law options.binary options.kind (ignores_case options.kind options.ignore_case) field).one_meaning same n also.1 is.1 in
+      let one = (law options.binary options.kind (ignores_case options.kind options.ignore_case) (without_suffix options.suffix.now
+      field)).one_meaning same n also.1 is.1 in
       subst (λ n. is_beyond options n ≡ false) one (limits-none same messages)
   within-untold law n is_rejected chosen is (rejected reason _ _ _ _ message) = absurd (IsMessage-some reason message)
   within-untold law n is_rejected chosen is (ignored _ none _ _ _) =

@@ -5,9 +5,9 @@ use Rattle.byte_unit_command.specs.CallOptions.{IsWrongOf, IsFirstWrong, kind_of
 use Rattle.byte_unit_command.specs.CallOptions.{IsWrongPrecision, AreFieldsSeparated, IsWrongField, FormIsRight}
 use Rattle.byte_unit_command.specs.CallOptions.{FieldsAreRight, PaddingIsRight, ModeIsRight}
 use Rattle.byte_unit_command.specs.CallOptions.{wrong_to, wrong_precision, wrong_delimiter, wrong_field, wrong_padding}
-use Rattle.byte_unit_command.specs.CallOptions.{wrong_invalid, wrong_max, wrong_min}
+use Rattle.byte_unit_command.specs.CallOptions.{wrong_no_unit, wrong_invalid, wrong_max, wrong_min, IsWrongNoUnit}
 use Rattle.byte_unit_command.specs.Meaning.{IsFrom, IsForm, IsNoForm, IsDelimiter, IsNoDelimiter, IsPadding, IsNoPadding}
-use Rattle.byte_unit_command.specs.Meaning.{IsMode, IsNoMode, IsLimit, IsNoLimit}
+use Rattle.byte_unit_command.specs.Meaning.{IsMode, IsNoMode, IsLimit, IsNoLimit, IsShownForm}
 use Rattle.byte_unit_command.specs.Values.{text_of}
 use Rattle.byte_unit_command.specs.declared.options.Form.{Form}
 use Rattle.byte_unit_command.specs.declared.options.Invalid.{Invalid}
@@ -32,9 +32,14 @@ module _ (values : Values) (wrong : Wrong) {kind : Kind} (kind_is : kind ≡ kin
     pub is_wrong_precision : IsWrongPrecision form values.precision wrong → IsFirstWrong values wrong
     is_wrong_precision is = wrong_precision binary is_from form form_here is
 
-    module _ (within : IsWithinExact form values.precision) where
+    pub is_wrong_no_unit : IsWithinExact form values.precision → IsWrongNoUnit values.no_unit form wrong
+        → IsFirstWrong values wrong
+    is_wrong_no_unit within is = wrong_no_unit binary is_from form form_here within is
+
+    module _ (within : IsWithinExact form values.precision) (shown : Form)
+        (is_shown : IsShownForm values.no_unit form shown) where
       form_right : FormIsRight values
-      form_right = (form, form_here, within)
+      form_right = (form, form_here, within, (shown, is_shown))
 
       pub is_wrong_delimiter : IsWrongOf (codes "--delimiter") values.delimiter IsNoDelimiter wrong
           → IsFirstWrong values wrong

@@ -1,11 +1,11 @@
 -- The options of a call, by the values of its options.
-use Rattle.std.specs.Prelude.{◌≡◌, ℕ, ◌≤◌, ⊤, ◌⊎◌, Bool, true, false, if◌then◌else◌, List, Option, None, Some}
+use Rattle.std.specs.Prelude.{◌≡◌, ℕ, ◌≤◌, ⊤, ◌⊎◌, Bool, true, false, if◌then◌else◌, List, [], Option, None, Some}
 use Rattle.std.specs.Prelude.{MatchOption, unwrap_or, is_some, codes}
 use Rattle.std.specs.Borrow.{Bor}
 use Rattle.byte_unit.specs.declared.Kind.{Kind}
 use Rattle.byte_unit.specs.declared.Kind.TheVariants.{Byte, Bit}
 use Rattle.byte_unit.specs.declared.UnitType.TheVariants.{Both}
-use Rattle.byte_unit_command.specs.Meaning.{IsFrom, IsNoFrom}
+use Rattle.byte_unit_command.specs.Meaning.{IsFrom, IsNoFrom, IsShownForm}
 use Rattle.byte_unit_command.specs.Meaning.{IsForm, IsNoForm, IsDelimiter, IsNoDelimiter, IsPadding, IsNoPadding}
 use Rattle.byte_unit_command.specs.Meaning.{IsMode, IsNoMode, IsLimit, IsNoLimit}
 use Rattle.byte_unit_command.specs.Values.{text_of}
@@ -16,7 +16,7 @@ use Rattle.byte_unit_command.specs.declared.options.Invalid.{Invalid}
 use Rattle.byte_unit_command.specs.declared.options.Options.{Options}
 use Rattle.byte_unit_command.specs.declared.values.Values.{Values}
 use Rattle.byte_unit_command.specs.declared.wrong.ValueError.{ValueError}
-use Rattle.byte_unit_command.specs.declared.wrong.ValueError.TheVariants.{Precision, NoDelimiter}
+use Rattle.byte_unit_command.specs.declared.wrong.ValueError.TheVariants.{NoUnit, Precision, NoDelimiter}
 use Rattle.byte_unit_command.specs.declared.wrong.Wrong.{Wrong}
 
 -- the kind of the sizes: bits with `--bits`, and bytes without it
@@ -42,7 +42,8 @@ pub record AreOptions (values : Values) (ranges : List FieldRange) (options : Op
   pub kind : options.kind ≡ kind_of values.bits
   pub ignore_case : options.ignore_case ≡ values.ignore_case
   pub binary : IsFrom (text_of values.from) options.binary
-  pub form : IsFormOf values options.form
+  pub form : (given : Form) × IsFormOf values given × IsShownForm values.no_unit given options.form
+  pub suffix : options.suffix.now ≡ unwrap_or (text_of values.suffix) []
   pub precision : options.precision ≡ precision_of values.human_readable values.precision
   pub padding : IsPadding (text_of values.padding) options.width options.align_left
   pub delimiter : IsDelimiter (text_of values.delimiter) options.delimiter
@@ -73,6 +74,12 @@ IsWrongPrecision form precision wrong =
     ¬ IsWithinExact form precision × (wrong.option.now ≡ codes "--precision") × (wrong.value ≡ None)
     × (wrong.reason ≡ Precision)
 
+-- `--no-unit` in a form without one unit for all sizes
+abbrev pub IsWrongNoUnit : Bool → Form → Wrong → Type 0
+IsWrongNoUnit no_unit given wrong =
+    ((form : Form) → ¬ IsShownForm no_unit given form) × (wrong.option.now ≡ codes "--no-unit") × (wrong.value ≡ None)
+    × (wrong.reason ≡ NoUnit)
+
 -- there is something that separates fields, if `--field` names some
 abbrev pub AreFieldsSeparated : Values → Type 0
 AreFieldsSeparated values =
@@ -89,7 +96,9 @@ pub record IsWrongField (values : Values) (wrong : Wrong) : Type 0 where
 
 -- what is right before an option, in the order in which they are looked at
 abbrev pub FormIsRight : Values → Type 0
-FormIsRight values = (form : Form) × IsFormOf values form × IsWithinExact form values.precision
+FormIsRight values =
+    (given : Form) × IsFormOf values given × IsWithinExact given values.precision
+    × ((form : Form) × IsShownForm values.no_unit given form)
 
 abbrev pub FieldsAreRight : Values → Type 0
 FieldsAreRight values =
@@ -111,6 +120,8 @@ pub data IsFirstWrong (values : Values) (wrong : Wrong) : Type 0 where
       → IsFirstWrong values wrong
   wrong_precision : (binary : Bool) → IsFrom (text_of values.from) binary → (form : Form) → IsFormOf values form
       → IsWrongPrecision form values.precision wrong → IsFirstWrong values wrong
+  wrong_no_unit : (binary : Bool) → IsFrom (text_of values.from) binary → (given : Form) → IsFormOf values given
+      → IsWithinExact given values.precision → IsWrongNoUnit values.no_unit given wrong → IsFirstWrong values wrong
   wrong_delimiter : (binary : Bool) → IsFrom (text_of values.from) binary → FormIsRight values
       → IsWrongOf (codes "--delimiter") values.delimiter IsNoDelimiter wrong → IsFirstWrong values wrong
   wrong_field : (binary : Bool) → IsFrom (text_of values.from) binary → FormIsRight values

@@ -38,6 +38,9 @@ blanks = record (flag (codes "blanks")) { is_free = false }
 abbrev pub fields : Rule
 fields = record (value (codes "field")) { is_simple = false }
 
+abbrev pub suffix : Rule
+suffix = record (value (codes "suffix")) { is_simple = false }
+
 abbrev pub header : Rule
 header = record (value (codes "header")) {
   range = Some (record { start_inclusive = 0; end_inclusive = 1 });
@@ -61,8 +64,8 @@ operands = record (new_rule (codes "SIZE")) {
 -- all of them, in the order of the help
 abbrev pub rules : List Rule
 rules =
-    flag (codes "bits") ∷ ignore_case ∷ value (codes "from") ∷ value (codes "to") ∷ precision ∷ human_readable
-    ∷ delimiter ∷ blanks ∷ fields ∷ header ∷ padding ∷ value (codes "invalid") ∷ flag (codes "total") ∷ value (codes "max") ∷ value (codes "min") ∷ zero_terminated
+    flag (codes "bits") ∷ ignore_case ∷ value (codes "from") ∷ value (codes "to") ∷ flag (codes "no-unit")
+    ∷ suffix ∷ precision ∷ human_readable ∷ delimiter ∷ blanks ∷ fields ∷ header ∷ padding ∷ value (codes "invalid") ∷ flag (codes "total") ∷ value (codes "max") ∷ value (codes "min") ∷ zero_terminated
     ∷ operands ∷ []
 
 -- the command, which has a version. The last of an option that is given more than once holds

@@ -19,4 +19,5 @@ pub mod Operands
 pub mod CommandLine
 pub mod Told
 pub mod WrongText
+pub mod WrongCharacter
 pub mod Capacity

@@ -16,7 +16,7 @@ use Rattle.byte_unit_command.specs.Field.{ignores_case}
 use Rattle.byte_unit_command.specs.Positive.{IsPositive}
 use Rattle.byte_unit_command.specs.Prefixes.{IsAcceptedBy, IsRejectedBy}
 use Rattle.byte_unit_command.specs.declared.options.Form.{Form}
-use Rattle.byte_unit_command.specs.declared.options.Form.TheVariants.{Exact, Plain, InUnit, Largest}
+use Rattle.byte_unit_command.specs.declared.options.Form.TheVariants.{Exact, Plain, InUnit, NumberOf, Largest}
 use Rattle.byte_unit_command.specs.declared.options.Invalid.{Invalid}
 use Rattle.byte_unit_command.specs.declared.options.Invalid.TheVariants.{Abort, Fail, Warn, Ignore}
 use Rattle.byte_unit_command.specs.declared.wrong.ValueError.{ValueError}
@@ -61,6 +61,13 @@ IsNoUnitName kind ignore_case text _ = ⊥
 abbrev pub IsNoForm : Kind → Bool → List ℕ → ValueError → Type 0
 IsNoForm kind ignore_case text reason =
     ((form : Form) → ¬ IsFormWord text form) × IsNoUnitName kind ignore_case text reason
+
+-- `--no-unit`: the number alone, in the unit of `--to`; digits have no unit. No other form has one unit for all sizes
+abbrev pub IsShownForm : Bool → Form → Form → Type 0
+IsShownForm false given form = form ≡ given
+IsShownForm true (InUnit unit) form = form ≡ NumberOf unit
+IsShownForm true Plain form = form ≡ Plain
+IsShownForm true given form = ⊥
 
 -- `--delimiter`: one byte, or `\t` for a tab; nothing for none
 abbrev pub IsDelimiter : Option (List ℕ) → Option ℕ → Type 0

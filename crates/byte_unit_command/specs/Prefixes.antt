@@ -1,4 +1,4 @@
--- How the prefixes in an input are read: as they are, or all by 1024. An input is given by its UTF-8 bytes.
+-- How prefixes are read: as they are, or by 1024. An input is given by its UTF-8 bytes.
 use Rattle.std.specs.Prelude.{ℕ, Bool, MatchBool, List, Option, Result}
 use Rattle.byte_unit.specs.Accepted.{IsAccepted, IsRejected}
 use Rattle.byte_unit.specs.BinaryReading.{IsBinaryAccepted, IsBinaryRejected, IsBinaryReading, IsBinaryBytesReading}

@@ -4,8 +4,8 @@ use Rattle.std.specs.Borrow.{Bor}
 use Rattle.byte_unit.specs.FaultText.{parse_text, unit_text}
 use Rattle.byte_unit_command.specs.Messages.{quote}
 use Rattle.byte_unit_command.specs.declared.wrong.ValueError.{ValueError}
-use Rattle.byte_unit_command.specs.declared.wrong.ValueError.TheVariants.{Unit as UnitFault, Blank, Precision, Delimiter}
-use Rattle.byte_unit_command.specs.declared.wrong.ValueError.TheVariants.{From, NoDelimiter, Fields, Padding, Mode, Size}
+use Rattle.byte_unit_command.specs.declared.wrong.ValueError.TheVariants.{Unit as UnitFault, Blank, NoUnit, Precision}
+use Rattle.byte_unit_command.specs.declared.wrong.ValueError.TheVariants.{From, Delimiter, NoDelimiter, Fields, Padding, Mode, Size}
 use Rattle.byte_unit_command.specs.declared.wrong.Wrong.{Wrong}
 
 -- the words for a reason. An error of the library has its message; where the library's contract says nothing of that,
@@ -15,6 +15,7 @@ AreReasonWords (UnitFault error) words =
     IfSome (unit_text error) (λ text. words ≡ codes "not a form or a unit: " ++ text)
 AreReasonWords Blank words = words ≡ codes "not a form or a unit"
 AreReasonWords From words = words ≡ codes "not auto, si, iec or iec-i"
+AreReasonWords NoUnit words = words ≡ codes "needs --to=plain or --to with a unit, such as --to=MiB"
 AreReasonWords Precision words = words ≡ codes "above 28 in the form exact"
 AreReasonWords Delimiter words = words ≡ codes "not one character of one byte"
 AreReasonWords NoDelimiter words = words ≡ codes "needs -d or --blanks, by which fields are separated"

@@ -48,7 +48,7 @@ Exit status:
 /// The contract says what clap's parser reads of it: the name and the letter of each option, whether it takes a value,
 /// and which numbers are values; and that the last of an option that is given twice holds. It does not say, and tests do,
 /// that `--ignore-case` excludes `--bits` and `--blanks` excludes `--delimiter`, that a number after `--header` needs `=`,
-/// that `--padding` and `--field` take a value with a hyphen, and the texts of the help and the version.
+/// that `--padding`, `--field` and `--suffix` take a value with a hyphen, and the texts of the help and the version.
 ///
 /// # Errors
 ///
@@ -73,6 +73,8 @@ pub fn command<'a>(alloc: Global) -> Result<Command<'a>, AllocError>
             "iec: K, M, .. in sizes are powers of 1024",
         ))?
         .arg(value(alloc, "to", "UNIT", "convert to this unit or form"))?
+        .arg(flag(alloc, "no-unit", "with a unit in --to, its number alone"))?
+        .arg(suffix(alloc))?
         .arg(precision(alloc))?
         .arg(human_readable(alloc))?
         .arg(delimiter(alloc))?
@@ -119,6 +121,14 @@ fn ignore_case<'a>(alloc: Global) -> Result<Arg<'a>, AllocError>
     flag(alloc, "ignore-case", "ignore case; b then means bytes")
         .short('i')
         .conflicts_with("bits")
+}
+
+/// Returns the option for the suffix.
+fn suffix<'a>(alloc: Global) -> Arg<'a>
+    ensures { line.IsArg line.suffix result }
+{
+    let help = "text after sizes, as /s; not needed in the input";
+    value(alloc, "suffix", "TEXT", help).allow_hyphen_values(true)
 }
 
 /// Returns the option for the number of digits after the point.

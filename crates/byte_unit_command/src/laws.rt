@@ -5,7 +5,7 @@ ghost use Rattle.byte_unit_command.specs.Laws.{TextsAreSizesOrNot, ShownSizesAre
 use byte_unit::laws;
 
 /// States that each text is a size or not, and has one size or one error, whether `K` is 1000 or 1024.
-pub fn texts_are_sizes_or_not()
+pub(crate) fn texts_are_sizes_or_not()
     ensures { TextsAreSizesOrNot }
 {
     laws::texts_are_accepted_or_refused();

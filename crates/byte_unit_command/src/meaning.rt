@@ -1,12 +1,14 @@
 //! What the values of the options of a call mean.
 
-ghost use Rattle.std.specs.Prelude.{◌≡◌, ℕ, Bool, MatchOption, MatchResult, IfOk, IfErr, codes};
+ghost use Rattle.std.specs.Prelude.{◌≡◌, ℕ, Bool, [], MatchOption, MatchResult, IfOk, IfErr, codes};
 ghost use Rattle.std.specs.Prelude.{unwrap_or, if◌then◌else◌};
 ghost use Rattle.byte_unit_command.specs.CallOptions.{AreOptions, IsFirstWrong, IsWrongOf, kind_of};
 ghost use Rattle.byte_unit_command.specs.CallOptions.{form_without, precision_of, IsWithinExact, IsWrongPrecision};
+ghost use Rattle.byte_unit_command.specs.CallOptions.{IsWrongNoUnit};
 ghost use Rattle.byte_unit_command.specs.CallOptions.{AreFieldsSeparated, IsWrongField};
 ghost use Rattle.byte_unit_command.specs.Field.{ignores_case};
-ghost use Rattle.byte_unit_command.specs.Meaning.{IsFrom, IsNoFrom, IsForm, IsNoForm, IsUnitName, IsNoUnitName};
+ghost use Rattle.byte_unit_command.specs.Meaning.{IsFrom, IsNoFrom, IsForm, IsNoForm, IsShownForm};
+ghost use Rattle.byte_unit_command.specs.Meaning.{IsUnitName, IsNoUnitName};
 ghost use Rattle.byte_unit_command.specs.Meaning.{IsDelimiter, IsNoDelimiter, IsPadding, IsNoPadding, IsWidth};
 ghost use Rattle.byte_unit_command.specs.Meaning.{IsMode, IsNoMode, IsLimit, IsNoLimit};
 ghost use Rattle.byte_unit_command.specs.Prefixes.{IsReadingBy};
@@ -25,19 +27,20 @@ const DECIMAL_PLACES: u16 = 28;
 ///
 /// # Errors
 ///
-/// Returns the first option that is wrong, in the order of `--from`, `--to`, `--precision`, `--delimiter`, `--field`,
-/// `--padding`, `--invalid`, `--max` and `--min`.
-pub fn options_of<'a, 'b>(
+/// Returns the first option that is wrong, in the order of `--from`, `--to`, `--precision`, `--no-unit`, `--delimiter`,
+/// `--field`, `--padding`, `--invalid`, `--max` and `--min`.
+pub fn options_of<'a>(
     values: &Values<'a>,
-    fields: &'b [FieldRange],
-) -> Result<Options<'b>, Wrong<'a>>
+    fields: &'a [FieldRange],
+) -> Result<Options<'a>, Wrong<'a>>
     ensures ok { IfOk result (AreOptions values.now fields.now) }
     ensures err { IfErr result (IsFirstWrong values.now) }
 {
     let kind = kind_of(values.bits);
     let binary = from_of(values.from)?;
-    let form = form_of(values.to, values.human_readable, kind, values.ignore_case)?;
-    exact_precision(form, values.precision)?;
+    let given = form_of(values.to, values.human_readable, kind, values.ignore_case)?;
+    exact_precision(given, values.precision)?;
+    let form = shown_form(values.no_unit, given)?;
     let delimiter = delimiter_of(values.delimiter)?;
     separated_fields(values)?;
     let (width, align_left) = padding_of(values.padding)?;
@@ -51,6 +54,7 @@ pub fn options_of<'a, 'b>(
         binary,
         form,
         precision: precision_of(values.human_readable, values.precision),
+        suffix: suffix_of(values.suffix),
         width,
         align_left,
         delimiter,
@@ -174,6 +178,39 @@ fn exact_precision<'a>(form: Form, value: Option<u16>) -> Result<(), Wrong<'a>>
         });
     }
     Ok(())
+}
+
+/// Returns the form with or without the unit.
+///
+/// # Errors
+///
+/// Returns an error if there is no unit that could be left out.
+fn shown_form<'a>(no_unit: bool, given: Form) -> Result<Form, Wrong<'a>>
+    ensures ok { IfOk result (IsShownForm no_unit given) }
+    ensures err { IfErr result (IsWrongNoUnit no_unit given) }
+{
+    if !no_unit {
+        return Ok(given);
+    }
+    match given {
+        Form::InUnit(unit) => Ok(Form::NumberOf(unit)),
+        Form::Plain => Ok(Form::Plain),
+        Form::Exact | Form::NumberOf(_) | Form::Largest(_) => Err(Wrong {
+            option: "--no-unit",
+            value: None,
+            reason: ValueError::NoUnit,
+        }),
+    }
+}
+
+/// Returns the suffix; nothing for none.
+fn suffix_of<'a>(value: Option<&'a str>) -> &'a [u8]
+    ensures { result.now ≡ unwrap_or (text_of value.entry) [] }
+{
+    match value {
+        Some(suffix) => suffix.as_bytes(),
+        None => b"",
+    }
 }
 
 /// Returns the unit that a value spells. White space alone, which the library parses as the unit without a prefix, is

@@ -11,6 +11,8 @@ pub enum Form {
     Plain,
     /// In this unit.
     InUnit(Unit),
+    /// As the number of this unit, without the unit.
+    NumberOf(Unit),
     /// In the largest unit of the type that is not above the size.
     Largest(UnitType),
 }
@@ -50,6 +52,8 @@ pub struct Options<'a> {
     pub form: Form,
     /// The number of digits after the point.
     pub precision: Option<u16>,
+    /// What follows the text of a size, and is taken off before a field is read; nothing for none.
+    pub suffix: &'a [u8],
     /// The least number of columns of a size.
     pub width: u16,
     /// Whether the spaces that fill the width are after the size, and not before it.

@@ -1,7 +1,7 @@
 //! Appends the text of a size.
 
 ghost use Rattle.std.specs.Prelude.{◌≡◌, ◌+◌, ◌<◌, ◌≤◌, ◌++◌, ℕ, List, length, max, take, replicate, OnOk, IsOk};
-ghost use Rattle.std.specs.Prelude.{vec_len, vec_capacity};
+ghost use Rattle.std.specs.Prelude.{true, [], vec_len, vec_capacity};
 ghost use Rattle.byte_unit.specs.Bounds.{size_limit};
 ghost use Rattle.byte_unit.specs.Forms.{text_limit};
 ghost use Rattle.byte_unit_command.specs.Capacity.{short_room, text_room};
@@ -39,10 +39,21 @@ pub(crate) fn add_size<A: Allocator>(
     ensures capacity { vec_capacity text.old ≤ vec_capacity text.new }
 {
     let len = write_size(options, size, digits);
-    if options.width == 0 {
+    if is_bare(options) {
         return add_first(digits, len, text);
     }
-    add_padded(options.width, options.align_left, &digits[..len], text)
+    add_padded(options, &digits[..len], text)
+}
+
+/// Returns `true` if sizes have neither a width nor a suffix.
+#[inline(always)]
+fn is_bare(options: &Options) -> bool
+    ensures { result ≡ true → (options.now.width ≡ 0) × (options.now.suffix.now ≡ []) }
+{
+    match options.suffix {
+        [] => options.width == 0,
+        [_, ..] => false,
+    }
 }
 
 /// Appends the first `len` of `bytes`.
@@ -74,32 +85,36 @@ fn add_first<A: Allocator>(
     Ok(())
 }
 
-/// Appends `bytes`, with the spaces that it lacks of the width.
+/// Appends `bytes` and the suffix, with the spaces that these lack of the width.
 ///
 /// # Errors
 ///
 /// Returns `AllocError` if allocation fails.
 fn add_padded<A: Allocator>(
-    width: u16,
-    align_left: bool,
+    options: &Options,
     bytes: &[u8],
     text: &mut Vec<u8, A>,
 ) -> Result<(), AllocError>
-    ensures ok { OnOk result
-        (text.new.items ≡ text.old.items ++ padded width align_left bytes.now) }
+    ensures ok { OnOk result (text.new.items ≡ text.old.items
+        ++ padded options.now.width options.now.align_left (bytes.now ++ options.now.suffix.now)) }
     ensures kept { IsPrefix text.old.items text.new.items }
-    ensures succeeds { vec_len text.old + max width (length bytes.now) ≤ vec_capacity text.old
-        → IsOk result }
-    ensures len { vec_len text.new ≤ vec_len text.old + max width (length bytes.now) }
+    ensures succeeds { vec_len text.old
+        + max options.now.width (length bytes.now + length options.now.suffix.now)
+        ≤ vec_capacity text.old → IsOk result }
+    ensures len { vec_len text.new ≤ vec_len text.old
+        + max options.now.width (length bytes.now + length options.now.suffix.now) }
     ensures capacity { vec_capacity text.old ≤ vec_capacity text.new }
 {
-    let missing = (width as usize).saturating_sub(bytes.len());
-    if align_left {
+    let len = bytes.len().saturating_add(options.suffix.len());
+    let missing = (options.width as usize).saturating_sub(len);
+    if options.align_left {
         text.extend_from_slice(bytes)?;
+        text.extend_from_slice(options.suffix)?;
         add_spaces(missing, text)
     } else {
         add_spaces(missing, text)?;
-        text.extend_from_slice(bytes)
+        text.extend_from_slice(bytes)?;
+        text.extend_from_slice(options.suffix)
     }
 }
 

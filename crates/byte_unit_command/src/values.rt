@@ -17,6 +17,10 @@ pub struct Values<'a> {
     pub from: Option<&'a str>,
     /// The value of `--to`.
     pub to: Option<&'a str>,
+    /// Whether `--no-unit` is given.
+    pub no_unit: bool,
+    /// The value of `--suffix`.
+    pub suffix: Option<&'a str>,
     /// The value of `--precision`.
     pub precision: Option<u16>,
     /// The value of `--delimiter`.
@@ -53,6 +57,8 @@ pub fn values_of<'a>(matches: &ArgMatches<'a>) -> Values<'a>
         human_readable: matches.get_flag("human-readable"),
         from: matches.get_str("from"),
         to: matches.get_str("to"),
+        no_unit: matches.get_flag("no-unit"),
+        suffix: matches.get_str("suffix"),
         precision: matches.get_one::<u16>("precision"),
         delimiter: matches.get_str("delimiter"),
         blanks: matches.get_flag("blanks"),

@@ -29,6 +29,8 @@ pub enum ValueError {
     Blank,
     /// It does not say how prefixes are read.
     From,
+    /// The form has no one unit that could be left out.
+    NoUnit,
     /// The exact form never has so many digits after the point.
     Precision,
     /// It is not a delimiter.
@@ -102,6 +104,9 @@ fn add_reason(alloc: Global, reason: &ValueError, message: &mut String) -> Resul
         }
         ValueError::Blank => words.push_str("not a form or a unit")?,
         ValueError::From => words.push_str("not auto, si, iec or iec-i")?,
+        ValueError::NoUnit => {
+            words.push_str("needs --to=plain or --to with a unit, such as --to=MiB")?
+        }
         ValueError::Precision => words.push_str("above 28 in the form exact")?,
         ValueError::Delimiter => words.push_str("not one character of one byte")?,
         ValueError::NoDelimiter => {

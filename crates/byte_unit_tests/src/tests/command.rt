@@ -22,6 +22,7 @@ pub const PLAIN: Options<'static> = Options {
     binary: false,
     form: Form::Exact,
     precision: None,
+    suffix: b"",
     width: 0,
     align_left: false,
     delimiter: None,

@@ -1,16 +1,13 @@
--- A field that the parser rejects is a string, and not a size.
-use Rattle.std.proofs.Common.{false}
-use Rattle.byte_unit.specs.declared.Kind.TheVariants.{Byte, Bit}
-use Rattle.byte_unit_command.proofs.Readings.{no-size-of}
+-- Without a suffix, the text is the field.
+use Rattle.byte_unit_command.proofs.Readings.{found-size, found-none}
 use Rattle.byte_unit_command.proofs.size.accepted.Goals as goal
 
-pub returns-in-Some-Err-clause-none : goal.returns-in-Some-Err-clause-none
-returns-in-Some-Err-clause-none c =
-    no-size-of c.args.options.now c.args.field.now false Byte c.if-options.false c.in-Byte.is c.in-Some-Err.is
-    c.in-Some-Err.field-0-is c.parse_bytes.ensures
+pub returns-then-is_plain-clause-some : goal.returns-then-is_plain-clause-some
+returns-then-is_plain-clause-some c =
+    let plain = c.is_plain.ensures c.if-is_plain.true in
+    found-size c.args.options.now c.args.field.now plain.1 _ _ _ c.plain_size.ensures.some c.found.ensures.some
 
-pub returns-in-Some-Err-parse_bytes-clause-none : goal.returns-in-Some-Err-parse_bytes-clause-none
-returns-in-Some-Err-parse_bytes-clause-none c =
-    let read = c.in-Some-Err-parse_bytes in
-    no-size-of c.args.options.now c.args.field.now false Bit c.if-options.false c.in-Bit.is read.is
-    read.field-0-is c.parse_bytes-in-Bit.ensures
+pub returns-then-is_plain-clause-none : goal.returns-then-is_plain-clause-none
+returns-then-is_plain-clause-none c =
+    let plain = c.is_plain.ensures c.if-is_plain.true in
+    found-none c.args.options.now c.args.field.now plain.1 _ _ _ c.plain_size.ensures.none c.found.ensures.none
