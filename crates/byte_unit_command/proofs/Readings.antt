@@ -1,5 +1,5 @@
 -- Lemmas: what the parser has returned for a field.
-use Rattle.std.proofs.Common.{◌≡◌, ℕ, Bool, true, false, List, [], Option, None, Some, Result, Ok, Err, inr, sym, subst}
+use Rattle.std.proofs.Common.{◌≡◌, ℕ, ◌<◌, ◌≤◌, Bool, true, false, List, [], Option, None, Some, Result, Ok, Err, inr, sym, subst}
 use Rattle.std.specs.Prelude.{IfSome, IfNone}
 use Rattle.std.specs.Str.{IsUtf8}
 use Rattle.byte_unit.specs.Errors.{size_fault}
@@ -49,15 +49,15 @@ no-size-of options field binary kind {error} binary_is kind_is answer_is found_i
 
 -- a number that stands for a size, or for none, without a suffix
 pub found-size : (options : Options) (field : List ℕ) → options.suffix.now ≡ [] → (size no_size : ℕ)
-    (result : Option ℕ) → (¬ (size ≡ no_size) → IsSizeText options field size)
-    → IfSome result (λ n. (n ≡ size) × ¬ (size ≡ no_size)) → IfSome result (IsSize options field)
+    (result : Option ℕ) → (size < no_size → IsSizeText options field size)
+    → IfSome result (λ n. (n ≡ size) × (size < no_size)) → IfSome result (IsSize options field)
 found-size options field empty size no_size None is found = tt
 found-size options field empty size no_size (Some n) is found =
     subst (λ n. IsSize options field n) (sym found.0)
     (subst (λ suffix. IsSizeText options (without_suffix suffix field) size) (sym empty) (is found.1))
 
 pub found-none : (options : Options) (field : List ℕ) → options.suffix.now ≡ [] → (size no_size : ℕ)
-    (result : Option ℕ) → (size ≡ no_size → IsNoSizeText options field) → IfNone result (size ≡ no_size)
+    (result : Option ℕ) → (no_size ≤ size → IsNoSizeText options field) → IfNone result (no_size ≤ size)
     → IfNone result (IsNoSize options field)
 found-none options field empty size no_size None is found =
     subst (λ suffix. IsNoSizeText options (without_suffix suffix field)) (sym empty) (is found)

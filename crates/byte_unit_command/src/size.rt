@@ -48,8 +48,9 @@ pub(crate) fn without_suffix<'a>(suffix: &[u8], text: &'a [u8]) -> &'a [u8]
     }
 }
 
-/// No size, in place of one: a number in registers takes fewer instructions than an `Option`.
-const NO_SIZE: u128 = u128::MAX;
+/// No size, in place of one: a number in registers takes fewer instructions than an `Option`. So does each number from
+/// this one on, since the first bit tells them.
+const NO_SIZE: u128 = 1 << 127;
 
 /// Returns the size that a field represents, or `None` if it is not a size.
 ///
@@ -80,10 +81,10 @@ fn is_plain(options: &Options) -> bool
 /// Returns a size, or `None` for `NO_SIZE`.
 #[inline(always)]
 fn found(size: u128) -> Option<u128>
-    ensures some { IfSome result (λ n. (n ≡ size) × ¬ (size ≡ NO_SIZE)) }
-    ensures none { IfNone result (size ≡ NO_SIZE) }
+    ensures some { IfSome result (λ n. (n ≡ size) × (size < NO_SIZE)) }
+    ensures none { IfNone result (NO_SIZE ≤ size) }
 {
-    if size == NO_SIZE { None } else { Some(size) }
+    if size >= NO_SIZE { None } else { Some(size) }
 }
 
 /// Returns the size that a text represents, or `NO_SIZE`.
@@ -92,8 +93,8 @@ fn found(size: u128) -> Option<u128>
 #[inline(never)]
 fn plain_size(options: &Options, text: &[u8]) -> u128
     requires { options.now.binary ≡ false }
-    ensures some { ¬ (result ≡ NO_SIZE) → IsSizeText options.now text.now result }
-    ensures none { result ≡ NO_SIZE → IsNoSizeText options.now text.now }
+    ensures some { result < NO_SIZE → IsSizeText options.now text.now result }
+    ensures none { NO_SIZE ≤ result → IsNoSizeText options.now text.now }
 {
     match options.kind {
         Kind::Byte => match size::parse_bytes(text, options.ignore_case, Kind::Byte) {
@@ -112,8 +113,8 @@ fn plain_size(options: &Options, text: &[u8]) -> u128
 /// Returns the size that a field represents, without the suffix of the options, or `NO_SIZE`.
 #[inline(never)]
 fn special_size(options: &Options, field: &[u8]) -> u128
-    ensures some { ¬ (result ≡ NO_SIZE) → IsSize options.now field.now result }
-    ensures none { result ≡ NO_SIZE → IsNoSize options.now field.now }
+    ensures some { result < NO_SIZE → IsSize options.now field.now result }
+    ensures none { NO_SIZE ≤ result → IsNoSize options.now field.now }
 {
     let text = without_suffix(options.suffix, field);
     if options.binary {

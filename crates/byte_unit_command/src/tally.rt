@@ -37,10 +37,7 @@ impl Tally {
         ensures tally { self.new ≡ tally_with options.now self.old (Some size) }
         ensures beyond { result ≡ has_beyond options.now size }
     {
-        self.total = match self.total.checked_add(size) {
-            Some(total) if total < TOTAL_LIMIT => total,
-            _ => TOTAL_LIMIT,
-        };
+        self.total = self.total.saturating_add(size).min(TOTAL_LIMIT);
         let beyond = is_beyond(options, size);
         if beyond {
             self.beyond = true;

@@ -1,7 +1,7 @@
 //! Appends the text of a size.
 
 ghost use Rattle.std.specs.Prelude.{◌≡◌, ◌+◌, ◌<◌, ◌≤◌, ◌++◌, ℕ, List, length, max, take, replicate, OnOk, IsOk};
-ghost use Rattle.std.specs.Prelude.{true, [], vec_len, vec_capacity};
+ghost use Rattle.std.specs.Prelude.{vec_len, vec_capacity};
 ghost use Rattle.byte_unit.specs.Bounds.{size_limit};
 ghost use Rattle.byte_unit.specs.Forms.{text_limit};
 ghost use Rattle.byte_unit_command.specs.Capacity.{short_room, text_room};
@@ -39,20 +39,41 @@ pub(crate) fn add_size<A: Allocator>(
     ensures capacity { vec_capacity text.old ≤ vec_capacity text.new }
 {
     let len = write_size(options, size, digits);
-    if is_bare(options) {
-        return add_first(digits, len, text);
+    if options.width == 0 {
+        return add_unpadded(options, digits, len, text);
     }
     add_padded(options, &digits[..len], text)
 }
 
-/// Returns `true` if sizes have neither a width nor a suffix.
+/// Appends the first `len` of `bytes` and the suffix.
+///
+/// Preconditions (proved at every call): `bytes` has at least `len` bytes, and at least [`AT_ONCE`], and there is no
+/// width.
+///
+/// # Errors
+///
+/// Returns `AllocError` if allocation fails.
 #[inline(always)]
-fn is_bare(options: &Options) -> bool
-    ensures { result ≡ true → (options.now.width ≡ 0) × (options.now.suffix.now ≡ []) }
+fn add_unpadded<A: Allocator>(
+    options: &Options,
+    bytes: &[u8],
+    len: usize,
+    text: &mut Vec<u8, A>,
+) -> Result<(), AllocError>
+    requires width { options.now.width ≡ 0 }
+    requires len { len ≤ length bytes.now }
+    requires at_once { 64 ≤ length bytes.now }
+    ensures ok { OnOk result (text.new.items ≡ text.old.items ++ padded options.now.width
+        options.now.align_left (take len bytes.now ++ options.now.suffix.now)) }
+    ensures kept { IsPrefix text.old.items text.new.items }
+    ensures succeeds { vec_len text.old + max short_room (len + length options.now.suffix.now)
+        ≤ vec_capacity text.old → IsOk result }
+    ensures len { vec_len text.new ≤ vec_len text.old + (len + length options.now.suffix.now) }
+    ensures capacity { vec_capacity text.old ≤ vec_capacity text.new }
 {
     match options.suffix {
-        [] => options.width == 0,
-        [_, ..] => false,
+        [] => add_first(bytes, len, text),
+        [_, ..] => add_padded(options, &bytes[..len], text),
     }
 }
 
