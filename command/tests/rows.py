@@ -7,12 +7,14 @@ from program import Call, Result
 START = "('B', 'K', 'M', 'G', 'T', 'P', 'E', 'Z', 'Y' or 'R' or no character is expected)"
 BLANK = "no value can be found"
 WIDTH = "not a number from 1 to 65535, or its negative"
+NEEDS = "needs -d or --blanks, by which fields are separated"
 TOTAL = "byte-unit: the total is 10^30 or more\n"
 GREATEST = b"999999999999999999999999999999"
 
 
-def told(place, why):
-    return f"byte-unit: {place}: {why}\n"
+def told(place, why, at=0):
+    """Returns a message on a field or an option; with the number of the character that is wrong, if it names one."""
+    return f"byte-unit: {place}: {why}{f' (character {at})' * (at > 0)}\n"
 
 
 def unit(c, expected=START):
@@ -25,7 +27,7 @@ def digit(c):
 
 def wrong(*texts):
     """Returns a message about the words of a call."""
-    return "error: " + "\n\n".join([*texts, "For more information, try '--help'."]) + "\n"
+    return "byte-unit: " + "\n\n".join([*texts, "For more information, try '--help'."]) + "\n"
 
 
 def misused(*texts):
@@ -37,36 +39,32 @@ def unknown(word):
     return misused(f"unexpected argument '{word}' found", f"  tip: to pass '{word}' as a value, use '-- {word}'")
 
 
-def twice(option):
-    return misused(f"the argument '{option}' cannot be used multiple times")
-
-
-def field(text, quoted, why):
+def field(text, quoted, why, at=0):
     """Returns a call on a field that is not a size, with the text that its message quotes."""
-    return "--invalid=warn", text + b"\n", text + b"\n", 0, told(f"line 1: '{quoted}'", why)
+    return "--invalid=warn", text + b"\n", text + b"\n", 0, told(f"line 1: '{quoted}'", why, at)
 
 
 SIZES = [
     (["1.5 KiB", "100MB", "1536"], b"", b"1.5 KiB\n100 MB\n1.5 KiB\n"),
-    (["1 x"], b"", b"", 2, told("operand 1: '1 x'", unit("x"))),
-    ("", b"1 KB\n2 KB\n1 x\n3 KB\n", b"1 KB\n2 KB\n", 2, told("line 3: '1 x'", unit("x"))),
-    ("--invalid=fail", b"1 KB\n1 x\n3 KB\n", b"1 KB\n1 x\n3 KB\n", 2, told("line 2: '1 x'", unit("x"))),
-    ("--invalid=warn", b"1 x\n", b"1 x\n", 0, told("line 1: '1 x'", unit("x"))),
+    (["1 x"], b"", b"", 2, told("operand 1: '1 x'", unit("x"), 3)),
+    ("", b"1 KB\n2 KB\n1 x\n3 KB\n", b"1 KB\n2 KB\n", 2, told("line 3: '1 x'", unit("x"), 3)),
+    ("--invalid=fail", b"1 KB\n1 x\n3 KB\n", b"1 KB\n1 x\n3 KB\n", 2, told("line 2: '1 x'", unit("x"), 3)),
+    ("--invalid=warn", b"1 x\n", b"1 x\n", 0, told("line 1: '1 x'", unit("x"), 3)),
     ("--invalid=ignore", b"1 x\n", b"1 x\n"),
     ("-d, --field=2 --invalid=fail", b"a,\xff,c\n", b"a,\xff,c\n", 2, told("line 1: field 2: '\\xff'", "not UTF-8")),
     ("-z", b"1 KB\x00100 MB\x00", b"1 KB\x00100 MB\x00"),
-    ("-z", b"1 KB\x002 x", b"1 KB\0", 2, told("record 2: '2 x'", unit("x"))),
+    ("-z", b"1 KB\x002 x", b"1 KB\0", 2, told("record 2: '2 x'", unit("x"), 3)),
     ("-- 1KB", b"", b"1 KB\n"),
-    ("-- -1KB", b"", b"", 2, told("operand 1: '-1KB'", digit("-"))),
+    ("-- -1KB", b"", b"", 2, told("operand 1: '-1KB'", digit("-"), 1)),
     ([""], b"", b"", 2, told("operand 1: ''", BLANK)),
     (["1KB", "1KB\n2KB", "x"], b"", b"1 KB\n", 2,
-     told("operand 2: '1KB\\u{a}2KB'", unit("\\n", "('i' or no character is expected)"))),
+     told("operand 2: '1KB\\u{a}2KB'", unit("\\n", "('i' or no character is expected)"), 4)),
     (["--invalid=warn", "1\n2", "x"], b"", b"1\n2\nx\n", 0,
-     told("operand 1: '1\\u{a}2'", unit("\\n")) + told("operand 2: 'x'", digit("x"))),
+     told("operand 1: '1\\u{a}2'", unit("\\n"), 2) + told("operand 2: 'x'", digit("x"), 1)),
     (["-z", "1KB\n", "2KB"], b"", b"1 KB\x002 KB\0"),
     (["-d", "\n", "--field=-", "1000\n1024"], b"", b"1 KB\n1 KiB\n"),
     ("--header 4096K", b"", b"4.096 MB\n"),
-    ("--header=2 1KB x", b"", b"1 KB\n", 2, told("operand 2: 'x'", digit("x"))),
+    ("--header=2 1KB x", b"", b"1 KB\n", 2, told("operand 2: 'x'", digit("x"), 1)),
     ("", b"", b""), ("", b"1 KB", b"1 KB\n"),
     ("", b"\n", b"", 2, told("line 1: ''", BLANK)),
     ("--invalid=ignore", b"\n\n", b"\n\n"),
@@ -78,14 +76,14 @@ HEADERS_AND_TOTALS = [
     ("--total", b"", b"0 B\n"), ("--total --bits", b"", b"0 b\n"),
     ("--total", b"900 RB\n100 RB\n", b"900 RB\n100 RB\n", 2, TOTAL),
     ("--header", b"", b""), ("--header", b"name", b"name\n"),
-    ("--header", b"name\nx\n", b"name\n", 2, told("line 2: 'x'", digit("x"))),
+    ("--header", b"name\nx\n", b"name\n", 2, told("line 2: 'x'", digit("x"), 1)),
     ("--header=0", b"1 KB\n", b"1 KB\n"),
     ("--header=5 --total", b"x\ny\n", b"x\ny\n0 B\n"),
     ("--header=18446744073709551615", b"x\n", b"x\n"),
     ("--total --to=plain", GREATEST + b"B\n", (GREATEST + b"\n") * 2),
     ("--total --to=plain", GREATEST + b"B\n1B\n", GREATEST + b"\n1\n", 2, TOTAL),
     ("--total --to=plain", (GREATEST + b"B\n") * 400, (GREATEST + b"\n") * 400, 2, TOTAL),
-    ("--total --invalid=fail", b"1 KB\nx\n2 KB\n", b"1 KB\nx\n2 KB\n3 KB\n", 2, told("line 2: 'x'", digit("x"))),
+    ("--total --invalid=fail", b"1 KB\nx\n2 KB\n", b"1 KB\nx\n2 KB\n3 KB\n", 2, told("line 2: 'x'", digit("x"), 1)),
     ("--total --max=1KB", b"1 KB\n2 KB\n", b"1 KB\n2 KB\n3 KB\n", 3, told("line 2: '2 KB'", "above the maximum")),
     ("--padding=6 --total", b"1 KB\n", b"  1 KB\n  1 KB\n"),
     ("--to=GB -p 0 --total 400MB 400MB", b"", b"0 GB\n0 GB\n1 GB\n"),
@@ -97,7 +95,7 @@ LIMITS = [
     ("--min=1000", b"999\n", b"999 B\n", 3, told("line 1: '999'", "below the minimum")),
     ("--min=1000", b"1000\n", b"1 KB\n"),
     ("--max=1KB --invalid=fail", b"2 KB\nx\n", b"2 KB\nx\n", 2,
-     told("line 1: '2 KB'", "above the maximum") + told("line 2: 'x'", digit("x"))),
+     told("line 1: '2 KB'", "above the maximum") + told("line 2: 'x'", digit("x"), 1)),
     ("--max=1KB --min=2KB", b"1500\n", b"1.5 KB\n", 3,
      told("line 1: '1500'", "above the maximum") + told("line 1: '1500'", "below the minimum")),
     ("--bits --max=1KB --to=plain", b"8000\n8001\n", b"8000\n8001\n", 3, told("line 2: '8001'", "above the maximum")),
@@ -114,7 +112,10 @@ FORMS = [
     (["-i", "--to=kbit", "8 kb"], b"", b"64 Kb\n"), (["-i", "--to=b", "8 kb"], b"", b"8000 B\n"),
     (["--bits", "--to=K", "1 KB"], b"", b"8 Kb\n"),
     ("-p 0 --to=KB", b"1500\n2500\n2501\n", b"2 KB\n2 KB\n3 KB\n"),
-    ("-p 30 1073741825", b"", b"1.073741825 GB\n"),
+    ("-p 28 1073741825", b"", b"1.073741825 GB\n"),
+    ("-H", b"123456789\n", b"117.7 MiB\n"), ("-H -p 2", b"123456789\n", b"117.74 MiB\n"),
+    ("--to=MB --human-readable", b"123456789\n", b"123.5 MB\n"), ("-H --to=exact", b"1500\n", b"1.5 KB\n"),
+    ("-p29 -H 1K", b"", b"1." + b"0" * 29 + b" KB\n"),
     ("-p 1001 --to=KB 1", b"", b"0.001" + b"0" * 998 + b" KB\n"),
     ("--to=Ki", b"1024\n", b"1 KiB\n"),
     (["--to= GiB "], b"1024\n", b"0.00000095367431640625 GiB\n"),
@@ -126,7 +127,48 @@ FORMS = [
     ("--padding=6 --invalid=ignore", b"x\n", b"x\n"),
 ]
 
+PREFIXES = [
+    *((f"--from={word} --to=plain", b"1K\n1Ki\n1KB\n1 kib\n1Kb\n8 b\n", b"1000\n1024\n1000\n128\n125\n1\n")
+      for word in ("auto", "si", "iec-i")),
+    ("--from=iec --to=plain", b"1K\n1Ki\n1KB\n1 kib\n1Kb\n8 b\n", b"1024\n1024\n1024\n128\n128\n1\n"),
+    ("--from=iec --bits --to=plain 1K 1KB", b"", b"1024\n8192\n"),
+    ("--from=iec -i --to=plain 1kb", b"", b"1024\n"),
+    (["-d", "\\t", "--from=iec", "--to=plain"], b"2.9M\t.\n16K\t./a\n", b"3040871\t.\n16384\t./a\n"),
+    ("--from=iec --max=1K --min=1K", b"1023\n1K\n1025\n", b"1.023 KB\n1 KiB\n1.025 KB\n", 3,
+     told("line 1: '1023'", "below the minimum") + told("line 3: '1025'", "above the maximum")),
+    ("--from=iec --invalid=warn 900RB 1x", b"", b"900RB\n1x\n", 0,
+     told("operand 1: '900RB'", "the value 900 exceeds the valid range") + told("operand 2: '1x'", unit("x"), 2)),
+]
+
+REPEATED = [
+    ("--to=si --to=plain 1K", b"", b"1000\n"), ("-d, -d; --field=2", b"1K;2K\n", b"1K;2 KB\n"),
+    ("-ii 1kb", b"", b"1 KB\n"), ("-p1 --precision=2 --to=K 1234", b"", b"1.23 KB\n"),
+    ("--header=2 --header", b"x\n1K\n", b"x\n1 KB\n"), ("--max=1 --max=2K --total --total 1K", b"", b"1 KB\n1 KB\n"),
+    ("--from=iec --from=si --to=plain 1K", b"", b"1000\n"),
+]
+
+SUFFIXES = [
+    ("--suffix=/s", b"1500/s\n1.5 KB\n1 KiB/s\n", b"1.5 KB/s\n1.5 KB/s\n1 KiB/s\n"),
+    ("--suffix /s --total --to=MiB -p1", b"1MiB/s\n2MiB\n", b"1.0 MiB/s\n2.0 MiB/s\n3.0 MiB/s\n"),
+    ("--suffix=/s --padding=9 --to=plain 1K", b"", b"   1000/s\n"),
+    ("--suffix=ps --padding=-9 --to=Mb -p0 5Mbps", b"", b"5 Mbps   \n"),
+    ("--suffix=/s --max=1K 2K/s", b"", b"2 KB/s\n", 3, told("operand 1: '2K/s'", "above the maximum")),
+    ("--suffix=/s --invalid=warn /s 1x/s 1/s/s", b"", b"/s\n1x/s\n1/s/s\n", 0, told("operand 1: '/s'", BLANK)
+     + told("operand 2: '1x/s'", unit("x"), 2) + told("operand 3: '1/s/s'", unit("/"), 2)),
+    ("--suffix=-x 1K-x", b"", b"1 KB-x\n"), ("--suffix -x 1K", b"", b"1 KB-x\n"), ("--suffix= 1K", b"", b"1 KB\n"),
+    (["--suffix=\u00e9", "--padding=8", "1K\u00e9"], b"", b"  1 KB\xc3\xa9\n"),
+    (["--suffix=" + "x" * 99, "1K"], b"", b"1 KB" + b"x" * 99 + b"\n"),
+    ("-d, --field=2 --suffix=B --to=plain", b"1KB,1KB\n", b"1KB,1000B\n"),
+    ("--no-unit --to=MiB -p2 --total 1536K 1MiB", b"", b"1.46\n1.00\n2.46\n"),
+    ("--to=KiB --no-unit --suffix=x 1000", b"", b"0.9765625x\n"), ("--no-unit --to=plain 1K", b"", b"1000\n"),
+    ("--no-unit --to=B -p3 --padding=6 1K", b"", b"  1000\n"), ("--bits --no-unit --to=K 1KB", b"", b"8\n"),
+]
+
 FIELDS = [
+    (["-d", ",", "--field", "-2"], b"1000,1000,1000\n", b"1 KB,1 KB,1000\n"),
+    (["-d", "", "--field=1"], b"1000\n", b"1 KB\n"), (["-d", "", "--field=2"], b"1K,2K\n", b"1K,2K\n"),
+    (["--delimiter=", "--invalid=warn"], b"1K,2K\n", b"1K,2K\n", 0,
+     told("line 1: '1K,2K'", unit(",", "('B' or 'b' or no character is expected)"), 3)),
     ("-d , --field=3", b"x,y\n1,2\n", b"x,y\n1,2\n"), ("-d , --field=18446744073709551615", b"x,y\n", b"x,y\n"),
     ("-d , --field=1-1", b"1024,1024\n", b"1 KiB,1024\n"), ("-d , --field=-", b"1024,1024\n", b"1 KiB,1 KiB\n"),
     ("-d , --field=3,1,1-2", b"1024,1024,1024,1024\n", b"1 KiB,1 KiB,1 KiB,1024\n"),
@@ -139,16 +181,19 @@ FIELDS = [
 ]
 
 QUOTED = [
-    field(b"x\x1b[31m\x7f", "x\\u{1b}[31m\\u{7f}", digit("x")),
-    field("\u0080\u009f\ufeff'\\".encode(), "\\u{80}\\u{9f}\ufeff'\\", digit("\\u{80}")),
-    field("1\u0301".encode(), "1\u0301", unit("\\u{301}")),
-    field(b"1\t\x00", "1\\u{9}\\u{0}", unit("\\t")),
+    field(b"x\x1b[31m\x7f", "x\\u{1b}[31m\\u{7f}", digit("x"), 1),
+    field("\u0080\u009f\ufeff'\\".encode(), "\\u{80}\\u{9f}\ufeff'\\", digit("\\u{80}"), 1),
+    field("1\u0301".encode(), "1\u0301", unit("\\u{301}"), 2),
+    field(b"1\t\x00", "1\\u{9}\\u{0}", unit("\\t"), 2),
+    field("\u3000 1 K\u00e9".encode(), "\u3000 1 K\u00e9", unit("\u00e9", "('B' or 'b' or no character is expected)"), 6),
+    field(b" 1. ", " 1. ", digit(".")), field(b"1 bi", "1 bi", unit("i", "(no character is expected)")),
+    field(b"1.x", "1.x", digit("x"), 3), field(b"1 Kbitz", "1 Kbitz", unit("z", "('s' or no character is expected)"), 7),
     field(b"x\xff\x1b ~", "x\\xff\\x1b ~", "not UTF-8"),
-    field(b"x" * 80, "x" * 80, digit("x")),
-    field(b"x" * 81, "x" * 80 + "..", digit("x")),
-    field("\u00e9".encode() * 38 + "x\U0001f600yyy".encode(), "\u00e9" * 38 + "x..", digit("\u00e9")),
+    field(b"x" * 80, "x" * 80, digit("x"), 1),
+    field(b"x" * 81, "x" * 80 + "..", digit("x"), 1),
+    field("\u00e9".encode() * 38 + "x\U0001f600yyy".encode(), "\u00e9" * 38 + "x..", digit("\u00e9"), 1),
     *(field(("x" * at + c + "yyyy").encode(), "x" * at + c * (at + len(c.encode()) <= 80)
-            + "y" * (80 - at - len(c.encode())) + "..", digit("x"))
+            + "y" * (80 - at - len(c.encode())) + "..", digit("x"), 1)
       for at in range(76, 81) for c in ("\u00e9", "\u20ac", "\U0001f600")),
     field(b"x" * 79 + b"\xc3\xa9\xff", "x" * 79 + "..", "not UTF-8"),
     field(b"x" * 78 + b"\xff\xff\xff", "x" * 78 + "\\xff\\xff..", "not UTF-8"),
@@ -161,7 +206,12 @@ WRONG_VALUES = [
       for text in ("0", "3-2", "18446744073709551616", "1,,2", "", "+1", "1-+2", " 1", "1--2", "1,", ",1", "1-2-3", "x",
                    "0-1")),
     *((["-d", text], told(f"--delimiter: '{text}'", "not one character of one byte"))
-      for text in (",,", "\u00e9", "\u20ac", "ab", "\\n", "")),
+      for text in (",,", "\u00e9", "\u20ac", "ab", "\\n")),
+    *(([f"--from={text}"], told(f"--from: '{text}'", "not auto, si, iec or iec-i")) for text in ("", "K", "IEC", "iec ")),
+    *((words, told("--precision", "above 28 in the form exact")) for words in ("-p 29", "-p65535 --to=exact", "-H -p29 --to=exact")),
+    *((words, told("--no-unit", "needs --to=plain or --to with a unit, such as --to=MiB"))
+      for words in ("--no-unit", "--no-unit --to=exact", "--no-unit --to=si", "--no-unit -H", "--no-unit --to=iec -p1")),
+    ("--field=2", told("--field: '2'", NEEDS)), ("--field=- 1K", told("--field: '-'", NEEDS)),
     *(([f"--padding={text}"], told(f"--padding: '{text}'", WIDTH))
       for text in ("0", "65536", "-65536", "-0", "-", "+6", "-+6", "--6", "6x", "")),
     ("--invalid=x", told("--invalid: 'x'", "not abort, fail, warn or ignore")),
@@ -180,7 +230,7 @@ WRONG_VALUES = [
 ]
 
 WRONG_WORDS = [
-    ("--field=2", misused("the following required arguments were not provided:\n  --delimiter <C>")),
+    ("--blanks -d,", misused("the argument '--blanks' cannot be used with '--delimiter <C>'")),
     ("-p 65536", wrong("invalid value '65536' for '--precision <N>': 65536 is not in 0..=65535")),
     ("-p x", wrong("invalid value 'x' for '--precision <N>': invalid digit found in string")),
     (["-p", "\x1b"], wrong("invalid value '\\u{1b}' for '--precision <N>': invalid digit found in string")),
@@ -193,10 +243,6 @@ WRONG_WORDS = [
     ("--header=", wrong("invalid value '' for '--header[=<N>]': cannot parse integer from empty string")),
     ("--header=-1", wrong("invalid value '-1' for '--header[=<N>]': invalid digit found in string")),
     ("-d", wrong("a value is required for '--delimiter <C>' but none was supplied")),
-    ("--to=si --to=iec", twice("--to <UNIT>")),
-    ("-d, -d,", twice("--delimiter <C>")),
-    ("-ii", twice("--ignore-case")),
-    ("-p1 --precision=2", twice("--precision <N>")),
     ("--total=1", misused("unexpected value '1' for '--total' found; no more were expected")),
 ]
 
@@ -207,7 +253,8 @@ def row(words, data=b"", written=b"", status=0, messages=""):
 
 
 # Each call with its result: those that the model has too, and the others.
-MODELLED = [row(*each) for each in [*SIZES, *HEADERS_AND_TOTALS, *LIMITS, *FORMS, *FIELDS, *QUOTED]]
+MODELLED = [row(*each) for each in [
+    *SIZES, *HEADERS_AND_TOTALS, *LIMITS, *FORMS, *PREFIXES, *REPEATED, *SUFFIXES, *FIELDS, *QUOTED]]
 MODELLED += [row(words, b"", b"", 2, message) for words, message in WRONG_VALUES]
 OTHERS = [row(words, b"", b"", 2, message) for words, message in WRONG_WORDS]
 OTHERS += [row(word, b"", b"byte-unit 3.0.0\n") for word in ("--version", "-V")]

@@ -61,6 +61,8 @@ def test_completions():
 def test_manual_page():
     need("mandoc")
     output("mandoc", "-T", "lint", "-W", "style,stop", path("command/byte-unit.1"))
+    page = re.sub(".\b", "", output("mandoc", "-T", "ascii", path("command/byte-unit.1")))
+    assert not re.search(r"(?m)(^| )(Ar|Cm|Fl|Ns|Ql|Xr) ", page)  # No macro is printed as a word.
 
 
 @pytest.mark.parametrize("name", [*OPTIONS, "help", "version"])

@@ -15,7 +15,7 @@ LINES = b"1.5 KiB\n" * 1_000_000
 READ_FAILED = b"byte-unit: read failed\n"
 WRITE_FAILED = b"byte-unit: write failed\n"
 TERMINAL = b"byte-unit: reading sizes from the terminal, one a line; end with Ctrl-D\n"
-NO_NUMBER = b"byte-unit: line 2: 'x': the character 'x' is not a number\n"
+NO_NUMBER = b"byte-unit: line 2: 'x': the character 'x' is not a number (character 1)\n"
 TOO_LARGE = b"byte-unit: the total is 10^30 or more\n"
 
 
@@ -109,3 +109,4 @@ def test_word_that_is_not_text(program):
 def test_help(program, word):
     status, written, messages = ended(program, word)
     assert (status, b"Exit status:" in written, messages) == (0, True, b"")
+    assert max(map(len, written.decode().splitlines())) <= 80

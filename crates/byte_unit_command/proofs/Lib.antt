@@ -3,7 +3,10 @@ pub mod Again
 pub mod Converting
 pub mod Feeding
 pub mod Finishing
+pub mod Prefixes
 pub mod Readings
+pub mod Suffixes
+pub mod Numbers
 pub mod Results
 pub mod Runs
 pub mod Served

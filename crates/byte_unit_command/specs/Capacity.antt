@@ -1,12 +1,12 @@
 -- Capacity that suffices for a run's buffers.
-use Rattle.std.specs.Prelude.{◌≡◌, ℕ, ◌+◌, ◌*◌, ◌≤◌, max, [], vec_len, vec_capacity, Option, None, Some}
+use Rattle.std.specs.Prelude.{◌≡◌, ℕ, ◌+◌, ◌*◌, ◌≤◌, max, [], length, vec_len, vec_capacity, Option, None, Some}
 use Rattle.std.specs.declared.vec.Vec.{Vec}
 use Rattle.byte_unit.specs.Bounds.{expansion_places}
 use Rattle.byte_unit.specs.Forms.{narrow_text}
 use Rattle.byte_unit_command.specs.RunState.{messages_of}
 use Rattle.byte_unit_command.specs.declared.buffers.Buffers.{Buffers}
 use Rattle.byte_unit_command.specs.declared.options.Form.{Form}
-use Rattle.byte_unit_command.specs.declared.options.Form.TheVariants.{Exact, Plain, InUnit, Largest}
+use Rattle.byte_unit_command.specs.declared.options.Form.TheVariants.{Exact, Plain, InUnit, NumberOf, Largest}
 use Rattle.byte_unit_command.specs.declared.options.Options.{Options}
 
 -- the most digits after the point of a size in a given unit: no size has more than 93, unless the precision is greater
@@ -23,6 +23,7 @@ abbrev pub form_max : Form → Option ℕ → ℕ
 form_max Exact precision = narrow_text
 form_max Plain precision = narrow_text
 form_max (InUnit unit) precision = unit_text_max precision
+form_max (NumberOf unit) precision = unit_text_max precision
 form_max (Largest unit_type) precision = unit_text_max precision
 
 -- the bytes that a short text takes while it is appended
@@ -31,7 +32,8 @@ short_room = 64
 
 -- the most bytes that the text of a size takes while it is appended
 abbrev pub text_room : Options → ℕ
-text_room options = max short_room (max options.width (form_max options.form options.precision))
+text_room options =
+    max short_room (max options.width (form_max options.form options.precision + length options.suffix.now))
 
 -- the most bytes that what is written for a field of this many bytes takes while it is appended: the text of a size, or
 -- the field itself

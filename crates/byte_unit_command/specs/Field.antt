@@ -1,30 +1,50 @@
 -- What is written for one field, and what is found in it.
-use Rattle.std.specs.Prelude.{◌≡◌, ℕ, ◌⊎◌, Bool, false, List, [], ◌∷◌, Option, None, Some}
-use Rattle.std.specs.Str.{IsUtf8}
-use Rattle.byte_unit.specs.Accepted.{IsAccepted, IsRejected}
+use Rattle.std.specs.Prelude.{◌≡◌, ℕ, ◌-◌, ◌⊎◌, Bool, false, ◌&&◌, nat_le, if◌then◌else◌, List, [], ◌∷◌, length, take}
+use Rattle.std.specs.Prelude.{drop, Option, None, Some}
+use Rattle.std.specs.Str.{IsUtf8, bytes_eq}
 use Rattle.byte_unit.specs.Fault.{Fault}
 use Rattle.byte_unit.specs.declared.Kind.{Kind}
 use Rattle.byte_unit.specs.declared.Kind.TheVariants.{Byte, Bit}
 use Rattle.byte_unit_command.specs.Fields.{IsChosen}
+use Rattle.byte_unit_command.specs.Prefixes.{IsAcceptedBy, IsRejectedBy}
 use Rattle.byte_unit_command.specs.Shown.{IsShown}
 use Rattle.byte_unit_command.specs.declared.options.Options.{Options}
+
+-- whether the text ends with the suffix
+abbrev pub ends_with : List ℕ → List ℕ → Bool
+ends_with suffix text =
+    nat_le (length suffix) (length text) && bytes_eq (drop (length text - length suffix) text) suffix
+
+-- the text before the suffix, or the text itself if it does not end with it
+abbrev pub without_suffix : List ℕ → List ℕ → List ℕ
+without_suffix [] text = text
+without_suffix (c ∷ cs) text =
+    if ends_with (c ∷ cs) text then take (length text - length (c ∷ cs)) text else text
 
 -- whether case is ignored; it is always significant in sizes in bits, where it tells bits from bytes
 abbrev pub ignores_case : Kind → Bool → Bool
 ignores_case Byte ignore_case = ignore_case
 ignores_case Bit ignore_case = false
 
--- the field is a size
+-- the text is a size
+abbrev pub IsSizeText : Options → List ℕ → ℕ → Type 0
+IsSizeText options text size =
+    IsUtf8 text × IsAcceptedBy options.binary options.kind (ignores_case options.kind options.ignore_case) text size
+
+-- the field is a size, without the suffix of the options if it ends with that
 abbrev pub IsSize : Options → List ℕ → ℕ → Type 0
-IsSize options field size =
-    IsUtf8 field × IsAccepted options.kind (ignores_case options.kind options.ignore_case) field size
+IsSize options field = IsSizeText options (without_suffix options.suffix.now field)
 
 -- the field is not a size: it is not UTF-8, or it is rejected
+abbrev pub IsNoSizeText : Options → List ℕ → Type 0
+IsNoSizeText options text =
+    ¬ IsUtf8 text
+    ⊎ IsUtf8 text
+    × ((fault : Fault)
+    × IsRejectedBy options.binary options.kind (ignores_case options.kind options.ignore_case) text fault)
+
 abbrev pub IsNoSize : Options → List ℕ → Type 0
-IsNoSize options field =
-    ¬ IsUtf8 field
-    ⊎ IsUtf8 field
-    × ((fault : Fault) × IsRejected options.kind (ignores_case options.kind options.ignore_case) field fault)
+IsNoSize options field = IsNoSizeText options (without_suffix options.suffix.now field)
 
 -- what is found in a field that is to be converted: its size, or `None` if it is not a size
 abbrev pub Found : Type 0

@@ -9,6 +9,7 @@ pub mod RunState
 pub mod Run
 pub mod Shown
 pub mod Sums
+pub mod Prefixes
 pub mod Positive
 pub mod FieldList
 pub mod Values
@@ -18,4 +19,5 @@ pub mod Operands
 pub mod CommandLine
 pub mod Told
 pub mod WrongText
+pub mod WrongCharacter
 pub mod Capacity

@@ -6,12 +6,13 @@ use Rattle.std.specs.Char.{is_control, encode_utf8}
 use Rattle.std.specs.Fmt.{decimal, digits, digit_glyph}
 use Rattle.std.specs.List.{flat_map}
 use Rattle.std.specs.Str.{IsUtf8, is_utf8, chars}
-use Rattle.byte_unit.specs.Accepted.{IsRejected}
 use Rattle.byte_unit.specs.Errors.{size_fault}
 use Rattle.byte_unit.specs.FaultText.{parse_text}
-use Rattle.byte_unit_command.specs.Field.{IsSize, IsNoSize, ignores_case}
+use Rattle.byte_unit_command.specs.Field.{IsSize, IsNoSize, ignores_case, without_suffix}
 use Rattle.byte_unit_command.specs.Fields.{IsChosen, fields_of}
+use Rattle.byte_unit_command.specs.Prefixes.{IsRejectedBy}
 use Rattle.byte_unit_command.specs.Sums.{is_above, is_below}
+use Rattle.byte_unit_command.specs.WrongCharacter.{ArePlaceWords}
 use Rattle.byte_unit_command.specs.declared.notice.FieldError.{FieldError}
 use Rattle.byte_unit_command.specs.declared.notice.FieldError.TheVariants.{NotUtf8, Rejected, Above, Below}
 use Rattle.byte_unit_command.specs.declared.options.Invalid.{Invalid}
@@ -78,11 +79,17 @@ field_text (Some delimiter) number = codes "field " ++ decimal number ++ codes "
 abbrev pub place_text : Options → List ℕ → ℕ → ℕ → List ℕ
 place_text options word place number = record_text word place ++ field_text options.delimiter number
 
+-- what a message says of the place of the error in the text of a field
+abbrev pub AreCharacterWords : FieldError → List ℕ → List ℕ → Type 0
+AreCharacterWords (Rejected error) text words = ArePlaceWords error text words
+AreCharacterWords _ text words = words ≡ []
+
 -- a message about the field with this number, in the record at this place, which is called by this word
 abbrev pub IsMessage : Options → List ℕ → ℕ → ℕ → List ℕ → FieldError → List ℕ → Type 0
 IsMessage options word place number field reason text =
-    (words : List ℕ) × AreWords reason words
-    × (text ≡ place_text options word place number ++ quote field ++ codes ": " ++ words ++ 10 ∷ [])
+    (words character : List ℕ) × AreWords reason words
+    × AreCharacterWords reason (without_suffix options.suffix.now field) character
+    × (text ≡ place_text options word place number ++ quote field ++ codes ": " ++ words ++ character ++ 10 ∷ [])
 
 -- such a message if it is told, and else nothing
 abbrev pub IsMessageIf : Bool → Options → List ℕ → ℕ → ℕ → List ℕ → FieldError → List ℕ → Type 0
@@ -97,9 +104,11 @@ AreLimitMessages options word place number field size text =
 
 -- this is the reason why the field is not a size
 abbrev pub IsFieldError : Options → List ℕ → FieldError → Type 0
-IsFieldError options field NotUtf8 = ¬ IsUtf8 field
+IsFieldError options field NotUtf8 = ¬ IsUtf8 (without_suffix options.suffix.now field)
 IsFieldError options field (Rejected error) =
-    IsUtf8 field × IsRejected options.kind (ignores_case options.kind options.ignore_case) field (size_fault error)
+    let text = without_suffix options.suffix.now field in
+    IsUtf8 text × IsRejectedBy options.binary options.kind (ignores_case options.kind options.ignore_case) text
+    (size_fault error)
 IsFieldError options field _ = ⊥
 
 -- whether rejected fields are told

@@ -1,14 +1,18 @@
--- The text of a size: the form that the options ask for, padded to their width.
-use Rattle.std.specs.Prelude.{◌≡◌, ℕ, ◌-◌, Bool, if◌then◌else◌, List, ◌++◌, length, replicate, Option}
-use Rattle.byte_unit.specs.Adjusted.{IsAdjustedForm}
+-- The text of a size, with its suffix and padding.
+use Rattle.std.specs.Prelude.{◌≡◌, ℕ, ◌-◌, ◌*◌, Bool, false, if◌then◌else◌, List, ◌++◌, length, replicate}
+use Rattle.std.specs.Prelude.{take, Option}
+use Rattle.byte_unit.specs.Adjusted.{IsAdjustedForm, IsNumeralBy, rule_of}
 use Rattle.byte_unit.specs.Choice.{IsAppropriate}
 use Rattle.byte_unit.specs.Forms.{IsText}
+use Rattle.byte_unit.specs.Kinds.{bits_in}
 use Rattle.byte_unit.specs.NamedSpecs.{plain_spec, alternate_spec}
+use Rattle.byte_unit.specs.Shape.{bits}
+use Rattle.byte_unit.specs.Units.{shape_of}
 use Rattle.byte_unit.specs.declared.FormatSpec.{FormatSpec}
 use Rattle.byte_unit.specs.declared.Kind.{Kind}
 use Rattle.byte_unit.specs.declared.Unit.{Unit as UnitName}
 use Rattle.byte_unit_command.specs.declared.options.Form.{Form}
-use Rattle.byte_unit_command.specs.declared.options.Form.TheVariants.{Exact, Plain, InUnit, Largest}
+use Rattle.byte_unit_command.specs.declared.options.Form.TheVariants.{Exact, Plain, InUnit, NumberOf, Largest}
 use Rattle.byte_unit_command.specs.declared.options.Options.{Options}
 
 -- a size with a unit, within this precision
@@ -20,11 +24,14 @@ abbrev pub adjusted_spec : Option ℕ → FormatSpec
 adjusted_spec precision = record plain_spec { precision = precision }
 
 -- the text of a size in a form: in the largest unit, not above the size, that represents it exactly within the
--- precision; as digits; in the given unit; in the largest unit of the type that is not above the size
+-- precision; as digits; in the given unit; as the number of that unit alone; in the largest unit of the type that is not
+-- above the size
 abbrev pub IsFormText : Kind → Form → Option ℕ → ℕ → List ℕ → Type 0
 IsFormText kind Exact precision size text = IsText kind size (exact_spec precision) text
 IsFormText kind Plain precision size text = IsText kind size plain_spec text
 IsFormText kind (InUnit unit) precision size text = IsAdjustedForm kind size unit (adjusted_spec precision) text
+IsFormText kind (NumberOf unit) precision size text =
+    IsNumeralBy (rule_of precision false (shape_of unit)) (size * bits_in kind) (bits (shape_of unit)) text
 IsFormText kind (Largest unit_type) precision size text =
     (unit : UnitName) × IsAppropriate kind unit_type size unit
     × IsAdjustedForm kind size unit (adjusted_spec precision) text
@@ -39,4 +46,11 @@ padded width align_left text =
 abbrev pub IsShown : Options → ℕ → List ℕ → Type 0
 IsShown options size shown =
     (text : List ℕ) × IsFormText options.kind options.form options.precision size text
-    × (shown ≡ padded options.width options.align_left text)
+    × (shown ≡ padded options.width options.align_left (text ++ options.suffix.now))
+
+-- the first `len` of these bytes are a text for which this holds
+pub record BeginsWithForm (IsForm : List ℕ → Type 0) (bytes : List ℕ) (len : ℕ) : Type 0 where
+  pub form : List ℕ
+  pub is_form : IsForm form
+  pub len_is : len ≡ length form
+  pub begins : take len bytes ≡ form

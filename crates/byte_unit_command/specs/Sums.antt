@@ -1,4 +1,4 @@
--- What a run counts: the total, whether a size is beyond a limit, and whether a field was rejected.
+-- What a run counts.
 use Rattle.std.specs.Prelude.{ℕ, min, sum, Bool, true, false, ◌||◌, nat_lt, List, [], ◌∷◌, Option, None, Some}
 use Rattle.byte_unit.specs.Bounds.{size_limit}
 use Rattle.byte_unit_command.specs.Field.{Found}

@@ -1,4 +1,4 @@
--- The values of the options of a call, by what clap has parsed.
+-- The values of options, by what clap has parsed.
 use Rattle.std.specs.Prelude.{◌≡◌, ℕ, ◌<◌, ◌^◌, Bool, true, false, List, Option, None, Some, is_some, option_map, codes}
 use Rattle.std.specs.Borrow.{Bor}
 use Rattle.std.specs.Str.Parse.{IsNumeral, digits_value, without_leading_plus}
@@ -32,9 +32,15 @@ IsNumberValue bits (Some text) (Some number) = IsUnsigned bits text number
 pub record HasValues (matches : ArgMatches) (values : Values) : Type 0 where
   pub bits : IsFlag matches (codes "bits") values.bits
   pub ignore_case : IsFlag matches (codes "ignore-case") values.ignore_case
+  pub human_readable : IsFlag matches (codes "human-readable") values.human_readable
+  pub from : text_of values.from ≡ first_value (found_of matches) (codes "from")
   pub to : text_of values.to ≡ first_value (found_of matches) (codes "to")
+  pub no_unit : IsFlag matches (codes "no-unit") values.no_unit
+  pub suffix : text_of values.suffix ≡ first_value (found_of matches) (codes "suffix")
   pub precision : IsNumberValue 16 (one_text (found_of matches) (codes "precision")) values.precision
   pub delimiter : text_of values.delimiter ≡ first_value (found_of matches) (codes "delimiter")
+  pub blanks : IsFlag matches (codes "blanks") values.blanks
+  pub field : text_of values.field ≡ first_value (found_of matches) (codes "field")
   pub header : IsNumberValue 64 (one_text (found_of matches) (codes "header")) values.header
   pub padding : text_of values.padding ≡ first_value (found_of matches) (codes "padding")
   pub invalid : text_of values.invalid ≡ first_value (found_of matches) (codes "invalid")

@@ -84,18 +84,20 @@ fn read_room(options: &Options, longest: usize, chunk: usize) -> Option<usize>
         None => chunk,
         Some(_) => longest.checked_add(chunk)?,
     };
-    let texts = text_room(options).checked_mul(fields.checked_add(1)?)?;
+    let texts = text_room(options)?.checked_mul(fields.checked_add(1)?)?;
     texts
         .checked_add(longest)?
         .checked_add(chunk)?
         .checked_add(1)
 }
 
-/// Returns the most bytes that the text of a size takes while it is appended.
-fn text_room(options: &Options) -> usize
-    ensures { result ≡ room_of_text options.now }
+/// Returns the most bytes that the text of a size takes while it is appended, or `None` if they exceed `usize::MAX`.
+fn text_room(options: &Options) -> Option<usize>
+    ensures { IfSome result (λ room. room ≡ room_of_text options.now) }
 {
-    AT_ONCE.max((options.width as usize).max(form_max(options.form, options.precision)))
+    let form = form_max(options.form, options.precision);
+    let text = form.checked_add(options.suffix.len())?;
+    Some(AT_ONCE.max((options.width as usize).max(text)))
 }
 
 /// Returns the most bytes of the text of a size in a form, without padding.
@@ -104,7 +106,9 @@ fn form_max(form: Form, precision: Option<u16>) -> usize
 {
     match form {
         Form::Exact | Form::Plain => NARROW_TEXT,
-        Form::InUnit(_) | Form::Largest(_) => { NARROW_TEXT + unit_places(precision) }
+        Form::InUnit(_) | Form::NumberOf(_) | Form::Largest(_) => {
+            NARROW_TEXT + unit_places(precision)
+        }
     }
 }
 

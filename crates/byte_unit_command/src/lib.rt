@@ -24,3 +24,4 @@ pub mod tally;
 mod text;
 pub mod values;
 pub mod wrong;
+mod wrong_character;

@@ -5,20 +5,22 @@ ghost use Rattle.std.specs.String.{string_bytes};
 ghost use Rattle.byte_unit_command.specs.Field.{IsNoSize};
 ghost use Rattle.byte_unit_command.specs.Fields.{IsChosen};
 ghost use Rattle.byte_unit_command.specs.Messages.{AreFieldMessages, AreLimitMessages, AreWords};
-ghost use Rattle.byte_unit_command.specs.Messages.{IsMessage, IsMessageIf, IsFieldError};
+ghost use Rattle.byte_unit_command.specs.Messages.{IsMessage, IsMessageIf, IsFieldError, AreCharacterWords};
+ghost use Rattle.byte_unit_command.specs.WrongCharacter.{character_words};
 ghost use Rattle.byte_unit_command.specs.Messages.{place_text, tells_rejected as has_rejected_told};
 ghost use Rattle.byte_unit_command.specs.RunState.{messages_of, Tells};
 ghost use Rattle.byte_unit_stream.specs.Prefix.{IsPrefix};
 ghost use Rattle.byte_unit_stream.specs.Streams.{HasWritten, writing_failed};
 
 use crate::error::RunError;
+use crate::laws::texts_are_sizes_or_not;
 use crate::options::{Invalid, Options};
 use crate::place::Place;
 use crate::quote::add_quoted;
-use crate::size::parse;
+use crate::size::{parse, without_suffix};
 use crate::tally::{is_above, is_below};
+use crate::wrong_character::{names_character, wrong_character};
 use byte_unit::ParseError;
-use byte_unit::laws::texts_are_accepted_or_refused;
 use byte_unit_stream::{FusedWriter, write_whole};
 use std::alloc::{AllocError, Allocator};
 use std::fmt::Write as WriteText;
@@ -147,7 +149,7 @@ fn reason_of(options: &Options, field: &[u8]) -> FieldError
     ensures { IsFieldError options.now field.now result }
 {
     // For the proof: no text is both accepted and rejected.
-    texts_are_accepted_or_refused();
+    texts_are_sizes_or_not();
     match parse(options, field) {
         Some(Err(error)) => FieldError::Rejected(error),
         Some(Ok(_)) => FieldError::NotUtf8,
@@ -243,6 +245,11 @@ fn add_message<A: Allocator>(
     add_quoted(field, &mut notices.line)?;
     notices.line.push_str(": ")?;
     add_words(reason, &mut notices.words, &mut notices.line)?;
+    add_character(
+        reason,
+        without_suffix(options.suffix, field),
+        &mut notices.line,
+    )?;
     notices.line.push_str("\n")?;
     notices.messages.extend_from_slice(notices.line.as_bytes())
 }
@@ -293,5 +300,45 @@ fn add_words<A: Allocator>(
         }
         FieldError::Above => line.push_str("above the maximum"),
         FieldError::Below => line.push_str("below the minimum"),
+    }
+}
+
+/// Appends the number of the first wrong character of a text, if the message names that.
+///
+/// # Errors
+///
+/// Returns `AllocError` if allocation fails.
+fn add_character<A: Allocator>(
+    reason: &FieldError,
+    text: &[u8],
+    line: &mut String<A>,
+) -> Result<(), AllocError>
+    ensures { OnOk result ((words : List ℕ) × AreCharacterWords reason.now text.now words
+        × (string_bytes line.new ≡ string_bytes line.old ++ words)) }
+{
+    match reason {
+        FieldError::Rejected(error) => {
+            if names_character(error) {
+                add_number(wrong_character(text), line)
+            } else {
+                Ok(())
+            }
+        }
+        FieldError::NotUtf8 | FieldError::Above | FieldError::Below => Ok(()),
+    }
+}
+
+/// Appends the number of a character, or nothing.
+///
+/// # Errors
+///
+/// Returns `AllocError` if allocation fails.
+fn add_number<A: Allocator>(number: Option<usize>, line: &mut String<A>) -> Result<(), AllocError>
+    ensures { OnOk result
+        (string_bytes line.new ≡ string_bytes line.old ++ character_words number) }
+{
+    match number {
+        None => Ok(()),
+        Some(number) => write!(line, " (character {number})"),
     }
 }

@@ -11,6 +11,8 @@ pub enum Form {
     Plain,
     /// In this unit.
     InUnit(Unit),
+    /// As the number of this unit, without the unit.
+    NumberOf(Unit),
     /// In the largest unit of the type that is not above the size.
     Largest(UnitType),
 }
@@ -44,16 +46,22 @@ pub struct Options<'a> {
     pub kind: Kind,
     /// Whether case is ignored in sizes in bytes.
     pub ignore_case: bool,
+    /// Whether a decimal prefix in a size means the binary one, so that `K` is 1024.
+    pub binary: bool,
     /// How a size is shown.
     pub form: Form,
     /// The number of digits after the point.
     pub precision: Option<u16>,
+    /// What follows the text of a size, and is taken off before a field is read; nothing for none.
+    pub suffix: &'a [u8],
     /// The least number of columns of a size.
     pub width: u16,
     /// Whether the spaces that fill the width are after the size, and not before it.
     pub align_left: bool,
     /// The byte between two fields; `None` if a record is one field.
     pub delimiter: Option<u8>,
+    /// Whether blanks separate fields.
+    pub blanks: bool,
     /// The fields that are converted.
     pub fields: &'a [FieldRange],
     /// The byte that ends a record of the input.

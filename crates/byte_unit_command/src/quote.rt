@@ -55,7 +55,7 @@ fn quoted_len(field: &[u8]) -> usize
 }
 
 /// Returns `true` if a character of a UTF-8 text can begin with this byte.
-fn is_boundary(byte: u8) -> bool
+pub(crate) fn is_boundary(byte: u8) -> bool
     ensures { result ≡ (nat_lt byte 128 || nat_le 192 byte) }
 {
     byte < 0x80 || 0xC0 <= byte

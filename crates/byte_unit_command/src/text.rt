@@ -40,9 +40,41 @@ pub(crate) fn add_size<A: Allocator>(
 {
     let len = write_size(options, size, digits);
     if options.width == 0 {
-        return add_first(digits, len, text);
+        return add_unpadded(options, digits, len, text);
     }
-    add_padded(options.width, options.align_left, &digits[..len], text)
+    add_padded(options, &digits[..len], text)
+}
+
+/// Appends the first `len` of `bytes` and the suffix.
+///
+/// Preconditions (proved at every call): `bytes` has at least `len` bytes, and at least [`AT_ONCE`], and there is no
+/// width.
+///
+/// # Errors
+///
+/// Returns `AllocError` if allocation fails.
+#[inline(always)]
+fn add_unpadded<A: Allocator>(
+    options: &Options,
+    bytes: &[u8],
+    len: usize,
+    text: &mut Vec<u8, A>,
+) -> Result<(), AllocError>
+    requires width { options.now.width ≡ 0 }
+    requires len { len ≤ length bytes.now }
+    requires at_once { 64 ≤ length bytes.now }
+    ensures ok { OnOk result (text.new.items ≡ text.old.items ++ padded options.now.width
+        options.now.align_left (take len bytes.now ++ options.now.suffix.now)) }
+    ensures kept { IsPrefix text.old.items text.new.items }
+    ensures succeeds { vec_len text.old + max short_room (len + length options.now.suffix.now)
+        ≤ vec_capacity text.old → IsOk result }
+    ensures len { vec_len text.new ≤ vec_len text.old + (len + length options.now.suffix.now) }
+    ensures capacity { vec_capacity text.old ≤ vec_capacity text.new }
+{
+    match options.suffix {
+        [] => add_first(bytes, len, text),
+        [_, ..] => add_padded(options, &bytes[..len], text),
+    }
 }
 
 /// Appends the first `len` of `bytes`.
@@ -74,32 +106,36 @@ fn add_first<A: Allocator>(
     Ok(())
 }
 
-/// Appends `bytes`, with the spaces that it lacks of the width.
+/// Appends `bytes` and the suffix, with the spaces that these lack of the width.
 ///
 /// # Errors
 ///
 /// Returns `AllocError` if allocation fails.
 fn add_padded<A: Allocator>(
-    width: u16,
-    align_left: bool,
+    options: &Options,
     bytes: &[u8],
     text: &mut Vec<u8, A>,
 ) -> Result<(), AllocError>
-    ensures ok { OnOk result
-        (text.new.items ≡ text.old.items ++ padded width align_left bytes.now) }
+    ensures ok { OnOk result (text.new.items ≡ text.old.items
+        ++ padded options.now.width options.now.align_left (bytes.now ++ options.now.suffix.now)) }
     ensures kept { IsPrefix text.old.items text.new.items }
-    ensures succeeds { vec_len text.old + max width (length bytes.now) ≤ vec_capacity text.old
-        → IsOk result }
-    ensures len { vec_len text.new ≤ vec_len text.old + max width (length bytes.now) }
+    ensures succeeds { vec_len text.old
+        + max options.now.width (length bytes.now + length options.now.suffix.now)
+        ≤ vec_capacity text.old → IsOk result }
+    ensures len { vec_len text.new ≤ vec_len text.old
+        + max options.now.width (length bytes.now + length options.now.suffix.now) }
     ensures capacity { vec_capacity text.old ≤ vec_capacity text.new }
 {
-    let missing = (width as usize).saturating_sub(bytes.len());
-    if align_left {
+    let len = bytes.len().saturating_add(options.suffix.len());
+    let missing = (options.width as usize).saturating_sub(len);
+    if options.align_left {
         text.extend_from_slice(bytes)?;
+        text.extend_from_slice(options.suffix)?;
         add_spaces(missing, text)
     } else {
         add_spaces(missing, text)?;
-        text.extend_from_slice(bytes)
+        text.extend_from_slice(bytes)?;
+        text.extend_from_slice(options.suffix)
     }
 }
 

@@ -54,7 +54,7 @@ fn quoted_fields(rt: HostRuntime) {
             .extend_from_slice(character.as_bytes())
             .expect(&rt, "memory");
         message
-            .extend_from_slice(b"' is not a number\n")
+            .extend_from_slice(b"' is not a number (character 1)\n")
             .expect(&rt, "memory");
         assert_run(
             &rt,
@@ -81,7 +81,7 @@ fn numbers_of_records(rt: HostRuntime) {
         rejected: true,
     };
     let messages = b"byte-unit: line 3: '2 KB': above the maximum
-byte-unit: line 4: 'x': the character 'x' is not a number
+byte-unit: line 4: 'x': the character 'x' is not a number (character 1)
 byte-unit: line 6: '9': below the minimum
 ";
     assert_run(

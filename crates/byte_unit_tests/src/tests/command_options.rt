@@ -53,13 +53,13 @@ const REJECTED: Result<Tally, RunError> = Ok(Tally {
 });
 
 /// The messages on the rejected fields.
-const TWO_MESSAGES: &[u8] = b"byte-unit: line 1: field 1: 'x': the character 'x' is not a number
+const TWO_MESSAGES: &[u8] = b"byte-unit: line 1: field 1: 'x': the character 'x' is not a number (character 1)
 byte-unit: line 2: field 1: '\\xff': not UTF-8
 ";
 
 /// The message on a line of which the unit is rejected.
 const NO_UNIT: &[u8] = b"byte-unit: line 2: '1 x': the character 'x' is incorrect \
-('B', 'K', 'M', 'G', 'T', 'P', 'E', 'Z', 'Y' or 'R' or no character is expected)\n";
+('B', 'K', 'M', 'G', 'T', 'P', 'E', 'Z', 'Y' or 'R' or no character is expected) (character 3)\n";
 
 /// A name, options and an input; what was counted, or why the run ends early; what is written, and the messages.
 type Row = (
@@ -109,7 +109,7 @@ const ROWS: &[Row] = &rows! {
         b"x,1024,1024\n\xff,y,1\n", REJECTED, b"x,1024,1 KiB\n\xff,y,1 B\n1.025 KB\n", b""),
     ("quoted bytes", Options { invalid: Invalid::Warn, ..FIELDS }, b"1\n1,2,a\x1b\n\xff\xfeb\n",
         Ok(Tally { total: 2, beyond: false, rejected: true }), b"1 B\n1 B,2,a\x1b\n\xff\xfeb\n",
-        b"byte-unit: line 2: field 3: 'a\\u{1b}': the character 'a' is not a number
+        b"byte-unit: line 2: field 3: 'a\\u{1b}': the character 'a' is not a number (character 1)
 byte-unit: line 3: field 1: '\\xff\\xfeb': not UTF-8
 "),
 };

@@ -1,17 +1,21 @@
--- The text of a size in a given unit has no more bytes than its digits, the point, a space and the unit allow.
-use Rattle.std.proofs.Common.{◌≤◌, sym, subst}
+-- What was written is the text, and in a given unit it has no more bytes than its digits, the point, a space and the unit
+-- allow.
+use Rattle.std.proofs.Common.{◌≤◌, ℕ, sym, subst, arith}
 use Rattle.byte_unit_command.specs.Capacity.{form_max}
+use Rattle.byte_unit_command.specs.CallOptions.{kind_of}
+use Rattle.byte_unit_command.specs.Shown.{BeginsWithForm, IsFormText}
 use Rattle.byte_unit_command.proofs.Lengths.{adjusted-narrow}
+use Rattle.byte_unit_command.proofs.Numbers.{begins_with}
 use Rattle.byte_unit_command.proofs.size.write_as.Goals as goal
 
 pub returns-in-InUnit-clause-narrow : goal.returns-in-InUnit-clause-narrow
 returns-in-InUnit-clause-narrow g c =
     let precision = c.args.options.now.precision in
     subst (λ form. c.write_adjusted.result ≤ form_max form precision) (sym c.in-InUnit.is)
-    (adjusted-narrow _ precision c.requires c.write_adjusted.ensures.written)
+    (adjusted-narrow _ precision c.requires.size c.write_adjusted.ensures.written)
 
 pub returns-in-Largest-clause-narrow : goal.returns-in-Largest-clause-narrow
 returns-in-Largest-clause-narrow g c =
     let precision = c.args.options.now.precision in
     subst (λ form. c.write_adjusted-in-Largest.result ≤ form_max form precision) (sym c.in-Largest.is)
-    (adjusted-narrow _ precision c.requires c.write_adjusted-in-Largest.ensures.written)
+    (adjusted-narrow _ precision c.requires.size c.write_adjusted-in-Largest.ensures.written)

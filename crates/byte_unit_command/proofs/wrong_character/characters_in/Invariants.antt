@@ -1,0 +1,9 @@
+-- The characters that begin in the bytes so far are counted.
+use Rattle.std.proofs.Common.{◌≡◌, ◌≤◌, take}
+use Rattle.std.specs.List.{count_by}
+use Rattle.byte_unit_command.specs.WrongCharacter.{begins_character}
+use Rattle.byte_unit_command.proofs.wrong_character.characters_in.Given as goal
+
+abbrev pub invariant-loop-byte : goal.invariant-loop-byte
+invariant-loop-byte l =
+    (l.count ≡ count_by begins_character (take l.byte-index l.bytes)) × (l.count ≤ l.byte-index)

@@ -1,0 +1,12 @@
+-- The string is the text.
+use Rattle.std.proofs.Common.{◌≡◌, ℕ, List, Option, inr, subst}
+use Rattle.byte_unit.specs.ErrorPosition.{IsSizePosition}
+use Rattle.byte_unit_command.specs.WrongCharacter.{character_at}
+use Rattle.byte_unit_command.proofs.wrong_character.wrong_character.Goals as goal
+
+pub returns-in-Ok : goal.returns-in-Ok
+returns-in-Ok c =
+    let is = c.in-Ok.ensures.cases in
+    let Of : List ℕ → Type 0 =
+    λ text. (position : Option ℕ) × IsSizePosition text position × (c.character_of.result ≡ character_at text position) in
+    inr (is.1, subst Of is.0 c.character_of.ensures)
