@@ -155,14 +155,15 @@ def options_of(texts):
 
 
 # The beginnings of numbers with a unit, with any digits.
-VIABLE = re.compile(r"(?ai)[0-9]*|[0-9]+\.[0-9]*|[0-9]+(\.[0-9]+)? *([KMGTPEZYR]i?)?(b(i(ts?)?)?)?")
+VIABLE = [re.compile(r"(?ai)[0-9]*"), re.compile(r"(?a)[0-9]+\.[0-9]*"),
+          re.compile(r"(?ai)[0-9]+(\.[0-9]+)? *([KMGTPEZYR]i?)?(b(i(ts?)?)?)?")]
 
 
 def character(text, message):
     """Returns which character of a text is wrong, for a message that names one; nothing if the text ends there."""
     rest = text.lstrip(WHITE_SPACE).rstrip(WHITE_SPACE)
-    first = next((at for at in range(len(rest)) if not VIABLE.fullmatch(rest[: at + 1])), None)
-    if first is None or not message.startswith("the character '"):
+    first = max(found.end() for found in (pattern.match(rest) for pattern in VIABLE) if found)
+    if first == len(rest) or not message.startswith("the character '"):
         return ""
     return f" (character {len(text) - len(text.lstrip(WHITE_SPACE)) + first + 1})"
 

@@ -87,6 +87,10 @@ def exact(rng):
       for words in ("", "--header", "--header=5", "--padding=20", "--padding=-20", "-z")],
     *[(f"--invalid={way}", "--from=auto", "--to=plain", lambda rng: rng.choice(["x", "y", "1K", "2K"]))
       for way in ("fail", "warn", "ignore", "abort")],
+    *[(words, "--from=iec", "--from=iec --to=plain", lambda rng: f"{rng.randrange(1, 999)}{rng.choice(['', *'KMG'])}")
+      for words in ("-d,", "--header", "--padding=20")],
+    *[(words, "--from=auto", "--to=plain", lambda rng: exact(rng) + rng.choice(["", "/s"]))
+      for words in ("--suffix=/s", "--suffix=/s --padding=-20", "--suffix=/s --suffix=/s -d,")],
     # Sizes that both write as a whole number of one unit.
     ("", "--to=si", "--to=si", lambda rng: str(rng.randrange(10, 999) * 1000 ** rng.randrange(1, 4))),
     ("", "--to=iec-i", "--to=iec", lambda rng: str(rng.randrange(10, 1000) * 1024 ** rng.randrange(1, 4)))])
@@ -96,4 +100,4 @@ def test_same_output_as_numfmt(program, seed, both, theirs, ours, line):
     status, wanted, _ = ended("numfmt", theirs, *both.split(), input=data)
     if "--to" in theirs:
         wanted = re.sub(rb"(\d+)(?:\.0)?([KMGTPE]i?)", rb"\1 \2B", wanted)
-    assert ended(program, ours, *both.split(), input=data)[:2] == (status, wanted)
+    assert ended(program, *ours.split(), *both.split(), input=data)[:2] == (status, wanted)

@@ -111,6 +111,7 @@ fn add_first<A: Allocator>(
 /// # Errors
 ///
 /// Returns `AllocError` if allocation fails.
+#[inline(never)]
 fn add_padded<A: Allocator>(
     options: &Options,
     bytes: &[u8],
