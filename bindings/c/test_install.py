@@ -67,7 +67,8 @@ def test_shared_library(prefix):
     """It exports the functions that the header declares and no other, and needs libc alone."""
     library, version = prefix / "lib/libbyte_unit.so", flags(prefix, "--modversion")[0]
     declared = [name for name, (_, _, is_inline) in functions(read(prefix / HEADER)).items() if not is_inline]
-    assert sorted(output("nm", "-D", "--defined-only", library).split()[2::3]) == sorted(declared)
+    assert sorted(output("nm", "-D", "--defined-only", library).split()[2::3]) == sorted(
+        [*(f"{name}@@BYTE_UNIT_{version[0]}" for name in declared), f"BYTE_UNIT_{version[0]}"])
     dynamic, soname = output("readelf", "-d", library), f"libbyte_unit.so.{version.split('.')[0]}"
     assert re.findall(r"soname: \[(.*)\]", dynamic) == [soname]
     assert re.findall(r"NEEDED.*\[(.*)\]", dynamic) == ["libc.so.6"]

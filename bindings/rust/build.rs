@@ -24,16 +24,21 @@ fn main() {
     tell_of_core_error();
 }
 
-/// Returns the folder and the name of the archive: that of `BYTE_UNIT_LIBRARY_DIR`, the installed one, or the one that
-/// the repository around this package has built.
+/// Returns the folder and the name of the archive: that of `BYTE_UNIT_LIBRARY_DIR`, the one inside this package, the
+/// installed one, or the one that the repository around this package has built.
 fn find_archive() -> (PathBuf, &'static str) {
     if let Some(folder) = env::var_os("BYTE_UNIT_LIBRARY_DIR") {
         return (named(folder.into()), "byte_unit");
     }
+    let package = Path::new(env!("CARGO_MANIFEST_DIR"));
+    let inside = package.join("library");
+    if inside.join("libbyte_unit.a").exists() {
+        return (inside, "byte_unit");
+    }
     if let Some(folder) = installed() {
         return (folder, "byte_unit");
     }
-    let built = Path::new(env!("CARGO_MANIFEST_DIR")).join("../../crates/byte_unit_c/out");
+    let built = package.join("../../crates/byte_unit_c/out");
     if is_current(&built.join("libbyte_unit_c.a")) {
         return (built, "byte_unit_c");
     }

@@ -14,6 +14,8 @@ folder PREFIX, such as /usr/local, but for what --without-sqlite and --without-c
     share/man/man3/byte_unit.3      the manual page, also by the name of each call
     share/byte_unit/LICENSE, installed    the license, and the list of these files, which --uninstall reads
 
+With --libdir FOLDER, such as lib/x86_64-linux-gnu, the libraries go to that folder of PREFIX instead of lib.
+
 With --target aarch64-unknown-linux-gnu the library is that of this target, without the command and the extension; the
 shared library needs Debian's aarch64-linux-gnu-gcc. With --postgresql it also builds the extension for PostgreSQL, and
 puts it where pg_config, or the program that $PG_CONFIG names, says; with --uninstall it removes it from there.
@@ -40,12 +42,12 @@ LIST = "share/byte_unit/installed"
 COMMAND = "byte-unit"
 
 
-def run(prefix, *, from_=None, without_sqlite=False, without_command=False, postgresql=False, target="",
+def run(prefix, *, from_=None, libdir="lib", without_sqlite=False, without_command=False, postgresql=False, target="",
         uninstall=False):  # fmt: skip
-    prefix = os.path.abspath(prefix)
-    if re.search(r'[\x00-\x1f"\\$#]', prefix):
-        why = 'a prefix with a control character or one of " \\ $ # cannot be written in byte_unit.pc'
-        raise Failure(f"{prefix!r}: {why}")
+    prefix, libdir = os.path.abspath(prefix), os.path.normpath(libdir)
+    if libdir.startswith(("/", "..")) or re.search(r'[\x00-\x1f"\\$#]', prefix + libdir):
+        why = 'a folder that is not below the prefix, or a prefix with a control character or one of " \\ $ # cannot be written in byte_unit.pc'
+        raise Failure(f"{prefix!r}, {libdir!r}: {why}")
     root = Path(os.path.normpath(os.environ.get("DESTDIR", "") + prefix))
     if uninstall:
         return remove_installed(root) or postgresql and extension(root, "uninstall")
@@ -56,18 +58,18 @@ def run(prefix, *, from_=None, without_sqlite=False, without_command=False, post
             else:
                 build(Path(folder), from_, not without_command)
             print(f"installing in {root}", flush=True)
-            files = files_of(Path(folder), prefix, [EXTENSION] * without_sqlite)
+            files = files_of(Path(folder), prefix, [EXTENSION] * without_sqlite, libdir)
             if postgresql:
                 extension(folder, "install")
             put(root, files)
         except (Failure, OSError, KeyboardInterrupt) as error:
             raise Failure(f"nothing is installed: {reason(error)}") from error
-    folder = shlex.quote(os.path.join(prefix, "lib"))
+    folder = shlex.quote(os.path.join(prefix, libdir))
     print(f"installed {len(files) + 1} files")
     print(f"to compile: cc program.c $(PKG_CONFIG_PATH={folder}/pkgconfig pkg-config --cflags --libs byte_unit)")
-    if "lib/libbyte_unit.so" in files:
+    if f"{libdir}/libbyte_unit.so" in files:
         print(f"to run: `ldconfig` as root if the loader reads {folder}, else LD_LIBRARY_PATH={folder}")
-    if f"lib/{EXTENSION}" in files:
+    if f"{libdir}/{EXTENSION}" in files:
         print(f"in sqlite3: .load {folder}/sqlite3/byte_unit")
 
 
@@ -109,22 +111,22 @@ def calls_of(header):
     return sorted(name for name in functions(header) if not name.endswith("_to"))
 
 
-def files_of(folder, prefix, without):
+def files_of(folder, prefix, without, libdir="lib"):
     """Returns what to install: paths below PREFIX, each with its contents as bytes, or the path that it links to."""
     shared, soname, short = libraries.shared_names(folder)
     built = {f"include/{HEADER}": HEADER, f"bin/{COMMAND}": COMMAND,
-             **{f"lib/{name}": name for name in (ARCHIVE, shared, EXTENSION) if name not in without}}  # fmt: skip
+             **{f"{libdir}/{name}": name for name in (ARCHIVE, shared, EXTENSION) if name not in without}}  # fmt: skip
     files = {place: (folder / name).read_bytes() for place, name in built.items() if (folder / name).exists()}
     others = {"share/byte_unit/LICENSE": "LICENSE", "share/man/man3/byte_unit.3": "bindings/c/byte_unit.3"}
     if f"bin/{COMMAND}" in files:
         others["share/man/man1/byte-unit.1"] = "command/byte-unit.1"
         others["share/bash-completion/completions/byte-unit"] = "command/byte-unit.bash"
     files.update({place: Path(path(name)).read_bytes() for place, name in others.items()})
-    config = read("bindings/c/byte_unit.pc.in").replace("@PREFIX@", prefix)
-    files["lib/pkgconfig/byte_unit.pc"] = config.replace("@VERSION@", shared.partition(".so.")[2]).encode()
+    config = read("bindings/c/byte_unit.pc.in").replace("@PREFIX@", prefix).replace("@LIBDIR@", libdir)
+    files[f"{libdir}/pkgconfig/byte_unit.pc"] = config.replace("@VERSION@", shared.partition(".so.")[2]).encode()
     files.update({f"share/man/man3/{call}.3": "byte_unit.3" for call in calls_of(read(folder / HEADER))})
-    if f"lib/{shared}" in files:
-        files.update({f"lib/{soname}": shared, f"lib/{short}": soname})
+    if f"{libdir}/{shared}" in files:
+        files.update({f"{libdir}/{soname}": shared, f"{libdir}/{short}": soname})
     return files
 
 
@@ -134,7 +136,7 @@ def put(root, files):
     folders = {line for line in lines if line.endswith("/")}
     folders |= {f"{folder.relative_to(root)}/" for folder in made if folder.is_relative_to(root)}
     text = "".join(f"{line}\n" for line in [*sorted(files), LIST, *sorted(folders)])
-    modes = {root / name: 0o755 for name in files if ".so" in name or name.startswith("bin/")}
+    modes = {root / name: 0o755 for name in files if name.startswith("bin/")}
     gone = [line for line in lines if line not in {LIST, *files, *folders} and os.path.lexists(root / line)]
     contents = {LIST: text.encode(), **files, **dict.fromkeys(gone)}
     replace({root / name: content for name, content in contents.items()}, modes)

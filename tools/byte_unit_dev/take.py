@@ -132,7 +132,9 @@ def first_line(*words):
 
 
 def commit():
-    """Returns the commit of this repository, and whether what is taken differs from it."""
+    """Returns the commit of this repository, or of unpacked sources, and whether what is taken differs from it."""
+    if (HERE / "COMMIT").is_file():
+        return (HERE / "COMMIT").read_text().split()[0]
     top, name = first_line("git", "rev-parse", "--show-toplevel"), first_line("git", "rev-parse", "--short=12", "HEAD")
     if not top or not name or Path(top).resolve() != HERE:
         return "unknown"

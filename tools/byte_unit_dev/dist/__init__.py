@@ -1,0 +1,215 @@
+"""Makes what others download: archives and packages for those who have no Rattle, and the sources for those who have.
+
+    tools/dev make-dist FOLDER [--after-ci] [--from LIBRARY_FOLDER] [--verdict LINE]
+
+Proves and builds the library for x86-64, aarch64 and WebAssembly and the command, for every x86-64 processor; with
+--after-ci over what `rt ci` has built. With --from proves nothing, and takes libbyte_unit.a, byte_unit.h, byte-unit,
+byte_unit.wasm and aarch64/libbyte_unit.a from a folder; what needs a file that is not there is left out. FOLDER, which
+must be empty or missing, then has:
+
+    byte-unit-VERSION-linux-x86_64.tar.gz, -linux-aarch64.tar.gz    a prefix, for any place, and install.sh
+    byte_unit-VERSION-cp311-abi3-..whl, byte_unit-VERSION.tar.gz    for pip, which then needs no network
+    byte-unit-5.2.6-cargo.tar.gz                   a package for a folder of cargo's vendored sources
+    byte-unit-VERSION-js.tar.gz, how-a-size-is-read.html             the package for JavaScript, and the page
+    lib*.deb, byte-unit_*.deb, python3-*.deb, postgresql-*.deb       the packages for Debian 12
+    byte-unit-VERSION-rattle.tar.gz                the sources: this repository at its commit
+    RELEASE.md, SHA256SUMS                         what a receiver can check, and checksums
+
+A line that begins with `skipped: ` names what could not be made, and why. The bytes follow from the commit, the
+library and Debian's packages alone: not from the machine, the time or the folder.
+"""
+
+import hashlib
+import json
+import os
+import shutil
+import tempfile
+from pathlib import Path
+
+from .. import libraries
+from ..builds import copied, environment
+from ..common import Failure, call, output, path, read
+from ..install import COMMAND, files_of
+from ..libraries import ARCHIVE, EXTENSION, HEADER, MODULE
+from ..needs import DEBIAN_PYTHON, PYTHON_PACKAGE, is_there
+from ..page import page
+from ..take import commit
+from . import archives, debian
+
+RELOCATABLE = "${pcfiledir}/../.."
+RELEASE = """# byte-unit {version}
+
+Made by `tools/dev make-dist` of commit {commit}, with `{toolchain}`.
+{verdict}
+Files here need no Rattle, but for `byte-unit-{version}-rattle.tar.gz`, the sources. What is in none of them: proofs.
+They were checked where this was made; what you hold are programs that were compiled of what was proved.
+
+## Without the toolchain
+
+- `sha256sum -c SHA256SUMS`: the files are those that were made.
+- `vectors/byte-unit.txt` in the sources has sizes, errors and texts: compare them with any of the packages;
+  `vectors/run_python.py` does so with the wheel.
+- `nm -D` of the shared library shows the header's functions alone, which call nothing but the C library.
+
+## With it
+
+In the unpacked sources, with the toolchain above (`rt version`):
+
+- `rt ci` proves each function again; its last line is `N passed, 0 failed`.
+- `tools/dev make-dist FOLDER` makes these files again. With the same compilers (Debian 12) `cmp` finds no difference;
+  libbyte_unit.a depends on the toolchain alone.
+- `tools/dev take` copies the library for Rattle into your repository.
+
+## What is trusted
+
+The toolchain and its logic, the compilers, libc and the processor; of the bindings, the C, Rust, Python and JavaScript
+around the library: only tested. See README.md in the sources.
+"""
+
+
+class Parts:
+    """What the archives are made of: the library's folders, the time of the commit, and a folder for work."""
+
+    def __init__(self, work, source, after_ci):
+        self.work, self.version = Path(work), read("VERSION").strip()
+        self.commit, self.seconds = commit_and_time()
+        self.x86, self.arm, self.wasm = (self.work / name for name in ("x86_64", "aarch64", "wasm"))
+        for folder in (self.x86, self.arm, self.wasm):
+            folder.mkdir()
+        (self.copy if source else self.build)(*[Path(source)] if source else [after_ci])
+        for folder, prefix in ((self.x86, ""), (self.arm, "aarch64-linux-gnu-")):
+            for file in (*folder.glob("*.so.*.*"), *folder.glob(EXTENSION), *folder.glob(COMMAND)):
+                archives.stripped(file, prefix)
+
+    def copy(self, source):
+        names = {ARCHIVE: self.x86, HEADER: self.x86, COMMAND: self.x86, f"aarch64/{ARCHIVE}": self.arm,
+                 MODULE: self.wasm}  # fmt: skip
+        for name, folder in names.items():
+            if (source / name).exists() or name in (ARCHIVE, HEADER):
+                shutil.copy(source / name, folder)
+        libraries.link_in(self.x86)
+        if (self.arm / ARCHIVE).exists():
+            shutil.copy(self.x86 / HEADER, self.arm)
+            libraries.link_shared(self.arm, "aarch64-linux-gnu-gcc")
+
+    def build(self, after_ci):
+        libraries.run(self.x86, after_ci=after_ci)
+        libraries.build_for(libraries.AARCH64, self.arm, after_ci)
+        libraries.build_for(libraries.WASM, self.wasm, after_ci)
+        libraries.build_command(self.x86 / COMMAND)
+
+
+def commit_and_time():
+    """Returns the commit, and the seconds of its time: those of the file COMMIT in unpacked sources."""
+    if os.path.exists(path("COMMIT")):
+        name, seconds = read("COMMIT").split()
+        return name, int(seconds)
+    if commit() == "unknown":
+        raise Failure("this is neither a repository of git nor the unpacked sources of a release")
+    return commit(), int(output("git", "log", "-1", "--format=%ct", cwd=path()))
+
+
+def prefix(parts, folder, machine):
+    """Returns the archive of an installed prefix, with install.sh."""
+    files = files_of(folder, RELOCATABLE, [])
+    files["share/byte_unit/README.md"] = Path(path("bindings/c/README.md")).read_bytes()
+    names = sorted([*files, "share/byte_unit/installed"])
+    files["share/byte_unit/installed"] = "".join(f"{name}\n" for name in names).encode()
+    files["install.sh"] = (Path(__file__).parent / "install.sh").read_bytes()
+    files["LICENSE"] = files["share/byte_unit/LICENSE"]
+    top = f"byte-unit-{parts.version}-linux-{machine}"
+    return {f"{top}.tar.gz": archives.tarball(top, files, parts.seconds)}
+
+
+def x86_64(parts):
+    return prefix(parts, parts.x86, "x86_64")
+
+
+def aarch64(parts):
+    needed(parts.arm / ARCHIVE, "the library for aarch64")
+    return prefix(parts, parts.arm, "aarch64")
+
+
+def needed(place, what):
+    if not place.exists():
+        raise Failure(f"{what} is missing")
+
+
+def python(parts):
+    """Returns the wheel and the source distribution."""
+    missing = [need for need in PYTHON_PACKAGE if not is_there(need)]
+    if missing:
+        raise Failure(f"{missing[0]} is missing")
+    copy = copied("python", parts.work)
+    here = environment(BYTE_UNIT_LIBRARY_DIR=parts.x86, SOURCE_DATE_EPOCH=parts.seconds, CFLAGS="-g0", LDFLAGS="-s")
+    output(DEBIAN_PYTHON, "setup.py", "bdist_wheel", "-d", parts.work, cwd=copy, env=here)
+    output(DEBIAN_PYTHON, "setup.py", "sdist", "-d", parts.work, cwd=copied("python", parts.work / "sdist"), env=here)
+    (wheel,), (source,) = parts.work.glob("*.whl"), parts.work.glob("byte_unit-*.tar.gz")
+    parts.wheel = archives.files_of_zip(wheel)
+    files = {**archives.files_of_tar(source), "CHANGELOG.md": read("CHANGELOG.md").encode()}
+    top = source.name.removesuffix(".tar.gz")
+    return {wheel.name: archives.zipped(parts.wheel, parts.seconds),
+            source.name: archives.tarball(top, files, parts.seconds)}  # fmt: skip
+
+
+def cargo(parts):
+    """Returns the Rust package, as cargo reads it in a folder of vendored sources, with the archive inside."""
+    files = archives.files_in(copied("rust", parts.work))
+    files = {name: data for name, data in files.items() if not name.startswith(("checks/", "test_", "."))}
+    files[f"library/{ARCHIVE}"] = (parts.x86 / ARCHIVE).read_bytes()
+    sums = {name: hashlib.sha256(data).hexdigest() for name, data in sorted(files.items())}
+    files[".cargo-checksum.json"] = json.dumps({"files": sums, "package": None}).encode()
+    return {"byte-unit-5.2.6-cargo.tar.gz": archives.tarball("byte-unit-5.2.6", files, parts.seconds)}
+
+
+def javascript(parts):
+    """Returns the package for JavaScript, and the page with the module inside."""
+    needed(parts.wasm / MODULE, MODULE)
+    module = (parts.wasm / MODULE).read_bytes()
+    names = [name for name in json.loads(read("bindings/js/package.json"))["files"] if name != MODULE]
+    files = {name: Path(path("bindings/js", name)).read_bytes() for name in [*names, "package.json", "README.md"]}
+    top = f"byte-unit-{parts.version}-js"
+    return {f"{top}.tar.gz": archives.tarball(top, {**files, MODULE: module}, parts.seconds),
+            "how-a-size-is-read.html": page(module).encode()}  # fmt: skip
+
+
+def sources(parts):
+    """Returns this repository at its commit, with the file COMMIT, which `tools/dev take` reads."""
+    top = f"byte-unit-{parts.version}-rattle"
+    words = ["git", "-c", "tar.umask=0022", "archive", f"--prefix={top}/", "HEAD"]
+    tar = call(*words, cwd=path(), encoding=None, errors=None)
+    if tar.returncode:
+        raise Failure("there is no repository of git")
+    (parts.work / "sources.tar").write_bytes(tar.stdout)
+    files = archives.files_of_tar(parts.work / "sources.tar")
+    files["COMMIT"] = f"{parts.commit} {parts.seconds}\n".encode()
+    return {f"{top}.tar.gz": archives.tarball(top, files, parts.seconds)}
+
+
+KINDS = {"the archive for x86-64": x86_64, "the archive for aarch64": aarch64, "the packages for pip": python,
+         "the package for cargo": cargo, "the package for JavaScript": javascript, "the sources": sources,
+         **debian.KINDS}  # fmt: skip
+
+
+def run(folder, *, after_ci=False, from_=None, verdict=""):
+    target = Path(folder).resolve()
+    if target.exists() and (not target.is_dir() or any(target.iterdir())):
+        raise Failure(f"{target} is there already, and is no empty folder")
+    os.umask(0o022)
+    with tempfile.TemporaryDirectory() as work:
+        parts, made = Parts(work, from_, after_ci), {}
+        for what, kind in KINDS.items():
+            try:
+                made.update(kind(parts))
+            except Failure as why:
+                print(f"skipped: {what}: {why}", flush=True)
+        said = f"The verdict of `.ci/run` there: `{verdict}`.\n" if verdict else ""
+        toolchain = call("rt", "version").stdout.strip() if shutil.which("rt") else "Rattle"
+        text = RELEASE.format(version=parts.version, commit=parts.commit, toolchain=toolchain, verdict=said)
+        made["RELEASE.md"] = text.encode()
+        sums = [f"{hashlib.sha256(data).hexdigest()}  {name}\n" for name, data in sorted(made.items())]
+        made["SHA256SUMS"] = "".join(sums).encode()
+        target.mkdir(parents=True, exist_ok=True)
+        for name, data in made.items():
+            (target / name).write_bytes(data)
+    print(f"made {len(made)} files in {target}")
