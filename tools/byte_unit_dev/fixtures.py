@@ -197,6 +197,7 @@ def aarch64(request, tmp_path_factory):
         made = folder / f"{os.path.basename(source)}-{library}"
         return [*AARCH64_RUN, compiled(AARCH64_CC, made, *words, folder / library, f"-Wl,-rpath,{folder}")]
 
+    program.folder = folder
     return program
 
 

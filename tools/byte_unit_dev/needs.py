@@ -35,7 +35,7 @@ PACKAGES = {
     "aarch64-linux-gnu-gcc": "gcc-aarch64-linux-gnu", "qemu-aarch64": "qemu-user",
     "/usr/aarch64-linux-gnu/include/stdio.h": "libc6-dev-arm64-cross",
     f"{POSTGRESQL_15}/bin/psql": "postgresql-client-15", "make": "make", "setpriv": "util-linux",
-    "valgrind": "valgrind",
+    "valgrind": "valgrind", "lintian": "lintian", "dpkg-deb": "dpkg", "unshare": "util-linux", "strip": "binutils",
     f"{POSTGRESQL_15}/lib/pgxs/src/makefiles/pgxs.mk": "postgresql-server-dev-15",
 }
 POSTGRESQL = ["gcc", "make", "setpriv", *(need for need in PACKAGES if need.startswith(POSTGRESQL_15))]

@@ -112,6 +112,8 @@ def commit_and_time():
 def prefix(parts, folder, machine):
     """Returns the archive of an installed prefix, with install.sh."""
     files = files_of(folder, RELOCATABLE, [])
+    config = "lib/pkgconfig/byte_unit.pc"
+    files[config] = files[config].replace(b'"', b"")  # pkgconf escapes the spaces of pcfiledir itself
     files["share/byte_unit/README.md"] = Path(path("bindings/c/README.md")).read_bytes()
     names = sorted([*files, "share/byte_unit/installed"])
     files["share/byte_unit/installed"] = "".join(f"{name}\n" for name in names).encode()
