@@ -4,7 +4,8 @@ Copies the crates, without tests and mutants, into FOLDER/crates, adds their lin
 `out/` to FOLDER/.gitignore, and records in crates/byte_unit/VERSION what was copied: version, commit, toolchain, and
 the checksum of each file, as `sha256sum` writes it. Fails if one of the crates is already there, as a folder or as a
 line. With --update, replaces that copy by the current one, but for each crate's out/. Fails, and names the files, if
-any was edited, added or removed. Either form changes everything or nothing.
+any was edited, added or removed. Either form changes everything or nothing. With --with serde, copies byte_unit_serde
+too, which uses the crates serde and toml; a later --update updates it too.
 """
 
 import hashlib
@@ -19,30 +20,33 @@ from .replace import remove_folders, replace
 from .source import library
 
 HERE = Path(ROOT)
-CRATES = library()
+CRATES, MORE = library(), {"serde": "byte_unit_serde"}
 PARTS = ["src", "specs", "proofs"]
 RECORD = "crates/byte_unit/VERSION"
 
 
-def run(folder, *, update=False):
+def run(folder, *, update=False, with_=""):
+    if with_ not in ("", *MORE):
+        raise Failure(f"--with {with_} is none of: {' '.join(MORE)}; nothing was changed")
     try:
-        lines = take(folder, update)
+        lines = take(folder, update, [MORE[with_]] if with_ else [])
     except (Failure, OSError, KeyboardInterrupt) as error:
         raise Failure(f"{folder}: {reason(error)}; nothing was changed") from error
     print("\n".join(f"take: {folder}{line}" for line in lines))
 
 
-def take(shown, is_update):
+def take(shown, is_update, more=()):
     """Takes the crates into the folder that the user names, or updates them there. Returns what to print."""
     there = Path(shown).resolve()
     if not shown or not there.is_dir():
         raise Failure("there is no such folder")
     if there.is_relative_to(HERE):
         raise Failure("it is this repository, or in it")
-    before = unchanged_record(there) if is_update else check_free(there)
-    files, old = taken(), recorded(before)[1] if is_update else {}
+    crates = [*CRATES, *(crate for crate in MORE.values() if crate in more or is_update and is_taken(there, crate))]
+    before = unchanged_record(there, crates) if is_update else check_free(there, crates)
+    files, old = taken(crates), recorded(before)[1] if is_update else {}
     now = recorded(files[RECORD].decode())[0]
-    rows, changes = with_rows(bytes_of(there / "crates.txt"))
+    rows, changes = with_rows(bytes_of(there / "crates.txt"), crates)
     ignored = bytes_of(there / ".gitignore")
     if b"out/" not in map(bytes.rstrip, ignored.splitlines()):
         changes.append(".gitignore: added `out/`")
@@ -57,27 +61,32 @@ def take(shown, is_update):
     modes = {place: place.stat().st_mode & 0o777 for place in written if place.exists()}
     replace({**written, **gone}, modes)
     remove_folders({folder for file in gone for folder in file.parents})
-    how = f"updated from {recorded(before)[0]} to" if is_update else f"copied {', '.join(CRATES)}:"
+    how = f"updated from {recorded(before)[0]} to" if is_update else f"copied {', '.join(crates)}:"
     return [f": {how} {now}", *(f": {it}" for it in changes if is_update or not it.startswith("crates.txt"))]
 
 
-def check_free(there):
+def is_taken(there, crate):
+    """Tells whether the record of the copy has files of the crate."""
+    return b"  crates/%b/" % crate.encode() in bytes_of(there / RECORD)
+
+
+def check_free(there, crates):
     """Fails if one of the crates is there already, or the other repository keeps its crates elsewhere."""
     if os.path.lexists(there / "crates.txt") and not (there / "crates").is_dir():
         raise Failure("its crates are not in a folder crates/")
-    for crate in CRATES:
+    for crate in crates:
         if os.path.lexists(there / "crates" / crate):
             raise Failure(f"crates/{crate} is there already; --update replaces an unchanged copy")
         if row_of(crate).search(bytes_of(there / "crates.txt")):
             raise Failure(f"crates.txt has a line of {crate} already")
 
 
-def unchanged_record(there):
+def unchanged_record(there, crates):
     """Returns the record of the copy. Fails, and names the files, unless its files are those of the record."""
     if not (there / RECORD).is_file():
         raise Failure(f"there is no {RECORD}, which says what was taken")
     text = bytes_of(there / RECORD).decode(errors="replace")
-    kept, found = recorded(text)[1], sums(contents_of(there))
+    kept, found = recorded(text)[1], sums(contents_of(there, crates))
     del found[RECORD]
     differ = [f"{name} was {'removed' if name not in found else 'edited' if name in kept else 'added'}"
               for name in sorted({**kept, **found}) if kept.get(name) != found.get(name, "")]
@@ -86,9 +95,9 @@ def unchanged_record(there):
     return text
 
 
-def contents_of(top):
+def contents_of(top, crates):
     """Returns the bytes of each file of the crates below `top`, but for out/, by its path. Those of a link are None."""
-    parts = [part for crate in CRATES for part in (top / "crates" / crate).glob("*") if part.name != "out"]
+    parts = [part for crate in crates for part in (top / "crates" / crate).glob("*") if part.name != "out"]
     found = [file for part in parts for file in (part, *part.rglob("*")) if file.is_symlink() or not file.is_dir()]
     return {file.relative_to(top).as_posix(): file.read_bytes() if file.is_file() and not file.is_symlink() else None
             for file in found}
@@ -107,11 +116,11 @@ def recorded(text):
     return f"{words['version']}, commit {words['commit']}", kept
 
 
-def taken():
+def taken(crates):
     """Returns the bytes of each file that is to be in the other repository, with the record of them."""
-    files = {name: text for name, text in contents_of(HERE).items() if name.split("/")[2] in PARTS}
+    files = {name: text for name, text in contents_of(HERE, crates).items() if name.split("/")[2] in PARTS}
     files["crates/byte_unit/LICENSE"] = bytes_of(HERE / "LICENSE")
-    lines = [f"version: {(HERE / 'VERSION').read_text().strip()}", f"commit: {commit()}",
+    lines = [f"version: {(HERE / 'VERSION').read_text().strip()}", f"commit: {commit(crates)}",
              f"toolchain: {first_line('rt', 'version') or 'unknown'}"]
     lines += [f"{value}  {name}" for name, value in sorted(sums(files).items())]
     files[RECORD] = "".join(f"{line}\n" for line in lines).encode()
@@ -131,14 +140,14 @@ def first_line(*words):
     return ran.stdout.partition("\n")[0] if ran and ran.returncode == 0 else None
 
 
-def commit():
+def commit(crates):
     """Returns the commit of this repository, or of unpacked sources, and whether what is taken differs from it."""
     if (HERE / "COMMIT").is_file():
         return (HERE / "COMMIT").read_text().split()[0]
     top, name = first_line("git", "rev-parse", "--show-toplevel"), first_line("git", "rev-parse", "--short=12", "HEAD")
     if not top or not name or Path(top).resolve() != HERE:
         return "unknown"
-    ours = [f"crates/{crate}" for crate in CRATES] + ["crates.txt", "LICENSE"]
+    ours = [f"crates/{crate}" for crate in crates] + ["crates.txt", "LICENSE"]
     return name + " (modified)" * bool(first_line("git", "status", "--porcelain", "--", *ours))
 
 
@@ -152,10 +161,10 @@ def row_of(crate):
     return re.compile(rb"^([ \t]*)(%b(?![^\s:])[^\r\n]*?)([ \t\r]*)$" % crate.encode(), re.M)
 
 
-def with_rows(text):
+def with_rows(text, crates):
     """Returns a crates.txt with our lines, each in place of that of its crate, and a sentence for each change."""
     changes = []
-    for crate in CRATES:
+    for crate in crates:
         ours = row_of(crate).search(bytes_of(HERE / "crates.txt"))[2]
         theirs = row_of(crate).search(text)
         if not theirs:

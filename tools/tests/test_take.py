@@ -35,7 +35,7 @@ def here(tmp_path):
     shutil.copytree(f"{ROOT}/tools/byte_unit_dev", here / "tools/byte_unit_dev")
     shutil.copy(f"{ROOT}/tools/dev", here / "tools")
     shutil.copy(f"{ROOT}/crates.txt", here)
-    for crate in [*CRATES, "byte_unit_lines"]:
+    for crate in [*CRATES, "byte_unit_lines", "byte_unit_serde"]:
         names = ["src/lib.rt", "specs/in/Lib.antt", "proofs/Lib.antt", "must-fail/a.edit", "out/rlib/a"]
         write(here / "crates" / crate, {name: f"{name} of {crate}\n" for name in names})
     write(here, {"LICENSE": "MIT\n", "VERSION": "1.0.0\n", f"{MATH}/src/empty.rt": ""})
@@ -140,6 +140,23 @@ def test_update(here, copied):
     run(here, anew)
     now = {path: row for path, row in contents(copied).items() if path.startswith("crates/") and path not in stay}
     assert now == {path: row for path, row in contents(anew).items() if path.startswith("crates/")}
+
+
+def test_serde(here, there, copied):
+    """--with serde copies one crate more, at first or by an update; a later update keeps it."""
+    assert "--with toml is none of: serde" in run(here, "--with", "toml", there, status=1)
+    assert "byte_unit_serde: byte_unit serde toml\n" not in (copied / "crates.txt").read_text()
+    run(here, "--update", "--with", "serde", copied)
+    assert "byte_unit_serde: byte_unit serde toml\n" in (copied / "crates.txt").read_text()
+    change(here)
+    write(here, {"crates/byte_unit_serde/src/lib.rt": "// The next version.\n"})
+    run(here, "--update", copied)
+    assert (copied / "crates/byte_unit_serde/src/lib.rt").read_text() == "// The next version.\n"
+    anew = here.with_name("anew")
+    anew.mkdir()
+    run(here, "--with", "serde", anew)
+    row = (copied / RECORD).read_text()
+    assert row == (anew / RECORD).read_text() and "crates/byte_unit_serde/src/lib.rt" in row
 
 
 @pytest.mark.parametrize("error", [OSError(28, "No space left on device"), KeyboardInterrupt()])

@@ -33,7 +33,6 @@ from ..install import COMMAND, files_of
 from ..libraries import ARCHIVE, EXTENSION, HEADER, MODULE
 from ..needs import DEBIAN_PYTHON, PYTHON_PACKAGE, is_there
 from ..page import page
-from ..take import commit
 from . import archives, debian
 
 RELOCATABLE = "${pcfiledir}/../.."
@@ -104,9 +103,9 @@ def commit_and_time():
     if os.path.exists(path("COMMIT")):
         name, seconds = read("COMMIT").split()
         return name, int(seconds)
-    if commit() == "unknown":
-        raise Failure("this is neither a repository of git nor the unpacked sources of a release")
-    return commit(), int(output("git", "log", "-1", "--format=%ct", cwd=path()))
+    name, seconds = output("git", "log", "-1", "--abbrev=12", "--format=%h %ct", cwd=path()).split()
+    changed = output("git", "status", "--porcelain", "--untracked-files=no", cwd=path())
+    return name + " (modified)" * bool(changed), int(seconds)
 
 
 def prefix(parts, folder, machine):
@@ -184,7 +183,7 @@ def sources(parts):
         raise Failure("there is no repository of git")
     (parts.work / "sources.tar").write_bytes(tar.stdout)
     files = archives.files_of_tar(parts.work / "sources.tar")
-    files["COMMIT"] = f"{parts.commit} {parts.seconds}\n".encode()
+    files["COMMIT"] = f"{parts.commit.split()[0]} {parts.seconds}\n".encode()
     return {f"{top}.tar.gz": archives.tarball(top, files, parts.seconds)}
 
 
