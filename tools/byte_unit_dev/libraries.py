@@ -19,7 +19,7 @@ import shutil
 from pathlib import Path
 
 from .common import Failure, call, output, path, read, shown
-from .source import crates
+from .source import below, crates
 
 ARCHIVE, HEADER, EXTENSION = "libbyte_unit.a", "byte_unit.h", "sqlite3/byte_unit.so"
 # Every x86-64 processor. The default of rt, x86-64-v2, ends a program on the processors qemu64 and kvm64 by SIGILL.
@@ -96,11 +96,11 @@ def words_to_build(crate, root, out, *how):
     words = [f"{kit}/bin/rattle", "build", root, "--crate-name", crate, "--links", f"{crate}=", "--jobs", "2", *how,
              "--toolchain", f"{kit}/toolchain", "-o", out, "--antt-project", f"{kit}/rattle/logic/antt-project.json",
              "--logic-built", f"{kit}/logic_built"]  # fmt: skip
-    below = dict.fromkeys(["std", *crates()[crate]])
-    for name in list(below):
-        for of in [name, *crates().get(name, [])]:
-            at = path("crates", of, "out/rlib") if of in crates() else f"{kit}/rlibs"
-            words += ["--extern", f"{of}={at}/{of}.rlib"] * (of == name) + ["-L", f"dependency={at}"]
+    own = {name: path("crates", name, "out/rlib") for name in below([crate]) if name != crate}
+    for name in ["std", *crates()[crate]]:
+        words += ["--extern", f"{name}={own.get(name, f'{kit}/rlibs')}/{name}.rlib"]
+    for folder in [f"{kit}/rlibs", *own.values()]:
+        words += ["-L", f"dependency={folder}"]
     return words
 
 

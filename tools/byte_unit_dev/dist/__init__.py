@@ -95,7 +95,7 @@ class Parts:
         libraries.run(self.x86, after_ci=after_ci)
         libraries.build_for(libraries.AARCH64, self.arm, after_ci)
         libraries.build_for(libraries.WASM, self.wasm, after_ci)
-        libraries.build_command(self.x86 / COMMAND)
+        libraries.build_command(self.x86 / COMMAND, after_ci)
 
 
 def commit_and_time():
