@@ -67,8 +67,9 @@ def test_shared_library(prefix):
     """It exports the functions that the header declares and no other, and needs libc alone."""
     library, version = prefix / "lib/libbyte_unit.so", flags(prefix, "--modversion")[0]
     declared = [name for name, (_, _, is_inline) in functions(read(prefix / HEADER)).items() if not is_inline]
-    assert sorted(output("nm", "-D", "--defined-only", library).split()[2::3]) == sorted(
-        [*(f"{name}@@BYTE_UNIT_{version[0]}" for name in declared), f"BYTE_UNIT_{version[0]}"])
+    node = f"BYTE_UNIT_{version.partition('.')[0]}"
+    exported = sorted(output("nm", "-D", "--defined-only", library).split()[2::3])
+    assert exported == sorted([node, *(f"{name}@@{node}" for name in declared)])
     dynamic, soname = output("readelf", "-d", library), f"libbyte_unit.so.{version.split('.')[0]}"
     assert re.findall(r"soname: \[(.*)\]", dynamic) == [soname]
     assert re.findall(r"NEEDED.*\[(.*)\]", dynamic) == ["libc.so.6"]
@@ -120,6 +121,7 @@ def fails(folder, reason, *words, **more):
     ("prefix", "--from LIBRARY prefix/in", "nothing is installed: .*prefix"),
     ("other", "--from . prefix", "nothing is installed: .*libbyte_unit.a: No such file or directory"),
     ("other", "--from LIBRARY a$b", "cannot be written in byte_unit.pc"),
+    ("other", "--from LIBRARY --libdir ../lib prefix", "a folder that is not below the prefix"),
     ("other", "--uninstall prefix", "is missing: nothing was installed"),
     ("prefix/share/byte_unit/installed", "--uninstall prefix", "'../other' is not a path below the prefix"),
 ])
@@ -168,9 +170,10 @@ def test_uninstall(library, tmp_path):
 
 def test_destdir(library, tmp_path):
     """byte_unit.pc names the prefix alone, and the list has each file."""
-    output(*INSTALL, "--from", library, "/usr", env={**os.environ, "DESTDIR": str(tmp_path)})
-    config = read(tmp_path / "usr/lib/pkgconfig/byte_unit.pc")
-    assert config.startswith("prefix=/usr\n") and str(tmp_path) not in config
+    words = [*INSTALL, "--from", library, "--libdir", "lib/here", "/usr"]
+    output(*words, env={**os.environ, "DESTDIR": str(tmp_path)})
+    config = read(tmp_path / "usr/lib/here/pkgconfig/byte_unit.pc")
+    assert config.startswith("prefix=/usr\nlibdir=${prefix}/lib/here\n") and str(tmp_path) not in config
     lines = read(tmp_path / "usr/share/byte_unit/installed").splitlines()
     found = {name for name in files_in(tmp_path) if not (tmp_path / name).is_dir()}
     assert {f"usr/{line}" for line in lines if not line.endswith("/")} == found

@@ -32,14 +32,15 @@ if (parse("1.5 KiB") !== 1536n) throw Error();
 try { parse("1 x"); throw Error(); } catch (error) { if (!(error instanceof SizeError)) throw error; }
 """
 # Installs packages in a system that is this one, but writes to a folder of its own; tries and removes them there.
-SYSTEM = """set -eu
+BEGIN = """set -eu
 mount -t tmpfs none "$1"
 cd "$1"
 mkdir new work root
 mount -t overlay overlay -o "lowerdir=/,upperdir=$PWD/new,workdir=$PWD/work" root
 mount -t proc none root/proc
 mount --bind /dev root/dev
-mkdir root/packages
+"""
+SYSTEM = BEGIN + """mkdir root/packages
 cp "$2"/*.deb root/packages
 chroot root sh -euc 'dpkg --install /packages/*.deb
     for name in $(cd /packages && ls | cut -d _ -f 1); do
@@ -172,22 +173,27 @@ def test_javascript(unpacked):
     output(*NODE, top / "user.mjs")
 
 
-def test_sources(unpacked, tmp_path):
-    """Without .git they say their commit, `tools/dev take` works, and they make the same archive again."""
+def test_sources(dist, source, unpacked, tmp_path):
+    """Without .git they say their commit, `tools/dev take` works, and they make the same files again."""
     top, there = unpacked("*-rattle.tar.gz"), tmp_path / "there"
     there.mkdir()
     output(top / "tools/dev", "take", there)
     head = output("git", "rev-parse", "--short=12", "HEAD", cwd=path()).strip()
     assert f"commit: {head}" in read(there / "crates/byte_unit/VERSION")
+    if not output("git", "status", "--porcelain", "--untracked-files=no", cwd=path()):
+        output(top / "tools/dev", "make-dist", tmp_path / "again", "--from", source)
+        again, sums = (set(read(folder / "SHA256SUMS").splitlines()) for folder in (tmp_path / "again", dist))
+        assert again < sums and len(again) == len(sums) - 1
 
 
 def test_packages(dist, tmp_path):
     need("dpkg-deb", "unshare")
-    if call("unshare", "--mount", "mount", "-t", "tmpfs", "none", tmp_path).returncode:
+    alone = ["unshare", "--mount", "--pid", "--fork", "sh", "-c"]
+    if call(*alone, BEGIN, "", tmp_path).returncode:
         pytest.skip("a system of its own needs root, who may mount")
     names = {file.name.partition("_")[0] for file in dist.glob("*.deb")}
     here = environment(PATH="/usr/sbin:/usr/bin:/sbin:/bin", LC_ALL="C.UTF-8")
-    said = output("unshare", "--mount", "--pid", "--fork", "sh", "-c", SYSTEM, "", tmp_path, dist, env=here)
+    said = output(*alone, SYSTEM, "", tmp_path, dist, env=here)
     assert len(names) >= 3 and said.count(": one call and one error are right\n") == len(names), said
     assert said.endswith("\nleft:\n"), said
 

@@ -55,8 +55,8 @@ They were checked where this was made; what you hold are programs that were comp
 In the unpacked sources, with the toolchain above (`rt version`):
 
 - `rt ci` proves each function again; its last line is `N passed, 0 failed`.
-- `tools/dev make-dist FOLDER` makes these files again. With the same compilers (Debian 12) `cmp` finds no difference;
-  libbyte_unit.a depends on the toolchain alone.
+- `tools/dev make-dist FOLDER` makes these files again, but for the sources. With the same compilers (Debian 12)
+  SHA256SUMS is the same; libbyte_unit.a and the command depend on the toolchain alone.
 - `tools/dev take` copies the library for Rattle into your repository.
 
 ## What is trusted
@@ -176,12 +176,11 @@ def javascript(parts):
 
 def sources(parts):
     """Returns this repository at its commit, with the file COMMIT, which `tools/dev take` reads."""
+    if os.path.exists(path("COMMIT")):
+        raise Failure("these are unpacked sources")
     top = f"byte-unit-{parts.version}-rattle"
-    words = ["git", "-c", "tar.umask=0022", "archive", f"--prefix={top}/", "HEAD"]
-    tar = call(*words, cwd=path(), encoding=None, errors=None)
-    if tar.returncode:
-        raise Failure("there is no repository of git")
-    (parts.work / "sources.tar").write_bytes(tar.stdout)
+    words = ["git", "archive", f"--prefix={top}/", "HEAD"]
+    output(*words, "--output", parts.work / "sources.tar", cwd=path())
     files = archives.files_of_tar(parts.work / "sources.tar")
     files["COMMIT"] = f"{parts.commit.split()[0]} {parts.seconds}\n".encode()
     return {f"{top}.tar.gz": archives.tarball(top, files, parts.seconds)}
