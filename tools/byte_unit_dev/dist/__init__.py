@@ -40,8 +40,8 @@ RELEASE = """# byte-unit {version}
 
 Made by `tools/dev make-dist` of commit {commit}, with `{toolchain}`.
 {verdict}
-Files here need no Rattle, but for `byte-unit-{version}-rattle.tar.gz`, the sources. What is in none of them: proofs.
-They were checked where this was made; what you hold are programs that were compiled of what was proved.
+Only `byte-unit-{version}-rattle.tar.gz`, the sources with their proofs, needs Rattle. The other files hold no proof: what
+is in them was compiled of what was proved where they were made.
 
 ## Without the toolchain
 
@@ -55,8 +55,8 @@ They were checked where this was made; what you hold are programs that were comp
 In the unpacked sources, with the toolchain above (`rt version`):
 
 - `rt ci` proves each function again; its last line is `N passed, 0 failed`.
-- `tools/dev make-dist FOLDER` makes these files again, but for the sources. With the same compilers (Debian 12)
-  SHA256SUMS is the same; libbyte_unit.a and the command depend on the toolchain alone.
+- `tools/dev make-dist FOLDER` makes the other files again. With the same compilers (Debian 12) each has the checksum of
+  SHA256SUMS; libbyte_unit.a and the command depend on the toolchain alone.
 - `tools/dev take` copies the library for Rattle into your repository.
 
 ## What is trusted
