@@ -121,7 +121,7 @@ def fails(folder, reason, *words, **more):
     ("prefix", "--from LIBRARY prefix/in", "nothing is installed: .*prefix"),
     ("other", "--from . prefix", "nothing is installed: .*libbyte_unit.a: No such file or directory"),
     ("other", "--from LIBRARY a$b", "cannot be written in byte_unit.pc"),
-    ("other", "--from LIBRARY --libdir ../lib prefix", "a folder that is not below the prefix"),
+    ("other", "--from LIBRARY --libdir ../lib prefix", "a folder outside the prefix"),
     ("other", "--uninstall prefix", "is missing: nothing was installed"),
     ("prefix/share/byte_unit/installed", "--uninstall prefix", "'../other' is not a path below the prefix"),
 ])

@@ -47,7 +47,7 @@ def run(prefix, *, from_=None, libdir="lib", without_sqlite=False, without_comma
         uninstall=False):  # fmt: skip
     prefix, libdir = os.path.abspath(prefix), os.path.normpath(libdir)
     if libdir.startswith(("/", "..")) or re.search(r'[\x00-\x1f"\\$#]', prefix + libdir):
-        why = 'a folder that is not below the prefix, or a prefix with a control character or one of " \\ $ # cannot be written in byte_unit.pc'
+        why = 'a folder outside the prefix, a control character and " \\ $ # cannot be written in byte_unit.pc'
         raise Failure(f"{prefix!r}, {libdir!r}: {why}")
     root = Path(os.path.normpath(os.environ.get("DESTDIR", "") + prefix))
     if uninstall:

@@ -112,8 +112,8 @@ def build_command(place, after_ci=False):
             raise Failure("rt check in crates/byte_unit_cli failed: see above")
     kit, made = kit_folder(), f"{place}.o"
     proved(*words_to_build("byte_unit_cli", "src/main.rt", made, "--cpu", CPU), crate="byte_unit_cli")
-    output(f"{kit}/bin/rattle-link", "--target", "x86_64-unknown-linux-gnu", "--toolchain", f"{kit}/toolchain", "-o", place,
-           made, f"{kit}/c/libos_c.a", f"{kit}/c/liblibc_c.a")  # fmt: skip
+    words = ["--target", "x86_64-unknown-linux-gnu", "--toolchain", f"{kit}/toolchain", "-o", place, made]
+    output(f"{kit}/bin/rattle-link", *words, f"{kit}/c/libos_c.a", f"{kit}/c/liblibc_c.a")
     os.remove(made)
 
 

@@ -1,4 +1,4 @@
-"""Tests what `tools/dev make-dist` makes, as those who download it use it: without a toolchain, a network, a variable."""
+"""Tests what `tools/dev make-dist` makes, as its users have it: without a toolchain, a network, a variable."""
 
 import hashlib
 import os
@@ -7,7 +7,8 @@ import shutil
 from pathlib import Path
 
 import pytest
-from byte_unit_dev.fixtures import AARCH64_CC, AARCH64_RUN, NODE, call, compiled, environment, is_there, need, output, path, read
+from byte_unit_dev import fixtures
+from byte_unit_dev.fixtures import AARCH64_CC, AARCH64_RUN, NODE, call, environment, is_there, need, output, path, read
 from byte_unit_dev.libraries import MODULE
 from byte_unit_dev.needs import DEBIAN_PYTHON, PYTHON_PACKAGE
 
@@ -55,7 +56,7 @@ echo left: $(find new -name '*byte*unit*')
 
 @pytest.fixture(scope="module")
 def source(request, library, tmp_path_factory):
-    """A folder with what was built: the library, and the command, the module and aarch64's library if they are there."""
+    """A folder with what is built: the library, the command, the module, and the library for aarch64."""
     made = Path(shutil.copytree(library, tmp_path_factory.mktemp("source") / "source"))
     command = path("crates/byte_unit_cli/out/byte_unit_cli")
     if os.access(command, os.X_OK):
@@ -104,8 +105,8 @@ def test_same_bytes(dist, source, tmp_path):
     output("sh", "-c", script, "", *MAKE, "dist", "--from", "source", cwd=tmp_path, env=environment(TZ="Asia/Tokyo"))
     assert read(tmp_path / "dist/SHA256SUMS") == read(dist / "SHA256SUMS")
     lines = [line.split("  ") for line in read(dist / "SHA256SUMS").splitlines()]
-    assert {name: value for value, name in lines} == {
-        file.name: hashlib.sha256(file.read_bytes()).hexdigest() for file in dist.iterdir() if file.name != "SHA256SUMS"}
+    made = {file.name: hashlib.sha256(file.read_bytes()).hexdigest() for file in dist.iterdir()}
+    assert {name: value for value, name in lines} == {name: made[name] for name in made if name != "SHA256SUMS"}
 
 
 def test_release(dist):
@@ -136,7 +137,7 @@ def test_prefix(unpacked, tmp_path, machine, cc, runs):
     here = environment(PKG_CONFIG_PATH=f"{prefix}/lib/pkgconfig", LD_LIBRARY_PATH=f"{prefix}/lib")
     words, text = example()
     flags = output("pkg-config", "--cflags", "--libs", "byte_unit", env=here).replace("\\ ", "\0").split()
-    compiled(cc, tmp_path / "program", *words, *(word.replace("\0", " ") for word in flags), input=text)
+    fixtures.compiled(cc, tmp_path / "program", *words, *(word.replace("\0", " ") for word in flags), input=text)
     run = [*runs, *["-E", f"LD_LIBRARY_PATH={prefix}/lib"] * bool(runs), tmp_path / "program"]
     assert output(*run, env=here) == "1.5 KiB\n" and "the character 'x'" in call(*run, "1 x", env=here).stdout
     if (prefix / "bin/byte-unit").exists():

@@ -40,8 +40,8 @@ RELEASE = """# byte-unit {version}
 
 Made by `tools/dev make-dist` of commit {commit}, with `{toolchain}`.
 {verdict}
-Only `byte-unit-{version}-rattle.tar.gz`, the sources with their proofs, needs Rattle. The other files hold no proof: what
-is in them was compiled of what was proved where they were made.
+Only `byte-unit-{version}-rattle.tar.gz`, the sources with their proofs, needs Rattle. The other files hold no proof:
+what is in them was compiled of what was proved where they were made.
 
 ## Without the toolchain
 

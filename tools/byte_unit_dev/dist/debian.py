@@ -106,7 +106,8 @@ def python(parts):
 
 
 def postgresql(parts):
-    missing = [need for need in (f"{POSTGRESQL_15}/lib/pgxs/src/makefiles/pgxs.mk", "gcc", "make") if not is_there(need)]
+    needs = (f"{POSTGRESQL_15}/lib/pgxs/src/makefiles/pgxs.mk", "gcc", "make")
+    missing = [need for need in needs if not is_there(need)]
     if missing:
         raise Failure(f"{missing[0]} is missing")
     copy = shutil.copytree(path("bindings/postgresql"), parts.work / "postgresql")
@@ -120,7 +121,7 @@ def postgresql(parts):
 
 def needed_libc(files):
     """Returns the oldest C library that the programs and shared libraries among the files run with, or none."""
-    programs = [content for content in files.values() if content[:4] == b"\x7fELF"]
+    programs = [content for content in files.values() if isinstance(content, bytes) and content[:4] == b"\x7fELF"]
     found = {tuple(map(int, number.split(b"."))) for content in programs
              for number in re.findall(rb"\0GLIBC_(2\.[0-9.]+)(?=\0)", content)}
     return [f"libc6 (>= {'.'.join(map(str, max(found)))})"] if found else []
@@ -138,10 +139,10 @@ def package(parts, name, contents):
              f"{doc}/changelog.Debian.gz": archives.gzipped(f"{entry}\n -- {MAINTAINER}  {when}\n".encode()),
              f"{doc}/examples/try": (Path(__file__).parent / "try" / name).read_bytes()}  # fmt: skip
     own = dict(FIELDS[name])
-    depends = [*needed_libc({k: v for k, v in files.items() if isinstance(v, bytes)}), own.pop("Depends", "")]
+    depends = [*needed_libc(files), own.pop("Depends", "")]
     size = sum(len(content) // 1024 + 1 for content in files.values())
-    fields = {"Package": name, "Source": "byte-unit", "Version": version, "Architecture": "amd64", "Maintainer": MAINTAINER,
-              "Installed-Size": size, "Depends": ", ".join(filter(None, depends)).format(version=version), **own,
+    fields = {"Package": name, "Source": "byte-unit", "Version": version, "Architecture": "amd64",
+              "Maintainer": MAINTAINER, "Installed-Size": size, "Depends": ", ".join(filter(None, depends)).format(version=version), **own,
               "Priority": "optional", "Description": f"{SHORT[name]}\n{LONG}"}  # fmt: skip
     control["control"] = "".join(f"{field}: {value}\n" for field, value in fields.items())
     control["md5sums"] = "".join(f"{hashlib.md5(content).hexdigest()}  {place}\n"

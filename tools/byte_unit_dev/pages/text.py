@@ -36,6 +36,8 @@ VERSIONS = [
     (RATTLE, "the version of the library, {version}, as the number {number:,}.\n"),
     (RATTLE, "\n    {number:_}\n"),
     ("crates/byte_unit_command/src/arguments.rt", '.version("{version}")'),
+    ("bindings/c/byte_unit.map", "\nBYTE_UNIT_{major} "),
+    ("tools/byte_unit_dev/dist/debian.py", '"libbyte-unit{major}": "exact'),
     ("bindings/c/byte_unit.3", "which is {number} for {version}.\n"),
     ("bindings/c/README.md", "`libbyte_unit.so.{major}`"),
     (C_EXAMPLE, '"version {version}"'),
