@@ -199,6 +199,16 @@ def test_packages(dist, tmp_path):
     assert said.endswith("\nleft:\n"), said
 
 
+@pytest.mark.parametrize("name, depends", [
+    ("libbyte-unit3", r"libc6 \(>= 2\.\d+\)"), ("libbyte-unit-dev", rf"libbyte-unit3 \(= {VERSION}-1\)"),
+    ("python3-byte-unit", r"libc6 \(>= 2\.\d+\), python3 \(>= 3\.11\)"),
+    ("postgresql-15-byte-unit", r"libc6 \(>= 2\.\d+\), postgresql-15"),
+])  # fmt: skip
+def test_depends(file, name, depends):
+    need("dpkg-deb")
+    assert re.fullmatch(depends, output("dpkg-deb", "--field", file(f"{name}_*.deb"), "Depends").strip())
+
+
 def test_lintian(dist):
     need("dpkg-deb", "lintian")
     words = ["lintian", "--fail-on", "error", "--allow-root", *sorted(dist.glob("*.deb"))]

@@ -26,11 +26,11 @@ LONG = """ Parses and formats sizes such as 1.5 KiB, and chooses units, exactly.
  library is written in Rattle, Rust with contracts, and each of its functions
  is proved to meet its contract."""
 FIELDS = {"libbyte-unit3": {"Section": "libs", "Multi-Arch": "same"},
-          "libbyte-unit-dev": {"Section": "libdevel", "Multi-Arch": "same", "Depends": "libbyte-unit3 (= {version})"},
+          "libbyte-unit-dev": {"Section": "libdevel", "Multi-Arch": "same", "Depends": ["libbyte-unit3 (= {version})"]},
           "byte-unit": {"Section": "utils"},
           "libsqlite3-mod-byte-unit": {"Section": "libs", "Multi-Arch": "same", "Suggests": "sqlite3"},
-          "python3-byte-unit": {"Section": "python", "Depends": "python3 (>= 3.11)"},
-          "postgresql-15-byte-unit": {"Section": "database", "Depends": "postgresql-15"}}  # fmt: skip
+          "python3-byte-unit": {"Section": "python", "Depends": ["python3 (>= 3.11)"]},
+          "postgresql-15-byte-unit": {"Section": "database", "Depends": ["postgresql-15"]}}  # fmt: skip
 COMPILED = {"postinst": ("configure", "py3compile -p python3-byte-unit"),
             "prerm": ("remove|upgrade|deconfigure", "py3clean -p python3-byte-unit")}  # fmt: skip
 SCRIPT = """#!/bin/sh
@@ -139,10 +139,10 @@ def package(parts, name, contents):
              f"{doc}/changelog.Debian.gz": archives.gzipped(f"{entry}\n -- {MAINTAINER}  {when}\n".encode()),
              f"{doc}/examples/try": (Path(__file__).parent / "try" / name).read_bytes()}  # fmt: skip
     own = dict(FIELDS[name])
-    depends = [*needed_libc(files), own.pop("Depends", "")]
+    depends = ", ".join([*needed_libc(files), *own.pop("Depends", [])]).format(version=version)
     size = sum(len(content) // 1024 + 1 for content in files.values())
     fields = {"Package": name, "Source": "byte-unit", "Version": version, "Architecture": "amd64",
-              "Maintainer": MAINTAINER, "Installed-Size": size, "Depends": ", ".join(filter(None, depends)).format(version=version), **own,
+              "Maintainer": MAINTAINER, "Installed-Size": size, "Depends": depends, **own,
               "Priority": "optional", "Description": f"{SHORT[name]}\n{LONG}"}  # fmt: skip
     control["control"] = "".join(f"{field}: {value}\n" for field, value in fields.items())
     control["md5sums"] = "".join(f"{hashlib.md5(content).hexdigest()}  {place}\n"
