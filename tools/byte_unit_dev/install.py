@@ -1,10 +1,9 @@
 """Installs the C library where compilers, pkg-config, man and SQLite look for it, and the command byte-unit.
 
-Proves and builds the library by `tools/make-libraries`, and the command of crates/byte_unit_cli, which is proved anew,
-for every x86-64 processor. What `rt check`, `rt lib` or `rt run` has proved of other crates is not proved again; what
-`rt ci` alone has proved is. With --from FOLDER proves nothing, and takes libbyte_unit.a, byte_unit.h and, if it is
-there, byte-unit from the folder. Then puts into the folder PREFIX, such as /usr/local, but for what --without-sqlite
-and --without-command leave out:
+Proves and builds the library by `tools/make-libraries`, and the command by `rt run` in crates/byte_unit_cli. What
+`rt check`, `rt lib` or `rt run` has proved is not proved again; what `rt ci` alone has proved is. With --from FOLDER
+proves nothing, and takes libbyte_unit.a, byte_unit.h and, if it is there, byte-unit from the folder. Then puts into the
+folder PREFIX, such as /usr/local, but for what --without-sqlite and --without-command leave out:
 
     bin/byte-unit                   the command, with share/man/man1/byte-unit.1 and its completions for bash in
                                     share/bash-completion/completions
@@ -94,7 +93,16 @@ def build(folder, source, with_command):
         libraries.build(folder)
     libraries.link_in(folder)
     if with_command and not source:
-        libraries.build_command(folder / COMMAND)
+        build_command(folder / COMMAND)
+
+
+def build_command(place, after_ci=False):
+    """Proves and builds the command, unless `rt ci` has, and copies it."""
+    if not after_ci:
+        print("proving byte_unit_cli, which takes minutes if it is not proved yet", flush=True)
+        if shown("rt", "run", "--", "--version", cwd=path("crates/byte_unit_cli"))[0]:
+            raise Failure("rt run in crates/byte_unit_cli failed: see above")
+    shutil.copy(path("crates/byte_unit_cli/out/byte_unit_cli"), place)
 
 
 def functions(header):

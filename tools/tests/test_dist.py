@@ -147,6 +147,16 @@ def test_prefix(unpacked, tmp_path, machine, cc, runs):
     assert [call("sh", top / "install.sh", *words, cwd=tmp_path).returncode for words in (["-x"], ["a", "b"])] == [2, 2]
 
 
+def test_older_processor(unpacked):
+    """Where the processor lacks what the command needs, it says so, and does nothing."""
+    need("qemu-x86_64")
+    program = unpacked("*-linux-x86_64.tar.gz") / "bin/byte-unit"
+    if not program.exists():
+        pytest.skip("the command is missing (`rt run` in crates/byte_unit_cli builds it)")
+    got = call("qemu-x86_64", "-cpu", "qemu64", program, "--to=plain", "1.5 KiB")
+    assert (got.returncode, got.stdout.count("\n")) == (127, 1) and "x86-64-v2" in got.stdout
+
+
 @pytest.mark.parametrize("pattern", ["*.whl", "byte_unit-*.tar.gz"])
 def test_pip(file, tmp_path, pattern):
     need(*PYTHON_PACKAGE)
