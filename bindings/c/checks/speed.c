@@ -36,7 +36,9 @@ int main(void)
     static const char *const texts[] = { "12", "1.5 KiB", "100 MB", "1.123456789012 KiB",
                                          "1.1234567890123456789012345678 KiB", "1 byte", "1.5 XB" };
     static const uint64_t sizes[] = { 12, 1536, 123456789 };
+    static const uint32_t units[] = { BYTE_UNIT_KIB, BYTE_UNIT_GIB, BYTE_UNIT_EIB, BYTE_UNIT_RIB };
     const byte_unit_spec plain = { 0 }, alternate = { .alternate = 1 }, two = { .has_precision = 1, .precision = 2 };
+    const byte_unit_spec most = { .has_precision = 1, .precision = 28, .alternate = 1 };
     char out[BYTE_UNIT_BUFFER_SIZE], what[100];
     byte_unit_number size;
     byte_unit_error error;
@@ -54,8 +56,13 @@ int main(void)
         TIMED(what, byte_unit_text(n, 0, plain, out, sizeof out));
         snprintf(what, sizeof what, "`text` with a unit of %llu", (unsigned long long)n.low);
         TIMED(what, byte_unit_text(n, 0, alternate, out, sizeof out));
-        snprintf(what, sizeof what, "`adjusted_text` in KiB of %llu", (unsigned long long)n.low);
-        TIMED(what, byte_unit_adjusted_text(n, 0, BYTE_UNIT_KIB, plain, out, sizeof out));
+        snprintf(what, sizeof what, "`text` with a unit and 28 places of %llu", (unsigned long long)n.low);
+        TIMED(what, byte_unit_text(n, 0, most, out, sizeof out));
+        for (size_t unit = 0; unit < sizeof units / sizeof *units; unit++) {
+            out[byte_unit_unit_name(units[unit], out, sizeof out)] = 0;
+            snprintf(what, sizeof what, "`adjusted_text` in %s of %llu", out, (unsigned long long)n.low);
+            TIMED(what, byte_unit_adjusted_text(n, 0, units[unit], plain, out, sizeof out));
+        }
         snprintf(what, sizeof what, "`adjusted_text`, two places, of %llu", (unsigned long long)n.low);
         TIMED(what, byte_unit_adjusted_text(n, 0, BYTE_UNIT_KIB, two, out, sizeof out));
         snprintf(what, sizeof what, "`appropriate_unit` of %llu", (unsigned long long)n.low);

@@ -12,7 +12,7 @@ from .. import builds
 from ..common import Failure, call, output, path, spent, write
 from ..source import copy_crates
 
-COUNTED, NUMFMT = 20_000, ["numfmt", "--from=auto"]
+COUNTED, NUMFMT, BY_HAND = 20_000, ["numfmt", "--from=auto"], "C by hand"
 ONE_PROCESSOR = ["taskset", "--cpu-list", str(max(os.sched_getaffinity(0)))]
 MULTIPLES = ["", *(letter + infix for letter in "KMGTPEZY" for infix in ("", "i"))]
 UNITS = [multiple + own for multiple in MULTIPLES for own in ("B", "bit")]
@@ -75,15 +75,18 @@ PROGRAM = [
     ("mix in prefixes", lambda rng: number(rng, 3, 15) + rng.choice(LETTERS), True),
     ("rejected lines", rejected, False),
 ]
-# The calls of the command: its words, those of `numfmt`, and a function that makes a line.
+# The calls of the command: its words, those of `numfmt` and of hand.c if these do the same, and who makes a line.
 FIELD, FIELDS = ["-d,", "--field=2"], ["-d,", "--field=-"]
 COMMAND = [
-    ("lines to digits", ["--to=plain"], [], short),
-    ("field 2 of 4 to digits", ["--to=plain", *FIELD], FIELD, fields),
-    ("all of 4 fields to digits", ["--to=plain", *FIELDS], FIELDS, fields),
-    ("lines to the largest exact unit (`numfmt`: rounded)", [], ["--to=iec-i"], short),
-    ("field 2, the same", FIELD, ["--to=iec-i", *FIELD], fields),
-    ("lines to a binary unit, one digit after the point", ["--to=iec", "-p", "1"], ["--to=iec-i"], short),
+    ("lines to digits", ["--to=plain"], [], None, short),
+    ("field 2 of 4 to digits", ["--to=plain", *FIELD], FIELD, None, fields),
+    ("all of 4 fields to digits", ["--to=plain", *FIELDS], FIELDS, None, fields),
+    ("lines to the largest exact unit (`numfmt`: rounded)", [], ["--to=iec-i"], None, short),
+    ("field 2, the same", FIELD, ["--to=iec-i", *FIELD], None, fields),
+    ("lines to a binary unit, one digit after the point", ["--to=iec", "-p", "1"], ["--to=iec-i"], None, short),
+    ("lines to MiB, two digits after the point", ["--to=MiB", "-p", "2"], None, None, short),
+    ("lines to MiB, all digits", ["--to=MiB"], None, ["2"], short),
+    ("lines to the appropriate unit, all digits", ["--to=auto"], None, None, short),
 ]
 
 
@@ -117,8 +120,22 @@ def instructions(command, file):
     return f"{int(found[1]) / COUNTED:,.1f} ({int(found[2].replace(',', '')) / COUNTED:.1f})"
 
 
+def by_hand(work):
+    """Builds hand.c. Returns the words of a column with it, or none if there is no C compiler."""
+    if not shutil.which("cc"):
+        return {}
+    output("cc", "-O3", path("tools/byte_unit_dev/measure/hand.c"), "-o", f"{work}/hand")
+    return {BY_HAND: [f"{work}/hand"]}
+
+
+def answers(command, file):
+    with open(file, "rb") as lines:
+        return output(*command, stdin=lines)
+
+
 def measured(head, rows, given):
     """Returns a table of rows; each has a title, a maker of lines, and a command or None for each column."""
+    hand = head.index(BY_HAND) - 1 if BY_HAND in head else 0
     made = [[*head, "Instructions"] if shutil.which("valgrind") else head]
     with tempfile.TemporaryDirectory() as folder:
         file = os.path.join(folder, "lines")
@@ -129,6 +146,8 @@ def measured(head, rows, given):
             ratios = (f"{time:.3f} ({time / (first or 1):.1f}×)" if time else "" for time in others)
             row = [title, f"{first:.3f}", *ratios]
             write_lines(file, line, COUNTED, given.seed)
+            if commands[hand] and answers(commands[0], file) != answers(commands[hand], file):
+                raise Failure(f"{title}: {commands[hand][0]} answers otherwise")
             made.append([*row, *[instructions(commands[0], file)] * (len(made[0]) > len(row))])
     return made
 
@@ -141,14 +160,19 @@ def program(given):
         if given.original:
             crate = builds.original(given.original, work)
             columns["Original"] = [builds.program("bindings/rust/checks/lines.rs", crate)]
+        columns |= by_hand(work)
         rows = [(title, line, [*columns.values(), NUMFMT if accepts else None]) for title, line, accepts in PROGRAM]
         return {"program": measured(["Input", *columns, "`numfmt`"], rows, given)}
 
 
 def command(given):
     ours = path("crates/byte_unit_cli/out/byte_unit_cli")
-    rows = [(title, line, [[ours, *words], [*NUMFMT, *its]]) for title, words, its, line in COMMAND]
-    return {"command": measured(["Call", "`byte-unit`", "`numfmt`"], rows, given)}
+    with tempfile.TemporaryDirectory() as work:
+        columns = {"`numfmt`": NUMFMT, **by_hand(work)}
+        rows = [(title, line, [[ours, *words], *(None if its is None else [*program, *its]
+                                                 for its, program in zip(others, columns.values()))])
+                for title, words, *others, line in COMMAND]
+        return {"command": measured(["Call", "`byte-unit`", *columns], rows, given)}
 
 
 def literals(_, count=20):
