@@ -3,24 +3,25 @@
 import pytest
 from byte_unit_dev.fixtures import call, ended, need
 
-# The tool, and the options that both programs take; without -d, numfmt's fields are separated by blanks.
+# The tool, the options that both programs take, and numfmt's --from, since its iec takes no `Ki`; without -d, its fields
+# are separated by blanks.
 TOOLS = [
-    ("du -h /usr/share/doc /etc", ["-d", "\t"]),
-    ("df -h", ["--header", "--field=2-4"]),
-    ("ls -lh /usr/bin", ["--header", "--field=5"]),
-    ("free -h", ["--header", "--field=2-7"]),
-    ("lsblk", ["--header", "--field=4"]),
-    ("ps -eo rss,vsz,comm", ["--header", "--field=1,2"]),
+    ("du -h /usr/share/doc /etc", ["-d", "\t"], "iec"),
+    ("df -h", ["--header", "--field=2-4"], "iec"),
+    ("ls -lh /usr/bin", ["--header", "--field=5"], "iec"),
+    ("free -h", ["--header", "--field=2-7"], "auto"),
+    ("lsblk", ["--header", "--field=4"], "iec"),
+    ("ps -eo rss,vsz,comm", ["--header", "--field=1,2"], "iec"),
 ]  # fmt: skip
 
 
-@pytest.mark.parametrize("tool, options", TOOLS)
-def test_beside_numfmt(program, tool, options):
+@pytest.mark.parametrize("tool, options, prefixes", TOOLS)
+def test_beside_numfmt(program, tool, options, prefixes):
     need("numfmt")
     text = call("sh", "-c", tool, stderr=-3).stdout
     blanks = [] if "-d" in options else ["--blanks"]
     _, ours, _ = ended(program, "--from=iec", "--to=plain", "--invalid=ignore", *blanks, *options, input=text.encode())
-    _, theirs, _ = ended("numfmt", "--from=iec", "--invalid=ignore", *options, input=text.encode())
+    _, theirs, _ = ended("numfmt", f"--from={prefixes}", "--invalid=ignore", *options, input=text.encode())
     rows = list(zip(text.splitlines(), ours.decode().splitlines(), theirs.decode().splitlines(), strict=True))
     # numfmt takes no `B`, and leaves a line with such a field as it is from there on.
     assert rows and [row for row in rows if row[1] != row[2] and "0B" not in row[0]][:5] == []
