@@ -34,7 +34,8 @@ PACKAGES = {
     "node": "nodejs", "tsc": "node-typescript", "chromium": "chromium", "chromedriver": "chromium-driver",
     "aarch64-linux-gnu-gcc": "gcc-aarch64-linux-gnu", "qemu-aarch64": "qemu-user",
     "/usr/aarch64-linux-gnu/include/stdio.h": "libc6-dev-arm64-cross",
-    f"{POSTGRESQL_15}/bin/psql": "postgresql-client-15", "make": "make", "setpriv": "util-linux",
+    f"{POSTGRESQL_15}/bin/psql": "postgresql-client-15", "make": "make", "setpriv": "util-linux", "lsblk": "util-linux",
+    **dict.fromkeys(["du", "df", "ls", "numfmt"], "coreutils"), **dict.fromkeys(["free", "ps"], "procps"),
     "valgrind": "valgrind", "lintian": "lintian", "dpkg-deb": "dpkg", "unshare": "util-linux", "strip": "binutils",
     f"{POSTGRESQL_15}/lib/pgxs/src/makefiles/pgxs.mk": "postgresql-server-dev-15",
 }
