@@ -7,8 +7,8 @@ import socket
 import subprocess
 
 import pytest
-from byte_unit_dev.fixtures import ended, redirected
-from program import Call, run
+from byte_unit_dev.fixtures import ended, need, redirected
+from program import CHUNK, Call, run
 
 SECONDS = 60
 LINES = b"1.5 KiB\n" * 1_000_000
@@ -109,3 +109,17 @@ def test_word_that_is_not_text(program):
 def test_help(program, word):
     status, written, messages = ended(program, word)
     assert (status, b"Exit status:" in written, messages) == (0, True, b"")
+
+
+@pytest.mark.parametrize("words, line", [
+    *((words, b"1\n") for words in ("", "--to=QiB", "--padding=40", "--padding=-41", "--padding=1000",
+                                    "--padding=65535", "--to=QiB -p 65535", "--max=0 --min=2")),
+    ("--invalid=warn", b"1x\n"), ("--invalid=fail -d , --field=-", b"1x,\x1b\n"),
+    ("-d , --field=- --padding=65535", b"1,1\n")])
+def test_memory_of_texts_that_wait(program, tmp_path, words, line):
+    """The texts and messages of one read take at most 4 MB with the program, whatever the options."""
+    need("/usr/bin/time")
+    held = tmp_path / "held"
+    redirected("> /dev/null 2> /dev/null", "/usr/bin/time", "-q", "-o", held, "-f", "%M", program, *words.split(),
+               data=line * (CHUNK // len(line)))
+    assert int(held.read_text()) <= 4_000_000 // 1024

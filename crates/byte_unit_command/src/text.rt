@@ -115,8 +115,5 @@ fn add_spaces<A: Allocator>(count: usize, text: &mut Vec<u8, A>) -> Result<(), A
     ensures len { vec_len text.new ≤ vec_len text.old + count }
     ensures capacity { vec_capacity text.old ≤ vec_capacity text.new }
 {
-    for _i in 0..count {
-        text.push(b' ')?;
-    }
-    Ok(())
+    text.resize(text.len().saturating_add(count), b' ')
 }
