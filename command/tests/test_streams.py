@@ -3,6 +3,7 @@
 import fcntl
 import os
 import pty
+import resource
 import socket
 import subprocess
 
@@ -123,3 +124,13 @@ def test_memory_of_texts_that_wait(program, tmp_path, words, line):
     redirected("> /dev/null 2> /dev/null", "/usr/bin/time", "-q", "-o", held, "-f", "%M", program, *words.split(),
                data=line * (CHUNK // len(line)))
     assert int(held.read_text()) <= 4_000_000 // 1024
+
+
+def test_time_of_fields_and_ranges(program):
+    """It is linear in both, in any order of the ranges: the product would take 0.5 s and more."""
+    ranges = [f"--field={','.join(map(str, order))}" for order in (range(1, 40_002, 2), range(40_001, 0, -2))]
+    for words in (["-d,", listed] for listed in ranges):
+        before = resource.getrusage(resource.RUSAGE_CHILDREN)
+        assert ended(program, *words, input=b"1," * 40_000 + b"1\n")[1] == b"1 B,1," * 20_000 + b"1 B\n"
+        after = resource.getrusage(resource.RUSAGE_CHILDREN)
+        assert after.ru_utime + after.ru_stime - before.ru_utime - before.ru_stime < 0.2

@@ -3,6 +3,7 @@ pub mod Again
 pub mod Converting
 pub mod Feeding
 pub mod Finishing
+pub mod Ranges
 pub mod Readings
 pub mod Results
 pub mod Runs

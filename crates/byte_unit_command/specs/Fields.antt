@@ -21,3 +21,9 @@ InRange range number = (range.first ≤ number) × MatchOption range.last ⊤ (�
 abbrev pub IsChosen : List FieldRange → ℕ → Type 0
 IsChosen [] number = ⊥
 IsChosen (range ∷ ranges) number = InRange range number ⊎ IsChosen ranges number
+
+-- the ranges begin in their order
+abbrev pub IsInOrder : List FieldRange → Type 0
+IsInOrder [] = ⊤
+IsInOrder (range ∷ []) = ⊤
+IsInOrder (range ∷ next ∷ ranges) = (range.first ≤ next.first) × IsInOrder (next ∷ ranges)

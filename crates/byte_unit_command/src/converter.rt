@@ -1,7 +1,7 @@
 //! Converts records, field by field.
 
 ghost use Rattle.std.specs.Prelude.{◌≡◌, ◌≤◌, ◌⊎◌, ◌∷◌, ◌++◌, [], Some, None, length};
-ghost use Rattle.std.specs.Prelude.{OnOk, OnErr, IsOk, IfErr, IsErrOf, vec_capacity};
+ghost use Rattle.std.specs.Prelude.{OnOk, OnErr, IsOk, IfErr, IsErrOf, IsTrue, IsFalse, vec_capacity};
 ghost use Rattle.byte_unit.specs.Forms.{text_limit};
 ghost use Rattle.byte_unit_command.specs.Capacity.{field_room, fields_room, record_room};
 ghost use Rattle.byte_unit_command.specs.Field.{IsSize, IsNoSize};
@@ -13,7 +13,7 @@ ghost use Rattle.byte_unit_command.specs.RunState.{at_next, messages_of, no_tall
 ghost use Rattle.byte_unit_stream.specs.Prefix.{IsPrefix};
 
 use crate::error::RunError;
-use crate::field::{is_chosen, is_past};
+use crate::field::{is_chosen, is_in_order, ranges_from};
 use crate::notice::{Notices, add_limit_notice, add_reject_notice};
 use crate::options::{Invalid, Options};
 use crate::place::Place;
@@ -177,7 +177,10 @@ impl<A: Allocator> Converter<A> {
         ensures capacity { vec_capacity self.old.waiting ≤ vec_capacity self.new.waiting }
     {
         match options.delimiter {
-            None => self.add_field(options, 1, bytes, digits),
+            None => {
+                let chosen = is_chosen(options.fields, false, 1);
+                self.add_field(options, 1, chosen, bytes, digits)
+            }
             Some(delimiter) => self.add_split(options, delimiter, bytes, digits),
         }
     }
@@ -209,24 +212,30 @@ impl<A: Allocator> Converter<A> {
     {
         // For the proof: there are fewer fields than a `u64` counts.
         let _len = bytes.len();
+        let in_order = is_in_order(options.fields);
+        let mut ranges = options.fields;
         let mut rest = bytes;
         let mut number = 1u64;
         while let Some(n) = end_of(rest, delimiter) {
-            self.add_field(options, number, &rest[..n], digits)?;
+            let chosen = is_chosen(ranges, in_order, number);
+            self.add_field(options, number, chosen, &rest[..n], digits)?;
             self.waiting.extend_from_slice(&[delimiter])?;
             rest = &rest[n + 1..];
             number += 1;
-            if is_past(options.fields, number) {
+            ranges = ranges_from(ranges, number);
+            if ranges.is_empty() {
                 self.waiting.extend_from_slice(rest)?;
                 return Ok(());
             }
         }
-        self.add_field(options, number, rest, digits)
+        let chosen = is_chosen(ranges, in_order, number);
+        self.add_field(options, number, chosen, rest, digits)
     }
 
     /// Appends what is written for the field with this number, and counts what is found in it.
     ///
-    /// Precondition (proved at every call): `digits` has capacity for the text of any size.
+    /// Preconditions (proved at every call): `chosen` says whether the field with this number is chosen, and `digits`
+    /// has capacity for the text of any size.
     ///
     /// # Errors
     ///
@@ -237,10 +246,13 @@ impl<A: Allocator> Converter<A> {
         &mut self,
         options: &Options,
         number: u64,
+        chosen: bool,
         field: &[u8],
         digits: &mut [u8],
     ) -> Result<(), RunError>
-        requires { text_limit ≤ length digits.old }
+        requires capacity { text_limit ≤ length digits.old }
+        requires yes { IsTrue chosen → IsChosen options.now.fields.now number }
+        requires no { IsFalse chosen → ¬ IsChosen options.now.fields.now number }
         ensures ok { OnOk result
             (AddsField options.now number field.now (state_of self.old) (state_of self.new)) }
         ensures kept { IsPrefix self.old.waiting.items self.new.waiting.items }
@@ -256,7 +268,7 @@ impl<A: Allocator> Converter<A> {
             (field_room options.now (length field.now)) }
         ensures capacity { vec_capacity self.old.waiting ≤ vec_capacity self.new.waiting }
     {
-        if !is_chosen(options.fields, number) {
+        if !chosen {
             self.waiting.extend_from_slice(field)?;
             return Ok(());
         }

@@ -1,28 +1,73 @@
 //! Which fields are converted.
 
-ghost use Rattle.std.specs.Prelude.{◌≤◌, ℕ, IsTrue, IsFalse};
-ghost use Rattle.byte_unit_command.specs.Fields.{IsChosen, InRange};
+ghost use Rattle.std.specs.Prelude.{◌≤◌, ◌↔◌, ◌∷◌, ℕ, IsTrue, IsFalse};
+ghost use Rattle.byte_unit_command.specs.Fields.{IsChosen, IsInOrder, InRange};
 
 use crate::options::FieldRange;
 
 /// Returns `true` if the field with this number is in one of the ranges.
-pub(crate) fn is_chosen(ranges: &[FieldRange], number: u64) -> bool
+///
+/// In the ranges that [`ranges_from`] leaves, it looks at one range alone if they are in order.
+///
+/// Precondition (proved at every call): the ranges are in order if `in_order`.
+pub(crate) fn is_chosen(ranges: &[FieldRange], in_order: bool, number: u64) -> bool
+    requires { IsTrue in_order → IsInOrder ranges.now }
     ensures yes { IsTrue result → IsChosen ranges.now number }
     ensures no { IsFalse result → ¬ IsChosen ranges.now number }
 {
     match ranges {
         [] => false,
-        [range, others @ ..] => in_range(*range, number) || is_chosen(others, number),
+        [range, others @ ..] => {
+            in_range(*range, number)
+                || !begin_after(ranges, in_order, number) && is_chosen(others, in_order, number)
+        }
     }
 }
 
-/// Returns `true` if neither the field with this number nor one that follows it is in one of the ranges.
-pub(crate) fn is_past(ranges: &[FieldRange], number: u64) -> bool
-    ensures { IsTrue result → (later : ℕ) → number ≤ later → ¬ IsChosen ranges.now later }
+/// Returns `true` if the ranges are in order, and the first of them begins after the field with this number.
+///
+/// Precondition (proved at every call): the ranges are in order if `in_order`.
+fn begin_after(ranges: &[FieldRange], in_order: bool, number: u64) -> bool
+    requires { IsTrue in_order → IsInOrder ranges.now }
+    ensures { IsTrue result → ¬ IsChosen ranges.now number }
+{
+    if !in_order {
+        return false;
+    }
+    match ranges {
+        [] => true,
+        [range, ..] => number < range.first,
+    }
+}
+
+/// Returns the ranges without those at the beginning that end before the field with this number.
+pub(crate) fn ranges_from(ranges: &[FieldRange], number: u64) -> &[FieldRange]
+    ensures same { (later : ℕ) → number ≤ later → IsChosen ranges.now later ↔ IsChosen result.now later }
+    ensures in_order { IsInOrder ranges.now → IsInOrder result.now }
+{
+    match ranges {
+        [range, others @ ..] if ends_before(*range, number) => ranges_from(others, number),
+        _ => ranges,
+    }
+}
+
+/// Returns `true` if the ranges begin in their order.
+pub(crate) fn is_in_order(ranges: &[FieldRange]) -> bool
+    ensures { IsTrue result → IsInOrder ranges.now }
 {
     match ranges {
         [] => true,
-        [range, others @ ..] => ends_before(*range, number) && is_past(others, number),
+        [range, others @ ..] => begins_before(*range, others) && is_in_order(others),
+    }
+}
+
+/// Returns `true` if the range begins before the first of the others, or with it, or there is none.
+fn begins_before(range: FieldRange, others: &[FieldRange]) -> bool
+    ensures { IsTrue result → IsInOrder others.now → IsInOrder (range ∷ others.now) }
+{
+    match others {
+        [] => true,
+        [next, ..] => range.first <= next.first,
     }
 }
 

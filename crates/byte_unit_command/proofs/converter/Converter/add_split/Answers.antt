@@ -1,13 +1,15 @@
 -- Each iteration adds one field with its delimiter; the last field follows the loop, or a rest without a chosen field. A
 -- field that is rejected in the mode `abort` is one of the record.
-use Rattle.std.proofs.Common.{true≢false, ◌≡◌, ◌+◌, ◌-◌, ◌∙◌, ◌++◌, ◌∷◌, [], List, ℕ, take, drop, length, ap, sym}
+use Rattle.std.proofs.Common.{true≢false, ◌≡◌, ◌≤◌, ◌+◌, ◌-◌, ◌∙◌, ◌++◌, ◌∷◌, [], List, ℕ, take, drop, length, ap, sym}
 use Rattle.std.proofs.Common.{subst, Err, arith, length-drop, vec_len}
 use Rattle.std.proofs.lemmas.List.{take_rest, length-take-le}
 use Rattle.byte_unit_command.specs.Capacity.{text_room}
+use Rattle.byte_unit_command.specs.Fields.{IsChosen}
 use Rattle.byte_unit_command.specs.Messages.{AreMessagesOfFields}
 use Rattle.byte_unit_command.specs.RunState.{AddsFields, State, messages_of, state_of}
 use Rattle.byte_unit_command.specs.declared.error.RunError.TheVariants.{Rejected}
 use Rattle.std.proofs.lemmas.Result.{on_ok_weaker}
+use Rattle.byte_unit_command.proofs.Ranges.{no-ranges}
 use Rattle.byte_unit_command.proofs.Results.{error-passed}
 use Rattle.byte_unit_stream.specs.Records.{parts}
 use Rattle.byte_unit_stream.proofs.Ends.{parts-EndsAt, parts-IsUnbroken}
@@ -29,6 +31,8 @@ pub loop-n-init : goal.loop-n-init
 loop-n-init g c = (
   IsSplitting-start c.args.options.now c.args.delimiter c.args.bytes.now (state_of c.args.self.now),
   record { len = omega arith; capacity = omega arith; untold = λ none. none },
+  λ later high. (λ chosen. chosen, λ chosen. chosen),
+  c.is_in_order-in_order.ensures,
 )
 
 pub loop-n-preserved : goal.loop-n-preserved
@@ -73,18 +77,29 @@ loop-n-preserved g c =
             subst (λ rest. AreMessagesOfFields options old.word old.place (number + 1) (parts c.args.delimiter rest) [])
             (sym rest_is) others;
       },
+      λ later high.
+          let so_far = c.loop-n.invariant.2 later (omega (arith, high)) in
+          let step = c.ranges_from-ranges.ensures.same later high in
+          (λ chosen. step.0 (so_far.0 chosen), λ chosen. so_far.1 (step.1 chosen)),
+      λ yes. c.ranges_from-ranges.ensures.in_order (c.loop-n.invariant.3 yes),
     )
 
-pub returns-then-is_past-clause-ok : goal.returns-then-is_past-clause-ok
-returns-then-is_past-clause-ok g c =
+pub returns-then-is_empty-clause-ok : goal.returns-then-is_empty-clause-ok
+returns-then-is_empty-clause-ok g c =
     let next : State = state_of c.add_field.new.self in
     let rest = c.loop-n.rest.now in
     let place = c.in-Some.n in
     let behind = drop (place + 1) rest in
     let stepped = IsSplitting-step c.loop-n.invariant.0 c.requires.delimiter place c.in-Some.ensures.some next
     c.in_ok-add_field.ensures.ok in
-    let copied = AddsFields-copied stepped c.requires.delimiter (c.is_past.ensures c.if-is_past.true) in
-    let out : c.extend_from_slice-then-is_past.new.self.items ≡ (next.out ++ c.args.delimiter ∷ []) ++ behind =
+    let none = no-ranges c.ranges_from-ranges.result.now c.if-is_empty.ensures in
+    let past : (later : ℕ) → c.loop-n.number + 1 ≤ later → ¬ IsChosen c.args.options.now.fields.now later =
+    λ later high chosen.
+    let left = (c.ranges_from-ranges.ensures.same later high).0
+    ((c.loop-n.invariant.2 later (omega (arith, high))).0 chosen) in
+    subst (λ ranges. IsChosen ranges later) none left in
+    let copied = AddsFields-copied stepped c.requires.delimiter past in
+    let out : c.extend_from_slice-then-is_empty.new.self.items ≡ (next.out ++ c.args.delimiter ∷ []) ++ behind =
     c.in_ok-extend_from_slice-2.ensures.items
     ∙ ap (λ text. text ++ take (length rest - (place + 1)) behind) c.in_ok-extend_from_slice.ensures.items
     ∙ ap (λ more. (next.out ++ c.args.delimiter ∷ []) ++ more) (take_rest rest (place + 1)) in
