@@ -15,14 +15,18 @@ _byte_unit() {
             B KB KiB MB MiB GB GiB TB TiB PB PiB EB EiB b Kb Kib Mb Mib Gb Gib Tb Tib' -- "$cur")
         return
         ;;
+    --from)
+        mapfile -t COMPREPLY < <(compgen -W 'auto si iec iec-i' -- "$cur")
+        return
+        ;;
     --invalid)
         mapfile -t COMPREPLY < <(compgen -W 'abort fail warn ignore' -- "$cur")
         return
         ;;
     esac
     if [[ $cur == -* ]]; then
-        mapfile -t COMPREPLY < <(compgen -W '--bits --ignore-case --to= --precision= --delimiter= --field= --header
-            --padding= --invalid= --total --max= --min= --zero-terminated --help --version' -- "$cur")
+        mapfile -t COMPREPLY < <(compgen -W '--bits --ignore-case --from= --to= --precision= --human-readable
+            --delimiter= --blanks --field= --header --padding= --invalid= --total --max= --min= --zero-terminated --help --version' -- "$cur")
         if [[ ${#COMPREPLY[@]} == 1 && ${COMPREPLY[0]} == *= ]]; then
             compopt -o nospace
         fi

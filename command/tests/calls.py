@@ -3,11 +3,12 @@
 import random
 from collections import namedtuple
 
-from byte_unit_dev.model.exact import SIZE_LIMIT, Rejected, size_of, some_line, some_unit
-from model import BITS_64, BY_LETTER, FORMS, OPTIONS, Wrong, options_of
+from byte_unit_dev.model.exact import SIZE_LIMIT, Rejected, some_line, some_unit
+from model import BITS_64, BY_LETTER, FORMS, OPTIONS, Wrong, options_of, read
 from program import Call
 
 BITS_16 = (1 << 16) - 1
+READ_BY = ("bits", "ignore-case", "from")
 PRECISIONS = [0, 1, 2, 3, 7, 8, 27, 28, 29, 92, 93, 94, 255, 256, 999, 1000, 1001, BITS_16]
 WIDTHS = [1, 4, 8, 9, 36, 37, 38, 127, 128, 255, 256, 999, 1000, 1001, 32767, 32768, BITS_16]
 COUNTS = [0, 1, 1, 2, 3, 5, 19, 20, 255, 256, BITS_16, BITS_16 + 1, 1 << 32, BITS_64 - 1, BITS_64]
@@ -39,6 +40,12 @@ def some_to(rng, texts):
         return rng.choice(FORMS)
     unit = some_unit(rng, SUFFIXES) or "B"
     return rng.choice(["", "", "", " ", "\t", "\u3000"]) + unit + rng.choice(["", "", "", " "])
+
+
+def some_precision(rng, texts):
+    """Returns a number of digits: for the exact form at most 28."""
+    most = 28 if texts.get("to", "" if "human-readable" in texts else "exact") == "exact" else BITS_16
+    return some_number(rng, near(rng, PRECISIONS, most) if happens(rng, 50) else rng.randrange(5))
 
 
 def some_number(rng, number):
@@ -74,7 +81,7 @@ def some_limit(rng, texts):
         else:
             text = f"{rng.choice([1, 1, 0.125, 0.5, 1.5, 8, 12, 999])}{' ' * rng.randrange(2)}{some_unit(rng, SUFFIXES)}"
         text = rng.choice(["", "", "", " "]) + text + rng.choice(["", "", "", "\t"])
-        size = size_of(text.encode(), "bit" if "bits" in texts else "byte", "ignore-case" in texts)
+        size = read(text.encode(), options_of({name: value for name, value in texts.items() if name in READ_BY}))
         if not isinstance(size, Rejected):
             return text
 
@@ -85,11 +92,12 @@ Drawn = namedtuple("Drawn", "percent text wrong needs without", defaults=[lambda
 DRAWN = {
     "bits": Drawn(30),
     "ignore-case": Drawn(43, without="bits"),
+    "human-readable": Drawn(15),
+    "from": Drawn(40, lambda rng, texts: rng.choice(["auto", "si", "iec", "iec", "iec", "iec-i"]), ("", "IEC", "iec")),
     "to": Drawn(70, some_to, ("", " ", "K", "mi", "kb", "bi", "BIT", "bits")),
-    "precision": Drawn(50, lambda rng, texts: some_number(
-        rng, near(rng, PRECISIONS, BITS_16) if happens(rng, 50) else rng.randrange(5))),
-    "delimiter": Drawn(50, lambda rng, texts: rng.choice([*DELIMITERS * 4, *map(chr, range(1, 128))]),
-                       (",,", "", "\\n")),
+    "precision": Drawn(50, some_precision),
+    "delimiter": Drawn(50, lambda rng, texts: rng.choice([*DELIMITERS * 4, "", *map(chr, range(1, 128))]),
+                       (",,", "\\n")),
     "field": Drawn(85, some_fields, ("0", "", "3-2", "1,,2", "-0", "1-", "18446744073709551616"), needs="delimiter"),
     "header": Drawn(25, lambda rng, texts: some_number(rng, near(rng, COUNTS, BITS_64))),
     "padding": Drawn(30, lambda rng, texts: str(near(rng, WIDTHS, BITS_16, 1) * rng.choice([1, -1])),
@@ -120,7 +128,9 @@ def words_of(rng, name, text):
     option = OPTIONS[name]
     if text == option.alone and (text == "" or happens(rng, 70)):
         return [f"-{option.letter}" if option.letter and happens(rng, 70) else f"--{name}"]
-    apart = option.alone is None and text and (text[0] != "-" or name == "padding") and happens(rng, 40)
+    if text == "":
+        return rng.choice([[f"--{name}="], [f"--{name}", ""], [f"-{option.letter}" if option.letter else f"--{name}", ""]])
+    apart = option.alone is None and text and (text[0] != "-" or name in ("padding", "field")) and happens(rng, 40)
     if not option.letter or happens(rng, 50):
         return [f"--{name}", text] if apart else [f"--{name}={text}"]
     if apart:
@@ -232,6 +242,9 @@ def some_call(rng):
         wrong = [[f"--{name}={text}"]]
         texts.pop(name, None)
     groups = in_some_order(rng, [words_of(rng, name, text) for name, text in texts.items()] + wrong)
+    if texts and happens(rng, 20):  # The last of an option holds.
+        name = rng.choice(sorted(texts))
+        groups.insert(0, words_of(rng, name, DRAWN[name].text(rng, texts)))
     if make > 14:
         fields = some_records(rng, options, rng.choice([1, 1, 2, 5, 12]), rng.choice([0, 5, 30]))
         operands = [rng.choice(["1KB\n", "\n", "1\n2"]) * happens(rng, 10) + field.decode(errors="replace")

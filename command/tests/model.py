@@ -20,7 +20,11 @@ FORMS = ("exact", "plain", "si", "iec", "auto")
 
 
 class Wrong(Exception):
-    """Why the value of an option is wrong."""
+    """Why the value of an option is wrong, and whether the message quotes the value."""
+
+    def __init__(self, why, quotes=True):
+        super().__init__(why)
+        self.quotes = quotes
 
 
 def quoted(data):
@@ -51,9 +55,9 @@ def text_of(size, kind, ignore_case, to, precision):
     return f"{value_of(size, kind, unit):{places}f} {unit}"
 
 
-def checked(value, holds, why):
+def checked(value, holds, why, quotes=True):
     if not holds:
-        raise Wrong(why)
+        raise Wrong(why, quotes)
     return value
 
 
@@ -64,8 +68,12 @@ def form(text, options):
     return text
 
 
+def read(data, options):
+    return size_of(data, options.kind, options.ignore_case, binary=getattr(options, "from") == "iec")
+
+
 def limit(text, options):
-    size = size_of(text.encode(), options.kind, options.ignore_case)
+    size = read(text.encode(), options)
     if isinstance(size, Rejected):
         raise Wrong(size.message)
     return size
@@ -73,6 +81,8 @@ def limit(text, options):
 
 def ranges(text, options):
     """Returns the first and the last field of each range of a list."""
+    separated = options.blanks or "delimiter" in options.texts
+    checked(text, separated, "needs -d or --blanks, by which fields are separated")
     pairs = []
     for part in text.split(","):
         first, dash, last = part.partition("-")
@@ -82,17 +92,22 @@ def ranges(text, options):
     return [(int(first or 1), int(last)) for first, last in pairs]
 
 
-# An option: its letter; its value in a call without it; what returns its value, of its text and the options in the rows
+# An option: its letter; its value in a call without it, or what returns it of the options in the rows before; what returns its value, of its text and the options in the rows
 # before; and its text if it has none, but for `None` the next word is its text.
 Option = namedtuple("Option", "letter default value alone", defaults=["", False, lambda text, options: True, ""])
 OPTIONS = {
     "bits": Option(),
     "ignore-case": Option("i"),
-    "to": Option("", "exact", form, None),
-    "precision": Option("p", None, lambda text, options: int(text), None),
+    "human-readable": Option("H"),
+    "from": Option("", "auto", lambda text, options: checked(
+        text, text in ("auto", "si", "iec", "iec-i"), "not auto, si, iec or iec-i"), None),
+    "to": Option("", lambda options: "auto" if options.human_readable else "exact", form, None),
+    "precision": Option("p", lambda options: 1 if options.human_readable else None, lambda text, options: checked(
+        int(text), int(text) <= 28 or options.to != "exact", "above 28 in the form exact", False), None),
     "delimiter": Option("d", None, lambda text, options: checked(
-        text.replace("\\t", "\t").encode(), text == "\\t" or len(text.encode()) == 1,
+        text.replace("\\t", "\t").encode() or None, text == "\\t" or len(text.encode()) <= 1,
         "not one character of one byte"), None),
+    "blanks": Option(),
     "field": Option("", [(1, 1)], ranges, None),
     "header": Option("", 0, lambda text, options: int(text), "1"),
     "padding": Option("", 0, lambda text, options: checked(
@@ -124,9 +139,11 @@ def options_of(texts):
     options = SimpleNamespace(texts=texts)
     for name, option in OPTIONS.items():
         try:
-            value = option.value(texts[name], options) if name in texts else option.default
+            default = option.default(options) if callable(option.default) else option.default
+            value = option.value(texts[name], options) if name in texts else default
         except Wrong as why:
-            raise Wrong(f"byte-unit: --{name}: {quoted(texts[name].encode())}: {why}\n") from None
+            value = f"{quoted(texts[name].encode())}: " * why.quotes
+            raise Wrong(f"byte-unit: --{name}: {value}{why}\n") from None
         setattr(options, name.replace("-", "_"), value)
         options.kind = "bit" if options.bits else "byte"
     options.end = b"\0" if options.zero_terminated else b"\n"
@@ -154,7 +171,7 @@ class Run:
 
     def convert(self, place, data):
         options, named = self.options, f"{place}: {quoted(data)}"
-        size = size_of(data, options.kind, options.ignore_case)
+        size = read(data, options)
         if isinstance(size, Rejected):
             if options.invalid != "ignore":
                 self.tell(f"{named}: {size.message.removeprefix('the text is ')}", 0 if options.invalid == "warn" else 2)
@@ -171,12 +188,10 @@ class Run:
     def record(self, record, data):
         """Returns what is written for a record, without its end byte."""
         mark, place = self.options.delimiter, f"{self.word} {record}"
-        if mark is None:
-            return self.convert(place, data)
-        return mark.join(
-            self.convert(f"{place}: field {number}", part)
+        return (mark or b"").join(
+            self.convert(f"{place}: field {number}" if mark else place, part)
             if any(first <= number <= last for first, last in self.options.field) else part
-            for number, part in enumerate(data.split(mark), 1))
+            for number, part in enumerate(data.split(mark) if mark else [data], 1))
 
     def result(self, records, header, unread):
         written = []

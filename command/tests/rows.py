@@ -7,6 +7,7 @@ from program import Call, Result
 START = "('B', 'K', 'M', 'G', 'T', 'P', 'E', 'Z', 'Y' or 'R' or no character is expected)"
 BLANK = "no value can be found"
 WIDTH = "not a number from 1 to 65535, or its negative"
+NEEDS = "needs -d or --blanks, by which fields are separated"
 TOTAL = "byte-unit: the total is 10^30 or more\n"
 GREATEST = b"999999999999999999999999999999"
 
@@ -25,7 +26,7 @@ def digit(c):
 
 def wrong(*texts):
     """Returns a message about the words of a call."""
-    return "error: " + "\n\n".join([*texts, "For more information, try '--help'."]) + "\n"
+    return "byte-unit: " + "\n\n".join([*texts, "For more information, try '--help'."]) + "\n"
 
 
 def misused(*texts):
@@ -35,10 +36,6 @@ def misused(*texts):
 
 def unknown(word):
     return misused(f"unexpected argument '{word}' found", f"  tip: to pass '{word}' as a value, use '-- {word}'")
-
-
-def twice(option):
-    return misused(f"the argument '{option}' cannot be used multiple times")
 
 
 def field(text, quoted, why):
@@ -114,7 +111,10 @@ FORMS = [
     (["-i", "--to=kbit", "8 kb"], b"", b"64 Kb\n"), (["-i", "--to=b", "8 kb"], b"", b"8000 B\n"),
     (["--bits", "--to=K", "1 KB"], b"", b"8 Kb\n"),
     ("-p 0 --to=KB", b"1500\n2500\n2501\n", b"2 KB\n2 KB\n3 KB\n"),
-    ("-p 30 1073741825", b"", b"1.073741825 GB\n"),
+    ("-p 28 1073741825", b"", b"1.073741825 GB\n"),
+    ("-H", b"123456789\n", b"117.7 MiB\n"), ("-H -p 2", b"123456789\n", b"117.74 MiB\n"),
+    ("--to=MB --human-readable", b"123456789\n", b"123.5 MB\n"), ("-H --to=exact", b"1500\n", b"1.5 KB\n"),
+    ("-p29 -H 1K", b"", b"1." + b"0" * 29 + b" KB\n"),
     ("-p 1001 --to=KB 1", b"", b"0.001" + b"0" * 998 + b" KB\n"),
     ("--to=Ki", b"1024\n", b"1 KiB\n"),
     (["--to= GiB "], b"1024\n", b"0.00000095367431640625 GiB\n"),
@@ -126,7 +126,31 @@ FORMS = [
     ("--padding=6 --invalid=ignore", b"x\n", b"x\n"),
 ]
 
+PREFIXES = [
+    *((f"--from={word} --to=plain", b"1K\n1Ki\n1KB\n1 kib\n1Kb\n8 b\n", b"1000\n1024\n1000\n128\n125\n1\n")
+      for word in ("auto", "si", "iec-i")),
+    ("--from=iec --to=plain", b"1K\n1Ki\n1KB\n1 kib\n1Kb\n8 b\n", b"1024\n1024\n1024\n128\n128\n1\n"),
+    ("--from=iec --bits --to=plain 1K 1KB", b"", b"1024\n8192\n"),
+    ("--from=iec -i --to=plain 1kb", b"", b"1024\n"),
+    (["-d", "\\t", "--from=iec", "--to=plain"], b"2.9M\t.\n16K\t./a\n", b"3040871\t.\n16384\t./a\n"),
+    ("--from=iec --max=1K --min=1K", b"1023\n1K\n1025\n", b"1.023 KB\n1 KiB\n1.025 KB\n", 3,
+     told("line 1: '1023'", "below the minimum") + told("line 3: '1025'", "above the maximum")),
+    ("--from=iec --invalid=warn 900RB 1x", b"", b"900RB\n1x\n", 0,
+     told("operand 1: '900RB'", "the value 900 exceeds the valid range") + told("operand 2: '1x'", unit("x"))),
+]
+
+REPEATED = [
+    ("--to=si --to=plain 1K", b"", b"1000\n"), ("-d, -d; --field=2", b"1K;2K\n", b"1K;2 KB\n"),
+    ("-ii 1kb", b"", b"1 KB\n"), ("-p1 --precision=2 --to=K 1234", b"", b"1.23 KB\n"),
+    ("--header=2 --header", b"x\n1K\n", b"x\n1 KB\n"), ("--max=1 --max=2K --total --total 1K", b"", b"1 KB\n1 KB\n"),
+    ("--from=iec --from=si --to=plain 1K", b"", b"1000\n"),
+]
+
 FIELDS = [
+    (["-d", ",", "--field", "-2"], b"1000,1000,1000\n", b"1 KB,1 KB,1000\n"),
+    (["-d", "", "--field=1"], b"1000\n", b"1 KB\n"), (["-d", "", "--field=2"], b"1K,2K\n", b"1K,2K\n"),
+    (["--delimiter=", "--invalid=warn"], b"1K,2K\n", b"1K,2K\n", 0,
+     told("line 1: '1K,2K'", unit(",", "('B' or 'b' or no character is expected)"))),
     ("-d , --field=3", b"x,y\n1,2\n", b"x,y\n1,2\n"), ("-d , --field=18446744073709551615", b"x,y\n", b"x,y\n"),
     ("-d , --field=1-1", b"1024,1024\n", b"1 KiB,1024\n"), ("-d , --field=-", b"1024,1024\n", b"1 KiB,1 KiB\n"),
     ("-d , --field=3,1,1-2", b"1024,1024,1024,1024\n", b"1 KiB,1 KiB,1 KiB,1024\n"),
@@ -161,7 +185,10 @@ WRONG_VALUES = [
       for text in ("0", "3-2", "18446744073709551616", "1,,2", "", "+1", "1-+2", " 1", "1--2", "1,", ",1", "1-2-3", "x",
                    "0-1")),
     *((["-d", text], told(f"--delimiter: '{text}'", "not one character of one byte"))
-      for text in (",,", "\u00e9", "\u20ac", "ab", "\\n", "")),
+      for text in (",,", "\u00e9", "\u20ac", "ab", "\\n")),
+    *(([f"--from={text}"], told(f"--from: '{text}'", "not auto, si, iec or iec-i")) for text in ("", "K", "IEC", "iec ")),
+    *((words, told("--precision", "above 28 in the form exact")) for words in ("-p 29", "-p65535 --to=exact", "-H -p29 --to=exact")),
+    ("--field=2", told("--field: '2'", NEEDS)), ("--field=- 1K", told("--field: '-'", NEEDS)),
     *(([f"--padding={text}"], told(f"--padding: '{text}'", WIDTH))
       for text in ("0", "65536", "-65536", "-0", "-", "+6", "-+6", "--6", "6x", "")),
     ("--invalid=x", told("--invalid: 'x'", "not abort, fail, warn or ignore")),
@@ -180,7 +207,7 @@ WRONG_VALUES = [
 ]
 
 WRONG_WORDS = [
-    ("--field=2", misused("the following required arguments were not provided:\n  --delimiter <C>")),
+    ("--blanks -d,", misused("the argument '--blanks' cannot be used with '--delimiter <C>'")),
     ("-p 65536", wrong("invalid value '65536' for '--precision <N>': 65536 is not in 0..=65535")),
     ("-p x", wrong("invalid value 'x' for '--precision <N>': invalid digit found in string")),
     (["-p", "\x1b"], wrong("invalid value '\\u{1b}' for '--precision <N>': invalid digit found in string")),
@@ -193,10 +220,6 @@ WRONG_WORDS = [
     ("--header=", wrong("invalid value '' for '--header[=<N>]': cannot parse integer from empty string")),
     ("--header=-1", wrong("invalid value '-1' for '--header[=<N>]': invalid digit found in string")),
     ("-d", wrong("a value is required for '--delimiter <C>' but none was supplied")),
-    ("--to=si --to=iec", twice("--to <UNIT>")),
-    ("-d, -d,", twice("--delimiter <C>")),
-    ("-ii", twice("--ignore-case")),
-    ("-p1 --precision=2", twice("--precision <N>")),
     ("--total=1", misused("unexpected value '1' for '--total' found; no more were expected")),
 ]
 
@@ -207,7 +230,8 @@ def row(words, data=b"", written=b"", status=0, messages=""):
 
 
 # Each call with its result: those that the model has too, and the others.
-MODELLED = [row(*each) for each in [*SIZES, *HEADERS_AND_TOTALS, *LIMITS, *FORMS, *FIELDS, *QUOTED]]
+MODELLED = [row(*each) for each in [
+    *SIZES, *HEADERS_AND_TOTALS, *LIMITS, *FORMS, *PREFIXES, *REPEATED, *FIELDS, *QUOTED]]
 MODELLED += [row(words, b"", b"", 2, message) for words, message in WRONG_VALUES]
 OTHERS = [row(words, b"", b"", 2, message) for words, message in WRONG_WORDS]
 OTHERS += [row(word, b"", b"byte-unit 3.0.0\n") for word in ("--version", "-V")]

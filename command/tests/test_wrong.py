@@ -79,6 +79,18 @@ def rejected_part(got, case):
     return got
 
 
+def without_human(got, case):
+    words = [word for word in case.call.words if word not in ("-H", "--human-readable")]
+    return result_of(replace(case.call, words=words)) if case.options and words != case.call.words else got
+
+
+def first_of_each(got, case):
+    """Takes the first of `--to=..` for the last one."""
+    uses = [word for word in case.call.words if word.startswith("--to=")]
+    changed = [uses[0] if word == uses[-1] else word for word in case.call.words] if len(uses) > 1 else case.call.words
+    return result_of(replace(case.call, words=changed)) if case.options else got
+
+
 def unit_and(end, when):
     """Returns what adds an end to the unit of `--to`."""
     def change(text, case):
@@ -129,6 +141,12 @@ WRONG = {
     "--bits --max in bytes": ("max", lambda size, case: size // 8 if case.options.bits else size),
     "--bits --min in bytes": ("min", lambda size, case: size // 8 if case.options.bits else size),
     "-i not for --max": ("max", in_bits),
+    "--from=iec ignored": ("from", lambda prefixes, case: "auto"),
+    "--from=iec for every word": ("from", lambda prefixes, case: "iec"),
+    "--max not by --from": ("max", lambda size, case: limit(
+        case.options.texts["max"], SimpleNamespace(**{**vars(case.options), "from": "auto"}))),
+    "-H ignored": ("all", lambda got, case: without_human(got, case)),
+    "the first of an option": ("all", lambda got, case: first_of_each(got, case)),
     "the maximum exclusive": ("max", lambda size, case: max(0, size - 1)),
     "the greatest minimum ignored": ("min", lambda size, case: 0 if size == SIZE_LIMIT - 1 else size),
     "the greatest maximum is 0": ("max", lambda size, case: 0 if size == SIZE_LIMIT - 1 else size),

@@ -127,8 +127,9 @@ fn print_or_report(rt: &HostRuntime, words: &[String], error: &clap::Error) -> i
     }
     let text = error_text(rt, words, error)?;
     let text = escaped_lines(rt.alloc(), text.as_str())?;
+    let message = text.strip_prefix("error: ").unwrap_or(text.as_str());
     // Ignored on failure: the exit status reports what is wrong too.
-    let _ = eprint!(rt; "{text}");
+    let _ = eprint!(rt; "byte-unit: {message}");
     Ok(WRONG)
 }
 
@@ -181,7 +182,7 @@ fn answer(rt: &HostRuntime) -> io::Result<u8> {
         let value = list.unwrap_or("");
         let wrong = Wrong {
             option: "--field",
-            value,
+            value: Some(value),
             reason: ValueError::Fields,
         };
         return Ok(report(rt, &wrong)?);

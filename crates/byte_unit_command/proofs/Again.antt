@@ -5,11 +5,11 @@ use Rattle.byte_unit.specs.Bounds.{size_limit}
 use Rattle.byte_unit.specs.Version.{current}
 use Rattle.byte_unit.specs.FormLaws.{SizeFormReadsBack, PlainFormReadsBack, SizeHasOneForm}
 use Rattle.byte_unit.specs.NamedSpecs.{plain_spec}
-use Rattle.byte_unit.specs.SizeLaws.{TextsAreAcceptedOrRejected}
 use Rattle.byte_unit.specs.declared.Kind.{Kind}
 use Rattle.byte_unit.specs.declared.Sign.TheVariants.{Unset, Plus}
 use Rattle.byte_unit_command.specs.Field.{ignores_case}
-use Rattle.byte_unit_command.specs.Laws.{IsLossless, ShownSizesAreRead, ExactTwiceIsOnce}
+use Rattle.byte_unit_command.specs.Laws.{IsLossless, TextsAreSizesOrNot, ShownSizesAreRead, ExactTwiceIsOnce}
+use Rattle.byte_unit_command.specs.Prefixes.{IsAcceptedBy}
 use Rattle.byte_unit_command.specs.Shown.{IsFormText, exact_spec}
 use Rattle.byte_unit_command.specs.declared.options.Form.{Form}
 use Rattle.byte_unit_command.specs.declared.options.Form.TheVariants.{Exact, Plain, InUnit, Largest}
@@ -33,23 +33,24 @@ form_is_read exact digits kind (Largest unit_type) precision size ignore_case te
     absurd lossless
 
 pub shown_is_read : SizeFormReadsBack → PlainFormReadsBack → ShownSizesAreRead
-shown_is_read exact digits = λ options others size text below lossless no_width same_kind (form, is_form, shown_is).
+shown_is_read exact digits = λ options others size text below lossless no_width same_kind no_binary (form, is_form, shown_is).
     let is = shown_is ∙ padded-none options.width options.align_left form no_width in
     let ignore_case = ignores_case others.kind others.ignore_case in
     let at = form_is_read exact digits options.kind options.form options.precision size ignore_case form below
     lossless is_form in
     let Accepts : List ℕ → Type 0 = λ text. IsAccepted options.kind ignore_case text size in
-    subst (λ kind. IsAccepted kind ignore_case text size) (sym same_kind) (subst Accepts (sym is) at)
+    subst (λ binary. IsAcceptedBy binary others.kind ignore_case text size) (sym no_binary)
+    (subst (λ kind. IsAccepted kind ignore_case text size) (sym same_kind) (subst Accepts (sym is) at))
 
-pub exact_again : ShownSizesAreRead → TextsAreAcceptedOrRejected → SizeHasOneForm → ExactTwiceIsOnce
+pub exact_again : ShownSizesAreRead → TextsAreSizesOrNot → SizeHasOneForm → ExactTwiceIsOnce
 exact_again shown_read texts one_form =
-    λ options size text below exact no_width shown again text_again read (form_again, is_again, again_is).
+    λ options size text below exact no_width no_binary shown again text_again read (form_again, is_again, again_is).
     let kind = options.kind in
     let ignore_case = ignores_case kind options.ignore_case in
     let spec = exact_spec options.precision in
     let lossless : IsLossless options.form = subst IsLossless (sym exact) tt in
-    let accepted = shown_read options options size text below lossless no_width refl shown in
-    let same : again ≡ size = (texts kind ignore_case text).one_meaning again size read accepted in
+    let accepted = shown_read options options size text below lossless no_width refl no_binary shown in
+    let same : again ≡ size = (texts options.binary kind ignore_case text).one_meaning again size read accepted in
     let form = shown.0 in
     let is_form : IsFormText kind Exact options.precision size form =
     subst (λ way. IsFormText kind way options.precision size form) exact shown.1 in

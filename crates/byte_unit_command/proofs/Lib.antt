@@ -4,6 +4,7 @@ pub mod Converting
 pub mod Feeding
 pub mod Finishing
 pub mod Ranges
+pub mod Prefixes
 pub mod Readings
 pub mod Results
 pub mod Runs

@@ -3,12 +3,11 @@ use Rattle.std.proofs.Common.{◌≡◌, ◌∙◌, ℕ, Bool, true, false, ◌&
 use Rattle.std.proofs.Common.{length, length-append}
 use Rattle.std.proofs.lemmas.Bool.{ne_eqb}
 use Rattle.std.specs.Borrow.{Bor}
-use Rattle.clap.specs.Adds.{AddsConflicts, AddsRequirements}
+use Rattle.clap.specs.Adds.{AddsConflicts}
 use Rattle.clap.specs.Built.{AddsArg}
 use Rattle.clap.specs.Walk.{Rule, is_empty, is_free_arg, rule_of}
 use Rattle.clap.specs.Simple.{App, app_of, with_rule}
 use Rattle.clap.specs.declared.builder.arg.Arg.{Arg}
-use Rattle.clap.specs.declared.builder.arg.ArgPredicate.{ArgPredicate}
 use Rattle.clap.specs.declared.builder.command.Command.{Command}
 use Rattle.byte_unit_command.specs.CommandLine.{IsArg}
 
@@ -22,10 +21,6 @@ fails_second : (a b c : Bool) → b ≡ false → (a && (b && c)) ≡ false
 fails_second true b c is = ap (λ b. b && c) is
 fails_second false b c is = refl
 
-fails_third : (a b c d : Bool) → c ≡ false → (a && (b && (c && d))) ≡ false
-fails_third true b c d is = fails_second b c d is
-fails_third false b c d is = refl
-
 -- an argument that excludes another
 pub excluding : (old new : Arg) (id : Bor (List ℕ)) (rule : Rule) → IsArg rule old → AddsConflicts old new (id ∷ [])
     → IsArg (record rule { is_free = false }) new
@@ -35,19 +30,6 @@ excluding old new id rule is (new_is, added) = record {
       ap rule_of new_is ∙ ap (λ arg. record (rule_of old) { is_free = is_free_arg arg }) (sym new_is) in
       let free : is_free_arg new ≡ false = fails_second _ _ _
       (longer_is_not_empty old.conflicts.items new.conflicts.items id added) in
-      same ∙ ap₂ (λ (rule : Rule) (free : Bool). record rule { is_free = free }) is.rule_is free;
-  not_global = ap (λ (arg : Arg). arg.global) new_is ∙ is.not_global;
-}
-
--- an argument that needs another
-pub needing : (old new : Arg) (need : ArgPredicate × Bor (List ℕ)) (rule : Rule) → IsArg rule old
-    → AddsRequirements old new (need ∷ []) → IsArg (record rule { is_free = false }) new
-needing old new need rule is (new_is, added) = record {
-  rule_is =
-      let same : rule_of new ≡ record (rule_of old) { is_free = is_free_arg new } =
-      ap rule_of new_is ∙ ap (λ arg. record (rule_of old) { is_free = is_free_arg arg }) (sym new_is) in
-      let free : is_free_arg new ≡ false = fails_third _ _ _ _
-      (longer_is_not_empty old.needs.items new.needs.items need added) in
       same ∙ ap₂ (λ (rule : Rule) (free : Bool). record rule { is_free = free }) is.rule_is free;
   not_global = ap (λ (arg : Arg). arg.global) new_is ∙ is.not_global;
 }

@@ -1,9 +1,9 @@
 -- Lemmas: fields and records about which there is no message.
 use Rattle.std.proofs.Common.{◌≡◌, ℕ, ◌+◌, ◌-◌, Bool, true, false, ◌||◌, List, [], ◌∷◌, ◌++◌, length, inl, inr}
 use Rattle.std.proofs.Common.{refl, sym, ap, subst, ◌∙◌, arith}
-use Rattle.byte_unit.specs.SizeLaws.{TextsAreAcceptedOrRejected}
 use Rattle.byte_unit_command.specs.Field.{IsSize, IsNoSize, ignores_case}
 use Rattle.byte_unit_command.specs.Fields.{IsChosen}
+use Rattle.byte_unit_command.specs.Laws.{TextsAreSizesOrNot}
 use Rattle.byte_unit_command.specs.Messages.{AreFieldMessages, AreLimitMessages, AreMessagesOfFields, AreRecordMessages}
 use Rattle.byte_unit_command.specs.Messages.{AreMessages, IsMessage, IsMessageIf, other, size, rejected, ignored}
 use Rattle.byte_unit_command.specs.Messages.{last_place, next_place, tells_rejected}
@@ -19,11 +19,11 @@ append-empty [] back none = (refl, sym none)
 append-empty (byte ∷ front) back none = cc
 
 -- no size is rejected too
-no_size_is_rejected : TextsAreAcceptedOrRejected → (options : Options) (field : List ℕ) (n : ℕ) → IsSize options field n
+no_size_is_rejected : TextsAreSizesOrNot → (options : Options) (field : List ℕ) (n : ℕ) → IsSize options field n
     → IsNoSize options field → ⊥
 no_size_is_rejected law options field n is (inl no_text) = no_text is.0
 no_size_is_rejected law options field n is (inr rejects) =
-    (law options.kind (ignores_case options.kind options.ignore_case) field).not_both n rejects.1.0 is.1 rejects.1.1
+    (law options.binary options.kind (ignores_case options.kind options.ignore_case) field).not_both n rejects.1.0 is.1 rejects.1.1
 
 module _ (options : Options) (word : List ℕ) (place number : ℕ) (field : List ℕ) where
   -- a message is not empty
@@ -43,19 +43,19 @@ module _ (options : Options) (word : List ℕ) (place number : ℕ) (field : Lis
       ap (λ yes. yes || is_below options.min n) (IsMessageIf-none (is_above options.max n) Above above empty.0
       above_told) ∙ IsMessageIf-none (is_below options.min n) Below below empty.1 below_told
 
-  pub within-untold : TextsAreAcceptedOrRejected → (n : ℕ) (is_rejected : Bool) → IsChosen options.fields.now number
+  pub within-untold : TextsAreSizesOrNot → (n : ℕ) (is_rejected : Bool) → IsChosen options.fields.now number
       → IsSize options field n → AreFieldMessages options word place number field is_rejected [] → is_beyond options n
       ≡ false
   within-untold law n is_rejected chosen is (other not _ _) = absurd (not chosen)
   within-untold law n is_rejected chosen is (size same _ also _ messages) =
-      let one = (law options.kind (ignores_case options.kind options.ignore_case) field).one_meaning same n also.1 is.1 in
+      let one = (law options.binary options.kind (ignores_case options.kind options.ignore_case) field).one_meaning same n also.1 is.1 in
       subst (λ n. is_beyond options n ≡ false) one (limits-none same messages)
   within-untold law n is_rejected chosen is (rejected reason _ _ _ _ message) = absurd (IsMessage-some reason message)
   within-untold law n is_rejected chosen is (ignored _ none _ _ _) =
       absurd (no_size_is_rejected law options field n is none)
 
   -- a rejected field about which there is no message is ignored
-  pub ignored-untold : TextsAreAcceptedOrRejected → (is_rejected : Bool) → IsChosen options.fields.now number
+  pub ignored-untold : TextsAreSizesOrNot → (is_rejected : Bool) → IsChosen options.fields.now number
       → IsNoSize options field → AreFieldMessages options word place number field is_rejected []
       → tells_rejected options.invalid ≡ false
   ignored-untold law is_rejected chosen none (other not _ _) = absurd (not chosen)

@@ -1,59 +1,129 @@
 -- The options of a call, by the values of its options.
-use Rattle.std.specs.Prelude.{◌≡◌, ℕ, ◌⊎◌, Bool, if◌then◌else◌, List, Option, Some, unwrap_or, codes}
+use Rattle.std.specs.Prelude.{◌≡◌, ℕ, ◌≤◌, ⊤, ◌⊎◌, Bool, true, false, if◌then◌else◌, List, Option, None, Some}
+use Rattle.std.specs.Prelude.{MatchOption, unwrap_or, is_some, codes}
 use Rattle.std.specs.Borrow.{Bor}
 use Rattle.byte_unit.specs.declared.Kind.{Kind}
 use Rattle.byte_unit.specs.declared.Kind.TheVariants.{Byte, Bit}
+use Rattle.byte_unit.specs.declared.UnitType.TheVariants.{Both}
+use Rattle.byte_unit_command.specs.Meaning.{IsFrom, IsNoFrom}
 use Rattle.byte_unit_command.specs.Meaning.{IsForm, IsNoForm, IsDelimiter, IsNoDelimiter, IsPadding, IsNoPadding}
 use Rattle.byte_unit_command.specs.Meaning.{IsMode, IsNoMode, IsLimit, IsNoLimit}
 use Rattle.byte_unit_command.specs.Values.{text_of}
 use Rattle.byte_unit_command.specs.declared.options.FieldRange.{FieldRange}
 use Rattle.byte_unit_command.specs.declared.options.Form.{Form}
+use Rattle.byte_unit_command.specs.declared.options.Form.TheVariants.{Exact, Largest}
 use Rattle.byte_unit_command.specs.declared.options.Invalid.{Invalid}
 use Rattle.byte_unit_command.specs.declared.options.Options.{Options}
 use Rattle.byte_unit_command.specs.declared.values.Values.{Values}
 use Rattle.byte_unit_command.specs.declared.wrong.ValueError.{ValueError}
+use Rattle.byte_unit_command.specs.declared.wrong.ValueError.TheVariants.{Precision, NoDelimiter}
 use Rattle.byte_unit_command.specs.declared.wrong.Wrong.{Wrong}
 
 -- the kind of the sizes: bits with `--bits`, and bytes without it
 abbrev pub kind_of : Bool → Kind
 kind_of bits = if bits then Bit else Byte
 
+-- the form without `--to`, and the precision: `-H` means `--to=auto -p 1`, but for what `--to` and `-p` say
+abbrev pub form_without : Bool → Form
+form_without human_readable = if human_readable then Largest Both else Exact
+
+abbrev pub precision_of : Bool → Option ℕ → Option ℕ
+precision_of human_readable None = if human_readable then Some 1 else None
+precision_of human_readable (Some precision) = Some precision
+
+-- the form that the values ask for
+abbrev pub IsFormOf : Values → Form → Type 0
+IsFormOf values form =
+    IsForm (form_without values.human_readable) (kind_of values.bits) values.ignore_case (text_of values.to) form
+
 -- the options of a call with these values and fields. Operands are records that end with a zero byte, and none of them
 -- is a header
 pub record AreOptions (values : Values) (ranges : List FieldRange) (options : Options) : Type 0 where
   pub kind : options.kind ≡ kind_of values.bits
   pub ignore_case : options.ignore_case ≡ values.ignore_case
-  pub form : IsForm (kind_of values.bits) values.ignore_case (text_of values.to) options.form
-  pub precision : options.precision ≡ values.precision
+  pub binary : IsFrom (text_of values.from) options.binary
+  pub form : IsFormOf values options.form
+  pub precision : options.precision ≡ precision_of values.human_readable values.precision
   pub padding : IsPadding (text_of values.padding) options.width options.align_left
   pub delimiter : IsDelimiter (text_of values.delimiter) options.delimiter
+  pub blanks : options.blanks ≡ values.blanks
   pub fields : options.fields.now ≡ ranges
   pub record_end : options.record_end ≡ (if values.has_operands then 0 else if values.zero_terminated then 0 else 10)
   pub output_end : options.output_end ≡ (if values.zero_terminated then 0 else 10)
   pub header : options.header ≡ (if values.has_operands then 0 else unwrap_or values.header 0)
   pub invalid : IsMode (text_of values.invalid) options.invalid
   pub total : options.total ≡ values.total
-  pub max : IsLimit (kind_of values.bits) values.ignore_case (text_of values.max) options.max
-  pub min : IsLimit (kind_of values.bits) values.ignore_case (text_of values.min) options.min
+  pub max : IsLimit options.binary (kind_of values.bits) values.ignore_case (text_of values.max) options.max
+  pub min : IsLimit options.binary (kind_of values.bits) values.ignore_case (text_of values.min) options.min
 
 -- the option with this name has this value, which is wrong
 abbrev pub IsWrongOf : List ℕ → Option (Bor (List ℕ)) → (List ℕ → ValueError → Type 0) → Wrong → Type 0
 IsWrongOf name value IsWrongValue wrong =
-    (wrong.option.now ≡ name) × (text_of value ≡ Some wrong.value.now) × IsWrongValue wrong.value.now wrong.reason
+    (wrong.option.now ≡ name) × (text_of value ≡ text_of wrong.value)
+    × MatchOption (text_of wrong.value) ⊥ (λ text. IsWrongValue text wrong.reason)
+
+-- in the exact form, no more than 28 digits after the point are asked for
+abbrev pub IsWithinExact : Form → Option ℕ → Type 0
+IsWithinExact form None = ⊤
+IsWithinExact form (Some precision) = form ≡ Exact → precision ≤ 28
+
+-- `--precision` is too large in the exact form
+abbrev pub IsWrongPrecision : Form → Option ℕ → Wrong → Type 0
+IsWrongPrecision form precision wrong =
+    ¬ IsWithinExact form precision × (wrong.option.now ≡ codes "--precision") × (wrong.value ≡ None)
+    × (wrong.reason ≡ Precision)
+
+-- there is something that separates fields, if `--field` names some
+abbrev pub AreFieldsSeparated : Values → Type 0
+AreFieldsSeparated values =
+    (is_some values.field ≡ false) ⊎ ((is_some values.delimiter ≡ true) ⊎ (values.blanks ≡ true))
+
+-- `--field` without that
+pub record IsWrongField (values : Values) (wrong : Wrong) : Type 0 where
+  pub given : is_some values.field ≡ true
+  pub no_delimiter : is_some values.delimiter ≡ false
+  pub no_blanks : values.blanks ≡ false
+  pub option : wrong.option.now ≡ codes "--field"
+  pub value : text_of values.field ≡ text_of wrong.value
+  pub reason : wrong.reason ≡ NoDelimiter
+
+-- what is right before an option, in the order in which they are looked at
+abbrev pub FormIsRight : Values → Type 0
+FormIsRight values = (form : Form) × IsFormOf values form × IsWithinExact form values.precision
+
+abbrev pub FieldsAreRight : Values → Type 0
+FieldsAreRight values =
+    FormIsRight values × ((delimiter : Option ℕ) × IsDelimiter (text_of values.delimiter) delimiter)
+    × AreFieldsSeparated values
+
+abbrev pub PaddingIsRight : Values → Type 0
+PaddingIsRight values =
+    FieldsAreRight values × ((width : ℕ) × (align_left : Bool) × IsPadding (text_of values.padding) width align_left)
+
+abbrev pub ModeIsRight : Values → Type 0
+ModeIsRight values = PaddingIsRight values × ((invalid : Invalid) × IsMode (text_of values.invalid) invalid)
 
 -- this is the first option that is wrong, in this order
-abbrev pub IsFirstWrong : Values → Wrong → Type 0
-IsFirstWrong values wrong =
-    let kind = kind_of values.bits in
-    let ignore_case = values.ignore_case in
-    IsWrongOf (codes "--to") values.to (IsNoForm kind ignore_case) wrong
-    ⊎ (form : Form) × IsForm kind ignore_case (text_of values.to) form
-    × (IsWrongOf (codes "--delimiter") values.delimiter IsNoDelimiter wrong
-    ⊎ (delimiter : Option ℕ) × IsDelimiter (text_of values.delimiter) delimiter
-    × (IsWrongOf (codes "--padding") values.padding IsNoPadding wrong
-    ⊎ (width : ℕ) × (align_left : Bool) × IsPadding (text_of values.padding) width align_left
-    × (IsWrongOf (codes "--invalid") values.invalid IsNoMode wrong
-    ⊎ (invalid : Invalid) × IsMode (text_of values.invalid) invalid
-    × (IsWrongOf (codes "--max") values.max (IsNoLimit kind ignore_case) wrong
-    ⊎ (max : Option ℕ) × IsLimit kind ignore_case (text_of values.max) max
-    × IsWrongOf (codes "--min") values.min (IsNoLimit kind ignore_case) wrong))))
+pub data IsFirstWrong (values : Values) (wrong : Wrong) : Type 0 where
+  wrong_from : IsWrongOf (codes "--from") values.from IsNoFrom wrong → IsFirstWrong values wrong
+  wrong_to : (binary : Bool) → IsFrom (text_of values.from) binary
+      → IsWrongOf (codes "--to") values.to (IsNoForm (kind_of values.bits) values.ignore_case) wrong
+      → IsFirstWrong values wrong
+  wrong_precision : (binary : Bool) → IsFrom (text_of values.from) binary → (form : Form) → IsFormOf values form
+      → IsWrongPrecision form values.precision wrong → IsFirstWrong values wrong
+  wrong_delimiter : (binary : Bool) → IsFrom (text_of values.from) binary → FormIsRight values
+      → IsWrongOf (codes "--delimiter") values.delimiter IsNoDelimiter wrong → IsFirstWrong values wrong
+  wrong_field : (binary : Bool) → IsFrom (text_of values.from) binary → FormIsRight values
+      → (delimiter : Option ℕ) → IsDelimiter (text_of values.delimiter) delimiter
+      → IsWrongField values wrong → IsFirstWrong values wrong
+  wrong_padding : (binary : Bool) → IsFrom (text_of values.from) binary → FieldsAreRight values
+      → IsWrongOf (codes "--padding") values.padding IsNoPadding wrong → IsFirstWrong values wrong
+  wrong_invalid : (binary : Bool) → IsFrom (text_of values.from) binary → PaddingIsRight values
+      → IsWrongOf (codes "--invalid") values.invalid IsNoMode wrong → IsFirstWrong values wrong
+  wrong_max : (binary : Bool) → IsFrom (text_of values.from) binary → ModeIsRight values
+      → IsWrongOf (codes "--max") values.max (IsNoLimit binary (kind_of values.bits) values.ignore_case) wrong
+      → IsFirstWrong values wrong
+  wrong_min : (binary : Bool) → IsFrom (text_of values.from) binary → ModeIsRight values
+      → (max : Option ℕ) → IsLimit binary (kind_of values.bits) values.ignore_case (text_of values.max) max
+      → IsWrongOf (codes "--min") values.min (IsNoLimit binary (kind_of values.bits) values.ignore_case) wrong
+      → IsFirstWrong values wrong

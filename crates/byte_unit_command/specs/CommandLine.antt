@@ -23,14 +23,20 @@ value name = record (new_rule name) { long = Some name; value_names = 1 }
 abbrev pub ignore_case : Rule
 ignore_case = record (flag (codes "ignore-case")) { short = Some 105; is_free = false }
 
+abbrev pub human_readable : Rule
+human_readable = record (flag (codes "human-readable")) { short = Some 72 }
+
 abbrev pub precision : Rule
 precision = record (value (codes "precision")) { short = Some 112; parser = Some (Signed (pos 0) (pos 65535)) }
 
 abbrev pub delimiter : Rule
 delimiter = record (value (codes "delimiter")) { short = Some 100 }
 
+abbrev pub blanks : Rule
+blanks = record (flag (codes "blanks")) { is_free = false }
+
 abbrev pub fields : Rule
-fields = record (value (codes "field")) { is_free = false }
+fields = record (value (codes "field")) { is_simple = false }
 
 abbrev pub header : Rule
 header = record (value (codes "header")) {
@@ -55,12 +61,12 @@ operands = record (new_rule (codes "SIZE")) {
 -- all of them, in the order of the help
 abbrev pub rules : List Rule
 rules =
-    flag (codes "bits") ∷ ignore_case ∷ value (codes "to") ∷ precision ∷ delimiter ∷ fields ∷ header ∷ padding
-    ∷ value (codes "invalid") ∷ flag (codes "total") ∷ value (codes "max") ∷ value (codes "min") ∷ zero_terminated
+    flag (codes "bits") ∷ ignore_case ∷ value (codes "from") ∷ value (codes "to") ∷ precision ∷ human_readable
+    ∷ delimiter ∷ blanks ∷ fields ∷ header ∷ padding ∷ value (codes "invalid") ∷ flag (codes "total") ∷ value (codes "max") ∷ value (codes "min") ∷ zero_terminated
     ∷ operands ∷ []
 
--- the command, which has a version
+-- the command, which has a version. The last of an option that is given more than once holds
 abbrev pub command_line : App
 command_line =
     let start = new_app (codes "byte-unit") in
-    record start { top = record start.top { has_version = true; rules = rules } }
+    record start { top = record start.top { has_version = true; args_override_self = true; rules = rules } }

@@ -1,11 +1,11 @@
 -- What is written for one field, and what is found in it.
 use Rattle.std.specs.Prelude.{◌≡◌, ℕ, ◌⊎◌, Bool, false, List, [], ◌∷◌, Option, None, Some}
 use Rattle.std.specs.Str.{IsUtf8}
-use Rattle.byte_unit.specs.Accepted.{IsAccepted, IsRejected}
 use Rattle.byte_unit.specs.Fault.{Fault}
 use Rattle.byte_unit.specs.declared.Kind.{Kind}
 use Rattle.byte_unit.specs.declared.Kind.TheVariants.{Byte, Bit}
 use Rattle.byte_unit_command.specs.Fields.{IsChosen}
+use Rattle.byte_unit_command.specs.Prefixes.{IsAcceptedBy, IsRejectedBy}
 use Rattle.byte_unit_command.specs.Shown.{IsShown}
 use Rattle.byte_unit_command.specs.declared.options.Options.{Options}
 
@@ -17,14 +17,16 @@ ignores_case Bit ignore_case = false
 -- the field is a size
 abbrev pub IsSize : Options → List ℕ → ℕ → Type 0
 IsSize options field size =
-    IsUtf8 field × IsAccepted options.kind (ignores_case options.kind options.ignore_case) field size
+    IsUtf8 field
+    × IsAcceptedBy options.binary options.kind (ignores_case options.kind options.ignore_case) field size
 
 -- the field is not a size: it is not UTF-8, or it is rejected
 abbrev pub IsNoSize : Options → List ℕ → Type 0
 IsNoSize options field =
     ¬ IsUtf8 field
     ⊎ IsUtf8 field
-    × ((fault : Fault) × IsRejected options.kind (ignores_case options.kind options.ignore_case) field fault)
+    × ((fault : Fault)
+    × IsRejectedBy options.binary options.kind (ignores_case options.kind options.ignore_case) field fault)
 
 -- what is found in a field that is to be converted: its size, or `None` if it is not a size
 abbrev pub Found : Type 0

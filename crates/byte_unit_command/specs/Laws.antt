@@ -1,8 +1,10 @@
 -- Laws of the texts of sizes: what is shown can be read again.
-use Rattle.std.specs.Prelude.{◌≡◌, ℕ, ◌<◌, ⊤, List}
-use Rattle.byte_unit.specs.Accepted.{IsAccepted}
+use Rattle.std.specs.Prelude.{◌≡◌, ℕ, ◌<◌, ⊤, Bool, false, List}
 use Rattle.byte_unit.specs.Bounds.{size_limit}
+use Rattle.byte_unit.specs.ReaderLaws.{IsOneAnswer}
+use Rattle.byte_unit.specs.declared.Kind.{Kind}
 use Rattle.byte_unit_command.specs.Field.{ignores_case}
+use Rattle.byte_unit_command.specs.Prefixes.{IsAcceptedBy, IsRejectedBy}
 use Rattle.byte_unit_command.specs.Shown.{IsShown}
 use Rattle.byte_unit_command.specs.declared.options.Form.{Form}
 use Rattle.byte_unit_command.specs.declared.options.Form.TheVariants.{Exact, Plain, InUnit, Largest}
@@ -17,19 +19,28 @@ IsLossless (Largest unit_type) = ⊥
 
 -- the text is parsed as this size by a run with these options
 abbrev pub IsReadAs : Options → List ℕ → ℕ → Type 0
-IsReadAs options text size = IsAccepted options.kind (ignores_case options.kind options.ignore_case) text size
+IsReadAs options text size =
+    IsAcceptedBy options.binary options.kind (ignores_case options.kind options.ignore_case) text size
+
+-- law: each input is accepted as exactly one size, or rejected with exactly one error, and not both, whatever prefixes
+-- mean
+abbrev pub TextsAreSizesOrNot : Type 0
+TextsAreSizesOrNot =
+    (binary : Bool) (kind : Kind) (ignore_case : Bool) (text : List ℕ)
+    → IsOneAnswer ℕ (IsAcceptedBy binary kind ignore_case text) (IsRejectedBy binary kind ignore_case text)
 
 -- law: what is shown for a size in the exact form or as digits, without padding, is parsed as that size by a run with
--- any options of the same kind. So nothing is lost by `--to=plain` and then `--to=exact`
+-- any options of the same kind that read prefixes as they are. So nothing is lost by `--to=plain` and then `--to=exact`
 abbrev pub ShownSizesAreRead : Type 0
 ShownSizesAreRead =
     (options others : Options) (size : ℕ) (text : List ℕ) → size < size_limit → IsLossless options.form
-    → options.width ≡ 0 → others.kind ≡ options.kind → IsShown options size text → IsReadAs others text size
+    → options.width ≡ 0 → others.kind ≡ options.kind → others.binary ≡ false → IsShown options size text
+    → IsReadAs others text size
 
 -- law: what is shown in the exact form for the size that a text of the exact form is parsed as is that text. So a
--- second run of `--to=exact` changes nothing
+-- second run of `--to=exact` changes nothing, if prefixes are read as they are
 abbrev pub ExactTwiceIsOnce : Type 0
 ExactTwiceIsOnce =
     (options : Options) (size : ℕ) (text : List ℕ) → size < size_limit → options.form ≡ Exact → options.width ≡ 0
-    → IsShown options size text → (again : ℕ) (text_again : List ℕ) → IsReadAs options text again
+    → options.binary ≡ false → IsShown options size text → (again : ℕ) (text_again : List ℕ) → IsReadAs options text again
     → IsShown options again text_again → text_again ≡ text

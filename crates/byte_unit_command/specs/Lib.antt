@@ -9,6 +9,7 @@ pub mod RunState
 pub mod Run
 pub mod Shown
 pub mod Sums
+pub mod Prefixes
 pub mod Positive
 pub mod FieldList
 pub mod Values

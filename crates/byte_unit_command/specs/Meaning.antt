@@ -2,7 +2,6 @@
 -- given.
 use Rattle.std.specs.Prelude.{◌≡◌, ◌≢◌, ℕ, ◌<◌, ◌^◌, ◌⊎◌, Bool, true, false, List, [], ◌∷◌, Option, None, Some, codes}
 use Rattle.std.specs.Str.{trim}
-use Rattle.byte_unit.specs.Accepted.{IsAccepted, IsRejected}
 use Rattle.byte_unit.specs.Errors.{size_fault, unit_fault}
 use Rattle.byte_unit.specs.Fault.{IsUnitFault}
 use Rattle.byte_unit.specs.Kinds.{flags_for}
@@ -15,13 +14,24 @@ use Rattle.byte_unit.specs.declared.Unit.{Unit as UnitName}
 use Rattle.byte_unit.specs.declared.UnitType.TheVariants.{Decimal, Binary, Both}
 use Rattle.byte_unit_command.specs.Field.{ignores_case}
 use Rattle.byte_unit_command.specs.Positive.{IsPositive}
+use Rattle.byte_unit_command.specs.Prefixes.{IsAcceptedBy, IsRejectedBy}
 use Rattle.byte_unit_command.specs.declared.options.Form.{Form}
 use Rattle.byte_unit_command.specs.declared.options.Form.TheVariants.{Exact, Plain, InUnit, Largest}
 use Rattle.byte_unit_command.specs.declared.options.Invalid.{Invalid}
 use Rattle.byte_unit_command.specs.declared.options.Invalid.TheVariants.{Abort, Fail, Warn, Ignore}
 use Rattle.byte_unit_command.specs.declared.wrong.ValueError.{ValueError}
 use Rattle.byte_unit_command.specs.declared.wrong.ValueError.TheVariants.{Unit as UnitFault, Blank, Delimiter}
-use Rattle.byte_unit_command.specs.declared.wrong.ValueError.TheVariants.{Padding, Mode, Size}
+use Rattle.byte_unit_command.specs.declared.wrong.ValueError.TheVariants.{From, Padding, Mode, Size}
+
+-- `--from`: whether a decimal prefix means the binary one, so that `K` is 1024
+abbrev pub IsFrom : Option (List ℕ) → Bool → Type 0
+IsFrom None binary = binary ≡ false
+IsFrom (Some text) binary =
+    (text ≡ codes "iec") × (binary ≡ true) ⊎ ((text ≡ codes "auto") × (binary ≡ false)
+    ⊎ ((text ≡ codes "si") × (binary ≡ false) ⊎ (text ≡ codes "iec-i") × (binary ≡ false)))
+
+abbrev pub IsNoFrom : List ℕ → ValueError → Type 0
+IsNoFrom text reason = ((binary : Bool) → ¬ IsFrom (Some text) binary) × (reason ≡ From)
 
 -- the text is the word for this form
 abbrev pub IsFormWord : List ℕ → Form → Type 0
@@ -35,10 +45,10 @@ pub record IsUnitName (kind : Kind) (ignore_case : Bool) (text : List ℕ) (unit
   pub not_blank : trim text ≢ []
   pub spells : Spells current (flags_for kind ignore_case) (trim_of text) (shape_of unit)
 
--- `--to`
-abbrev pub IsForm : Kind → Bool → Option (List ℕ) → Form → Type 0
-IsForm kind ignore_case None form = form ≡ Exact
-IsForm kind ignore_case (Some text) form =
+-- `--to`, with the form that is meant without it
+abbrev pub IsForm : Form → Kind → Bool → Option (List ℕ) → Form → Type 0
+IsForm without kind ignore_case None form = form ≡ without
+IsForm without kind ignore_case (Some text) form =
     IsFormWord text form ⊎ (unit : UnitName) × IsUnitName kind ignore_case text unit × (form ≡ InUnit unit)
 
 -- the text spells no unit: it is white space, or has this error
@@ -52,11 +62,12 @@ abbrev pub IsNoForm : Kind → Bool → List ℕ → ValueError → Type 0
 IsNoForm kind ignore_case text reason =
     ((form : Form) → ¬ IsFormWord text form) × IsNoUnitName kind ignore_case text reason
 
--- `--delimiter`: one byte, or `\t` for a tab
+-- `--delimiter`: one byte, or `\t` for a tab; nothing for none
 abbrev pub IsDelimiter : Option (List ℕ) → Option ℕ → Type 0
 IsDelimiter None delimiter = delimiter ≡ None
 IsDelimiter (Some text) delimiter =
-    ((byte : ℕ) × (text ≡ byte ∷ []) × (delimiter ≡ Some byte)) ⊎ (text ≡ 92 ∷ 116 ∷ []) × (delimiter ≡ Some 9)
+    (text ≡ []) × (delimiter ≡ None)
+    ⊎ (((byte : ℕ) × (text ≡ byte ∷ []) × (delimiter ≡ Some byte)) ⊎ (text ≡ 92 ∷ 116 ∷ []) × (delimiter ≡ Some 9))
 
 abbrev pub IsNoDelimiter : List ℕ → ValueError → Type 0
 IsNoDelimiter text reason = ((delimiter : Option ℕ) → ¬ IsDelimiter (Some text) delimiter) × (reason ≡ Delimiter)
@@ -87,12 +98,12 @@ abbrev pub IsNoMode : List ℕ → ValueError → Type 0
 IsNoMode text reason = ((invalid : Invalid) → ¬ IsMode (Some text) invalid) × (reason ≡ Mode)
 
 -- `--max` and `--min`: a size, as in an input
-abbrev pub IsLimit : Kind → Bool → Option (List ℕ) → Option ℕ → Type 0
-IsLimit kind ignore_case None limit = limit ≡ None
-IsLimit kind ignore_case (Some text) limit =
-    (size : ℕ) × IsAccepted kind (ignores_case kind ignore_case) text size × (limit ≡ Some size)
+abbrev pub IsLimit : Bool → Kind → Bool → Option (List ℕ) → Option ℕ → Type 0
+IsLimit binary kind ignore_case None limit = limit ≡ None
+IsLimit binary kind ignore_case (Some text) limit =
+    (size : ℕ) × IsAcceptedBy binary kind (ignores_case kind ignore_case) text size × (limit ≡ Some size)
 
-abbrev pub IsNoLimit : Kind → Bool → List ℕ → ValueError → Type 0
-IsNoLimit kind ignore_case text (Size error) =
-    IsRejected kind (ignores_case kind ignore_case) text (size_fault error)
-IsNoLimit kind ignore_case text _ = ⊥
+abbrev pub IsNoLimit : Bool → Kind → Bool → List ℕ → ValueError → Type 0
+IsNoLimit binary kind ignore_case text (Size error) =
+    IsRejectedBy binary kind (ignores_case kind ignore_case) text (size_fault error)
+IsNoLimit binary kind ignore_case text _ = ⊥

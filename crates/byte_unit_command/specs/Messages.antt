@@ -6,11 +6,11 @@ use Rattle.std.specs.Char.{is_control, encode_utf8}
 use Rattle.std.specs.Fmt.{decimal, digits, digit_glyph}
 use Rattle.std.specs.List.{flat_map}
 use Rattle.std.specs.Str.{IsUtf8, is_utf8, chars}
-use Rattle.byte_unit.specs.Accepted.{IsRejected}
 use Rattle.byte_unit.specs.Errors.{size_fault}
 use Rattle.byte_unit.specs.FaultText.{parse_text}
 use Rattle.byte_unit_command.specs.Field.{IsSize, IsNoSize, ignores_case}
 use Rattle.byte_unit_command.specs.Fields.{IsChosen, fields_of}
+use Rattle.byte_unit_command.specs.Prefixes.{IsRejectedBy}
 use Rattle.byte_unit_command.specs.Sums.{is_above, is_below}
 use Rattle.byte_unit_command.specs.declared.notice.FieldError.{FieldError}
 use Rattle.byte_unit_command.specs.declared.notice.FieldError.TheVariants.{NotUtf8, Rejected, Above, Below}
@@ -99,7 +99,8 @@ AreLimitMessages options word place number field size text =
 abbrev pub IsFieldError : Options → List ℕ → FieldError → Type 0
 IsFieldError options field NotUtf8 = ¬ IsUtf8 field
 IsFieldError options field (Rejected error) =
-    IsUtf8 field × IsRejected options.kind (ignores_case options.kind options.ignore_case) field (size_fault error)
+    IsUtf8 field × IsRejectedBy options.binary options.kind (ignores_case options.kind options.ignore_case) field
+    (size_fault error)
 IsFieldError options field _ = ⊥
 
 -- whether rejected fields are told

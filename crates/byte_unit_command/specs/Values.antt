@@ -32,9 +32,13 @@ IsNumberValue bits (Some text) (Some number) = IsUnsigned bits text number
 pub record HasValues (matches : ArgMatches) (values : Values) : Type 0 where
   pub bits : IsFlag matches (codes "bits") values.bits
   pub ignore_case : IsFlag matches (codes "ignore-case") values.ignore_case
+  pub human_readable : IsFlag matches (codes "human-readable") values.human_readable
+  pub from : text_of values.from ≡ first_value (found_of matches) (codes "from")
   pub to : text_of values.to ≡ first_value (found_of matches) (codes "to")
   pub precision : IsNumberValue 16 (one_text (found_of matches) (codes "precision")) values.precision
   pub delimiter : text_of values.delimiter ≡ first_value (found_of matches) (codes "delimiter")
+  pub blanks : IsFlag matches (codes "blanks") values.blanks
+  pub field : text_of values.field ≡ first_value (found_of matches) (codes "field")
   pub header : IsNumberValue 64 (one_text (found_of matches) (codes "header")) values.header
   pub padding : text_of values.padding ≡ first_value (found_of matches) (codes "padding")
   pub invalid : text_of values.invalid ≡ first_value (found_of matches) (codes "invalid")

@@ -1,10 +1,11 @@
 -- The message about a wrong option.
-use Rattle.std.specs.Prelude.{◌≡◌, ℕ, List, ◌++◌, IfSome, codes}
+use Rattle.std.specs.Prelude.{◌≡◌, ℕ, List, [], ◌++◌, Option, None, Some, IfSome, codes}
+use Rattle.std.specs.Borrow.{Bor}
 use Rattle.byte_unit.specs.FaultText.{parse_text, unit_text}
 use Rattle.byte_unit_command.specs.Messages.{quote}
 use Rattle.byte_unit_command.specs.declared.wrong.ValueError.{ValueError}
-use Rattle.byte_unit_command.specs.declared.wrong.ValueError.TheVariants.{Unit as UnitFault, Blank, Delimiter, Fields}
-use Rattle.byte_unit_command.specs.declared.wrong.ValueError.TheVariants.{Padding, Mode, Size}
+use Rattle.byte_unit_command.specs.declared.wrong.ValueError.TheVariants.{Unit as UnitFault, Blank, Precision, Delimiter}
+use Rattle.byte_unit_command.specs.declared.wrong.ValueError.TheVariants.{From, NoDelimiter, Fields, Padding, Mode, Size}
 use Rattle.byte_unit_command.specs.declared.wrong.Wrong.{Wrong}
 
 -- the words for a reason. An error of the library has its message; where the library's contract says nothing of that,
@@ -13,14 +14,22 @@ abbrev pub AreReasonWords : ValueError → List ℕ → Type 0
 AreReasonWords (UnitFault error) words =
     IfSome (unit_text error) (λ text. words ≡ codes "not a form or a unit: " ++ text)
 AreReasonWords Blank words = words ≡ codes "not a form or a unit"
+AreReasonWords From words = words ≡ codes "not auto, si, iec or iec-i"
+AreReasonWords Precision words = words ≡ codes "above 28 in the form exact"
 AreReasonWords Delimiter words = words ≡ codes "not one character of one byte"
+AreReasonWords NoDelimiter words = words ≡ codes "needs -d or --blanks, by which fields are separated"
 AreReasonWords Fields words = words ≡ codes "not a list of fields"
 AreReasonWords Padding words = words ≡ codes "not a number from 1 to 65535, or its negative"
 AreReasonWords Mode words = words ≡ codes "not abort, fail, warn or ignore"
 AreReasonWords (Size error) words = IfSome (parse_text error) (λ text. words ≡ text)
 
--- the message, without its line end: the option, its value as a field is quoted, and the words for the reason
+-- the value of an option as a field is quoted, with a colon after it, or nothing if there is no value to tell
+abbrev pub value_text : Option (Bor (List ℕ)) → List ℕ
+value_text None = []
+value_text (Some value) = quote value.now ++ codes ": "
+
+-- the message, without its line end: the option, its value, and the words for the reason
 abbrev pub IsWrongMessage : Wrong → List ℕ → Type 0
 IsWrongMessage wrong message =
     (words : List ℕ) × AreReasonWords wrong.reason words
-    × (message ≡ wrong.option.now ++ codes ": " ++ quote wrong.value.now ++ codes ": " ++ words)
+    × (message ≡ wrong.option.now ++ codes ": " ++ value_text wrong.value ++ words)

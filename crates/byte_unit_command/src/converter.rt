@@ -14,13 +14,13 @@ ghost use Rattle.byte_unit_stream.specs.Prefix.{IsPrefix};
 
 use crate::error::RunError;
 use crate::field::{is_chosen, is_in_order, ranges_from};
+use crate::laws::texts_are_sizes_or_not;
 use crate::notice::{Notices, add_limit_notice, add_reject_notice};
 use crate::options::{Invalid, Options};
 use crate::place::Place;
 use crate::size::accepted;
 use crate::tally::Tally;
 use crate::text::add_size;
-use byte_unit::laws::texts_are_accepted_or_refused;
 use byte_unit_stream::end_of;
 use std::alloc::Allocator;
 
@@ -307,7 +307,7 @@ impl<A: Allocator> Converter<A> {
         ensures capacity { vec_capacity self.old.waiting ≤ vec_capacity self.new.waiting }
     {
         // For the proof: no text has two sizes, or is both a size and rejected.
-        texts_are_accepted_or_refused();
+        texts_are_sizes_or_not();
         if self.progress.tally.add(options, size) {
             let place = &self.progress.place;
             add_limit_notice(options, place, number, field, size, &mut self.notices)?;
@@ -340,7 +340,7 @@ impl<A: Allocator> Converter<A> {
         ensures capacity { vec_capacity self.old.waiting ≤ vec_capacity self.new.waiting }
     {
         // For the proof: no text is both a size and rejected.
-        texts_are_accepted_or_refused();
+        texts_are_sizes_or_not();
         let place = &self.progress.place;
         add_reject_notice(options, place, number, field, &mut self.notices)?;
         copy_rejected(options, field, &mut self.progress.tally, &mut self.waiting)

@@ -1,8 +1,17 @@
 //! Laws of the texts of sizes. The contract of each function is the law; its body calls the laws that it follows from.
 
-ghost use Rattle.byte_unit_command.specs.Laws.{ShownSizesAreRead, ExactTwiceIsOnce};
+ghost use Rattle.byte_unit_command.specs.Laws.{TextsAreSizesOrNot, ShownSizesAreRead, ExactTwiceIsOnce};
 
 use byte_unit::laws;
+
+/// States that each text is a size or not, and has one size or one error, whether `K` is 1000 or 1024.
+pub fn texts_are_sizes_or_not()
+    ensures { TextsAreSizesOrNot }
+{
+    laws::texts_are_accepted_or_refused();
+    laws::size_texts_have_one_answer();
+    laws::each_number_has_one_least_size();
+}
 
 /// States that what is shown in the exact form or as digits is parsed as the same size.
 pub fn shown_sizes_are_read()
@@ -17,6 +26,6 @@ pub fn exact_twice_is_once()
     ensures { ExactTwiceIsOnce }
 {
     shown_sizes_are_read();
-    laws::texts_are_accepted_or_refused();
+    texts_are_sizes_or_not();
     laws::size_has_one_form();
 }

@@ -2,26 +2,31 @@
 
 ghost use Rattle.std.specs.Prelude.{◌≡◌, ℕ, Bool, MatchOption, MatchResult, IfOk, IfErr, codes};
 ghost use Rattle.std.specs.Prelude.{unwrap_or, if◌then◌else◌};
-ghost use Rattle.byte_unit.specs.SizeReading.{IsSizeReading};
 ghost use Rattle.byte_unit_command.specs.CallOptions.{AreOptions, IsFirstWrong, IsWrongOf, kind_of};
+ghost use Rattle.byte_unit_command.specs.CallOptions.{form_without, precision_of, IsWithinExact, IsWrongPrecision};
+ghost use Rattle.byte_unit_command.specs.CallOptions.{AreFieldsSeparated, IsWrongField};
 ghost use Rattle.byte_unit_command.specs.Field.{ignores_case};
-ghost use Rattle.byte_unit_command.specs.Meaning.{IsForm, IsNoForm, IsUnitName, IsNoUnitName};
+ghost use Rattle.byte_unit_command.specs.Meaning.{IsFrom, IsNoFrom, IsForm, IsNoForm, IsUnitName, IsNoUnitName};
 ghost use Rattle.byte_unit_command.specs.Meaning.{IsDelimiter, IsNoDelimiter, IsPadding, IsNoPadding, IsWidth};
 ghost use Rattle.byte_unit_command.specs.Meaning.{IsMode, IsNoMode, IsLimit, IsNoLimit};
+ghost use Rattle.byte_unit_command.specs.Prefixes.{IsReadingBy};
 ghost use Rattle.byte_unit_command.specs.Values.{text_of};
 
 use crate::options::{FieldRange, Form, Invalid, Kind, Options, Unit, UnitType};
 use crate::positive::positive_of;
 use crate::values::Values;
 use crate::wrong::{ValueError, Wrong};
-use byte_unit_base::{ParseError, size};
+use byte_unit_base::{ParseError, binary, size};
+
+/// The most digits after the point that the exact form has.
+const DECIMAL_PLACES: u16 = 28;
 
 /// Returns the options of a call. `fields` are those that `field_list::fields_of` returned.
 ///
 /// # Errors
 ///
-/// Returns the first option that is wrong, in the order of `--to`, `--delimiter`, `--padding`, `--invalid`, `--max` and
-/// `--min`.
+/// Returns the first option that is wrong, in the order of `--from`, `--to`, `--precision`, `--delimiter`, `--field`,
+/// `--padding`, `--invalid`, `--max` and `--min`.
 pub fn options_of<'a, 'b>(
     values: &Values<'a>,
     fields: &'b [FieldRange],
@@ -30,21 +35,26 @@ pub fn options_of<'a, 'b>(
     ensures err { IfErr result (IsFirstWrong values.now) }
 {
     let kind = kind_of(values.bits);
-    let form = form_of(values.to, kind, values.ignore_case)?;
+    let binary = from_of(values.from)?;
+    let form = form_of(values.to, values.human_readable, kind, values.ignore_case)?;
+    exact_precision(form, values.precision)?;
     let delimiter = delimiter_of(values.delimiter)?;
+    separated_fields(values)?;
     let (width, align_left) = padding_of(values.padding)?;
     let invalid = invalid_of(values.invalid)?;
-    let max = limit_of("--max", values.max, kind, values.ignore_case)?;
-    let min = limit_of("--min", values.min, kind, values.ignore_case)?;
+    let max = limit_of("--max", values.max, binary, kind, values.ignore_case)?;
+    let min = limit_of("--min", values.min, binary, kind, values.ignore_case)?;
     let output_end = if values.zero_terminated { 0 } else { b'\n' };
     Ok(Options {
         kind,
         ignore_case: values.ignore_case,
+        binary,
         form,
-        precision: values.precision,
+        precision: precision_of(values.human_readable, values.precision),
         width,
         align_left,
         delimiter,
+        blanks: values.blanks,
         fields,
         record_end: if values.has_operands { 0 } else { output_end },
         output_end,
@@ -63,17 +73,48 @@ pub(crate) fn kind_of(bits: bool) -> Kind
     if bits { Kind::Bit } else { Kind::Byte }
 }
 
+/// Returns whether a decimal prefix in a size means the binary one.
+///
+/// # Errors
+///
+/// Returns an error if the value is not one of the words that say how prefixes are read.
+fn from_of(value: Option<&str>) -> Result<bool, Wrong<'_>>
+    ensures ok { IfOk result (IsFrom (text_of value.entry)) }
+    ensures err { IfErr result (IsWrongOf (codes "--from") value.entry IsNoFrom) }
+{
+    let Some(value) = value else {
+        return Ok(false);
+    };
+    match value {
+        "iec" => Ok(true),
+        "auto" => Ok(false),
+        "si" => Ok(false),
+        "iec-i" => Ok(false),
+        _ => Err(Wrong {
+            option: "--from",
+            value: Some(value),
+            reason: ValueError::From,
+        }),
+    }
+}
+
 /// Returns how a size is shown.
 ///
 /// # Errors
 ///
 /// Returns an error if the value is neither the word for a form nor a unit.
-fn form_of(value: Option<&str>, kind: Kind, ignore_case: bool) -> Result<Form, Wrong<'_>>
-    ensures ok { IfOk result (IsForm kind ignore_case (text_of value.entry)) }
+fn form_of(
+    value: Option<&str>,
+    human_readable: bool,
+    kind: Kind,
+    ignore_case: bool,
+) -> Result<Form, Wrong<'_>>
+    ensures ok { IfOk result
+        (IsForm (form_without human_readable) kind ignore_case (text_of value.entry)) }
     ensures err { IfErr result (IsWrongOf (codes "--to") value.entry (IsNoForm kind ignore_case)) }
 {
     let Some(value) = value else {
-        return Ok(Form::Exact);
+        return Ok(form_without(human_readable));
     };
     match value {
         "exact" => Ok(Form::Exact),
@@ -85,11 +126,54 @@ fn form_of(value: Option<&str>, kind: Kind, ignore_case: bool) -> Result<Form, W
             Ok(unit) => Ok(Form::InUnit(unit)),
             Err(reason) => Err(Wrong {
                 option: "--to",
-                value,
+                value: Some(value),
                 reason,
             }),
         },
     }
+}
+
+/// Returns how a size is shown without `--to`.
+fn form_without(human_readable: bool) -> Form
+    ensures { result ≡ form_without human_readable }
+{
+    if human_readable {
+        Form::Largest(UnitType::Both)
+    } else {
+        Form::Exact
+    }
+}
+
+/// Returns the number of digits after the point.
+fn precision_of(human_readable: bool, value: Option<u16>) -> Option<u16>
+    ensures { result ≡ precision_of human_readable value }
+{
+    match value {
+        Some(precision) => Some(precision),
+        None => { if human_readable { Some(1) } else { None } }
+    }
+}
+
+/// Checks that the exact form has so many digits after the point.
+///
+/// # Errors
+///
+/// Returns an error if more than 28 are asked for, which it never has.
+fn exact_precision<'a>(form: Form, value: Option<u16>) -> Result<(), Wrong<'a>>
+    ensures ok { IfOk result (λ _. IsWithinExact form value) }
+    ensures err { IfErr result (IsWrongPrecision form value) }
+{
+    let Some(precision) = value else {
+        return Ok(());
+    };
+    if precision > DECIMAL_PLACES && form == Form::Exact {
+        return Err(Wrong {
+            option: "--precision",
+            value: None,
+            reason: ValueError::Precision,
+        });
+    }
+    Ok(())
 }
 
 /// Returns the unit that a value spells. White space alone, which the library parses as the unit without a prefix, is
@@ -115,7 +199,7 @@ fn unit_of(value: &str, kind: Kind, ignore_case: bool) -> Result<Unit, ValueErro
 ///
 /// # Errors
 ///
-/// Returns an error if the value is neither one byte nor `\t`.
+/// Returns an error if the value is neither one byte nor `\t`, nor empty.
 fn delimiter_of(value: Option<&str>) -> Result<Option<u8>, Wrong<'_>>
     ensures ok { IfOk result (IsDelimiter (text_of value.entry)) }
     ensures err { IfErr result (IsWrongOf (codes "--delimiter") value.entry IsNoDelimiter) }
@@ -124,14 +208,34 @@ fn delimiter_of(value: Option<&str>) -> Result<Option<u8>, Wrong<'_>>
         return Ok(None);
     };
     match value.as_bytes() {
+        [] => Ok(None),
         [byte] => Ok(Some(*byte)),
         b"\\t" => Ok(Some(b'\t')),
         _ => Err(Wrong {
             option: "--delimiter",
-            value,
+            value: Some(value),
             reason: ValueError::Delimiter,
         }),
     }
+}
+
+/// Checks that something separates the fields that `--field` names.
+///
+/// # Errors
+///
+/// Returns an error if neither a delimiter nor blanks do.
+fn separated_fields<'a>(values: &Values<'a>) -> Result<(), Wrong<'a>>
+    ensures ok { IfOk result (λ _. AreFieldsSeparated values.now) }
+    ensures err { IfErr result (IsWrongField values.now) }
+{
+    if values.field.is_some() && values.delimiter.is_none() && !values.blanks {
+        return Err(Wrong {
+            option: "--field",
+            value: values.field,
+            reason: ValueError::NoDelimiter,
+        });
+    }
+    Ok(())
 }
 
 /// Returns the width, and whether sizes are aligned to the left.
@@ -150,7 +254,7 @@ fn padding_of(value: Option<&str>) -> Result<(u16, bool), Wrong<'_>>
         Some(padding) => Ok(padding),
         None => Err(Wrong {
             option: "--padding",
-            value,
+            value: Some(value),
             reason: ValueError::Padding,
         }),
     }
@@ -195,7 +299,7 @@ fn invalid_of(value: Option<&str>) -> Result<Invalid, Wrong<'_>>
         "ignore" => Ok(Invalid::Ignore),
         _ => Err(Wrong {
             option: "--invalid",
-            value,
+            value: Some(value),
             reason: ValueError::Mode,
         }),
     }
@@ -209,33 +313,46 @@ fn invalid_of(value: Option<&str>) -> Result<Invalid, Wrong<'_>>
 fn limit_of<'a>(
     option: &'static str,
     value: Option<&'a str>,
+    binary: bool,
     kind: Kind,
     ignore_case: bool,
 ) -> Result<Option<u128>, Wrong<'a>>
-    ensures ok { IfOk result (IsLimit kind ignore_case (text_of value.entry)) }
+    ensures ok { IfOk result (IsLimit binary kind ignore_case (text_of value.entry)) }
     ensures err { IfErr result
-        (IsWrongOf option.entry.now value.entry (IsNoLimit kind ignore_case)) }
+        (IsWrongOf option.entry.now value.entry (IsNoLimit binary kind ignore_case)) }
 {
     let Some(value) = value else {
         return Ok(None);
     };
-    match size_of(value, kind, ignore_case) {
+    match size_of(value, binary, kind, ignore_case) {
         Ok(size) => Ok(Some(size)),
         Err(error) => Err(Wrong {
             option,
-            value,
+            value: Some(value),
             reason: ValueError::Size(error),
         }),
     }
 }
 
 /// Parses a size of a kind.
-fn size_of(text: &str, kind: Kind, ignore_case: bool) -> Result<u128, ParseError>
-    ensures { IsSizeReading kind (ignores_case kind ignore_case) text.now result }
+fn size_of(text: &str, binary: bool, kind: Kind, ignore_case: bool) -> Result<u128, ParseError>
+    ensures { IsReadingBy binary kind (ignores_case kind ignore_case) text.now result }
+{
+    let ignore_case = ignores_case(kind, ignore_case);
+    if binary {
+        binary::parse(text, ignore_case, kind)
+    } else {
+        size::parse(text, ignore_case, kind)
+    }
+}
+
+/// Returns `true` if case is ignored. It is always significant in sizes in bits.
+pub(crate) fn ignores_case(kind: Kind, ignore_case: bool) -> bool
+    ensures { result ≡ ignores_case kind ignore_case }
 {
     match kind {
-        Kind::Byte => size::parse(text, ignore_case, Kind::Byte),
-        Kind::Bit => size::parse(text, false, Kind::Bit),
+        Kind::Byte => ignore_case,
+        Kind::Bit => false,
     }
 }
 

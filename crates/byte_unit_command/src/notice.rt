@@ -12,13 +12,13 @@ ghost use Rattle.byte_unit_stream.specs.Prefix.{IsPrefix};
 ghost use Rattle.byte_unit_stream.specs.Streams.{HasWritten, writing_failed};
 
 use crate::error::RunError;
+use crate::laws::texts_are_sizes_or_not;
 use crate::options::{Invalid, Options};
 use crate::place::Place;
 use crate::quote::add_quoted;
 use crate::size::parse;
 use crate::tally::{is_above, is_below};
 use byte_unit::ParseError;
-use byte_unit::laws::texts_are_accepted_or_refused;
 use byte_unit_stream::{FusedWriter, write_whole};
 use std::alloc::{AllocError, Allocator};
 use std::fmt::Write as WriteText;
@@ -147,7 +147,7 @@ fn reason_of(options: &Options, field: &[u8]) -> FieldError
     ensures { IsFieldError options.now field.now result }
 {
     // For the proof: no text is both accepted and rejected.
-    texts_are_accepted_or_refused();
+    texts_are_sizes_or_not();
     match parse(options, field) {
         Some(Err(error)) => FieldError::Rejected(error),
         Some(Ok(_)) => FieldError::NotUtf8,

@@ -44,6 +44,8 @@ pub struct Options<'a> {
     pub kind: Kind,
     /// Whether case is ignored in sizes in bytes.
     pub ignore_case: bool,
+    /// Whether a decimal prefix in a size means the binary one, so that `K` is 1024.
+    pub binary: bool,
     /// How a size is shown.
     pub form: Form,
     /// The number of digits after the point.
@@ -54,6 +56,8 @@ pub struct Options<'a> {
     pub align_left: bool,
     /// The byte between two fields; `None` if a record is one field.
     pub delimiter: Option<u8>,
+    /// Whether blanks separate fields.
+    pub blanks: bool,
     /// The fields that are converted.
     pub fields: &'a [FieldRange],
     /// The byte that ends a record of the input.

@@ -1,37 +1,33 @@
 //! Reads and writes one size of either kind.
 
-ghost use Rattle.std.specs.Prelude.{◌≡◌, ◌<◌, ◌≤◌, IfSome, IfNone};
+ghost use Rattle.std.specs.Prelude.{◌≡◌, ◌<◌, ◌≤◌, true, IfSome, IfNone};
 ghost use Rattle.byte_unit.specs.Bounds.{size_limit};
 ghost use Rattle.byte_unit.specs.Forms.{text_limit};
-ghost use Rattle.byte_unit.specs.SizeReading.{IsBytesReading};
 ghost use Rattle.byte_unit.specs.Written.{WritesForm};
 ghost use Rattle.byte_unit_command.specs.CallOptions.{kind_of};
 ghost use Rattle.byte_unit_command.specs.Capacity.{form_max};
 ghost use Rattle.byte_unit_command.specs.Field.{IsSize, IsNoSize, ignores_case};
+ghost use Rattle.byte_unit_command.specs.Prefixes.{IsBytesReadingBy};
 ghost use Rattle.byte_unit_command.specs.Shown.{IsFormText};
 
-use crate::meaning::kind_of;
+use crate::meaning::{ignores_case, kind_of};
 use crate::options::{Form, Kind, Options};
 use byte_unit::{Bit, Byte, FormatSpec, ParseError};
-use byte_unit_base::appropriate_unit;
+use byte_unit_base::{appropriate_unit, binary, size};
 use byte_unit_format::{write_adjusted, write_text};
 
 /// Parses a field as a size of the kind of the options. Returns `None` if it is not UTF-8.
 pub(crate) fn parse(options: &Options, field: &[u8]) -> Option<Result<u128, ParseError>>
-    ensures { IsBytesReading options.now.kind
+    ensures { IsBytesReadingBy options.now.binary options.now.kind
         (ignores_case options.now.kind options.now.ignore_case) field.now result }
 {
+    if options.binary {
+        let ignore_case = ignores_case(options.kind, options.ignore_case);
+        return binary::parse_bytes(field, ignore_case, options.kind);
+    }
     match options.kind {
-        Kind::Byte => match Byte::parse_bytes(field, options.ignore_case) {
-            Some(Ok(size)) => Some(Ok(size.as_u128())),
-            Some(Err(error)) => Some(Err(error)),
-            None => None,
-        },
-        Kind::Bit => match Bit::parse_bytes(field) {
-            Some(Ok(size)) => Some(Ok(size.as_u128())),
-            Some(Err(error)) => Some(Err(error)),
-            None => None,
-        },
+        Kind::Byte => size::parse_bytes(field, options.ignore_case, Kind::Byte),
+        Kind::Bit => size::parse_bytes(field, false, Kind::Bit),
     }
 }
 
@@ -42,6 +38,9 @@ pub(crate) fn accepted(options: &Options, field: &[u8]) -> Option<u128>
     ensures some { IfSome result (IsSize options.now field.now) }
     ensures none { IfNone result (IsNoSize options.now field.now) }
 {
+    if options.binary {
+        return accepted_binary(options, field);
+    }
     match options.kind {
         Kind::Byte => match Byte::parse_bytes(field, options.ignore_case) {
             Some(Ok(size)) => Some(size.as_u128()),
@@ -53,6 +52,23 @@ pub(crate) fn accepted(options: &Options, field: &[u8]) -> Option<u128>
             Some(Err(_)) => None,
             None => None,
         },
+    }
+}
+
+/// Returns the size that a field represents if prefixes are by 1024, or `None` if it is not a size.
+///
+/// Precondition (proved at every call): the options read prefixes so.
+#[inline(never)]
+fn accepted_binary(options: &Options, field: &[u8]) -> Option<u128>
+    requires { options.now.binary ≡ true }
+    ensures some { IfSome result (IsSize options.now field.now) }
+    ensures none { IfNone result (IsNoSize options.now field.now) }
+{
+    let ignore_case = ignores_case(options.kind, options.ignore_case);
+    match binary::parse_bytes(field, ignore_case, options.kind) {
+        Some(Ok(size)) => Some(size),
+        Some(Err(_)) => None,
+        None => None,
     }
 }
 

@@ -11,12 +11,20 @@ pub struct Values<'a> {
     pub bits: bool,
     /// Whether `--ignore-case` is given.
     pub ignore_case: bool,
+    /// Whether `--human-readable` is given.
+    pub human_readable: bool,
+    /// The value of `--from`.
+    pub from: Option<&'a str>,
     /// The value of `--to`.
     pub to: Option<&'a str>,
     /// The value of `--precision`.
     pub precision: Option<u16>,
     /// The value of `--delimiter`.
     pub delimiter: Option<&'a str>,
+    /// Whether `--blanks` is given.
+    pub blanks: bool,
+    /// The value of `--field`.
+    pub field: Option<&'a str>,
     /// The value of `--header`.
     pub header: Option<u64>,
     /// The value of `--padding`.
@@ -42,9 +50,13 @@ pub fn values_of<'a>(matches: &ArgMatches<'a>) -> Values<'a>
     Values {
         bits: matches.get_flag("bits"),
         ignore_case: matches.get_flag("ignore-case"),
+        human_readable: matches.get_flag("human-readable"),
+        from: matches.get_str("from"),
         to: matches.get_str("to"),
         precision: matches.get_one::<u16>("precision"),
         delimiter: matches.get_str("delimiter"),
+        blanks: matches.get_flag("blanks"),
+        field: matches.get_str("field"),
         header: matches.get_one::<u64>("header"),
         padding: matches.get_str("padding"),
         invalid: matches.get_str("invalid"),

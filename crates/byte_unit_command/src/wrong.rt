@@ -2,7 +2,7 @@
 
 ghost use Rattle.std.specs.Prelude.{◌≡◌, ◌++◌, List, ℕ, OnOk, IfOk};
 ghost use Rattle.std.specs.String.{string_bytes};
-ghost use Rattle.byte_unit_command.specs.WrongText.{AreReasonWords, IsWrongMessage};
+ghost use Rattle.byte_unit_command.specs.WrongText.{AreReasonWords, IsWrongMessage, value_text};
 
 use crate::quote::{add_escaped_char, add_quoted};
 use byte_unit::{ParseError, UnitParseError};
@@ -14,8 +14,8 @@ use std::fmt::Write;
 pub struct Wrong<'a> {
     /// The option.
     pub option: &'static str,
-    /// Its value.
-    pub value: &'a str,
+    /// Its value, if it is told.
+    pub value: Option<&'a str>,
     /// The reason.
     pub reason: ValueError,
 }
@@ -27,8 +27,14 @@ pub enum ValueError {
     Unit(UnitParseError),
     /// It is neither a form nor a unit, but white space or nothing.
     Blank,
+    /// It does not say how prefixes are read.
+    From,
+    /// The exact form never has so many digits after the point.
+    Precision,
     /// It is not a delimiter.
     Delimiter,
+    /// Nothing separates fields.
+    NoDelimiter,
     /// It is not a list of fields.
     Fields,
     /// It is not a width.
@@ -40,7 +46,7 @@ pub enum ValueError {
 }
 
 impl<'a> Wrong<'a> {
-    /// Returns the message, without its line end: the option, its value in quotes, and the reason.
+    /// Returns the message, without its line end: the option, its value in quotes if it is told, and the reason.
     ///
     /// The value is quoted as a message about a field quotes it: control characters are escaped, and of a long value
     /// only the beginning is quoted.
@@ -54,10 +60,27 @@ impl<'a> Wrong<'a> {
         let mut message = String::new(alloc);
         message.push_str(self.option)?;
         message.push_str(": ")?;
-        add_quoted(self.value.as_bytes(), &mut message)?;
-        message.push_str(": ")?;
+        add_value(self.value, &mut message)?;
         add_reason(alloc, &self.reason, &mut message)?;
         Ok(message)
+    }
+}
+
+/// Appends a value in quotes and a colon, or nothing without a value.
+///
+/// # Errors
+///
+/// Returns `AllocError` if allocation fails.
+fn add_value(value: Option<&str>, message: &mut String) -> Result<(), AllocError>
+    ensures { OnOk result
+        (string_bytes message.new ≡ string_bytes message.old ++ value_text value.entry) }
+{
+    match value {
+        None => Ok(()),
+        Some(value) => {
+            add_quoted(value.as_bytes(), message)?;
+            message.push_str(": ")
+        }
     }
 }
 
@@ -78,7 +101,12 @@ fn add_reason(alloc: Global, reason: &ValueError, message: &mut String) -> Resul
             write!(words, "{error}")?;
         }
         ValueError::Blank => words.push_str("not a form or a unit")?,
+        ValueError::From => words.push_str("not auto, si, iec or iec-i")?,
+        ValueError::Precision => words.push_str("above 28 in the form exact")?,
         ValueError::Delimiter => words.push_str("not one character of one byte")?,
+        ValueError::NoDelimiter => {
+            words.push_str("needs -d or --blanks, by which fields are separated")?
+        }
         ValueError::Fields => words.push_str("not a list of fields")?,
         ValueError::Padding => words.push_str("not a number from 1 to 65535, or its negative")?,
         ValueError::Mode => words.push_str("not abort, fail, warn or ignore")?,

@@ -90,8 +90,8 @@ def read(text, kind, ignore_case=False, quote=debug_char):
 
 
 @functools.lru_cache(maxsize=1 << 10)
-def size_of(data, kind, ignore_case=False, quote=debug_char):
-    """Returns the size that bytes represent, or why they represent none."""
+def size_of(data, kind, ignore_case=False, quote=debug_char, binary=False):
+    """Returns the size that bytes represent, or why they represent none. If `binary`, all prefixes are by 1024."""
     try:
         found = read(data.decode().strip(WHITE_SPACE), kind, ignore_case, quote)
     except UnicodeDecodeError:
@@ -99,6 +99,7 @@ def size_of(data, kind, ignore_case=False, quote=debug_char):
     if isinstance(found, Rejected):
         return found
     number, unit = found
+    unit = f"{unit[0]}i{unit[1]}" if binary and len(unit) == 2 else unit
     size = -(-number * BITS[unit] // (10**FRACTION_PLACES * SCALE[kind]))
     shown = Decimal(number) / 10**FRACTION_PLACES
     return size if size < SIZE_LIMIT else Rejected("out of range", f"the value {shown:f} exceeds the valid range")

@@ -19,11 +19,13 @@ const FIRST: &[FieldRange] = &[FieldRange {
 pub const PLAIN: Options<'static> = Options {
     kind: Kind::Byte,
     ignore_case: false,
+    binary: false,
     form: Form::Exact,
     precision: None,
     width: 0,
     align_left: false,
     delimiter: None,
+    blanks: false,
     fields: FIRST,
     record_end: b'\n',
     output_end: b'\n',

@@ -48,6 +48,11 @@ const ROWS: &[Row] = &rows! {
     (&["", "-i", "--to=kb"], b"8 kb\n", sum!(8000), b"8 KB\n", b""),
     (&["", "-i", "--max=8kb"], b"8001\n", beyond!(8001), b"8.001 KB\n",
         b"byte-unit: line 1: '8001': above the maximum\n"),
+    // The last of an option holds, and nothing as the delimiter is none.
+    (&["", "--from=si", "--from=iec", "--to=plain"], b"1K\n", sum!(1024), b"1024\n", b""),
+    (&["", "-H", "-H"], b"123456789\n", sum!(123_456_789), b"117.7 MiB\n", b""),
+    (&["", "-d", "", "--field=1"], b"1000\n", sum!(1000), b"1 KB\n", b""),
+    (&["", "-d,", "--field", "-2"], b"1000,1024\n", sum!(2024), b"1 KB,1 KiB\n", b""),
     // Operands: each is one record, they have no header, and their output has lines.
     (&["", "1536", "2 KB"], b"", sum!(3536), b"1.5 KiB\n2 KB\n", b""),
     (&["", "-z", "1536", "2 KB"], b"", sum!(3536), b"1.5 KiB\x002 KB\x00", b""),
@@ -66,7 +71,7 @@ byte-unit: line 3: '': no value can be found\n"),
         b"1K,1K,1K,1K,1K\n", sum!(3000), b"1000,1K,1000,1000,1K\n", b""),
     (&["", "-d\\t", "--field=-", "--to=plain"], b"1K\t1K\n", sum!(2000), b"1000\t1000\n", b""),
     // The exact form has 28 digits after the point at most; other forms have as many as are asked for.
-    (&["", "-p", "30", "1073741825"], b"", sum!(1_073_741_825), b"1.073741825 GB\n", b""),
+    (&["", "-p", "28", "1073741825"], b"", sum!(1_073_741_825), b"1.073741825 GB\n", b""),
     (&["", "-p30", "--to=GiB", "1073741825"], b"", sum!(1_073_741_825), b"1.000000000931322574615478515625 GiB\n", b""),
     (&["", "-p", "0", "--padding", "-8", "--to=si", "1500"], b"", sum!(1500), b"2 KB    \n", b""),
     (&["", "--padding=8", "1500"], b"", sum!(1500), b"  1.5 KB\n", b""),
@@ -137,12 +142,14 @@ const WRONG: &[(&[&str], &str)] = &rows! {
         "--to: '\\u{1b}[31mKB': not a form or a unit: \
 the character '\\u{1b}' is incorrect ('B', 'K', 'M', 'G', 'T', 'P', 'E', 'Z', 'Y' or 'R' or no character is expected)"),
     (&["", "-d", ",;"], "--delimiter: ',;': not one character of one byte"),
-    (&["", "-d", ""], "--delimiter: '': not one character of one byte"),
     (&["", "-d", "é"], "--delimiter: 'é': not one character of one byte"),
     (&["", "--padding=0"], "--padding: '0': not a number from 1 to 65535, or its negative"),
     (&["", "--padding=65536"], "--padding: '65536': not a number from 1 to 65535, or its negative"),
     (&["", "--padding=+1"], "--padding: '+1': not a number from 1 to 65535, or its negative"),
     (&["", "--padding=--1"], "--padding: '--1': not a number from 1 to 65535, or its negative"),
+    (&["", "--from=K"], "--from: 'K': not auto, si, iec or iec-i"),
+    (&["", "-p29"], "--precision: above 28 in the form exact"),
+    (&["", "--field=2"], "--field: '2': needs -d or --blanks, by which fields are separated"),
     (&["", "--invalid=\u{85}"], "--invalid: '\\u{85}': not abort, fail, warn or ignore"),
     (&["", "--max=1,5 GB"],
         "--max: '1,5 GB': the character ',' is incorrect \
@@ -193,7 +200,7 @@ fn wrong_lists_of_fields(rt: HostRuntime) {
         assert!(rt; fields.is_none(), "{list}");
         let wrong = Wrong {
             option: "--field",
-            value: list,
+            value: Some(list),
             reason: ValueError::Fields,
         };
         let message = wrong.message(rt.alloc()).expect(&rt, "memory");

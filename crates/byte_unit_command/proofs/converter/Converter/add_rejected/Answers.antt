@@ -30,13 +30,13 @@ pub returns-in_err-add_reject_notice-clause-succeeds : goal.returns-in_err-add_r
 returns-in_err-add_reject_notice-clause-succeeds g c = λ _ untold.
     let old : State = state_of c.args.self.now in
     let ignored = ignored-untold c.args.options.now old.word old.place c.args.number c.args.field.now
-    c.texts_are_accepted_or_refused.ensures untold.0 c.requires.chosen c.requires.none untold.1 in
+    c.texts_are_sizes_or_not.ensures untold.0 c.requires.chosen c.requires.none untold.1 in
     absurd (true≢false (sym (c.in_err-add_reject_notice.ensures.untold ignored)))
 
 pub returns-clause-succeeds : goal.returns-clause-succeeds
 returns-clause-succeeds g c = λ room untold.
     let old : State = state_of c.args.self.now in
     let ignored = ignored-untold c.args.options.now old.word old.place c.args.number c.args.field.now
-    c.texts_are_accepted_or_refused.ensures untold.0 c.requires.chosen c.requires.none untold.1 in
+    c.texts_are_sizes_or_not.ensures untold.0 c.requires.chosen c.requires.none untold.1 in
     c.copy_rejected.ensures.succeeds (omega (arith, room))
     (λ abort. true≢false (sym (ap tells_rejected abort) ∙ ignored))
