@@ -72,6 +72,12 @@ def test_option_is_documented(program, name):
     assert re.search(rf"--{name}\b", read("command/byte-unit.bash"))
 
 
+def listed(rng):
+    """Returns a line of sizes between blanks."""
+    parts = (exact(rng) + " " * rng.choice([1, 1, 2, 9]) for _ in range(4))
+    return rng.choice(["", " ", "   "]) + "".join(parts) + exact(rng)
+
+
 def exact(rng):
     """Returns a size that is a whole number of bytes below 10^15, which long doubles hold."""
     return f"{rng.randrange(1, 999)}{rng.choice(['', '', 'K', 'Ki', 'M', 'Mi', 'G', 'Gi'])}"
@@ -85,6 +91,9 @@ def exact(rng):
       for words in ("", "--header", "--header=5", "--padding=20", "--padding=-20", "-z")],
     *[(f"--invalid={way}", "--from=auto", "--to=plain", lambda rng: rng.choice(["x", "y", "1K", "2K"]))
       for way in ("fail", "warn", "ignore", "abort")],
+    *[(field, "--from=auto", "--to=plain --blanks", listed)
+      for field in ("", "--field=2", "--field=1,3", "--field=2-", "--field=-", "--field=5 --padding=3",
+                    "--field=2 --padding=-9")],
     # Sizes that both write as a whole number of one unit.
     ("", "--to=si", "--to=si", lambda rng: str(rng.randrange(10, 999) * 1000 ** rng.randrange(1, 4))),
     ("", "--to=iec-i", "--to=iec", lambda rng: str(rng.randrange(10, 1000) * 1024 ** rng.randrange(1, 4)))])
@@ -94,4 +103,4 @@ def test_same_output_as_numfmt(program, seed, both, theirs, ours, line):
     status, wanted, _ = ended("numfmt", theirs, *both.split(), input=data)
     if "--to" in theirs:
         wanted = re.sub(rb"(\d+)(?:\.0)?([KMGTPE]i?)", rb"\1 \2B", wanted)
-    assert ended(program, ours, *both.split(), input=data)[:2] == (status, wanted)
+    assert ended(program, *ours.split(), *both.split(), input=data)[:2] == (status, wanted)

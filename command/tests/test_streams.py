@@ -113,8 +113,8 @@ def test_help(program, word):
 
 
 @pytest.mark.parametrize("words, line", [
-    *((words, b"1\n") for words in ("", "--to=QiB", "--padding=40", "--padding=-41", "--padding=1000",
-                                    "--padding=65535", "--to=QiB -p 65535", "--max=0 --min=2")),
+    *((words, b"1\n") for words in ("", "--to=YiB", "--padding=40", "--padding=-41", "--padding=1000",
+                                    "--padding=65535", "--to=YiB -p 65535", "--max=0 --min=2")),
     ("--invalid=warn", b"1x\n"), ("--invalid=fail -d , --field=-", b"1x,\x1b\n"),
     ("-d , --field=- --padding=65535", b"1,1\n")])
 def test_memory_of_texts_that_wait(program, tmp_path, words, line):

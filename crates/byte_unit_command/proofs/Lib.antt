@@ -1,5 +1,6 @@
 pub mod Answering
 pub mod Again
+pub mod BlankFields
 pub mod Converting
 pub mod Feeding
 pub mod Finishing

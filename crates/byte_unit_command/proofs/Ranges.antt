@@ -6,7 +6,7 @@ use Rattle.std.specs.Prelude.{◌==◌, slice_index_or}
 use Rattle.std.specs.List.{AllAdjacentBelow, Contains}
 use Rattle.std.specs.List.Sorted.{IsPermutation}
 use Rattle.std.proofs.lemmas.List.Sorted.{Contains-permutation, IsPermutation-sym}
-use Rattle.byte_unit_command.specs.Fields.{IsChosen, IsInOrder, InRange}
+use Rattle.byte_unit_command.specs.Fields.{GoesTo, IsChosen, IsInOrder, InRange}
 use Rattle.byte_unit_command.specs.declared.options.FieldRange.{FieldRange}
 
 -- a list whose length is tested to be 0 has no range
@@ -41,6 +41,18 @@ pub none-before-first : (ranges : List FieldRange) (default : FieldRange) (numbe
     → number < (slice_index_or ranges 0 default).first → ¬ IsChosen ranges number
 none-before-first [] default number order early = λ none. none
 none-before-first (range ∷ others) default number order early = none-before range others number order early
+
+-- the first of them chooses a field that it has begun before, or at, and that it goes to
+pub chosen-by_first : (ranges : List FieldRange) (default : FieldRange) (number : ℕ) → 0 < length ranges
+    → GoesTo ranges number → (slice_index_or ranges 0 default).first ≤ number → IsChosen ranges number
+chosen-by_first [] default number some goes begun = omega (arith, some)
+chosen-by_first (range ∷ others) default number some goes begun = inl (begun, goes)
+
+-- what goes to a field is the first of them
+pub goes-by_first : (ranges : List FieldRange) (default : FieldRange) (number : ℕ) → 0 < length ranges
+    → GoesTo (slice_index_or ranges 0 default ∷ []) number → GoesTo ranges number
+goes-by_first [] default number some goes = tt
+goes-by_first (range ∷ others) default number some goes = goes
 
 -- ranges each of which begins no later than the next one are in order
 pub in_order-adjacent : (ranges : List FieldRange)

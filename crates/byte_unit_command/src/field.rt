@@ -1,42 +1,50 @@
 //! Which fields are converted.
 
-ghost use Rattle.std.specs.Prelude.{◌≤◌, ◌↔◌, ◌∷◌, ℕ, IsTrue, IsFalse};
-ghost use Rattle.byte_unit_command.specs.Fields.{IsChosen, IsInOrder, InRange};
+ghost use Rattle.std.specs.Prelude.{◌≤◌, ◌↔◌, ◌∷◌, [], ℕ, IsTrue, IsFalse};
+ghost use Rattle.byte_unit_command.specs.Fields.{GoesTo, IsChosen, IsInOrder, InRange};
 
 use crate::options::FieldRange;
 
 /// Returns `true` if the field with this number is in one of the ranges.
 ///
-/// In the ranges that [`ranges_from`] leaves, it looks at one range alone if they are in order.
-///
-/// Precondition (proved at every call): the ranges are in order if `in_order`.
+/// Precondition (proved at every call): if `in_order`, the ranges are, and the first does not end before the field.
+#[inline(always)]
 pub(crate) fn is_chosen(ranges: &[FieldRange], in_order: bool, number: u64) -> bool
-    requires { IsTrue in_order → IsInOrder ranges.now }
+    requires order { IsTrue in_order → IsInOrder ranges.now }
+    requires goes { IsTrue in_order → GoesTo ranges.now number }
+    ensures yes { IsTrue result → IsChosen ranges.now number }
+    ensures no { IsFalse result → ¬ IsChosen ranges.now number }
+{
+    if in_order {
+        return has_begun(ranges, number);
+    }
+    is_in_one(ranges, number)
+}
+
+/// Returns `true` if the field with this number is in one of the ranges.
+///
+/// Precondition (proved at every call): the ranges are in order, and the first does not end before the field.
+#[inline(always)]
+fn has_begun(ranges: &[FieldRange], number: u64) -> bool
+    requires order { IsInOrder ranges.now }
+    requires goes { GoesTo ranges.now number }
     ensures yes { IsTrue result → IsChosen ranges.now number }
     ensures no { IsFalse result → ¬ IsChosen ranges.now number }
 {
     match ranges {
         [] => false,
-        [range, others @ ..] => {
-            in_range(*range, number)
-                || !begin_after(ranges, in_order, number) && is_chosen(others, in_order, number)
-        }
+        [range, ..] => range.first <= number,
     }
 }
 
-/// Returns `true` if the ranges are in order, and the first of them begins after the field with this number.
-///
-/// Precondition (proved at every call): the ranges are in order if `in_order`.
-fn begin_after(ranges: &[FieldRange], in_order: bool, number: u64) -> bool
-    requires { IsTrue in_order → IsInOrder ranges.now }
-    ensures { IsTrue result → ¬ IsChosen ranges.now number }
+/// Returns `true` if the field with this number is in one of the ranges.
+fn is_in_one(ranges: &[FieldRange], number: u64) -> bool
+    ensures yes { IsTrue result → IsChosen ranges.now number }
+    ensures no { IsFalse result → ¬ IsChosen ranges.now number }
 {
-    if !in_order {
-        return false;
-    }
     match ranges {
-        [] => true,
-        [range, ..] => number < range.first,
+        [] => false,
+        [range, others @ ..] => in_range(*range, number) || is_in_one(others, number),
     }
 }
 
@@ -44,10 +52,16 @@ fn begin_after(ranges: &[FieldRange], in_order: bool, number: u64) -> bool
 pub(crate) fn ranges_from(ranges: &[FieldRange], number: u64) -> &[FieldRange]
     ensures same { (later : ℕ) → number ≤ later → IsChosen ranges.now later ↔ IsChosen result.now later }
     ensures in_order { IsInOrder ranges.now → IsInOrder result.now }
+    ensures goes { GoesTo result.now number }
 {
     match ranges {
-        [range, others @ ..] if ends_before(*range, number) => ranges_from(others, number),
-        _ => ranges,
+        [] => ranges,
+        [range, others @ ..] => {
+            if !ends_before(*range, number) {
+                return ranges;
+            }
+            ranges_from(others, number)
+        }
     }
 }
 
@@ -73,7 +87,8 @@ fn begins_before(range: FieldRange, others: &[FieldRange]) -> bool
 
 /// Returns `true` if the range ends before the field with this number.
 fn ends_before(range: FieldRange, number: u64) -> bool
-    ensures { IsTrue result → (later : ℕ) → number ≤ later → ¬ InRange range later }
+    ensures yes { IsTrue result → (later : ℕ) → number ≤ later → ¬ InRange range later }
+    ensures no { IsFalse result → GoesTo (range ∷ []) number }
 {
     match range.last {
         None => false,

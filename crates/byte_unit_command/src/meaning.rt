@@ -5,6 +5,7 @@ ghost use Rattle.std.specs.Prelude.{unwrap_or, if◌then◌else◌};
 ghost use Rattle.byte_unit_command.specs.CallOptions.{AreOptions, IsFirstWrong, IsWrongOf, kind_of};
 ghost use Rattle.byte_unit_command.specs.CallOptions.{form_without, precision_of, IsWithinExact, IsWrongPrecision};
 ghost use Rattle.byte_unit_command.specs.CallOptions.{AreFieldsSeparated, IsWrongField};
+ghost use Rattle.byte_unit_command.specs.CallOptions.{separator_of as separator_in};
 ghost use Rattle.byte_unit_command.specs.Field.{ignores_case};
 ghost use Rattle.byte_unit_command.specs.Meaning.{IsFrom, IsNoFrom, IsForm, IsNoForm, IsUnitName, IsNoUnitName};
 ghost use Rattle.byte_unit_command.specs.Meaning.{IsDelimiter, IsNoDelimiter, IsPadding, IsNoPadding, IsWidth};
@@ -53,7 +54,7 @@ pub fn options_of<'a, 'b>(
         precision: precision_of(values.human_readable, values.precision),
         width,
         align_left,
-        delimiter,
+        delimiter: separator_of(values.blanks, delimiter),
         blanks: values.blanks,
         fields,
         record_end: if values.has_operands { 0 } else { output_end },
@@ -193,6 +194,13 @@ fn unit_of(value: &str, kind: Kind, ignore_case: bool) -> Result<Unit, ValueErro
         Ok(unit) => Ok(unit),
         Err(error) => Err(ValueError::Unit(error)),
     }
+}
+
+/// Returns the byte between two fields: a space if they are between blanks, and else the delimiter.
+fn separator_of(blanks: bool, delimiter: Option<u8>) -> Option<u8>
+    ensures { result ≡ separator_in blanks delimiter }
+{
+    if blanks { Some(b' ') } else { delimiter }
 }
 
 /// Returns the delimiter.

@@ -42,7 +42,12 @@ pub(crate) fn add_size<A: Allocator>(
     if options.width == 0 {
         return add_first(digits, len, text);
     }
-    add_padded(options.width, options.align_left, &digits[..len], text)
+    add_padded(
+        options.width as usize,
+        options.align_left,
+        &digits[..len],
+        text,
+    )
 }
 
 /// Appends the first `len` of `bytes`.
@@ -79,8 +84,8 @@ fn add_first<A: Allocator>(
 /// # Errors
 ///
 /// Returns `AllocError` if allocation fails.
-fn add_padded<A: Allocator>(
-    width: u16,
+pub(crate) fn add_padded<A: Allocator>(
+    width: usize,
     align_left: bool,
     bytes: &[u8],
     text: &mut Vec<u8, A>,
@@ -93,7 +98,7 @@ fn add_padded<A: Allocator>(
     ensures len { vec_len text.new ≤ vec_len text.old + max width (length bytes.now) }
     ensures capacity { vec_capacity text.old ≤ vec_capacity text.new }
 {
-    let missing = (width as usize).saturating_sub(bytes.len());
+    let missing = width.saturating_sub(bytes.len());
     if align_left {
         text.extend_from_slice(bytes)?;
         add_spaces(missing, text)
