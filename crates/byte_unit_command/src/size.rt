@@ -75,6 +75,7 @@ fn accepted_binary(options: &Options, field: &[u8]) -> Option<u128>
 /// Writes a size in the form of the options to the beginning of `out`, if it fits, and returns its length.
 ///
 /// Precondition (proved at every call): `size` is less than 10^30.
+#[inline(always)]
 pub(crate) fn write_size(options: &Options, size: u128, out: &mut [u8]) -> usize
     requires { size < size_limit }
     ensures written { WritesForm
