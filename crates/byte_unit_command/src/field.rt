@@ -49,6 +49,7 @@ fn is_in_one(ranges: &[FieldRange], number: u64) -> bool
 }
 
 /// Returns the ranges without those at the beginning that end before the field with this number.
+#[inline(always)]
 pub(crate) fn ranges_from(ranges: &[FieldRange], number: u64) -> &[FieldRange]
     ensures same { (later : ℕ) → number ≤ later → IsChosen ranges.now later ↔ IsChosen result.now later }
     ensures in_order { IsInOrder ranges.now → IsInOrder result.now }
@@ -60,7 +61,28 @@ pub(crate) fn ranges_from(ranges: &[FieldRange], number: u64) -> &[FieldRange]
             if !ends_before(*range, number) {
                 return ranges;
             }
-            ranges_from(others, number)
+            if others.is_empty() {
+                return others;
+            }
+            others_from(others, number)
+        }
+    }
+}
+
+/// Does what [`ranges_from`] does.
+#[inline(never)]
+fn others_from(ranges: &[FieldRange], number: u64) -> &[FieldRange]
+    ensures same { (later : ℕ) → number ≤ later → IsChosen ranges.now later ↔ IsChosen result.now later }
+    ensures in_order { IsInOrder ranges.now → IsInOrder result.now }
+    ensures goes { GoesTo result.now number }
+{
+    match ranges {
+        [] => ranges,
+        [range, others @ ..] => {
+            if !ends_before(*range, number) {
+                return ranges;
+            }
+            others_from(others, number)
         }
     }
 }

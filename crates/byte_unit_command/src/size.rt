@@ -133,6 +133,7 @@ fn special_size(options: &Options, field: &[u8]) -> u128
 /// Writes a size in the form of the options to the beginning of `out`, and returns its length.
 ///
 /// Preconditions (proved at every call): `size` is less than 10^30, and `out` has capacity for any text.
+#[inline(always)]
 pub(crate) fn write_size(options: &Options, size: u128, out: &mut [u8]) -> usize
     requires size { size < size_limit }
     requires capacity { text_limit ≤ length out.old }
