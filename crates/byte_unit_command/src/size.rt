@@ -187,6 +187,7 @@ fn write_as<const BITS: bool>(options: &Options, size: u128, out: &mut [u8]) -> 
 /// Writes the number of a unit that a size is, and returns its length.
 ///
 /// The unit is written after it, and its length left out.
+#[cold]
 #[inline(never)]
 fn write_number(size: u128, kind: Kind, unit: Unit, precision: Option<u16>, out: &mut [u8]) -> usize
     requires size { size < size_limit }

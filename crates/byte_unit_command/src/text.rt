@@ -53,8 +53,7 @@ pub(crate) fn add_size<A: Allocator>(
 
 /// Appends the first `len` of `bytes` and the suffix.
 ///
-/// Preconditions (proved at every call): `bytes` has at least `len` bytes, and at least [`AT_ONCE`], and there is no
-/// width.
+/// Preconditions (proved at every call): `bytes` has at least `len` bytes, and at least [`AT_ONCE`].
 ///
 /// # Errors
 ///
@@ -66,11 +65,10 @@ fn add_unpadded<A: Allocator>(
     len: usize,
     text: &mut Vec<u8, A>,
 ) -> Result<(), AllocError>
-    requires width { options.now.width ≡ 0 }
     requires len { len ≤ length bytes.now }
     requires at_once { 64 ≤ length bytes.now }
-    ensures ok { OnOk result (text.new.items ≡ text.old.items ++ padded options.now.width
-        options.now.align_left (take len bytes.now ++ options.now.suffix.now)) }
+    ensures ok { OnOk result
+        (text.new.items ≡ text.old.items ++ (take len bytes.now ++ options.now.suffix.now)) }
     ensures kept { IsPrefix text.old.items text.new.items }
     ensures succeeds { vec_len text.old + max short_room (len + length options.now.suffix.now)
         ≤ vec_capacity text.old → IsOk result }
@@ -79,8 +77,30 @@ fn add_unpadded<A: Allocator>(
 {
     match options.suffix {
         [] => add_first(bytes, len, text),
-        [_, ..] => add_padded(0, options.align_left, options.suffix, &bytes[..len], text),
+        [_, ..] => add_suffixed(&bytes[..len], options.suffix, text),
     }
+}
+
+/// Appends `bytes` and the suffix.
+///
+/// # Errors
+///
+/// Returns `AllocError` if allocation fails.
+#[inline(never)]
+fn add_suffixed<A: Allocator>(
+    bytes: &[u8],
+    suffix: &[u8],
+    text: &mut Vec<u8, A>,
+) -> Result<(), AllocError>
+    ensures ok { OnOk result (text.new.items ≡ text.old.items ++ (bytes.now ++ suffix.now)) }
+    ensures kept { IsPrefix text.old.items text.new.items }
+    ensures succeeds { vec_len text.old + (length bytes.now + length suffix.now)
+        ≤ vec_capacity text.old → IsOk result }
+    ensures len { vec_len text.new ≤ vec_len text.old + (length bytes.now + length suffix.now) }
+    ensures capacity { vec_capacity text.old ≤ vec_capacity text.new }
+{
+    text.extend_from_slice(bytes)?;
+    text.extend_from_slice(suffix)
 }
 
 /// Appends the first `len` of `bytes`.
@@ -117,7 +137,6 @@ fn add_first<A: Allocator>(
 /// # Errors
 ///
 /// Returns `AllocError` if allocation fails.
-#[inline(never)]
 pub(crate) fn add_padded<A: Allocator>(
     width: usize,
     align_left: bool,
