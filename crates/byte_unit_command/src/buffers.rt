@@ -95,13 +95,20 @@ pub(crate) fn read_max(options: &Options, len: usize) -> usize
     ensures bound { result ≤ len }
     ensures some { 0 < len → 0 < result }
 {
-    match text_max(options) {
-        Some(text) => {
-            let field = text.saturating_add(message_room(options));
-            len.min((TEXTS_MAX / field).max(1))
-        }
+    match counted(options) {
+        Some(field) => len.min((TEXTS_MAX / field).max(1)),
         None => len.min(1),
     }
+}
+
+/// Returns the bytes that are counted for the text of a size and the messages about its field, or `None` if they exceed
+/// `usize::MAX`.
+fn counted(options: &Options) -> Option<usize>
+    ensures some { IfSome result (λ field. (field ≡ most_of_text options.now + room_of_messages options.now)
+        × (0 < field)) }
+    ensures none { IfNone result (usize.MAX < most_of_text options.now + room_of_messages options.now) }
+{
+    text_max(options)?.checked_add(message_room(options))
 }
 
 /// Returns the bytes that are counted for the messages about a field.
@@ -153,7 +160,7 @@ fn text_room(options: &Options) -> Option<usize>
 
 /// Returns the most bytes of the text of a size with the suffix, or `None` if they exceed `usize::MAX`.
 fn text_max(options: &Options) -> Option<usize>
-    ensures some { IfSome result (λ most. most ≡ most_of_text options.now) }
+    ensures some { IfSome result (λ most. (most ≡ most_of_text options.now) × (0 < most)) }
     ensures none { IfNone result (usize.MAX < most_of_text options.now) }
 {
     let form = form_max(options.form, options.precision);
@@ -165,6 +172,7 @@ fn text_max(options: &Options) -> Option<usize>
 fn form_max(form: Form, precision: Option<u16>) -> usize
     ensures most { result ≡ most_of_form form precision }
     ensures bound { result ≤ 65572 }
+    ensures positive { 0 < result }
 {
     match form {
         Form::Exact | Form::Plain => NARROW_TEXT,
