@@ -99,7 +99,7 @@ DRAWN = {
     "suffix": Drawn(15, lambda rng, texts: rng.choice(["/s", "ps", "B", " ", "", "-", "=", "\u00e9", "5", "x" * 90])),
     "precision": Drawn(50, some_precision),
     "delimiter": Drawn(50, lambda rng, texts: rng.choice([*DELIMITERS * 4, "", *map(chr, range(1, 128))]),
-                       (",,", "\\n")),
+                       (",,", "\\n"), without="blanks"),
     "blanks": Drawn(25, without="delimiter"),
     "field": Drawn(85, some_fields, ("0", "", "3-2", "1,,2", "-0", "1-", "18446744073709551616"),
                    ("delimiter", "blanks")),
@@ -115,14 +115,15 @@ DRAWN = {
 }
 
 
-def has_needs(drawn, texts):
-    return not drawn.needs or any(name in texts for name in drawn.needs)
+def is_possible(drawn, texts):
+    """Returns whether an option can be beside these."""
+    return drawn.without not in texts and (not drawn.needs or any(name in texts for name in drawn.needs))
 
 
 def some_wrong_value(rng, texts):
     """Returns the name of an option, and a text that is wrong as its value."""
     while True:
-        name = rng.choice([name for name, drawn in DRAWN.items() if drawn.wrong and has_needs(drawn, texts)])
+        name = rng.choice([name for name, drawn in DRAWN.items() if drawn.wrong and is_possible(drawn, texts)])
         odd = rng.choice(["", "x", " ", *ODD, "a" * 79 + "\xe9", "1\U0001f600" * 30]).replace("\0", "")
         text = rng.choice(DRAWN[name].wrong) + odd
         try:
@@ -232,9 +233,9 @@ def some_input(rng, options):
     return options.end.join(records) + rng.choice([options.end, b""])
 
 
-def some_cuts(rng, data):
+def some_cuts(rng, options, data):
     """Returns where the reads of an input end, or `None` if the program gets it as a file."""
-    if not data or not happens(rng, 40):
+    if not data or abs(options.padding) > 130 or (options.precision or 0) > 93 or not happens(rng, 40):
         return None
     if len(data) < 3_000 and happens(rng, 30):
         return list(range(len(data)))
@@ -246,7 +247,7 @@ def some_call(rng):
     """Returns a random call: of twenty one has a wrong value, and four have operands."""
     make, texts, wrong = rng.randrange(20), {}, []
     for name, drawn in DRAWN.items():
-        if drawn.without not in texts and has_needs(drawn, texts) and happens(rng, drawn.percent):
+        if is_possible(drawn, texts) and happens(rng, drawn.percent):
             if name != "no-unit" or texts["to"] not in set(FORMS) - {"plain"}:
                 texts[name] = drawn.text(rng, texts)
     options = options_of(texts)
@@ -264,4 +265,4 @@ def some_call(rng):
                     for field in fields]  # fmt: skip
         return Call(with_operands(rng, groups, [word.replace("\0", "") for word in operands]), b"1 KB\nx\n")
     data = some_input(rng, options)
-    return Call(with_operands(rng, groups, []), data, some_cuts(rng, data))
+    return Call(with_operands(rng, groups, []), data, some_cuts(rng, options, data))
