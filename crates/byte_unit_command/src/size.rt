@@ -151,6 +151,7 @@ pub(crate) fn write_size(options: &Options, size: u128, out: &mut [u8]) -> usize
 
 /// Writes a size in bits, or in bytes, as [`write_size`] does. A constant kind takes fewer instructions than a variable.
 #[tactic(auto, using(crate::proofs::Numbers::begins_with))]
+#[inline(always)]
 fn write_as<const BITS: bool>(options: &Options, size: u128, out: &mut [u8]) -> usize
     requires size { size < size_limit }
     requires capacity { text_limit ≤ length out.old }
