@@ -86,9 +86,9 @@ def some_limit(rng, texts):
             return text
 
 
-# How often an option is drawn, what draws its value, how its wrong values begin (the first is wrong alone), and the
-# option that it needs or that it cannot be with.
-Drawn = namedtuple("Drawn", "percent text wrong needs without", defaults=[lambda rng, texts: "", (), "", ""])
+# How often an option is drawn, what draws its value, how its wrong values begin (the first is wrong alone), the
+# options of which it needs one, and the option that it cannot be with.
+Drawn = namedtuple("Drawn", "percent text wrong needs without", defaults=[lambda rng, texts: "", (), (), ""])
 DRAWN = {
     "bits": Drawn(30),
     "ignore-case": Drawn(43, without="bits"),
@@ -99,8 +99,10 @@ DRAWN = {
     "suffix": Drawn(15, lambda rng, texts: rng.choice(["/s", "ps", "B", " ", "", "-", "=", "\u00e9", "5", "x" * 90])),
     "precision": Drawn(50, some_precision),
     "delimiter": Drawn(50, lambda rng, texts: rng.choice([*DELIMITERS * 4, "", *map(chr, range(1, 128))]),
-                       (",,", "\\n")),
-    "field": Drawn(85, some_fields, ("0", "", "3-2", "1,,2", "-0", "1-", "18446744073709551616"), needs="delimiter"),
+                       (",,", "\\n"), without="blanks"),
+    "blanks": Drawn(25, without="delimiter"),
+    "field": Drawn(85, some_fields, ("0", "", "3-2", "1,,2", "-0", "1-", "18446744073709551616"),
+                   ("delimiter", "blanks")),
     "header": Drawn(25, lambda rng, texts: some_number(rng, near(rng, COUNTS, BITS_64))),
     "padding": Drawn(30, lambda rng, texts: str(near(rng, WIDTHS, BITS_16, 1) * rng.choice([1, -1])),
                      ("0", "-0", "-", "65536", "-65536", "+6", "-+6", "--6", "6", "")),
@@ -113,10 +115,15 @@ DRAWN = {
 }
 
 
+def is_possible(drawn, texts):
+    """Returns whether an option can be beside these."""
+    return drawn.without not in texts and (not drawn.needs or any(name in texts for name in drawn.needs))
+
+
 def some_wrong_value(rng, texts):
     """Returns the name of an option, and a text that is wrong as its value."""
     while True:
-        name = rng.choice([name for name, drawn in DRAWN.items() if drawn.wrong and drawn.needs in ("", *texts)])
+        name = rng.choice([name for name, drawn in DRAWN.items() if drawn.wrong and is_possible(drawn, texts)])
         odd = rng.choice(["", "x", " ", *ODD, "a" * 79 + "\xe9", "1\U0001f600" * 30]).replace("\0", "")
         text = rng.choice(DRAWN[name].wrong) + odd
         try:
@@ -202,14 +209,17 @@ def good_field(rng, options):
 
 def some_records(rng, options, number, odd):
     """Returns at most this number of records, whose output is at most 8 MB; `odd` percent of their fields are odd."""
-    most = 1 if options.delimiter is None else rng.choice([2, 3, 6, 32])
+    most = rng.choice([2, 3, 6, 32]) if options.blanks or options.delimiter is not None else 1
     number = min(number, 15_000 // most, 8_000_000 // (most * max(16, abs(options.padding), options.precision or 0)))
     size = min(rng.choice([2, 10, 60, 60]), most * max(1, number))
     pool = [odd_field(rng) if happens(rng, odd) else good_field(rng, options) for _ in range(size)]
     # Draws of hypothesis have at most 8 KB, so a large input is drawn from one number.
     order = random.Random(rng.getrandbits(32))
     counts = [0, 1, most, most] if most > 1 else [1]
-    return [(options.delimiter or b"").join(order.choices(pool, k=order.choice(counts))) for _ in range(number)]
+    marks = [b" ", b" ", b"   ", b"\t", b" \t ", b" " * 20] if options.blanks else [options.delimiter or b""]
+    heads = [b"", b"", b"  ", b"\t"] if options.blanks else [b""]
+    return [order.choice(heads) + order.choice(marks).join(order.choices(pool, k=order.choice(counts)))
+            for _ in range(number)]
 
 
 def some_input(rng, options):
@@ -223,9 +233,9 @@ def some_input(rng, options):
     return options.end.join(records) + rng.choice([options.end, b""])
 
 
-def some_cuts(rng, data):
+def some_cuts(rng, options, data):
     """Returns where the reads of an input end, or `None` if the program gets it as a file."""
-    if not data or not happens(rng, 40):
+    if not data or abs(options.padding) > 130 or (options.precision or 0) > 93 or not happens(rng, 40):
         return None
     if len(data) < 3_000 and happens(rng, 30):
         return list(range(len(data)))
@@ -237,7 +247,7 @@ def some_call(rng):
     """Returns a random call: of twenty one has a wrong value, and four have operands."""
     make, texts, wrong = rng.randrange(20), {}, []
     for name, drawn in DRAWN.items():
-        if drawn.without not in texts and drawn.needs in ("", *texts) and happens(rng, drawn.percent):
+        if is_possible(drawn, texts) and happens(rng, drawn.percent):
             if name != "no-unit" or texts["to"] not in set(FORMS) - {"plain"}:
                 texts[name] = drawn.text(rng, texts)
     options = options_of(texts)
@@ -255,4 +265,4 @@ def some_call(rng):
                     for field in fields]  # fmt: skip
         return Call(with_operands(rng, groups, [word.replace("\0", "") for word in operands]), b"1 KB\nx\n")
     data = some_input(rng, options)
-    return Call(with_operands(rng, groups, []), data, some_cuts(rng, data))
+    return Call(with_operands(rng, groups, []), data, some_cuts(rng, options, data))

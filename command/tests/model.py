@@ -182,13 +182,14 @@ class Run:
         self.messages.append(f"byte-unit: {message}\n".encode())
         self.statuses.add(status)
 
-    def shown(self, size):
+    def shown(self, size, columns=0):
         options = self.options
         text = text_of(size, options.kind, options.ignore_case, options.to, options.precision)
         text = ((text.split(" ")[0] if options.no_unit else text) + options.suffix).encode()
-        return text.ljust(-options.padding) if options.padding < 0 else text.rjust(options.padding)
+        width = options.padding or columns
+        return text.ljust(-width) if width < 0 else text.rjust(width)
 
-    def convert(self, place, data):
+    def convert(self, place, data, gap=b"", columns=0):
         options, named = self.options, f"{place}: {quoted(data)}"
         text = data.removesuffix(options.suffix.encode())
         size = read(text, options)
@@ -204,15 +205,23 @@ class Run:
         if options.min is not None and size < options.min:
             self.tell(f"{named}: below the minimum", 3)
         self.total += size
-        return self.shown(size)
+        return gap + self.shown(size, columns)
+
+    def convert_between_blanks(self, place, data, number):
+        """Returns what is written for a field with the blanks before it, of which the first separates it."""
+        gap = data[:1] if number > 1 else b""
+        columns = len(data) - len(gap) if data[:1] in (b" ", b"\t") else 0
+        return self.convert(place, data, gap, columns)
 
     def record(self, record, data):
         """Returns what is written for a record, without its end byte."""
-        mark, place = self.options.delimiter, f"{self.word} {record}"
-        return (mark or b"").join(
-            self.convert(f"{place}: field {number}" if mark else place, part)
+        mark, place, blanks = self.options.delimiter or b"", f"{self.word} {record}", self.options.blanks
+        parts = re.split(rb"(?<=[^ \t])(?=[ \t])", data) if blanks else data.split(mark) if mark else [data]
+        convert = self.convert_between_blanks if blanks else lambda place, data, number: self.convert(place, data)
+        return mark.join(
+            convert(f"{place}: field {number}" if mark or blanks else place, part, number)
             if any(first <= number <= last for first, last in self.options.field) else part
-            for number, part in enumerate(data.split(mark) if mark else [data], 1))
+            for number, part in enumerate(parts, 1))
 
     def result(self, records, header, unread):
         written = []

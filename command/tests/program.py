@@ -7,8 +7,10 @@ import subprocess
 from contextlib import suppress
 from dataclasses import dataclass, fields
 
-# The program asks for this number of bytes in each read; of a longer packet the rest would be lost.
+# The program asks for this number of bytes in each read; for fewer if texts are long or there can be messages.
 CHUNK = 65536
+# What it asks for at least, if texts have at most 130 bytes; of a longer packet the rest would be lost.
+PACKET = 10_000
 SECONDS = 600
 # Shows values, but for the middle of long ones.
 SHORT = reprlib.Repr()
@@ -30,8 +32,8 @@ class Call:
         """Returns the parts of the input that the reads take."""
         size = len(self.data)
         places = sorted({0, size, *(at for at in self.cuts or [] if at < size)})
-        return [self.data[at : min(end, at + CHUNK)] for start, end in zip(places, places[1:])
-                for at in range(start, end, CHUNK)]
+        return [self.data[at : min(end, at + PACKET)] for start, end in zip(places, places[1:])
+                for at in range(start, end, PACKET)]
 
 
 @dataclass

@@ -44,6 +44,27 @@ def field(text, quoted, why, at=0):
     return "--invalid=warn", text + b"\n", text + b"\n", 0, told(f"line 1: '{quoted}'", why, at)
 
 
+LISTING = b"total 24\n-rw-r--r-- 1 root root    512 Nov 27 10:00 a b\n-rwxr-xr-x 1 root root 486240 Nov 27 14:11 c\n"
+DISKS = b"Filesystem      Size  Used Avail Use% Mounted on\n/dev/sda1        50G   20G   28G  42% /\n"
+PROCESSES = b"USER         PID  VSZ   RSS COMMAND\nroot           1 166264 11888 /sbin/init\n"
+MEMORY = b"               total        used        free\nMem:        24617312     2342512    16204460\n"
+BETWEEN_BLANKS = [
+    ("--blanks --field=5 --to=iec -p1", LISTING,
+     LISTING.replace(b"    512", b"  512 B").replace(b" 486240", b" 474.8 KiB")),
+    ("--blanks --header --field=2-4 --from=iec --to=plain", DISKS,
+     DISKS.replace(b"        50G   20G   28G", b" 53687091200 21474836480 30064771072")),
+    ("--blanks --header --field=3,4 --to=si -p1", PROCESSES,
+     PROCESSES.replace(b" 166264 11888", b" 166.3 KB 11.9 KB")),
+    ("--blanks --header --field=2- --to=iec -p1", MEMORY,
+     MEMORY.replace(b"        24617312     2342512    16204460", b"        23.5 MiB     2.2 MiB    15.5 MiB")),
+    ("--blanks --field=2", b"a\t1024\tb\n", b"a\t1 KiB\tb\n"),
+    ("--blanks", b"  1024 x\n5000 x\n", b" 1 KiB x\n5 KB x\n"),
+    ("--blanks --field=2- --invalid=warn", b"x 1024 \n", b"x 1 KiB \n", 0, told("line 1: field 3: ' '", BLANK)),
+    ("--blanks --field=2 --padding=8", b"a  1024\n", b"a    1 KiB\n"),
+    ("--blanks --field=2 --padding=-8", b"a  1024 b\n", b"a 1 KiB    b\n"),
+    ("--blanks --field=5", b"total 12\n\n", b"total 12\n\n"),
+    ("--blanks --field=1-2 --total", b"1 1024\n", b"1 B 1 KiB\n1.025 KB\n"),
+]
 SIZES = [
     (["1.5 KiB", "100MB", "1536"], b"", b"1.5 KiB\n100 MB\n1.5 KiB\n"),
     (["1 x"], b"", b"", 2, told("operand 1: '1 x'", unit("x"), 3)),
@@ -254,7 +275,7 @@ def row(words, data=b"", written=b"", status=0, messages=""):
 
 # Each call with its result: those that the model has too, and the others.
 MODELLED = [row(*each) for each in [
-    *SIZES, *HEADERS_AND_TOTALS, *LIMITS, *FORMS, *PREFIXES, *REPEATED, *SUFFIXES, *FIELDS, *QUOTED]]
+    *SIZES, *HEADERS_AND_TOTALS, *LIMITS, *FORMS, *PREFIXES, *REPEATED, *SUFFIXES, *FIELDS, *BETWEEN_BLANKS, *QUOTED]]
 MODELLED += [row(words, b"", b"", 2, message) for words, message in WRONG_VALUES]
 OTHERS = [row(words, b"", b"", 2, message) for words, message in WRONG_WORDS]
 OTHERS += [row(word, b"", b"byte-unit 3.0.0\n") for word in ("--version", "-V")]

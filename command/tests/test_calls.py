@@ -74,6 +74,12 @@ def test_option_is_documented(program, name):
     assert re.search(rf"--{name}\b", read("command/byte-unit.bash"))
 
 
+def listed(rng):
+    """Returns a line of sizes between blanks."""
+    parts = (exact(rng) + " " * rng.choice([1, 1, 2, 9]) for _ in range(4))
+    return rng.choice(["", " ", "   "]) + "".join(parts) + exact(rng)
+
+
 def exact(rng):
     """Returns a size that is a whole number of bytes below 10^15, which long doubles hold."""
     return f"{rng.randrange(1, 999)}{rng.choice(['', '', 'K', 'Ki', 'M', 'Mi', 'G', 'Gi'])}"
@@ -91,6 +97,9 @@ def exact(rng):
       for words in ("-d,", "--header", "--padding=20")],
     *[(words, "--from=auto", "--to=plain", lambda rng: exact(rng) + rng.choice(["", "/s"]))
       for words in ("--suffix=/s", "--suffix=/s --padding=-20", "--suffix=/s --suffix=/s -d,")],
+    *[(field, "--from=auto", "--to=plain --blanks", listed)
+      for field in ("", "--field=2", "--field=1,3", "--field=2-", "--field=-", "--field=5 --padding=3",
+                    "--field=2 --padding=-9")],
     # Sizes that both write as a whole number of one unit.
     ("", "--to=si", "--to=si", lambda rng: str(rng.randrange(10, 999) * 1000 ** rng.randrange(1, 4))),
     ("", "--to=iec-i", "--to=iec", lambda rng: str(rng.randrange(10, 1000) * 1024 ** rng.randrange(1, 4)))])

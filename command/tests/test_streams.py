@@ -3,12 +3,13 @@
 import fcntl
 import os
 import pty
+import resource
 import socket
 import subprocess
 
 import pytest
-from byte_unit_dev.fixtures import ended, redirected
-from program import Call, run
+from byte_unit_dev.fixtures import ended, need, redirected
+from program import CHUNK, Call, run
 
 SECONDS = 60
 LINES = b"1.5 KiB\n" * 1_000_000
@@ -110,3 +111,27 @@ def test_help(program, word):
     status, written, messages = ended(program, word)
     assert (status, b"Exit status:" in written, messages) == (0, True, b"")
     assert max(map(len, written.decode().splitlines())) <= 80
+
+
+@pytest.mark.parametrize("words, line", [
+    *((words, b"1\n") for words in ("", "--to=YiB", "--padding=40", "--padding=-41", "--padding=1000",
+                                    "--padding=65535", "--to=YiB -p 65535", "--max=0 --min=2")),
+    ("--invalid=warn", b"1x\n"), ("--invalid=fail -d , --field=-", b"1x,\x1b\n"),
+    ("-d , --field=- --padding=65535", b"1,1\n")])
+def test_memory_of_texts_that_wait(program, tmp_path, words, line):
+    """The texts and messages of one read take at most 4 MB with the program, whatever the options."""
+    need("/usr/bin/time")
+    held = tmp_path / "held"
+    redirected("> /dev/null 2> /dev/null", "/usr/bin/time", "-q", "-o", held, "-f", "%M", program, *words.split(),
+               data=line * (CHUNK // len(line)))
+    assert int(held.read_text()) <= 4_000_000 // 1024
+
+
+def test_time_of_fields_and_ranges(program):
+    """It is linear in both, in any order of the ranges: the product would take 0.5 s and more."""
+    ranges = [f"--field={','.join(map(str, order))}" for order in (range(1, 40_002, 2), range(40_001, 0, -2))]
+    for words in (["-d,", listed] for listed in ranges):
+        before = resource.getrusage(resource.RUSAGE_CHILDREN)
+        assert ended(program, *words, input=b"1," * 40_000 + b"1\n")[1] == b"1 B,1," * 20_000 + b"1 B\n"
+        after = resource.getrusage(resource.RUSAGE_CHILDREN)
+        assert after.ru_utime + after.ru_stime - before.ru_utime - before.ru_stime < 0.2

@@ -3,8 +3,8 @@ use Rattle.std.proofs.Common.{◌≡◌, ℕ, suc, ◌-◌, Bool, true, false, �
 use Rattle.std.proofs.Common.{Result, Ok, Err, OnOk, refl, sym, ap, subst, ◌∙◌, arith, append_assoc, append-nil, inl}
 use Rattle.std.specs.Prelude.{⊤}
 use Rattle.std.proofs.lemmas.List.{length-append}
-use Rattle.byte_unit_command.specs.Field.{Found, IsSize, IsNoSize, other, size, rejected}
-use Rattle.byte_unit_command.specs.Fields.{IsChosen, fields_of}
+use Rattle.byte_unit_command.specs.Field.{Found, IsPlaced, IsSize, IsNoSize, other, size, rejected}
+use Rattle.byte_unit_command.specs.Fields.{IsChosen, fields_by, fields_of, splits_at_blanks}
 use Rattle.byte_unit_command.specs.Messages.{AreFieldMessages, AreLimitMessages, AreMessagesOfFields}
 use Rattle.byte_unit_command.specs.Messages.{AreMessagesToRejected, AreRecordMessages, AreMessages, IsMessageIf}
 use Rattle.byte_unit_command.specs.Messages.{next_place, last_place, other as other_told, size as size_told}
@@ -12,7 +12,6 @@ use Rattle.byte_unit_command.specs.Outcome.{Passes}
 use Rattle.byte_unit_command.specs.Output.{AreFields, IsRecord, AreRecords, HasRejectedField}
 use Rattle.byte_unit_command.specs.RunState.{AddsField, AddsFields, AddsRecords, Aborts, IsRejectedField, State}
 use Rattle.byte_unit_command.specs.RunState.{after, at_next, messages_of, tally_after, tally_with}
-use Rattle.byte_unit_command.specs.Shown.{IsShown}
 use Rattle.byte_unit_command.specs.Sums.{has_rejected, is_above, is_below, is_beyond}
 use Rattle.byte_unit_command.specs.declared.converter.Converter.{Converter}
 use Rattle.byte_unit_command.specs.declared.notice.FieldError.{FieldError}
@@ -111,7 +110,7 @@ module _ (options : Options) (number : ℕ) (field : List ℕ) (old new : State)
 
   -- the text of a size was appended, and the size counted
   pub AddsField-size : (n : ℕ) (shown messages : List ℕ) → IsChosen options.fields.now number → IsSize options field n
-      → IsShown options n shown → AreLimitMessages options old.word old.place number field n messages
+      → IsPlaced options number field n shown → AreLimitMessages options old.word old.place number field n messages
       → new ≡ after options old shown messages (Some n ∷ []) → AddsField options number field old new
   AddsField-size n shown messages chosen is_size is_shown are_messages new_is = record {
     text = shown;
@@ -149,20 +148,22 @@ AddsField-rejected options number field old (Ok _) messages new_messages out tal
     }
 
 -- a record without a delimiter is one field
+pub fields_of-whole : (options : Options) (bytes : List ℕ) → options.delimiter ≡ None → fields_of options bytes ≡ bytes ∷ []
+fields_of-whole options bytes none = ap (λ mark. fields_by (splits_at_blanks mark options.blanks) mark bytes) none
+
 module _ (options : Options) (bytes : List ℕ) (old : State) where
   pub AddsFields-whole : (new : State) → options.delimiter ≡ None → AddsField options 1 bytes old new
       → AddsFields options bytes old new
   AddsFields-whole new no_delimiter adds =
       let own : AreMessagesOfFields options old.word old.place 1 (bytes ∷ []) adds.messages =
-      (adds.messages, [], has_rejected adds.found, adds.are_messages, refl, sym (append-nil adds.messages)) in record {
+      (adds.messages, [], has_rejected adds.found, adds.are_messages, refl, sym (append-nil adds.messages)) in
+      let one = fields_of-whole options bytes no_delimiter in record {
         text = adds.text;
         messages = adds.messages;
         found = adds.found;
-        are_fields = subst (λ mark. AreFields options 1 (fields_of mark bytes) adds.text adds.found)
-            (sym no_delimiter) adds.is_field;
-        are_messages =
-            subst (λ mark. AreMessagesOfFields options old.word old.place 1 (fields_of mark bytes) adds.messages)
-            (sym no_delimiter) own;
+        are_fields = subst (λ fields. AreFields options 1 fields adds.text adds.found) (sym one) adds.is_field;
+        are_messages = subst (λ fields. AreMessagesOfFields options old.word old.place 1 fields adds.messages)
+            (sym one) own;
         passes = adds.passes;
         new_is = adds.new_is;
       }
@@ -172,12 +173,12 @@ module _ (options : Options) (bytes : List ℕ) (old : State) where
       → IsRejectedField options 1 bytes old new_messages → Aborts options bytes old new_messages
   Aborts-whole new_messages no_delimiter is = record {
     mode = is.mode;
-    has_rejected = subst (λ mark. HasRejectedField options 1 (fields_of mark bytes)) (sym no_delimiter)
+    has_rejected = subst (HasRejectedField options 1) (sym (fields_of-whole options bytes no_delimiter))
         (inl (is.chosen, is.no_size));
     messages = is.messages;
     to_rejected =
-        subst (λ mark. AreMessagesToRejected options old.word old.place 1 (fields_of mark bytes) is.messages)
-        (sym no_delimiter) (inl is.are_messages);
+        subst (λ fields. AreMessagesToRejected options old.word old.place 1 fields is.messages)
+        (sym (fields_of-whole options bytes no_delimiter)) (inl is.are_messages);
     messages_are = is.messages_are;
   }
 

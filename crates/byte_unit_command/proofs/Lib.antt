@@ -1,8 +1,10 @@
 pub mod Answering
 pub mod Again
+pub mod BlankFields
 pub mod Converting
 pub mod Feeding
 pub mod Finishing
+pub mod Ranges
 pub mod Prefixes
 pub mod Readings
 pub mod Suffixes

@@ -9,7 +9,6 @@ use Rattle.byte_unit_command.specs.Capacity.{read_fields_max, read_room, Suffice
 use Rattle.byte_unit_command.specs.Fields.{fields_of}
 use Rattle.byte_unit_command.specs.Messages.{AreMessagesOfFields}
 use Rattle.byte_unit_command.specs.RunState.{FieldHasNoMessage, FieldsHaveNoMessage, State}
-use Rattle.byte_unit_stream.specs.Records.{parts}
 use Rattle.byte_unit_command.specs.declared.options.Options.{Options}
 use Rattle.byte_unit_command.proofs.Untold.{first-untold}
 
@@ -45,6 +44,15 @@ split_room-step room rest place fits =
     let texts : room * 1 + room * (left + 1) ≤ room * (rest + 1) =
     times-le room 1 (left + 1) (rest + 1) (omega (arith, fits)) in
     omega (arith, one, texts, fits)
+
+-- a field that is cut off takes no more of it than the bytes after it leave
+pub split_room-cut : (room rest count : ℕ) → 0 < count → count ≤ rest
+    → room + count + split_room room (rest - count) ≤ split_room room rest
+split_room-cut room rest count some fits =
+    let same : count - 1 + 1 ≡ count = omega (arith, some) in
+    let step = split_room-step room rest (count - 1) (omega (arith, some, fits)) in
+    let cut = subst (λ taken. room + (count - 1) + 1 + split_room room (rest - taken) ≤ split_room room rest) same step in
+    omega (arith, cut, some)
 
 -- one field more fits
 pub split_room-last : (room rest : ℕ) → room + rest ≤ split_room room rest
@@ -128,35 +136,33 @@ module _ (options : Options) where
 
 -- between two fields of a record: the text has grown by no more than the bytes that are no longer left account for, no
 -- capacity has fallen, and if there is no message about the record, there is none about the fields that are left
-pub record IsSplitWithin {Z : Type 0} (options : Options) (old : State) (delimiter : ℕ) (bytes : List ℕ)
-    (text : Vec ℕ Z) (number : ℕ) (rest : List ℕ) (text_now : Vec ℕ Z) : Type 0 where
+pub record IsSplitWithin {Z : Type 0} (options : Options) (old : State) (split : List ℕ → List (List ℕ))
+    (bytes : List ℕ) (text : Vec ℕ Z) (number : ℕ) (rest : List ℕ) (text_now : Vec ℕ Z) : Type 0 where
   pub len : vec_len text_now + split_room (text_room options) (length rest)
       ≤ vec_len text + split_room (text_room options) (length bytes)
   pub capacity : vec_capacity text ≤ vec_capacity text_now
-  pub untold : AreMessagesOfFields options old.word old.place 1 (parts delimiter bytes) []
-      → AreMessagesOfFields options old.word old.place number (parts delimiter rest) []
+  pub untold : AreMessagesOfFields options old.word old.place 1 (split bytes) []
+      → AreMessagesOfFields options old.word old.place number (split rest) []
 
 -- if there is no message about the record, there is none about the first of the fields that are left
-pub IsSplitWithin-first : {Z : Type 0} {options : Options} {old : State} {delimiter : ℕ} {bytes : List ℕ}
-    {text : Vec ℕ Z} {number : ℕ} {rest : List ℕ} {text_now : Vec ℕ Z}
-    → IsSplitWithin options old delimiter bytes text number rest text_now → options.delimiter ≡ Some delimiter
-    → (field : List ℕ) (others : List (List ℕ)) → parts delimiter rest ≡ field ∷ others
+pub IsSplitWithin-first : {Z : Type 0} {options : Options} {old : State} {split : List ℕ → List (List ℕ)}
+    {bytes : List ℕ} {text : Vec ℕ Z} {number : ℕ} {rest : List ℕ} {text_now : Vec ℕ Z}
+    → IsSplitWithin options old split bytes text number rest text_now → fields_of options bytes ≡ split bytes
+    → (field : List ℕ) (others : List (List ℕ)) → split rest ≡ field ∷ others
     → FieldsHaveNoMessage options bytes old → FieldHasNoMessage options number field old
-IsSplitWithin-first {options = options} {old = old} {bytes = bytes} {number = number} within is_delimiter field others
+IsSplitWithin-first {options = options} {old = old} {bytes = bytes} {number = number} within fields_are field others
     are untold =
-    let all = subst (λ mark. AreMessagesOfFields options old.word old.place 1 (fields_of mark bytes) []) is_delimiter
-    untold in
+    let all = subst (λ fields. AreMessagesOfFields options old.word old.place 1 fields []) fields_are untold in
     first-untold options old.word old.place number field others
     (subst (λ fields. AreMessagesOfFields options old.word old.place number fields []) are (within.untold all))
 
 -- in a text with capacity for the record, there is room for the fields that are left
-pub IsSplitWithin-fits : {Z : Type 0} {options : Options} {old : State} {delimiter : ℕ} {bytes : List ℕ}
-    {text : Vec ℕ Z}
-    {number : ℕ} {rest : List ℕ} {text_now : Vec ℕ Z} → IsSplitWithin options old delimiter bytes text number rest
-    text_now
+pub IsSplitWithin-fits : {Z : Type 0} {options : Options} {old : State} {split : List ℕ → List (List ℕ)}
+    {bytes : List ℕ} {text : Vec ℕ Z} {number : ℕ} {rest : List ℕ} {text_now : Vec ℕ Z}
+    → IsSplitWithin options old split bytes text number rest text_now → (delimiter : ℕ)
     → options.delimiter ≡ Some delimiter → vec_len text + fields_room options (length bytes) ≤ vec_capacity text
     → vec_len text_now + split_room (text_room options) (length rest) ≤ vec_capacity text_now
-IsSplitWithin-fits {options = options} {delimiter = delimiter} {bytes = bytes} within is room =
+IsSplitWithin-fits {options = options} {bytes = bytes} within delimiter is room =
     omega (arith, within.len, within.capacity, room, fields_room-split options (length bytes) delimiter is)
 
 -- one more field and its delimiter keep this
@@ -166,6 +172,13 @@ pub split_len-step : (room old all text rest place added ended left : ℕ) → p
 split_len-step room old all text rest place added ended left fits so_far more ended_is left_is =
     subst (λ left. ended + split_room room left ≤ old + split_room room all) (sym left_is)
     (omega (arith, split_room-step room rest place fits, so_far, more, ended_is))
+
+pub split_len-cut : (room old all text rest count added left : ℕ) → 0 < count → count ≤ rest
+    → text + split_room room rest ≤ old + split_room room all → added ≤ text + (room + count) → left ≡ rest - count
+    → added + split_room room left ≤ old + split_room room all
+split_len-cut room old all text rest count added left some fits so_far more left_is =
+    subst (λ left. added + split_room room left ≤ old + split_room room all) (sym left_is)
+    (omega (arith, split_room-cut room rest count some fits, so_far, more))
 
 -- from the start to now, the buffers have grown by no more than the bytes that are no longer left account for, and no
 -- capacity has fallen

@@ -69,7 +69,7 @@ module _ (options : Options) (word : List ℕ) {records : List (List ℕ)} {new 
       → IsAborted options all new.out × AreAbortMessages options word all messages
   aborted-from_start bytes after all all_is header_is old word_is place_is aborts messages messages_are =
       let To : List ℕ → ℕ → Type 0 = λ word place.
-      AreMessagesToRejected options word place 1 (fields_of options.delimiter bytes) aborts.messages in (
+      AreMessagesToRejected options word place 1 (fields_of options bytes) aborts.messages in (
         record {
           before = records;
           bytes = bytes;

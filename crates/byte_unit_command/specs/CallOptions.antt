@@ -36,6 +36,10 @@ abbrev pub IsFormOf : Values → Form → Type 0
 IsFormOf values form =
     IsForm (form_without values.human_readable) (kind_of values.bits) values.ignore_case (text_of values.to) form
 
+-- the byte between two fields, by the delimiter that is given: with `--blanks` a space, which stands for all blanks
+abbrev pub separator_of : Bool → Option ℕ → Option ℕ
+separator_of blanks delimiter = if blanks then Some 32 else delimiter
+
 -- the options of a call with these values and fields. Operands are records that end with a zero byte, and none of them
 -- is a header
 pub record AreOptions (values : Values) (ranges : List FieldRange) (options : Options) : Type 0 where
@@ -46,7 +50,8 @@ pub record AreOptions (values : Values) (ranges : List FieldRange) (options : Op
   pub suffix : options.suffix.now ≡ unwrap_or (text_of values.suffix) []
   pub precision : options.precision ≡ precision_of values.human_readable values.precision
   pub padding : IsPadding (text_of values.padding) options.width options.align_left
-  pub delimiter : IsDelimiter (text_of values.delimiter) options.delimiter
+  pub delimiter : (delimiter : Option ℕ) × IsDelimiter (text_of values.delimiter) delimiter
+      × (options.delimiter ≡ separator_of values.blanks delimiter)
   pub blanks : options.blanks ≡ values.blanks
   pub fields : options.fields.now ≡ ranges
   pub record_end : options.record_end ≡ (if values.has_operands then 0 else if values.zero_terminated then 0 else 10)

@@ -1,5 +1,6 @@
 -- Capacity that suffices for a run's buffers.
-use Rattle.std.specs.Prelude.{◌≡◌, ℕ, ◌+◌, ◌*◌, ◌≤◌, max, [], length, vec_len, vec_capacity, Option, None, Some}
+use Rattle.std.specs.Prelude.{◌≡◌, ℕ, ◌+◌, ◌*◌, ◌/◌, ◌≤◌, min, max, [], length, vec_len, vec_capacity, Option, None}
+use Rattle.std.specs.Prelude.{Some, Bool, true, false, ◌||◌, if◌then◌else◌, is_some}
 use Rattle.std.specs.declared.vec.Vec.{Vec}
 use Rattle.byte_unit.specs.Bounds.{expansion_places}
 use Rattle.byte_unit.specs.Forms.{narrow_text}
@@ -7,6 +8,8 @@ use Rattle.byte_unit_command.specs.RunState.{messages_of}
 use Rattle.byte_unit_command.specs.declared.buffers.Buffers.{Buffers}
 use Rattle.byte_unit_command.specs.declared.options.Form.{Form}
 use Rattle.byte_unit_command.specs.declared.options.Form.TheVariants.{Exact, Plain, InUnit, NumberOf, Largest}
+use Rattle.byte_unit_command.specs.declared.options.Invalid.{Invalid}
+use Rattle.byte_unit_command.specs.declared.options.Invalid.TheVariants.{Abort, Fail, Warn, Ignore}
 use Rattle.byte_unit_command.specs.declared.options.Options.{Options}
 
 -- the most digits after the point of a size in a given unit: no size has more than 93, unless the precision is greater
@@ -30,10 +33,13 @@ form_max (Largest unit_type) precision = unit_text_max precision
 abbrev pub short_room : ℕ
 short_room = 64
 
+-- the most bytes of the text of a size with the suffix
+abbrev pub text_max : Options → ℕ
+text_max options = max options.width (form_max options.form options.precision + length options.suffix.now)
+
 -- the most bytes that the text of a size takes while it is appended
 abbrev pub text_room : Options → ℕ
-text_room options =
-    max short_room (max options.width (form_max options.form options.precision + length options.suffix.now))
+text_room options = max short_room (text_max options)
 
 -- the most bytes that what is written for a field of this many bytes takes while it is appended: the text of a size, or
 -- the field itself
@@ -58,6 +64,31 @@ record_room options bytes = fields_room options bytes + 1
 abbrev pub end_room : Options → ℕ → ℕ
 end_room options bytes = record_room options bytes + text_room options + 1
 
+-- whether a run goes on at a rejected field, with a message
+abbrev pub passes_with_message : Invalid → Bool
+passes_with_message Abort = false
+passes_with_message Fail = true
+passes_with_message Warn = true
+passes_with_message Ignore = false
+
+-- whether a run can have more than one message: about rejected fields, or about sizes beyond a limit
+abbrev pub can_tell_more : Options → Bool
+can_tell_more options = passes_with_message options.invalid || (is_some options.max || is_some options.min)
+
+-- the bytes that are counted for the messages about a field
+abbrev pub message_room : Options → ℕ
+message_room options = if can_tell_more options then 128 else 0
+
+-- the most bytes that the texts of the sizes of one read may take, if each byte of it begins a field: 40 bytes for each
+-- of 65,536
+abbrev pub texts_max : ℕ
+texts_max = 2621440
+
+-- the most bytes that a run reads at once into a buffer of `chunk` bytes: fewer if texts are long or there can be
+-- messages, and at least one
+abbrev pub read_max : Options → ℕ → ℕ
+read_max options chunk = min chunk (max 1 (texts_max / (text_max options + message_room options)))
+
 -- the most fields of the records that end in a read of at most `chunk` bytes, if at most `longest` bytes of the first of
 -- them were read before
 abbrev pub read_fields_max : Option ℕ → ℕ → ℕ → ℕ
@@ -79,6 +110,7 @@ abbrev pub AreEmpty : {A : Type 0} → Buffers A → Type 0
 AreEmpty buffers =
     (buffers.part.items ≡ []) × (buffers.converter.waiting.items ≡ []) × (messages_of buffers.converter.notices ≡ [])
 
--- the buffers of a run suffice for records of at most `longest` bytes and reads of at most `chunk` bytes
+-- the buffers of a run suffice for records of at most `longest` bytes and reads into a buffer of `chunk` bytes
 abbrev pub HaveCapacity : {A : Type 0} → Options → ℕ → ℕ → Buffers A → Type 0
-HaveCapacity options longest chunk buffers = SufficeFor options longest chunk buffers.part buffers.converter.waiting
+HaveCapacity options longest chunk buffers =
+    SufficeFor options longest (read_max options chunk) buffers.part buffers.converter.waiting

@@ -1,11 +1,11 @@
 -- What is written for one field, and what is found in it.
-use Rattle.std.specs.Prelude.{◌≡◌, ℕ, ◌-◌, ◌⊎◌, Bool, false, ◌&&◌, nat_le, if◌then◌else◌, List, [], ◌∷◌, length, take}
-use Rattle.std.specs.Prelude.{drop, Option, None, Some}
+use Rattle.std.specs.Prelude.{◌≡◌, ℕ, ◌-◌, ◌⊎◌, Bool, false, ◌&&◌, nat_le, if◌then◌else◌, List, [], ◌∷◌, ◌++◌, length}
+use Rattle.std.specs.Prelude.{take, drop, Option, None, Some}
 use Rattle.std.specs.Str.{IsUtf8, bytes_eq}
 use Rattle.byte_unit.specs.Fault.{Fault}
 use Rattle.byte_unit.specs.declared.Kind.{Kind}
 use Rattle.byte_unit.specs.declared.Kind.TheVariants.{Byte, Bit}
-use Rattle.byte_unit_command.specs.Fields.{IsChosen}
+use Rattle.byte_unit_command.specs.Fields.{IsChosen, gap_of, width_of}
 use Rattle.byte_unit_command.specs.Prefixes.{IsAcceptedBy, IsRejectedBy}
 use Rattle.byte_unit_command.specs.Shown.{IsShown}
 use Rattle.byte_unit_command.specs.declared.options.Options.{Options}
@@ -50,11 +50,18 @@ IsNoSize options field = IsNoSizeText options (without_suffix options.suffix.now
 abbrev pub Found : Type 0
 Found = Option ℕ
 
+-- the text that replaces the field with this number if it is this size: it is shown in the columns that it has, after
+-- the blank that separates it
+pub record IsPlaced (options : Options) (number : ℕ) (field : List ℕ) (size : ℕ) (text : List ℕ) : Type 0 where
+  pub shown : List ℕ
+  pub is_shown : IsShown (record options { width = width_of options number field }) size shown
+  pub text_is : text ≡ gap_of options number field ++ shown
+
 -- what is written for the field with this number, and what is found in it: a field that is not chosen is copied; a size
 -- is replaced by its text; a field that is not a size is copied too
 pub data IsField (options : Options) (number : ℕ) (field text : List ℕ) (found : List Found) : Type 0 where
   other : ¬ IsChosen options.fields.now number → text ≡ field → found ≡ [] → IsField options number field text found
-  size : (n : ℕ) → IsChosen options.fields.now number → IsSize options field n → IsShown options n text
+  size : (n : ℕ) → IsChosen options.fields.now number → IsSize options field n → IsPlaced options number field n text
       → found ≡ Some n ∷ [] → IsField options number field text found
   rejected : IsChosen options.fields.now number → IsNoSize options field → text ≡ field → found ≡ None ∷ []
       → IsField options number field text found

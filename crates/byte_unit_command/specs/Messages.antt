@@ -152,7 +152,7 @@ AreMessagesToRejected options word place number (field ∷ others) text =
 -- the messages about a record, if this number of header records begins with it: none about a header record
 abbrev pub AreRecordMessages : Options → List ℕ → ℕ → ℕ → List ℕ → List ℕ → Type 0
 AreRecordMessages options word place zero bytes text =
-    AreMessagesOfFields options word place 1 (fields_of options.delimiter bytes) text
+    AreMessagesOfFields options word place 1 (fields_of options bytes) text
 AreRecordMessages options word place (suc _) bytes text = text ≡ []
 
 -- the number of the record after the one with this number; a number of 2^64 or more is told as 2^64 - 1

@@ -71,7 +71,7 @@ pub record IsAborted (options : Options) (records : List (List ℕ)) (written : 
   pub mode : options.invalid ≡ Abort
   pub records_are : records ≡ before ++ bytes ∷ after
   pub no_header : options.header - length before ≡ 0
-  pub has_rejected : HasRejectedField options 1 (fields_of options.delimiter bytes)
+  pub has_rejected : HasRejectedField options 1 (fields_of options bytes)
   pub converted : AreConverted options before written found
 
 -- the texts of all these records, the total of which is asked for and reaches 10^30

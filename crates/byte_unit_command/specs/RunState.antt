@@ -110,17 +110,17 @@ pub record AddsFields (options : Options) (bytes : List ℕ) (old new : State) :
   pub text : List ℕ
   pub messages : List ℕ
   pub found : List Found
-  pub are_fields : AreFields options 1 (fields_of options.delimiter bytes) text found
-  pub are_messages : AreMessagesOfFields options old.word old.place 1 (fields_of options.delimiter bytes) messages
+  pub are_fields : AreFields options 1 (fields_of options bytes) text found
+  pub are_messages : AreMessagesOfFields options old.word old.place 1 (fields_of options bytes) messages
   pub passes : Passes options found
   pub new_is : new ≡ after options old text messages found
 
 -- in the mode `abort`, a field of this record is rejected, and the messages up to those about it were appended
 pub record Aborts (options : Options) (bytes : List ℕ) (old : State) (new_messages : List ℕ) : Type 0 where
   pub mode : options.invalid ≡ Abort
-  pub has_rejected : HasRejectedField options 1 (fields_of options.delimiter bytes)
+  pub has_rejected : HasRejectedField options 1 (fields_of options bytes)
   pub messages : List ℕ
-  pub to_rejected : AreMessagesToRejected options old.word old.place 1 (fields_of options.delimiter bytes) messages
+  pub to_rejected : AreMessagesToRejected options old.word old.place 1 (fields_of options bytes) messages
   pub messages_are : new_messages ≡ old.messages ++ messages
 
 -- there is no message about the field with this number
@@ -131,7 +131,7 @@ FieldHasNoMessage options number field state =
 -- there is none about the fields of a record, which is no header record
 abbrev pub FieldsHaveNoMessage : Options → List ℕ → State → Type 0
 FieldsHaveNoMessage options bytes state =
-    AreMessagesOfFields options state.word state.place 1 (fields_of options.delimiter bytes) []
+    AreMessagesOfFields options state.word state.place 1 (fields_of options bytes) []
 
 -- there is none about the next record
 abbrev pub RecordHasNoMessage : Options → List ℕ → State → Type 0

@@ -25,7 +25,7 @@ pub record AreAbortMessages (options : Options) (word : List ℕ) (records : Lis
   pub records_are : records ≡ before ++ bytes ∷ after
   pub are_messages : AreMessages options word 0 options.header before front
   pub to_rejected : AreMessagesToRejected options word (next_place (last_place 0 before)) 1
-      (fields_of options.delimiter bytes) own
+      (fields_of options bytes) own
   pub messages_are : messages ≡ front ++ own
 
 -- the messages of a run that has read these bytes and ends with this result: those about all records; about all

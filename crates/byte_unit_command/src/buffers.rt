@@ -1,13 +1,16 @@
 //! The buffers of a run.
 
-ghost use Rattle.std.specs.Prelude.{◌≡◌, ◌+◌, ◌≤◌, IfOk, IfSome};
-ghost use Rattle.byte_unit_command.specs.Capacity.{AreEmpty, HaveCapacity};
-ghost use Rattle.byte_unit_command.specs.Capacity.{form_max as most_of_form, read_room as room_of_read};
+ghost use Rattle.std.specs.Prelude.{◌≡◌, ◌+◌, ◌*◌, ◌<◌, ◌≤◌, max, IfOk, IfSome, IfNone};
+ghost use Rattle.byte_unit_command.specs.Capacity.{AreEmpty, HaveCapacity, texts_max};
+ghost use Rattle.byte_unit_command.specs.Capacity.{can_tell_more as can_have_more_messages, form_max as most_of_form};
+ghost use Rattle.byte_unit_command.specs.Capacity.{passes_with_message as has_message_on_passing};
+ghost use Rattle.byte_unit_command.specs.Capacity.{message_room as room_of_messages, read_room as room_of_read};
+ghost use Rattle.byte_unit_command.specs.Capacity.{read_max as most_of_read, text_max as most_of_text};
 ghost use Rattle.byte_unit_command.specs.Capacity.{text_room as room_of_text, unit_places as places_in_unit};
 
 use crate::converter::{Converter, Progress};
 use crate::notice::Notices;
-use crate::options::{Form, Options};
+use crate::options::{Form, Invalid, Options};
 use crate::place::Place;
 use crate::tally::Tally;
 use crate::text::AT_ONCE;
@@ -19,6 +22,13 @@ const NARROW_TEXT: usize = 37;
 
 /// The most digits after the point of a size in a given unit, but for zeros.
 const UNIT_PLACES: usize = 93;
+
+/// The most bytes that the texts of the sizes of one read may take, if each byte of it begins a field: 40 bytes for each
+/// of 65,536.
+const TEXTS_MAX: usize = 2_621_440;
+
+/// The bytes that are counted for the messages about a field.
+const MESSAGE: usize = 128;
 
 /// What a run keeps from one read to the next.
 #[derive(Drop)]
@@ -52,8 +62,8 @@ impl<A: Allocator + Copy> Buffers<A> {
         }
     }
 
-    /// Creates buffers with capacity for records of at most `longest` bytes and reads of at most `chunk` bytes. None is
-    /// allocated for messages.
+    /// Creates buffers with capacity for records of at most `longest` bytes and reads into a buffer of `chunk` bytes.
+    /// None is allocated for messages.
     ///
     /// # Errors
     ///
@@ -68,11 +78,61 @@ impl<A: Allocator + Copy> Buffers<A> {
         ensures capacity { IfOk result (λ buffers. HaveCapacity options.now longest chunk buffers) }
     {
         let mut buffers = Buffers::new(alloc);
+        let chunk = read_max(options, chunk);
         let part = longest.checked_add(chunk).ok_or(AllocError)?;
         let waiting = read_room(options, longest, chunk).ok_or(AllocError)?;
         buffers.part.try_reserve_exact(part)?;
         buffers.converter.waiting.try_reserve_exact(waiting)?;
         Ok(buffers)
+    }
+}
+
+/// Returns the most bytes that a run reads at once into a buffer of `len` bytes: fewer if texts are long or there can be
+/// messages, so that few of them wait to be written; and at least one.
+pub(crate) fn read_max(options: &Options, len: usize) -> usize
+    ensures most { result ≡ most_of_read options.now len }
+    ensures texts { most_of_text options.now * result ≤ max texts_max (most_of_text options.now) }
+    ensures bound { result ≤ len }
+    ensures some { 0 < len → 0 < result }
+{
+    match counted(options) {
+        Some(field) => len.min((TEXTS_MAX / field).max(1)),
+        None => len.min(1),
+    }
+}
+
+/// Returns the bytes that are counted for the text of a size and the messages about its field, or `None` if they exceed
+/// `usize::MAX`.
+fn counted(options: &Options) -> Option<usize>
+    ensures some { IfSome result (λ field. (field ≡ most_of_text options.now + room_of_messages options.now)
+        × (0 < field)) }
+    ensures none { IfNone result (usize.MAX < most_of_text options.now + room_of_messages options.now) }
+{
+    text_max(options)?.checked_add(message_room(options))
+}
+
+/// Returns the bytes that are counted for the messages about a field.
+fn message_room(options: &Options) -> usize
+    ensures room { result ≡ room_of_messages options.now }
+    ensures bound { result ≤ 128 }
+{
+    if can_tell_more(options) { MESSAGE } else { 0 }
+}
+
+/// Returns `true` if a run can have more than one message.
+fn can_tell_more(options: &Options) -> bool
+    ensures { result ≡ can_have_more_messages options.now }
+{
+    passes_with_message(options.invalid) || options.max.is_some() || options.min.is_some()
+}
+
+/// Returns `true` if a run goes on at a rejected field, with a message.
+fn passes_with_message(invalid: Invalid) -> bool
+    ensures { result ≡ has_message_on_passing invalid }
+{
+    match invalid {
+        Invalid::Abort | Invalid::Ignore => false,
+        Invalid::Fail | Invalid::Warn => true,
     }
 }
 
@@ -95,14 +155,24 @@ fn read_room(options: &Options, longest: usize, chunk: usize) -> Option<usize>
 fn text_room(options: &Options) -> Option<usize>
     ensures { IfSome result (λ room. room ≡ room_of_text options.now) }
 {
+    Some(AT_ONCE.max(text_max(options)?))
+}
+
+/// Returns the most bytes of the text of a size with the suffix, or `None` if they exceed `usize::MAX`.
+fn text_max(options: &Options) -> Option<usize>
+    ensures some { IfSome result (λ most. (most ≡ most_of_text options.now) × (0 < most)) }
+    ensures none { IfNone result (usize.MAX < most_of_text options.now) }
+{
     let form = form_max(options.form, options.precision);
     let text = form.checked_add(options.suffix.len())?;
-    Some(AT_ONCE.max((options.width as usize).max(text)))
+    Some((options.width as usize).max(text))
 }
 
 /// Returns the most bytes of the text of a size in a form, without padding.
 fn form_max(form: Form, precision: Option<u16>) -> usize
-    ensures { result ≡ most_of_form form precision }
+    ensures most { result ≡ most_of_form form precision }
+    ensures bound { result ≤ 65572 }
+    ensures positive { 0 < result }
 {
     match form {
         Form::Exact | Form::Plain => NARROW_TEXT,
@@ -114,7 +184,8 @@ fn form_max(form: Form, precision: Option<u16>) -> usize
 
 /// Returns the most digits after the point of a size in a given unit.
 fn unit_places(precision: Option<u16>) -> usize
-    ensures { result ≡ places_in_unit precision }
+    ensures most { result ≡ places_in_unit precision }
+    ensures bound { result < 65536 }
 {
     match precision {
         None => UNIT_PLACES,

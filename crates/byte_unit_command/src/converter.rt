@@ -1,26 +1,26 @@
 //! Converts records, field by field.
 
 ghost use Rattle.std.specs.Prelude.{◌≡◌, ◌≤◌, ◌⊎◌, ◌∷◌, ◌++◌, [], Some, None, length};
-ghost use Rattle.std.specs.Prelude.{OnOk, OnErr, IsOk, IfErr, IsErrOf, vec_capacity};
+ghost use Rattle.std.specs.Prelude.{OnOk, OnErr, IsOk, IfErr, IsErrOf, IsTrue, IsFalse, false, vec_capacity};
 ghost use Rattle.byte_unit.specs.Forms.{text_limit};
 ghost use Rattle.byte_unit_command.specs.Capacity.{field_room, fields_room, record_room};
 ghost use Rattle.byte_unit_command.specs.Field.{IsSize, IsNoSize};
-ghost use Rattle.byte_unit_command.specs.Fields.{IsChosen};
+ghost use Rattle.byte_unit_command.specs.Fields.{IsChosen, at_blanks};
 ghost use Rattle.byte_unit_command.specs.RunState.{AddsField, AddsFields, AddsRecords, Grows, HasRoom};
 ghost use Rattle.byte_unit_command.specs.RunState.{Aborts, IsRejectedField};
 ghost use Rattle.byte_unit_command.specs.RunState.{FieldHasNoMessage, FieldsHaveNoMessage, RecordHasNoMessage};
 ghost use Rattle.byte_unit_command.specs.RunState.{at_next, messages_of, no_tally, state_of, tally_with};
 ghost use Rattle.byte_unit_stream.specs.Prefix.{IsPrefix};
 
+use crate::blanks::add_placed;
 use crate::error::RunError;
-use crate::field::{is_chosen, is_past};
+use crate::field::{is_chosen, is_in_order, ranges_from};
 use crate::laws::texts_are_sizes_or_not;
 use crate::notice::{Notices, add_limit_notice, add_reject_notice};
 use crate::options::{Invalid, Options};
 use crate::place::Place;
 use crate::size::accepted;
 use crate::tally::Tally;
-use crate::text::add_size;
 use byte_unit_stream::end_of;
 use std::alloc::Allocator;
 
@@ -177,7 +177,11 @@ impl<A: Allocator> Converter<A> {
         ensures capacity { vec_capacity self.old.waiting ≤ vec_capacity self.new.waiting }
     {
         match options.delimiter {
-            None => self.add_field(options, 1, bytes, digits),
+            None => {
+                let chosen = is_chosen(options.fields, false, 1);
+                self.add_field::<false>(options, 1, chosen, bytes, digits)
+            }
+            Some(_) if options.blanks => self.add_between_blanks(options, bytes, digits),
             Some(delimiter) => self.add_split(options, delimiter, bytes, digits),
         }
     }
@@ -191,6 +195,7 @@ impl<A: Allocator> Converter<A> {
         digits: &mut [u8],
     ) -> Result<(), RunError>
         requires delimiter { options.now.delimiter ≡ Some delimiter }
+        requires blanks { at_blanks options.now ≡ false }
         requires capacity { text_limit ≤ length digits.old }
         ensures ok { OnOk result
             (AddsFields options.now bytes.now (state_of self.old) (state_of self.new)) }
@@ -209,38 +214,49 @@ impl<A: Allocator> Converter<A> {
     {
         // For the proof: there are fewer fields than a `u64` counts.
         let _len = bytes.len();
+        let in_order = is_in_order(options.fields);
+        let fields = ranges_from(options.fields, 1);
+        let mut ranges = fields;
         let mut rest = bytes;
         let mut number = 1u64;
         while let Some(n) = end_of(rest, delimiter) {
-            self.add_field(options, number, &rest[..n], digits)?;
+            let chosen = is_chosen(ranges, in_order, number);
+            self.add_field::<false>(options, number, chosen, &rest[..n], digits)?;
             self.waiting.extend_from_slice(&[delimiter])?;
             rest = &rest[n + 1..];
             number += 1;
-            if is_past(options.fields, number) {
+            ranges = ranges_from(ranges, number);
+            if ranges.is_empty() {
                 self.waiting.extend_from_slice(rest)?;
                 return Ok(());
             }
         }
-        self.add_field(options, number, rest, digits)
+        let chosen = is_chosen(ranges, in_order, number);
+        self.add_field::<false>(options, number, chosen, rest, digits)
     }
 
     /// Appends what is written for the field with this number, and counts what is found in it.
     ///
-    /// Precondition (proved at every call): `digits` has capacity for the text of any size.
+    /// Preconditions (proved at every call): `chosen` says whether the field with this number is chosen, and `digits`
+    /// has capacity for the text of any size.
     ///
     /// # Errors
     ///
     /// - `Rejected` if the field is not a size, in the mode `abort`.
     /// - `Memory` if allocation fails.
     #[inline(always)]
-    fn add_field(
+    pub(crate) fn add_field<const BLANKS: bool>(
         &mut self,
         options: &Options,
         number: u64,
+        chosen: bool,
         field: &[u8],
         digits: &mut [u8],
     ) -> Result<(), RunError>
-        requires { text_limit ≤ length digits.old }
+        requires capacity { text_limit ≤ length digits.old }
+        requires blanks { at_blanks options.now ≡ BLANKS }
+        requires yes { IsTrue chosen → IsChosen options.now.fields.now number }
+        requires no { IsFalse chosen → ¬ IsChosen options.now.fields.now number }
         ensures ok { OnOk result
             (AddsField options.now number field.now (state_of self.old) (state_of self.new)) }
         ensures kept { IsPrefix self.old.waiting.items self.new.waiting.items }
@@ -256,12 +272,12 @@ impl<A: Allocator> Converter<A> {
             (field_room options.now (length field.now)) }
         ensures capacity { vec_capacity self.old.waiting ≤ vec_capacity self.new.waiting }
     {
-        if !is_chosen(options.fields, number) {
+        if !chosen {
             self.waiting.extend_from_slice(field)?;
             return Ok(());
         }
         match accepted(options, field) {
-            Some(size) => self.add_found(options, number, field, size, digits),
+            Some(size) => self.add_found::<BLANKS>(options, number, field, size, digits),
             None => self.add_rejected(options, number, field),
         }
     }
@@ -271,7 +287,7 @@ impl<A: Allocator> Converter<A> {
     /// Preconditions (proved at every call): the field with this number is chosen, this is its size, and `digits` has
     /// capacity for the text of any size.
     #[inline(always)]
-    fn add_found(
+    fn add_found<const BLANKS: bool>(
         &mut self,
         options: &Options,
         number: u64,
@@ -280,6 +296,7 @@ impl<A: Allocator> Converter<A> {
         digits: &mut [u8],
     ) -> Result<(), RunError>
         requires capacity { text_limit ≤ length digits.old }
+        requires blanks { at_blanks options.now ≡ BLANKS }
         requires chosen { IsChosen options.now.fields.now number }
         requires size { IsSize options.now field.now size }
         ensures ok { OnOk result
@@ -300,7 +317,7 @@ impl<A: Allocator> Converter<A> {
             let place = &self.progress.place;
             add_limit_notice(options, place, number, field, size, &mut self.notices)?;
         }
-        add_size(options, size, digits, &mut self.waiting)?;
+        add_placed::<BLANKS, A>(options, number, field, size, digits, &mut self.waiting)?;
         Ok(())
     }
 

@@ -1,34 +1,116 @@
 //! Which fields are converted.
 
-ghost use Rattle.std.specs.Prelude.{◌≤◌, ℕ, IsTrue, IsFalse};
-ghost use Rattle.byte_unit_command.specs.Fields.{IsChosen, InRange};
+ghost use Rattle.std.specs.Prelude.{◌≤◌, ◌↔◌, ◌∷◌, [], ℕ, IsTrue, IsFalse};
+ghost use Rattle.byte_unit_command.specs.Fields.{GoesTo, IsChosen, IsInOrder, InRange};
 
 use crate::options::FieldRange;
 
 /// Returns `true` if the field with this number is in one of the ranges.
-pub(crate) fn is_chosen(ranges: &[FieldRange], number: u64) -> bool
+///
+/// Precondition (proved at every call): if `in_order`, the ranges are, and the first does not end before the field.
+#[inline(always)]
+pub(crate) fn is_chosen(ranges: &[FieldRange], in_order: bool, number: u64) -> bool
+    requires order { IsTrue in_order → IsInOrder ranges.now }
+    requires goes { IsTrue in_order → GoesTo ranges.now number }
+    ensures yes { IsTrue result → IsChosen ranges.now number }
+    ensures no { IsFalse result → ¬ IsChosen ranges.now number }
+{
+    if in_order {
+        return has_begun(ranges, number);
+    }
+    is_in_one(ranges, number)
+}
+
+/// Returns `true` if the field with this number is in one of the ranges.
+///
+/// Precondition (proved at every call): the ranges are in order, and the first does not end before the field.
+#[inline(always)]
+fn has_begun(ranges: &[FieldRange], number: u64) -> bool
+    requires order { IsInOrder ranges.now }
+    requires goes { GoesTo ranges.now number }
     ensures yes { IsTrue result → IsChosen ranges.now number }
     ensures no { IsFalse result → ¬ IsChosen ranges.now number }
 {
     match ranges {
         [] => false,
-        [range, others @ ..] => in_range(*range, number) || is_chosen(others, number),
+        [range, ..] => range.first <= number,
     }
 }
 
-/// Returns `true` if neither the field with this number nor one that follows it is in one of the ranges.
-pub(crate) fn is_past(ranges: &[FieldRange], number: u64) -> bool
-    ensures { IsTrue result → (later : ℕ) → number ≤ later → ¬ IsChosen ranges.now later }
+/// Returns `true` if the field with this number is in one of the ranges.
+fn is_in_one(ranges: &[FieldRange], number: u64) -> bool
+    ensures yes { IsTrue result → IsChosen ranges.now number }
+    ensures no { IsFalse result → ¬ IsChosen ranges.now number }
+{
+    match ranges {
+        [] => false,
+        [range, others @ ..] => in_range(*range, number) || is_in_one(others, number),
+    }
+}
+
+/// Returns the ranges without those at the beginning that end before the field with this number.
+#[inline(always)]
+pub(crate) fn ranges_from(ranges: &[FieldRange], number: u64) -> &[FieldRange]
+    ensures same { (later : ℕ) → number ≤ later → IsChosen ranges.now later ↔ IsChosen result.now later }
+    ensures in_order { IsInOrder ranges.now → IsInOrder result.now }
+    ensures goes { GoesTo result.now number }
+{
+    match ranges {
+        [] => ranges,
+        [range, others @ ..] => {
+            if !ends_before(*range, number) {
+                return ranges;
+            }
+            if others.is_empty() {
+                return others;
+            }
+            others_from(others, number)
+        }
+    }
+}
+
+/// Does what [`ranges_from`] does.
+#[inline(never)]
+fn others_from(ranges: &[FieldRange], number: u64) -> &[FieldRange]
+    ensures same { (later : ℕ) → number ≤ later → IsChosen ranges.now later ↔ IsChosen result.now later }
+    ensures in_order { IsInOrder ranges.now → IsInOrder result.now }
+    ensures goes { GoesTo result.now number }
+{
+    match ranges {
+        [] => ranges,
+        [range, others @ ..] => {
+            if !ends_before(*range, number) {
+                return ranges;
+            }
+            others_from(others, number)
+        }
+    }
+}
+
+/// Returns `true` if the ranges begin in their order.
+pub(crate) fn is_in_order(ranges: &[FieldRange]) -> bool
+    ensures { IsTrue result → IsInOrder ranges.now }
 {
     match ranges {
         [] => true,
-        [range, others @ ..] => ends_before(*range, number) && is_past(others, number),
+        [range, others @ ..] => begins_before(*range, others) && is_in_order(others),
+    }
+}
+
+/// Returns `true` if the range begins before the first of the others, or with it, or there is none.
+fn begins_before(range: FieldRange, others: &[FieldRange]) -> bool
+    ensures { IsTrue result → IsInOrder others.now → IsInOrder (range ∷ others.now) }
+{
+    match others {
+        [] => true,
+        [next, ..] => range.first <= next.first,
     }
 }
 
 /// Returns `true` if the range ends before the field with this number.
 fn ends_before(range: FieldRange, number: u64) -> bool
-    ensures { IsTrue result → (later : ℕ) → number ≤ later → ¬ InRange range later }
+    ensures yes { IsTrue result → (later : ℕ) → number ≤ later → ¬ InRange range later }
+    ensures no { IsFalse result → GoesTo (range ∷ []) number }
 {
     match range.last {
         None => false,

@@ -1,7 +1,8 @@
 //! The list of fields that `--field` names.
 
-ghost use Rattle.std.specs.Prelude.{ℕ, List, Option, MatchOption, IfOk, codes, option_map, unwrap_or};
+ghost use Rattle.std.specs.Prelude.{◌↔◌, ℕ, List, Option, MatchOption, IfOk, codes, option_map, unwrap_or};
 ghost use Rattle.byte_unit_command.specs.FieldList.{IsFirst, IsLast, IsRange, IsListReading};
+ghost use Rattle.byte_unit_command.specs.Fields.{IsChosen, IsInOrder};
 ghost use Rattle.byte_unit_command.specs.declared.options.FieldRange.{FieldRange};
 
 use crate::options::FieldRange;
@@ -26,6 +27,16 @@ pub fn fields_of(alloc: Global, list: Option<&str>) -> Result<Option<Vec<FieldRa
         Some(list) => ranges_of(alloc, list),
         None => ranges_of(alloc, "1"),
     }
+}
+
+/// Brings ranges into the order in which they begin. The same fields are in them.
+///
+/// A run takes ranges in any order; in this one, the time for a record is linear in its fields and the ranges.
+pub fn sort_fields(fields: &mut Vec<FieldRange>)
+    ensures same { (number : ℕ) → IsChosen fields.old.items number ↔ IsChosen fields.new.items number }
+    ensures in_order { IsInOrder fields.new.items }
+{
+    fields.sort_unstable_by_key(|range| range.first);
 }
 
 /// Returns the ranges of a list of fields, or `None` if it is wrong.

@@ -2,6 +2,7 @@
 #![tactic(auto)]
 
 pub mod arguments;
+mod blanks;
 pub mod buffers;
 mod converter;
 pub mod ending;

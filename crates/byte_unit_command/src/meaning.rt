@@ -6,6 +6,7 @@ ghost use Rattle.byte_unit_command.specs.CallOptions.{AreOptions, IsFirstWrong, 
 ghost use Rattle.byte_unit_command.specs.CallOptions.{form_without, precision_of, IsWithinExact, IsWrongPrecision};
 ghost use Rattle.byte_unit_command.specs.CallOptions.{IsWrongNoUnit};
 ghost use Rattle.byte_unit_command.specs.CallOptions.{AreFieldsSeparated, IsWrongField};
+ghost use Rattle.byte_unit_command.specs.CallOptions.{separator_of as separator_in};
 ghost use Rattle.byte_unit_command.specs.Field.{ignores_case};
 ghost use Rattle.byte_unit_command.specs.Meaning.{IsFrom, IsNoFrom, IsForm, IsNoForm, IsShownForm};
 ghost use Rattle.byte_unit_command.specs.Meaning.{IsUnitName, IsNoUnitName};
@@ -57,7 +58,7 @@ pub fn options_of<'a>(
         suffix: suffix_of(values.suffix),
         width,
         align_left,
-        delimiter,
+        delimiter: separator_of(values.blanks, delimiter),
         blanks: values.blanks,
         fields,
         record_end: if values.has_operands { 0 } else { output_end },
@@ -230,6 +231,13 @@ fn unit_of(value: &str, kind: Kind, ignore_case: bool) -> Result<Unit, ValueErro
         Ok(unit) => Ok(unit),
         Err(error) => Err(ValueError::Unit(error)),
     }
+}
+
+/// Returns the byte between two fields: a space if they are between blanks, and else the delimiter.
+fn separator_of(blanks: bool, delimiter: Option<u8>) -> Option<u8>
+    ensures { result ≡ separator_in blanks delimiter }
+{
+    if blanks { Some(b' ') } else { delimiter }
 }
 
 /// Returns the delimiter.

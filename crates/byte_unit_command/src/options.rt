@@ -60,7 +60,7 @@ pub struct Options<'a> {
     pub align_left: bool,
     /// The byte between two fields; `None` if a record is one field.
     pub delimiter: Option<u8>,
-    /// Whether blanks separate fields.
+    /// Whether fields are between blanks, if there is a delimiter, which then stands for them.
     pub blanks: bool,
     /// The fields that are converted.
     pub fields: &'a [FieldRange],

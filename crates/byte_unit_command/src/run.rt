@@ -12,7 +12,7 @@ ghost use Rattle.byte_unit_command.specs.Run.{AreRecordsBelow, IsMemoryDue, IsRu
 ghost use Rattle.byte_unit_stream.specs.Chunks.{ended_records, begun_record};
 ghost use Rattle.byte_unit_stream.specs.Streams.{reading_failed, writing_failed};
 
-use crate::buffers::Buffers;
+use crate::buffers::{Buffers, read_max};
 use crate::converter::Progress;
 use crate::error::RunError;
 use crate::options::Options;
@@ -130,8 +130,8 @@ pub fn run_with_capacity<A: Allocator, R: Read, W: Write, E: Write>(
 /// # Errors
 ///
 /// Those of [`run`], and `Memory` if more than `longest` bytes of a record have been read without its end byte. If
-/// `buffers` have capacity for such records and a read of the length of `buffer`, `Memory` is returned for no other
-/// reason than a message that was due about a record that was read.
+/// `buffers` have capacity for such records and reads into `buffer`, `Memory` is returned for no other reason than a
+/// message that was due about a record that was read.
 pub fn run_with_buffers<A: Allocator, R: Read, W: Write, E: Write>(
     buffers: &mut Buffers<A>,
     options: &Options,
@@ -155,15 +155,51 @@ pub fn run_with_buffers<A: Allocator, R: Read, W: Write, E: Write>(
     ensures write_failed { IsErrOf result RunError.Write
         → IsTrue (writing_failed streams.new.writer) }
 {
+    let most = read_max(options, buffer.len());
+    run_reads(
+        buffers,
+        options,
+        longest,
+        &mut buffer[..most],
+        digits,
+        streams,
+    )
+}
+
+/// Does what [`run_with_buffers`] does, in reads of at most the length of `chunk`.
+fn run_reads<A: Allocator, R: Read, W: Write, E: Write>(
+    buffers: &mut Buffers<A>,
+    options: &Options,
+    longest: usize,
+    chunk: &mut [u8],
+    digits: &mut [u8],
+    streams: &mut Streams<R, W, E>,
+) -> Result<Tally, RunError>
+    requires empty { AreEmpty buffers.old }
+    requires some { 0 < length chunk.old }
+    requires capacity { text_limit ≤ length digits.old }
+    ensures run { IsRunOf R.remaining W.contents E.contents options.now streams.old streams.new result }
+    ensures memory { SufficeFor options.now longest (length chunk.old)
+        buffers.old.part buffers.old.converter.waiting
+        → IsErrOf result RunError.Memory
+        → IsMemoryDue R.remaining options.now longest streams.old streams.new }
+    ensures bound { OnOk result
+        (AreRecordsBelow R.remaining options.now
+        (longest + length chunk.old) streams.old streams.new) }
+    ensures read_failed { IsErrOf result RunError.Read
+        → IsTrue (reading_failed streams.new.reader) }
+    ensures write_failed { IsErrOf result RunError.Write
+        → IsTrue (writing_failed streams.new.writer) }
+{
     buffers.converter.progress = Progress::new(options, streams.word);
     'reads: loop {
-        match streams.reader.read(buffer) {
+        match streams.reader.read(chunk) {
             None => return Err(RunError::Read),
             Some(0) => break 'reads,
             Some(n) => {
                 buffers.answer_piece(
                     options,
-                    &buffer[..n],
+                    &chunk[..n],
                     digits,
                     &mut streams.writer,
                     &mut streams.errors,

@@ -133,6 +133,7 @@ fn special_size(options: &Options, field: &[u8]) -> u128
 /// Writes a size in the form of the options to the beginning of `out`, and returns its length.
 ///
 /// Preconditions (proved at every call): `size` is less than 10^30, and `out` has capacity for any text.
+#[inline(always)]
 pub(crate) fn write_size(options: &Options, size: u128, out: &mut [u8]) -> usize
     requires size { size < size_limit }
     requires capacity { text_limit ≤ length out.old }
@@ -150,6 +151,7 @@ pub(crate) fn write_size(options: &Options, size: u128, out: &mut [u8]) -> usize
 
 /// Writes a size in bits, or in bytes, as [`write_size`] does. A constant kind takes fewer instructions than a variable.
 #[tactic(auto, using(crate::proofs::Numbers::begins_with))]
+#[inline(always)]
 fn write_as<const BITS: bool>(options: &Options, size: u128, out: &mut [u8]) -> usize
     requires size { size < size_limit }
     requires capacity { text_limit ≤ length out.old }
@@ -186,6 +188,7 @@ fn write_as<const BITS: bool>(options: &Options, size: u128, out: &mut [u8]) -> 
 /// Writes the number of a unit that a size is, and returns its length.
 ///
 /// The unit is written after it, and its length left out.
+#[cold]
 #[inline(never)]
 fn write_number(size: u128, kind: Kind, unit: Unit, precision: Option<u16>, out: &mut [u8]) -> usize
     requires size { size < size_limit }

@@ -42,13 +42,18 @@ pub(crate) fn add_size<A: Allocator>(
     if options.width == 0 {
         return add_unpadded(options, digits, len, text);
     }
-    add_padded(options, &digits[..len], text)
+    add_padded(
+        options.width as usize,
+        options.align_left,
+        options.suffix,
+        &digits[..len],
+        text,
+    )
 }
 
 /// Appends the first `len` of `bytes` and the suffix.
 ///
-/// Preconditions (proved at every call): `bytes` has at least `len` bytes, and at least [`AT_ONCE`], and there is no
-/// width.
+/// Preconditions (proved at every call): `bytes` has at least `len` bytes, and at least [`AT_ONCE`].
 ///
 /// # Errors
 ///
@@ -60,11 +65,10 @@ fn add_unpadded<A: Allocator>(
     len: usize,
     text: &mut Vec<u8, A>,
 ) -> Result<(), AllocError>
-    requires width { options.now.width ≡ 0 }
     requires len { len ≤ length bytes.now }
     requires at_once { 64 ≤ length bytes.now }
-    ensures ok { OnOk result (text.new.items ≡ text.old.items ++ padded options.now.width
-        options.now.align_left (take len bytes.now ++ options.now.suffix.now)) }
+    ensures ok { OnOk result
+        (text.new.items ≡ text.old.items ++ (take len bytes.now ++ options.now.suffix.now)) }
     ensures kept { IsPrefix text.old.items text.new.items }
     ensures succeeds { vec_len text.old + max short_room (len + length options.now.suffix.now)
         ≤ vec_capacity text.old → IsOk result }
@@ -73,8 +77,30 @@ fn add_unpadded<A: Allocator>(
 {
     match options.suffix {
         [] => add_first(bytes, len, text),
-        [_, ..] => add_padded(options, &bytes[..len], text),
+        [_, ..] => add_suffixed(&bytes[..len], options.suffix, text),
     }
+}
+
+/// Appends `bytes` and the suffix.
+///
+/// # Errors
+///
+/// Returns `AllocError` if allocation fails.
+#[inline(never)]
+fn add_suffixed<A: Allocator>(
+    bytes: &[u8],
+    suffix: &[u8],
+    text: &mut Vec<u8, A>,
+) -> Result<(), AllocError>
+    ensures ok { OnOk result (text.new.items ≡ text.old.items ++ (bytes.now ++ suffix.now)) }
+    ensures kept { IsPrefix text.old.items text.new.items }
+    ensures succeeds { vec_len text.old + (length bytes.now + length suffix.now)
+        ≤ vec_capacity text.old → IsOk result }
+    ensures len { vec_len text.new ≤ vec_len text.old + (length bytes.now + length suffix.now) }
+    ensures capacity { vec_capacity text.old ≤ vec_capacity text.new }
+{
+    text.extend_from_slice(bytes)?;
+    text.extend_from_slice(suffix)
 }
 
 /// Appends the first `len` of `bytes`.
@@ -106,37 +132,38 @@ fn add_first<A: Allocator>(
     Ok(())
 }
 
-/// Appends `bytes` and the suffix, with the spaces that these lack of the width.
+/// Appends `bytes` and the suffix, with the spaces that these lack of a width.
 ///
 /// # Errors
 ///
 /// Returns `AllocError` if allocation fails.
-#[inline(never)]
-fn add_padded<A: Allocator>(
-    options: &Options,
+pub(crate) fn add_padded<A: Allocator>(
+    width: usize,
+    align_left: bool,
+    suffix: &[u8],
     bytes: &[u8],
     text: &mut Vec<u8, A>,
 ) -> Result<(), AllocError>
     ensures ok { OnOk result (text.new.items ≡ text.old.items
-        ++ padded options.now.width options.now.align_left (bytes.now ++ options.now.suffix.now)) }
+        ++ padded width align_left (bytes.now ++ suffix.now)) }
     ensures kept { IsPrefix text.old.items text.new.items }
     ensures succeeds { vec_len text.old
-        + max options.now.width (length bytes.now + length options.now.suffix.now)
+        + max width (length bytes.now + length suffix.now)
         ≤ vec_capacity text.old → IsOk result }
     ensures len { vec_len text.new ≤ vec_len text.old
-        + max options.now.width (length bytes.now + length options.now.suffix.now) }
+        + max width (length bytes.now + length suffix.now) }
     ensures capacity { vec_capacity text.old ≤ vec_capacity text.new }
 {
-    let len = bytes.len().saturating_add(options.suffix.len());
-    let missing = (options.width as usize).saturating_sub(len);
-    if options.align_left {
+    let len = bytes.len().saturating_add(suffix.len());
+    let missing = width.saturating_sub(len);
+    if align_left {
         text.extend_from_slice(bytes)?;
-        text.extend_from_slice(options.suffix)?;
+        text.extend_from_slice(suffix)?;
         add_spaces(missing, text)
     } else {
         add_spaces(missing, text)?;
         text.extend_from_slice(bytes)?;
-        text.extend_from_slice(options.suffix)
+        text.extend_from_slice(suffix)
     }
 }
 
@@ -152,8 +179,5 @@ fn add_spaces<A: Allocator>(count: usize, text: &mut Vec<u8, A>) -> Result<(), A
     ensures len { vec_len text.new ≤ vec_len text.old + count }
     ensures capacity { vec_capacity text.old ≤ vec_capacity text.new }
 {
-    for _i in 0..count {
-        text.push(b' ')?;
-    }
-    Ok(())
+    text.resize(text.len().saturating_add(count), b' ')
 }

@@ -203,6 +203,19 @@ fn many_long_texts(rt: HostRuntime) {
     }
 }
 
+/// The texts of a read of 64 KiB would take 4 GB here: it takes fewer bytes.
+#[test]
+fn wide_texts_of_long_reads(rt: HostRuntime) {
+    let wide = Options {
+        width: 65_535,
+        ..PLAIN
+    };
+    let line = repeated(&rt, b" ", 65_532, b"1 B\n");
+    let output = repeated(&rt, &line, 99, &line);
+    let input = repeated(&rt, b"1\n", 99, b"1\n");
+    expect(&rt, &wide, (10, 65_536), &input, sum!(100), &output);
+}
+
 /// The capacity of buffers for records of at most 4 bytes and reads of at most 8: for a record and a read; and for 9
 /// texts, a record and a read with a byte after them.
 const START: usize = (4 + 8) + (64 * 9 + 4 + 8 + 1);

@@ -32,11 +32,11 @@ returns-clause-ok g c =
             (sym (append-nil old.messages)),
       )
     ] in
-    let added = c.in_ok-add_size.ensures.ok in
+    let added = c.in_ok-add_placed.ensures.ok in
     AddsField-size options c.args.number field old _ c.args.size added.0 told.0 c.requires.chosen
     c.requires.size added.1 told.1
     (after-is options old between added.0 told.0 (Some c.args.size ∷ []) c.add.new.self told.2 c.add.ensures.tally
-    c.add_size.new.text.items (added.2 ∙ ap (λ (state : State). state.out ++ added.0) told.2))
+    c.add_placed.new.text.items (added.2 ∙ ap (λ (state : State). state.out ++ added.0) told.2))
 
 pub returns-clause-kept_messages : goal.returns-clause-kept_messages
 returns-clause-kept_messages g c = elim c.if-add.branch [
@@ -46,8 +46,8 @@ returns-clause-kept_messages g c = elim c.if-add.branch [
       kept_messages-same c.args.self.now _ _ w.self-is (IsPrefix-self (messages_of c.args.self.now.notices))
 ]
 
-pub returns-in_err-add_size-clause-kept_messages : goal.returns-in_err-add_size-clause-kept_messages
-returns-in_err-add_size-clause-kept_messages g c =
+pub returns-in_err-add_placed-clause-kept_messages : goal.returns-in_err-add_placed-clause-kept_messages
+returns-in_err-add_placed-clause-kept_messages g c =
     let none = IsPrefix-self (messages_of c.args.self.now.notices) in
     elim c.if-add.branch [
       | then-add+in_ok-add_limit_notice w ↦

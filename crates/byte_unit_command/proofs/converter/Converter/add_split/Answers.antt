@@ -1,34 +1,46 @@
 -- Each iteration adds one field with its delimiter; the last field follows the loop, or a rest without a chosen field. A
 -- field that is rejected in the mode `abort` is one of the record.
-use Rattle.std.proofs.Common.{true≢false, ◌≡◌, ◌+◌, ◌-◌, ◌∙◌, ◌++◌, ◌∷◌, [], List, ℕ, take, drop, length, ap, sym}
+use Rattle.std.proofs.Common.{true≢false, ◌≡◌, ◌≤◌, ◌<◌, ◌+◌, ◌-◌, ◌∙◌, ◌++◌, ◌∷◌, [], List, ℕ, take, drop, length, ap, sym}
 use Rattle.std.proofs.Common.{subst, Err, arith, length-drop, vec_len}
 use Rattle.std.proofs.lemmas.List.{take_rest, length-take-le}
 use Rattle.byte_unit_command.specs.Capacity.{text_room}
+use Rattle.byte_unit_command.specs.Fields.{IsChosen}
 use Rattle.byte_unit_command.specs.Messages.{AreMessagesOfFields}
 use Rattle.byte_unit_command.specs.RunState.{AddsFields, State, messages_of, state_of}
 use Rattle.byte_unit_command.specs.declared.error.RunError.TheVariants.{Rejected}
 use Rattle.std.proofs.lemmas.Result.{on_ok_weaker}
+use Rattle.byte_unit_command.proofs.Ranges.{no-ranges}
 use Rattle.byte_unit_command.proofs.Results.{error-passed}
 use Rattle.byte_unit_stream.specs.Records.{parts}
 use Rattle.byte_unit_stream.proofs.Ends.{parts-EndsAt, parts-IsUnbroken}
 use Rattle.byte_unit_command.proofs.Rooms.{IsSplitWithin-first, IsSplitWithin-fits, split_len-step, split_room-step}
 use Rattle.byte_unit_command.proofs.Rooms.{split_room-last}
 use Rattle.byte_unit_command.proofs.Untold.{others-untold}
-use Rattle.byte_unit_command.proofs.Splitting.{IsSplitting, IsSplitting-start, IsSplitting-step, Aborts-step}
-use Rattle.byte_unit_command.proofs.Splitting.{AddsFields-last, AddsFields-copied, Aborts-last, FieldHasNoMessage-now}
+use Rattle.byte_unit_command.proofs.Splitting.{IsSplitting, IsSplitting-start, IsSplitting-step, Aborts-first}
+use Rattle.byte_unit_command.proofs.Splitting.{AddsFields-last, AddsFields-copied, AreFields-copied, FieldHasNoMessage-now}
+use Rattle.byte_unit_command.proofs.Splitting.{between_of-split, fields_of-split}
+use Rattle.byte_unit_stream.proofs.ChunkRecords.{parts_IsSplit}
 use Rattle.byte_unit_command.proofs.converter.Converter.add_split.Goals as goal
 
 pub returns-in_err-add_field-clause-rejected : goal.returns-in_err-add_field-clause-rejected
 returns-in_err-add_field-clause-rejected g c = λ is.
     let error = c.in_err-add_field.field-0.0 in
     let same = error-passed c.from_residual.result error Rejected c.from_residual.ensures.1 is in
-    Aborts-step c.loop-n.invariant.0 c.requires.delimiter c.in-Some.n c.in-Some.ensures.some
-    (messages_of c.add_field.new.self.notices) (c.in_err-add_field.ensures.rejected (ap Err same))
+    let rest = c.loop-n.rest.now in
+    let place = c.in-Some.n in
+    let fields_are = fields_of-split c.args.options.now c.args.bytes.now c.args.delimiter c.requires.delimiter
+    c.requires.blanks in
+    Aborts-first c.loop-n.invariant.0 fields_are (take place rest) (parts c.args.delimiter (drop (place + 1) rest))
+    (parts-EndsAt c.args.delimiter rest place c.in-Some.ensures.some) (messages_of c.add_field.new.self.notices)
+    (c.in_err-add_field.ensures.rejected (ap Err same))
 
 pub loop-n-init : goal.loop-n-init
 loop-n-init g c = (
-  IsSplitting-start c.args.options.now c.args.delimiter c.args.bytes.now (state_of c.args.self.now),
+  IsSplitting-start c.args.options.now (parts c.args.delimiter) c.args.bytes.now (state_of c.args.self.now),
   record { len = omega arith; capacity = omega arith; untold = λ none. none },
+  c.ranges_from-fields.ensures.same,
+  λ yes. c.ranges_from-fields.ensures.in_order (c.is_in_order-in_order.ensures yes),
+  c.ranges_from-fields.ensures.goes,
 )
 
 pub loop-n-preserved : goal.loop-n-preserved
@@ -40,16 +52,22 @@ loop-n-preserved g c =
     let place = c.in-Some.n in
     let number = c.loop-n.number in
     let behind = drop (place + 1) rest in
-    let stepped = IsSplitting-step c.loop-n.invariant.0 c.requires.delimiter place c.in-Some.ensures.some next
-    c.in_ok-add_field.ensures.ok in
-    let rest_is = take_rest rest (place + 1) in
     let ends = c.in-Some.ensures.some in
+    let shorter : length behind < length rest = omega (arith, ends.0, length-drop (place + 1) rest) in
+    let between = between_of-split options c.args.delimiter c.requires.delimiter c.requires.blanks in
+    let Behind : List ℕ → Type 0 = λ mark. IsSplitting options (parts c.args.delimiter) c.args.bytes.now old (number + 1)
+    behind (record next { out = next.out ++ mark }) in
+    let stepped = subst Behind between (IsSplitting-step c.loop-n.invariant.0 (take place rest) behind
+    (parts-EndsAt c.args.delimiter rest place ends) (parts_IsSplit c.args.delimiter behind) shorter next
+    c.in_ok-add_field.ensures.ok) in
+    let rest_is = take_rest rest (place + 1) in
     let within = c.loop-n.invariant.1 in
     let taken : length (take place rest) ≡ place = length-take-le place rest (omega (arith, ends.0)) in
     let left : length (take (length rest - (place + 1)) behind) ≡ length rest - (place + 1) =
     ap length rest_is ∙ length-drop (place + 1) rest in
     let Split : List ℕ → List ℕ → Type 0 = λ rest out.
-    IsSplitting options c.args.delimiter c.args.bytes.now old (number + 1) rest (record next { out = out }) in (
+    IsSplitting options (parts c.args.delimiter) c.args.bytes.now old (number + 1) rest
+    (record next { out = out }) in (
       subst (λ rest. Split rest c.extend_from_slice.new.self.items) (sym rest_is)
           (subst (Split behind) (sym c.in_ok-extend_from_slice.ensures.items) stepped),
       record {
@@ -73,18 +91,40 @@ loop-n-preserved g c =
             subst (λ rest. AreMessagesOfFields options old.word old.place (number + 1) (parts c.args.delimiter rest) [])
             (sym rest_is) others;
       },
+      λ later high.
+          let so_far = c.loop-n.invariant.2 later (omega (arith, high)) in
+          let step = c.ranges_from-ranges.ensures.same later high in
+          (λ chosen. step.0 (so_far.0 chosen), λ chosen. so_far.1 (step.1 chosen)),
+      λ yes. c.ranges_from-ranges.ensures.in_order (c.loop-n.invariant.3 yes),
+      c.ranges_from-ranges.ensures.goes,
     )
 
-pub returns-then-is_past-clause-ok : goal.returns-then-is_past-clause-ok
-returns-then-is_past-clause-ok g c =
+pub returns-then-is_empty-clause-ok : goal.returns-then-is_empty-clause-ok
+returns-then-is_empty-clause-ok g c =
+    let options = c.args.options.now in
     let next : State = state_of c.add_field.new.self in
     let rest = c.loop-n.rest.now in
     let place = c.in-Some.n in
+    let number = c.loop-n.number in
     let behind = drop (place + 1) rest in
-    let stepped = IsSplitting-step c.loop-n.invariant.0 c.requires.delimiter place c.in-Some.ensures.some next
-    c.in_ok-add_field.ensures.ok in
-    let copied = AddsFields-copied stepped c.requires.delimiter (c.is_past.ensures c.if-is_past.true) in
-    let out : c.extend_from_slice-then-is_past.new.self.items ≡ (next.out ++ c.args.delimiter ∷ []) ++ behind =
+    let ends = c.in-Some.ensures.some in
+    let shorter : length behind < length rest = omega (arith, ends.0, length-drop (place + 1) rest) in
+    let between = between_of-split options c.args.delimiter c.requires.delimiter c.requires.blanks in
+    let fields_are = fields_of-split options c.args.bytes.now c.args.delimiter c.requires.delimiter c.requires.blanks in
+    let Behind : List ℕ → Type 0 = λ mark. IsSplitting options (parts c.args.delimiter) c.args.bytes.now
+    (state_of c.args.self.now) (number + 1) behind (record next { out = next.out ++ mark }) in
+    let stepped = subst Behind between (IsSplitting-step c.loop-n.invariant.0 (take place rest) behind
+    (parts-EndsAt c.args.delimiter rest place ends) (parts_IsSplit c.args.delimiter behind) shorter next
+    c.in_ok-add_field.ensures.ok) in
+    let none = no-ranges c.ranges_from-ranges.result.now c.if-is_empty.ensures in
+    let past : (later : ℕ) → c.loop-n.number + 1 ≤ later → ¬ IsChosen c.args.options.now.fields.now later =
+    λ later high chosen.
+    let left = (c.ranges_from-ranges.ensures.same later high).0
+    ((c.loop-n.invariant.2 later (omega (arith, high))).0 chosen) in
+    subst (λ ranges. IsChosen ranges later) none left in
+    let copied = AddsFields-copied stepped fields_are
+    (AreFields-copied options c.args.delimiter between behind (number + 1) past) past in
+    let out : c.extend_from_slice-then-is_empty.new.self.items ≡ (next.out ++ c.args.delimiter ∷ []) ++ behind =
     c.in_ok-extend_from_slice-2.ensures.items
     ∙ ap (λ text. text ++ take (length rest - (place + 1)) behind) c.in_ok-extend_from_slice.ensures.items
     ∙ ap (λ more. (next.out ++ c.args.delimiter ∷ []) ++ more) (take_rest rest (place + 1)) in
@@ -93,11 +133,18 @@ returns-then-is_past-clause-ok g c =
 
 pub returns-clause-ok : goal.returns-clause-ok
 returns-clause-ok g c =
-    on_ok_weaker c.add_field-2.result (AddsFields-last c.loop-n.invariant.0 c.requires.delimiter
-    c.in_default.ensures.none (state_of c.add_field-2.new.self)) c.add_field-2.ensures.ok
+    let fields_are = fields_of-split c.args.options.now c.args.bytes.now c.args.delimiter c.requires.delimiter
+    c.requires.blanks in
+    on_ok_weaker c.add_field-2.result (AddsFields-last c.loop-n.invariant.0 fields_are
+    (parts-IsUnbroken c.args.delimiter c.loop-n.rest.now c.in_default.ensures.none) (state_of c.add_field-2.new.self))
+    c.add_field-2.ensures.ok
 
 pub returns-clause-rejected : goal.returns-clause-rejected
-returns-clause-rejected g c = λ is. Aborts-last c.loop-n.invariant.0 c.requires.delimiter c.in_default.ensures.none
+returns-clause-rejected g c = λ is.
+    let fields_are = fields_of-split c.args.options.now c.args.bytes.now c.args.delimiter c.requires.delimiter
+    c.requires.blanks in
+    Aborts-first c.loop-n.invariant.0 fields_are c.loop-n.rest.now []
+    (parts-IsUnbroken c.args.delimiter c.loop-n.rest.now c.in_default.ensures.none)
     (messages_of c.add_field-2.new.self.notices) (c.add_field-2.ensures.rejected is)
 
 pub returns-in_err-add_field-clause-succeeds : goal.returns-in_err-add_field-clause-succeeds
@@ -107,9 +154,11 @@ returns-in_err-add_field-clause-succeeds g c = λ room untold.
     let field = take place rest in
     let ends = c.in-Some.ensures.some in
     let within = c.loop-n.invariant.1 in
-    let first = IsSplitWithin-first within c.requires.delimiter field (parts c.args.delimiter (drop (place + 1) rest))
+    let fields_are = fields_of-split c.args.options.now c.args.bytes.now c.args.delimiter c.requires.delimiter
+    c.requires.blanks in
+    let first = IsSplitWithin-first within fields_are field (parts c.args.delimiter (drop (place + 1) rest))
     (parts-EndsAt c.args.delimiter rest place ends) untold in
-    let fits = IsSplitWithin-fits within c.requires.delimiter room in
+    let fits = IsSplitWithin-fits within c.args.delimiter c.requires.delimiter room in
     let taken : length field ≡ place = length-take-le place rest (omega (arith, ends.0)) in
     let step = split_room-step (text_room c.args.options.now) (length rest) place ends.0 in
     let here = FieldHasNoMessage-now c.loop-n.invariant.0 field first in
@@ -118,8 +167,10 @@ returns-in_err-add_field-clause-succeeds g c = λ room untold.
 pub returns-clause-succeeds : goal.returns-clause-succeeds
 returns-clause-succeeds g c = λ room untold.
     let rest = c.loop-n.rest.now in
-    let first = IsSplitWithin-first c.loop-n.invariant.1 c.requires.delimiter rest []
+    let fields_are = fields_of-split c.args.options.now c.args.bytes.now c.args.delimiter c.requires.delimiter
+    c.requires.blanks in
+    let first = IsSplitWithin-first c.loop-n.invariant.1 fields_are rest []
     (parts-IsUnbroken c.args.delimiter rest c.in_default.ensures.none) untold in
-    let fits = IsSplitWithin-fits c.loop-n.invariant.1 c.requires.delimiter room in
+    let fits = IsSplitWithin-fits c.loop-n.invariant.1 c.args.delimiter c.requires.delimiter room in
     c.add_field-2.ensures.succeeds (omega (arith, fits, split_room-last (text_room c.args.options.now) (length rest)))
     (FieldHasNoMessage-now c.loop-n.invariant.0 rest first)

@@ -1,6 +1,9 @@
--- The fields before the rest were added, within their room; the rest gets shorter.
-use Rattle.std.proofs.Common.{length}
+-- The fields before the rest were added, within their room, and the ranges that are left choose the same of the others;
+-- the rest gets shorter.
+use Rattle.std.proofs.Common.{ℕ, ◌≤◌, ◌↔◌, length, IsTrue}
+use Rattle.byte_unit_command.specs.Fields.{GoesTo, IsChosen, IsInOrder}
 use Rattle.byte_unit_command.specs.RunState.{state_of}
+use Rattle.byte_unit_stream.specs.Records.{parts}
 use Rattle.byte_unit_command.proofs.Rooms.{IsSplitWithin}
 use Rattle.byte_unit_command.proofs.Splitting.{IsSplitting}
 use Rattle.byte_unit_command.proofs.converter.Converter.add_split.Given as goal
@@ -8,8 +11,10 @@ use Rattle.byte_unit_command.proofs.converter.Converter.add_split.Given as goal
 abbrev pub invariant-loop-n : goal.invariant-loop-n
 invariant-loop-n g l =
     let old = state_of l.initial.self in
-    IsSplitting l.options l.delimiter l.bytes old l.number l.rest (state_of l.self)
-    × IsSplitWithin l.options old l.delimiter l.bytes l.initial.self.waiting l.number l.rest l.self.waiting
+    IsSplitting l.options (parts l.delimiter) l.bytes old l.number l.rest (state_of l.self)
+    × IsSplitWithin l.options old (parts l.delimiter) l.bytes l.initial.self.waiting l.number l.rest l.self.waiting
+    × ((later : ℕ) → l.number ≤ later → IsChosen l.options.fields.now later ↔ IsChosen l.ranges later)
+    × (IsTrue l.in_order → IsInOrder l.ranges) × GoesTo l.ranges l.number
 
 abbrev pub decreases-loop-n : goal.decreases-loop-n
 decreases-loop-n g l = length l.rest

@@ -19,7 +19,7 @@ use Rattle.byte_unit_stream.specs.Chunks.{begun_record, ended_records}
 use Rattle.byte_unit_stream.specs.Streams.{reader_of}
 use Rattle.byte_unit_stream.proofs.Longest.{longest_of-ended_records-append, longest_record-unfinished}
 use Rattle.byte_unit_stream.proofs.Longest.{longest_record-below}
-use Rattle.byte_unit_command.proofs.run.run_with_buffers.Goals as goal
+use Rattle.byte_unit_command.proofs.run.run_reads.Goals as goal
 
 pub reads-init : goal.reads-init
 reads-init g c =
@@ -43,13 +43,13 @@ reads-preserved g c =
     let answered = c.in_ok-answer_piece-in-Some.ensures in
     let begun : length (begun_record options.record_end [] so_far.course.read) ≤ c.args.longest =
     omega (arith, ap length so_far.served.begun, c.reads.buffers.part.ok.0, within.unfinished) in
-    let short : length piece ≤ length c.args.buffer.now =
-    omega (arith, length-take c.in-Some.n c.read.new.buf, c.read.auto.buf, c.reads.auto.buffer) in (
+    let short : length piece ≤ length c.args.chunk.now =
+    omega (arith, length-take c.in-Some.n c.read.new.buf, c.read.auto.buf, c.reads.auto.chunk) in (
       HasServed-piece so_far _ _ piece c.in-Some.ensures.came answered.written answered.part answered.waiting
           answered.notices,
       record {
         finished = longest_of-ended_records-append options.record_end so_far.course.read piece
-            (c.args.longest + length c.args.buffer.now) within.finished (omega (arith, begun, short));
+            (c.args.longest + length c.args.chunk.now) within.finished (omega (arith, begun, short));
         unfinished = omega (arith, c.if-len-longest.false, c.len.ensures);
         part_capacity = omega (arith, within.part_capacity, answered.part_capacity);
         waiting_capacity = omega (arith, within.waiting_capacity, answered.waiting_capacity);
@@ -119,8 +119,8 @@ returns-in_err-answer_piece-in-Some-clause-memory g c = λ capacity is.
     let piece = take c.in-Some.n c.read.new.buf in
     let failed = c.in_err-answer_piece-in-Some in
     let same = error-passed c.from_residual.result failed.field-0.0 Memory c.from_residual.ensures.1 is in
-    let few : length piece ≤ length c.args.buffer.now =
-    omega (arith, length-take c.in-Some.n c.read.new.buf, c.read.auto.buf, c.reads.auto.buffer) in
+    let few : length piece ≤ length c.args.chunk.now =
+    omega (arith, length-take c.in-Some.n c.read.new.buf, c.read.auto.buf, c.reads.auto.chunk) in
     let suffice = SufficeFor-piece c.args.options.now c.reads.invariant.1
     (waiting.ok.0 ∙ ap length so_far.none_waits) capacity (length piece) few in (
       so_far.course.read ++ piece,
@@ -164,6 +164,6 @@ returns-clause-bound g c =
       HasRead-end so_far c.read.new.self (take end.field-0 c.read.new.buf) end.ensures.came
           (ap (λ count. take count c.read.new.buf) end.field-0-test),
       longest_record-below c.args.options.now.record_end so_far.course.read part.items
-          (c.args.longest + length c.args.buffer.now) so_far.served.begun within.finished
+          (c.args.longest + length c.args.chunk.now) so_far.served.begun within.finished
           (omega (arith, within.unfinished, part.ok.0, c.requires.some)),
     )

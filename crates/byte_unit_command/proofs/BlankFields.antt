@@ -1,0 +1,130 @@
+-- Lemmas: the fields between blanks.
+use Rattle.std.proofs.Common.{◌≡◌, ℕ, suc, ◌+◌, ◌<◌, ◌≤◌, Bool, true, false, not, ◌&&◌, cond, List, [], ◌∷◌, ◌++◌}
+use Rattle.std.proofs.Common.{take, drop, get_or, length, Option, None, Some, true≢false, refl, sym, ap, ◌∙◌}
+use Rattle.std.proofs.Common.{append_assoc, append-nil, arith, inl, inr, zero, ◌-◌}
+use Rattle.std.proofs.Math.Bool.{and-false}
+use Rattle.std.proofs.lemmas.List.{drop_all, length-take, take_more, take_all}
+use Rattle.std.proofs.Math.Nat.{eq-or-lt_of_le}
+use Rattle.std.proofs.Math.Seq.{drop-cons}
+use Rattle.std.specs.List.{onto_first}
+use Rattle.byte_unit_command.specs.Fields.{at_blanks, begins_blank, between_of, blank_fields, bytes_between, fields_by}
+use Rattle.byte_unit_command.specs.Fields.{fields_of, is_blank, splits_at_blanks, width_by}
+use Rattle.byte_unit_command.specs.declared.options.Options.{Options}
+
+-- bytes put before the first of these fields
+abbrev onto : List ℕ → List (List ℕ) → List (List ℕ)
+onto front [] = front ∷ []
+onto front (field ∷ fields) = (front ++ field) ∷ fields
+
+onto-onto_first : (front : List ℕ) (byte : ℕ) (fields : List (List ℕ)) → onto front (onto_first byte fields)
+    ≡ onto (front ++ byte ∷ []) fields
+onto-onto_first front byte [] = refl
+onto-onto_first front byte (field ∷ fields) =
+    ap (λ first. first ∷ fields) (sym (append_assoc front (byte ∷ []) field))
+
+onto-nothing : (bytes : List ℕ) → onto [] (blank_fields bytes) ≡ blank_fields bytes
+onto-nothing [] = refl
+onto-nothing (byte ∷ bytes) =
+    let Same : List (List ℕ) → Type 0 = λ fields. onto [] fields ≡ fields in
+    let first : Same (onto_first byte (blank_fields bytes)) =
+    elim (blank_fields bytes) as (λ fields. Same (onto_first byte fields)) [ [] ↦ refl | field ∷ fields ↦ refl ] in
+    elim (not (is_blank byte) && begins_blank bytes) as (λ ends. Same (cond ends ((byte ∷ []) ∷ blank_fields bytes)
+    (onto_first byte (blank_fields bytes)))) [ true ↦ refl | false ↦ first ]
+
+-- no field ends before this place
+abbrev pub IsUncut : List ℕ → ℕ → Type 0
+IsUncut bytes place = blank_fields bytes ≡ onto (take place bytes) (blank_fields (drop place bytes))
+
+pub IsUncut-start : (bytes : List ℕ) → IsUncut bytes 0
+IsUncut-start bytes = sym (onto-nothing bytes)
+
+-- whether the first field of the bytes from this place on ends after one byte
+abbrev pub ends_there : List ℕ → ℕ → Bool
+ends_there bytes place = not (is_blank (get_or bytes place 0)) && begins_blank (drop (place + 1) bytes)
+
+module _ (bytes : List ℕ) (place : ℕ) (fits : place < length bytes) (so_far : IsUncut bytes place) where
+  first-byte : drop place bytes ≡ get_or bytes place 0 ∷ drop (place + 1) bytes
+  first-byte =
+      let same : suc place ≡ place + 1 = omega arith in
+      drop-cons bytes place 0 fits ∙ ap (λ next. get_or bytes place 0 ∷ drop next bytes) same
+
+  fields-there : (ends : Bool) → ends_there bytes place ≡ ends → blank_fields (drop place bytes)
+      ≡ cond ends ((get_or bytes place 0 ∷ []) ∷ blank_fields (drop (place + 1) bytes))
+      (onto_first (get_or bytes place 0) (blank_fields (drop (place + 1) bytes)))
+  fields-there ends is =
+      let rest = blank_fields (drop (place + 1) bytes) in
+      let byte = get_or bytes place 0 in
+      ap blank_fields first-byte ∙ ap (λ ends. cond ends ((byte ∷ []) ∷ rest) (onto_first byte rest)) is
+
+  -- none ends there
+  pub IsUncut-step : ends_there bytes place ≡ false → IsUncut bytes (place + 1)
+  IsUncut-step goes_on =
+      let rest = blank_fields (drop (place + 1) bytes) in
+      so_far ∙ ap (onto (take place bytes)) (fields-there false goes_on)
+      ∙ onto-onto_first (take place bytes) (get_or bytes place 0) rest
+      ∙ ap (λ front. onto front rest) (sym (take_more bytes place 0 fits))
+
+  -- the first one ends there
+  pub blank_fields-cut : ends_there bytes place ≡ true → blank_fields bytes
+      ≡ take (place + 1) bytes ∷ blank_fields (drop (place + 1) bytes)
+  blank_fields-cut ends =
+      let rest = blank_fields (drop (place + 1) bytes) in
+      so_far ∙ ap (onto (take place bytes)) (fields-there true ends)
+      ∙ ap (λ first. first ∷ rest) (sym (take_more bytes place 0 fits))
+
+-- none ends before the end, so there is one field
+blank_fields-end : (bytes : List ℕ) (place : ℕ) → length bytes ≤ place → IsUncut bytes place
+    → blank_fields bytes ≡ bytes ∷ []
+blank_fields-end bytes place end so_far =
+    so_far ∙ ap (λ rest. onto (take place bytes) (blank_fields rest)) (drop_all place bytes end)
+    ∙ ap (λ front. (front ++ []) ∷ []) (take_all place bytes end) ∙ ap (λ field. field ∷ []) (append-nil bytes)
+
+-- nor before the last byte
+pub blank_fields-whole : (bytes : List ℕ) (place : ℕ) → place ≤ length bytes → length bytes ≤ place + 1
+    → IsUncut bytes place → blank_fields bytes ≡ bytes ∷ []
+blank_fields-whole bytes place within last so_far =
+    let none : drop (place + 1) bytes ≡ [] = drop_all (place + 1) bytes last in
+    let blank = is_blank (get_or bytes place 0) in
+    let goes_on : ends_there bytes place ≡ false =
+    ap (λ rest. not blank && begins_blank rest) none ∙ and-false (not blank) in
+    elim (eq-or-lt_of_le within) [
+      | inl end ↦ blank_fields-end bytes place (omega (arith, end)) so_far
+      | inr more ↦ blank_fields-end bytes (place + 1) last (IsUncut-step bytes place more so_far goes_on)
+    ]
+
+-- between blanks, there is a delimiter that stands for them
+pub delimiter-at_blanks : (mark : Option ℕ) (blanks : Bool) → splits_at_blanks mark blanks ≡ true
+    → (delimiter : ℕ) × (mark ≡ Some delimiter)
+delimiter-at_blanks None blanks at = absurd (true≢false (sym at))
+delimiter-at_blanks (Some delimiter) blanks at = (delimiter, refl)
+
+module _ (options : Options) (at : at_blanks options ≡ true) where
+  pub fields_of-blanks : (bytes : List ℕ) → fields_of options bytes ≡ blank_fields bytes
+  fields_of-blanks bytes = ap (λ blanks. fields_by blanks options.delimiter bytes) at
+
+  pub between_of-blanks : between_of options ≡ []
+  between_of-blanks = ap (λ blanks. bytes_between blanks options.delimiter) at
+
+-- the blank that separates a field is one of its bytes
+pub gap-short : (later : Bool) (field : List ℕ) → length (cond later (take 1 field) []) ≤ length field
+gap-short true field = omega (arith, length-take 1 field)
+gap-short false field = omega arith
+
+-- with it, the columns of a field are no more than its bytes
+pub gap-columns : (later : Bool) (field : List ℕ) → length (cond later (take 1 field) [])
+    + cond later (length field - 1) (cond (begins_blank field) (length field) 0) ≤ length field
+gap-columns true field = omega (arith, length-take 1 field)
+gap-columns false field =
+    elim (begins_blank field) as (λ blank. length {A = ℕ} [] + cond blank (length field) 0 ≤ length field)
+    [ true ↦ omega arith | false ↦ omega arith ]
+
+-- the first byte says whether there is a blank at the beginning
+pub begins_blank-first : (bytes : List ℕ) (default : ℕ) → 0 < length bytes
+    → is_blank (get_or bytes 0 default) ≡ begins_blank bytes
+begins_blank-first [] default some = let never : ⊥ = omega (arith, some) in absurd never
+begins_blank-first (byte ∷ bytes) default some = refl
+
+-- a width of the options holds
+pub width-given : (width number : ℕ) (field : List ℕ) → 0 < width → width ≡ width_by true width number field
+width-given zero number field some = omega (arith, some)
+width-given (suc width) number field some = refl

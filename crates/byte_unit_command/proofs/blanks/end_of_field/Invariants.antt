@@ -1,0 +1,10 @@
+-- No field ends before the index, which is within the bytes.
+use Rattle.std.proofs.Common.{◌-◌, ◌≤◌, length}
+use Rattle.byte_unit_command.proofs.BlankFields.{IsUncut}
+use Rattle.byte_unit_command.proofs.blanks.end_of_field.Given as goal
+
+abbrev pub invariant-loop-i : goal.invariant-loop-i
+invariant-loop-i l = IsUncut l.bytes l.i × (l.i ≤ length l.bytes)
+
+abbrev pub decreases-loop-i : goal.decreases-loop-i
+decreases-loop-i l = length l.bytes - l.i

@@ -1,0 +1,161 @@
+-- Each iteration adds one field with the blanks before it; the last field follows the loop, or a rest without a chosen
+-- field. A field that is rejected in the mode `abort` is one of the record.
+use Rattle.std.proofs.Common.{true≢false, ◌≡◌, ◌≤◌, ◌<◌, ◌+◌, ◌-◌, ◌∙◌, ◌++◌, [], List, ℕ, take, drop, length, ap, sym}
+use Rattle.std.proofs.Common.{subst, Err, append-nil, arith, length-drop, vec_len}
+use Rattle.std.proofs.lemmas.List.{take_rest, length-take-le}
+use Rattle.byte_unit_command.specs.Capacity.{text_room}
+use Rattle.byte_unit_command.specs.Fields.{IsChosen, blank_fields}
+use Rattle.byte_unit_command.specs.Messages.{AreMessagesOfFields}
+use Rattle.byte_unit_command.specs.RunState.{AddsFields, State, messages_of, state_of}
+use Rattle.byte_unit_command.specs.declared.error.RunError.TheVariants.{Rejected}
+use Rattle.std.proofs.lemmas.Result.{on_ok_weaker}
+use Rattle.byte_unit_command.proofs.Ranges.{no-ranges}
+use Rattle.byte_unit_command.proofs.Results.{error-passed}
+use Rattle.byte_unit_command.proofs.Rooms.{IsSplitWithin-first, IsSplitWithin-fits, split_len-cut, split_room-cut}
+use Rattle.byte_unit_command.proofs.Rooms.{split_room-last}
+use Rattle.byte_unit_command.proofs.Untold.{others-untold}
+use Rattle.byte_unit_command.proofs.Splitting.{IsSplitting, IsSplitting-start, IsSplitting-step, Aborts-first}
+use Rattle.byte_unit_command.proofs.Splitting.{AddsFields-last, AddsFields-copied, AreFields-copied_blanks}
+use Rattle.byte_unit_command.proofs.Splitting.{FieldHasNoMessage-now, blank_fields_IsSplit}
+use Rattle.byte_unit_command.proofs.BlankFields.{between_of-blanks, delimiter-at_blanks, fields_of-blanks}
+use Rattle.byte_unit_command.proofs.converter.Converter.add_between_blanks.Goals as goal
+
+pub returns-in_err-add_field-clause-rejected : goal.returns-in_err-add_field-clause-rejected
+returns-in_err-add_field-clause-rejected g c = λ is.
+    let error = c.in_err-add_field.field-0.0 in
+    let same = error-passed c.from_residual.result error Rejected c.from_residual.ensures.1 is in
+    let rest = c.loop-n.rest.now in
+    let place = c.in-Some.n in
+    let fields_are = fields_of-blanks c.args.options.now c.requires.blanks c.args.bytes.now in
+    Aborts-first c.loop-n.invariant.0 fields_are (take place rest) (blank_fields (drop place rest))
+    c.in-Some.ensures.some.2 (messages_of c.add_field.new.self.notices)
+    (c.in_err-add_field.ensures.rejected (ap Err same))
+
+pub loop-n-init : goal.loop-n-init
+loop-n-init g c = (
+  IsSplitting-start c.args.options.now blank_fields c.args.bytes.now (state_of c.args.self.now),
+  record { len = omega arith; capacity = omega arith; untold = λ none. none },
+  c.ranges_from-fields.ensures.same,
+  λ yes. c.ranges_from-fields.ensures.in_order (c.is_in_order-in_order.ensures yes),
+  c.ranges_from-fields.ensures.goes,
+)
+
+pub loop-n-preserved : goal.loop-n-preserved
+loop-n-preserved g c =
+    let options = c.args.options.now in
+    let old : State = state_of c.args.self.now in
+    let next : State = state_of c.add_field.new.self in
+    let rest = c.loop-n.rest.now in
+    let place = c.in-Some.n in
+    let number = c.loop-n.number in
+    let behind = drop place rest in
+    let ends = c.in-Some.ensures.some in
+    let shorter : length behind < length rest = omega (arith, ends.0, ends.1, length-drop place rest) in
+    let between = between_of-blanks options c.requires.blanks in
+    let Behind : List ℕ → Type 0 = λ mark. IsSplitting options blank_fields c.args.bytes.now old (number + 1)
+    behind (record next { out = next.out ++ mark }) in
+    let stepped = subst Behind between (IsSplitting-step c.loop-n.invariant.0 (take place rest) behind
+    ends.2 (blank_fields_IsSplit behind) shorter next c.in_ok-add_field.ensures.ok) in
+    let nothing = append-nil next.out in
+    let rest_is = take_rest rest place in
+    let within = c.loop-n.invariant.1 in
+    let taken : length (take place rest) ≡ place = length-take-le place rest (omega (arith, ends.1)) in
+    let left : length (take (length rest - place) behind) ≡ length rest - place =
+    ap length rest_is ∙ length-drop place rest in
+    let Split : List ℕ → List ℕ → Type 0 = λ rest out.
+    IsSplitting options blank_fields c.args.bytes.now old (number + 1) rest
+    (record next { out = out }) in (
+      subst (λ rest. Split rest next.out) (sym rest_is) (subst (Split behind) nothing stepped),
+      record {
+        len = split_len-cut (text_room options) (vec_len c.args.self.now.waiting) (length c.args.bytes.now)
+            (vec_len c.loop-n.self.waiting) (length rest) place (vec_len c.add_field.new.self.waiting)
+            (length (take (length rest - place) behind)) ends.0 (omega (arith, ends.1)) within.len
+            (omega (arith, c.in_ok-add_field.ensures.len, taken)) left;
+        capacity = omega (arith, within.capacity, c.in_ok-add_field.ensures.capacity);
+        untold = λ none.
+            let fields = subst (λ fields. AreMessagesOfFields options old.word old.place number fields [])
+            ends.2 (within.untold none) in
+            let others = others-untold options old.word old.place number (take place rest)
+            (blank_fields behind) fields in
+            subst (λ rest. AreMessagesOfFields options old.word old.place (number + 1) (blank_fields rest) [])
+            (sym rest_is) others;
+      },
+      λ later high.
+          let so_far = c.loop-n.invariant.2 later (omega (arith, high)) in
+          let step = c.ranges_from-ranges.ensures.same later high in
+          (λ chosen. step.0 (so_far.0 chosen), λ chosen. so_far.1 (step.1 chosen)),
+      λ yes. c.ranges_from-ranges.ensures.in_order (c.loop-n.invariant.3 yes),
+      c.ranges_from-ranges.ensures.goes,
+    )
+
+pub returns-then-is_empty-clause-ok : goal.returns-then-is_empty-clause-ok
+returns-then-is_empty-clause-ok g c =
+    let options = c.args.options.now in
+    let next : State = state_of c.add_field.new.self in
+    let rest = c.loop-n.rest.now in
+    let place = c.in-Some.n in
+    let number = c.loop-n.number in
+    let behind = drop place rest in
+    let ends = c.in-Some.ensures.some in
+    let shorter : length behind < length rest = omega (arith, ends.0, ends.1, length-drop place rest) in
+    let between = between_of-blanks options c.requires.blanks in
+    let fields_are = fields_of-blanks options c.requires.blanks c.args.bytes.now in
+    let Behind : List ℕ → Type 0 = λ mark. IsSplitting options blank_fields c.args.bytes.now
+    (state_of c.args.self.now) (number + 1) behind (record next { out = next.out ++ mark }) in
+    let stepped = subst Behind between (IsSplitting-step c.loop-n.invariant.0 (take place rest) behind
+    ends.2 (blank_fields_IsSplit behind) shorter next c.in_ok-add_field.ensures.ok) in
+    let nothing = append-nil next.out in
+    let none = no-ranges c.ranges_from-ranges.result.now c.if-is_empty.ensures in
+    let past : (later : ℕ) → c.loop-n.number + 1 ≤ later → ¬ IsChosen c.args.options.now.fields.now later =
+    λ later high chosen.
+    let left = (c.ranges_from-ranges.ensures.same later high).0
+    ((c.loop-n.invariant.2 later (omega (arith, high))).0 chosen) in
+    subst (λ ranges. IsChosen ranges later) none left in
+    let copied = AddsFields-copied stepped fields_are
+    (AreFields-copied_blanks options between behind (number + 1) past) past in
+    let out : c.extend_from_slice.new.self.items ≡ (next.out ++ []) ++ behind =
+    c.in_ok-extend_from_slice.ensures.items ∙ ap (λ more. next.out ++ more) (take_rest rest place)
+    ∙ ap (λ text. text ++ behind) (sym nothing) in
+    subst (λ (out : List ℕ). AddsFields c.args.options.now c.args.bytes.now (state_of c.args.self.now)
+    (record next { out = out })) (sym out) copied
+
+pub returns-clause-ok : goal.returns-clause-ok
+returns-clause-ok g c =
+    let fields_are = fields_of-blanks c.args.options.now c.requires.blanks c.args.bytes.now in
+    on_ok_weaker c.add_field-2.result (AddsFields-last c.loop-n.invariant.0 fields_are
+    c.in_default.ensures.none (state_of c.add_field-2.new.self))
+    c.add_field-2.ensures.ok
+
+pub returns-clause-rejected : goal.returns-clause-rejected
+returns-clause-rejected g c = λ is.
+    let fields_are = fields_of-blanks c.args.options.now c.requires.blanks c.args.bytes.now in
+    Aborts-first c.loop-n.invariant.0 fields_are c.loop-n.rest.now []
+    c.in_default.ensures.none
+    (messages_of c.add_field-2.new.self.notices) (c.add_field-2.ensures.rejected is)
+
+pub returns-in_err-add_field-clause-succeeds : goal.returns-in_err-add_field-clause-succeeds
+returns-in_err-add_field-clause-succeeds g c = λ room untold.
+    let rest = c.loop-n.rest.now in
+    let place = c.in-Some.n in
+    let field = take place rest in
+    let ends = c.in-Some.ensures.some in
+    let within = c.loop-n.invariant.1 in
+    let fields_are = fields_of-blanks c.args.options.now c.requires.blanks c.args.bytes.now in
+    let first = IsSplitWithin-first within fields_are field (blank_fields (drop place rest)) ends.2 untold in
+    let delimiter = delimiter-at_blanks c.args.options.now.delimiter c.args.options.now.blanks c.requires.blanks in
+    let fits = IsSplitWithin-fits within delimiter.0 delimiter.1 room in
+    let taken : length field ≡ place = length-take-le place rest (omega (arith, ends.1)) in
+    let step = split_room-cut (text_room c.args.options.now) (length rest) place ends.0 (omega (arith, ends.1)) in
+    let here = FieldHasNoMessage-now c.loop-n.invariant.0 field first in
+    absurd (true≢false (sym (c.in_err-add_field.ensures.succeeds (omega (arith, fits, step, taken)) here)))
+
+pub returns-clause-succeeds : goal.returns-clause-succeeds
+returns-clause-succeeds g c = λ room untold.
+    let rest = c.loop-n.rest.now in
+    let fields_are = fields_of-blanks c.args.options.now c.requires.blanks c.args.bytes.now in
+    let first = IsSplitWithin-first c.loop-n.invariant.1 fields_are rest []
+    c.in_default.ensures.none untold in
+    let delimiter = delimiter-at_blanks c.args.options.now.delimiter c.args.options.now.blanks c.requires.blanks in
+    let fits = IsSplitWithin-fits c.loop-n.invariant.1 delimiter.0 delimiter.1 room in
+    c.add_field-2.ensures.succeeds (omega (arith, fits, split_room-last (text_room c.args.options.now) (length rest)))
+    (FieldHasNoMessage-now c.loop-n.invariant.0 rest first)
