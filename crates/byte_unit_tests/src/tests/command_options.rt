@@ -53,7 +53,8 @@ const REJECTED: Result<Tally, RunError> = Ok(Tally {
 });
 
 /// The messages on the rejected fields.
-const TWO_MESSAGES: &[u8] = b"byte-unit: line 1: field 1: 'x': the character 'x' is not a number (character 1)
+const TWO_MESSAGES: &[u8] =
+    b"byte-unit: line 1: field 1: 'x': the character 'x' is not a number (character 1)
 byte-unit: line 2: field 1: '\\xff': not UTF-8
 ";
 
