@@ -93,16 +93,10 @@ def build(folder, source, with_command):
         libraries.build(folder)
     libraries.link_in(folder)
     if with_command and not source:
-        build_command(folder / COMMAND)
-
-
-def build_command(place, after_ci=False):
-    """Proves and builds the command, unless `rt ci` has, and copies it."""
-    if not after_ci:
         print("proving byte_unit_cli, which takes minutes if it is not proved yet", flush=True)
         if shown("rt", "run", "--", "--version", cwd=path("crates/byte_unit_cli"))[0]:
             raise Failure("rt run in crates/byte_unit_cli failed: see above")
-    shutil.copy(path("crates/byte_unit_cli/out/byte_unit_cli"), place)
+        shutil.copy(path("crates/byte_unit_cli/out/byte_unit_cli"), folder / COMMAND)
 
 
 def functions(header):

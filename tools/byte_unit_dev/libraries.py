@@ -19,6 +19,7 @@ import shutil
 from pathlib import Path
 
 from .common import Failure, call, output, path, read, shown
+from .source import below, crates
 
 ARCHIVE, HEADER, EXTENSION = "libbyte_unit.a", "byte_unit.h", "sqlite3/byte_unit.so"
 # Every x86-64 processor. The default of rt, x86-64-v2, ends a program on the processors qemu64 and kvm64 by SIGILL.
@@ -60,9 +61,9 @@ def build_for(target, folder, after_ci):
     link_shared(folder, "aarch64-linux-gnu-gcc")
 
 
-def proved(*words):
-    """Runs a call that proves byte_unit_c, and fails if it does not say so."""
-    status, said = shown(*words, cwd=path("crates/byte_unit_c"))
+def proved(*words, crate="byte_unit_c"):
+    """Runs a call that proves a crate, and fails if it does not say so."""
+    status, said = shown(*words, cwd=path("crates", crate))
     if status or not re.search("^logic=proved ", said, re.M):
         raise Failure(f"status {status}, or no line that begins with logic=proved: see above")
 
@@ -86,14 +87,34 @@ def build(folder, after_ci=False):
 
 def words_after_ci(archive, *target):
     """Returns the call that `rt lib` makes, with the libraries that `rt ci` built of its dependencies."""
+    return words_to_build("byte_unit_c", "src/lib.rt", archive, "--crate-type", "staticlib", *target)
+
+
+def words_to_build(crate, root, out, *how):
+    """Returns the call that proves and builds a crate, with the libraries that were built of its dependencies."""
     kit = kit_folder()
-    words = [f"{kit}/bin/rattle", "build", "src/lib.rt", "--crate-name", "byte_unit_c", "--crate-type", "staticlib",
-             "--links", "byte_unit_c=", "--jobs", "2", *target, "--toolchain", f"{kit}/toolchain", "-o", archive,
-             "--antt-project", f"{kit}/rattle/logic/antt-project.json", "--logic-built", f"{kit}/logic_built"]
-    needed = re.search(r"^byte_unit_c staticlib:(.*)", read("crates.txt"), re.M)[1].split()
-    for name, at in [("std", f"{kit}/rlibs"), *((name, path("crates", name, "out/rlib")) for name in needed)]:
-        words += ["--extern", f"{name}={at}/{name}.rlib", "-L", f"dependency={at}"]
+    words = [f"{kit}/bin/rattle", "build", root, "--crate-name", crate, "--links", f"{crate}=", "--jobs", "2", *how,
+             "--toolchain", f"{kit}/toolchain", "-o", out, "--antt-project", f"{kit}/rattle/logic/antt-project.json",
+             "--logic-built", f"{kit}/logic_built"]  # fmt: skip
+    own = {name: path("crates", name, "out/rlib") for name in below([crate]) if name != crate}
+    for name in ["std", *crates()[crate]]:
+        words += ["--extern", f"{name}={own.get(name, f'{kit}/rlibs')}/{name}.rlib"]
+    for folder in [f"{kit}/rlibs", *own.values()]:
+        words += ["-L", f"dependency={folder}"]
     return words
+
+
+def build_command(place, after_ci=False):
+    """Proves byte_unit_cli, and builds the command byte-unit for every x86-64 processor."""
+    if not after_ci:
+        print("proving byte_unit_cli, which takes minutes if it is not proved yet", flush=True)
+        if shown("rt", "check", cwd=path("crates/byte_unit_cli"))[0]:
+            raise Failure("rt check in crates/byte_unit_cli failed: see above")
+    kit, made = kit_folder(), f"{place}.o"
+    proved(*words_to_build("byte_unit_cli", "src/main.rt", made, "--cpu", CPU), crate="byte_unit_cli")
+    words = ["--target", "x86_64-unknown-linux-gnu", "--toolchain", f"{kit}/toolchain", "-o", place, made]
+    output(f"{kit}/bin/rattle-link", *words, f"{kit}/c/libos_c.a", f"{kit}/c/liblibc_c.a")
+    os.remove(made)
 
 
 def shared_names(folder):

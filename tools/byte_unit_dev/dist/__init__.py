@@ -2,8 +2,8 @@
 
     tools/dev make-dist FOLDER [--after-ci] [--from LIBRARY_FOLDER] [--verdict LINE]
 
-Proves and builds the library for every x86-64 processor, for aarch64 and WebAssembly, and the command for x86-64-v2,
-which says so on an older processor; with --after-ci over what `rt ci` has built. With --from proves nothing, and takes libbyte_unit.a, byte_unit.h, byte-unit,
+Proves and builds library and command for every x86-64 processor, and the library for aarch64 and WebAssembly; with
+--after-ci over what `rt ci` has built. With --from proves nothing, and takes libbyte_unit.a, byte_unit.h, byte-unit,
 byte_unit.wasm and aarch64/libbyte_unit.a from a folder; what needs a file that is not there is left out. FOLDER, which
 must be empty or missing, then has:
 
@@ -29,7 +29,7 @@ from pathlib import Path
 from .. import libraries
 from ..builds import copied, environment
 from ..common import Failure, call, output, path, read
-from ..install import COMMAND, build_command, files_of
+from ..install import COMMAND, files_of
 from ..libraries import ARCHIVE, EXTENSION, HEADER, MODULE
 from ..needs import DEBIAN_PYTHON, PYTHON_PACKAGE, is_there
 from ..page import page
@@ -95,7 +95,7 @@ class Parts:
         libraries.run(self.x86, after_ci=after_ci)
         libraries.build_for(libraries.AARCH64, self.arm, after_ci)
         libraries.build_for(libraries.WASM, self.wasm, after_ci)
-        build_command(self.x86 / COMMAND, after_ci)
+        libraries.build_command(self.x86 / COMMAND, after_ci)
 
 
 def commit_and_time():
