@@ -3,8 +3,11 @@
 They are compared with a model, and with `numfmt` of GNU coreutils, by options that both have, where both are exact.
 """
 
+import json
+import os
 import random
 import re
+import shlex
 
 import pytest
 from byte_unit_dev.fixtures import ended, need, output, path, read
@@ -110,3 +113,24 @@ def test_same_output_as_numfmt(program, seed, both, theirs, ours, line):
     if "--to" in theirs:
         wanted = re.sub(rb"(\d+)(?:\.0)?([KMGTPE]i?)", rb"\1 \2B", wanted)
     assert ended(program, *ours.split(), *both.split(), input=data)[:2] == (status, wanted)
+
+
+# In each line the words, the input, the status and the output: calls that GNU coreutils tests `numfmt` with, in our
+# words, where both do the same.
+NUMFMT_CASES = read("command/tests/numfmt_cases.txt")
+
+
+def bare(written):
+    """Returns sizes without what is spelled in two ways: `2K` for `2.0K`, `2 KB` and `2 KiB`."""
+    return re.sub(rb"\.0(?=[A-Z])|(?<=[KMGTPEZY])i| |B", b"", written)
+
+
+@pytest.mark.parametrize("words, data, status, written", map(json.loads, NUMFMT_CASES.splitlines()))
+def test_case_of_numfmt(program, words, data, status, written):
+    """What both do: `numfmt` has no `--blanks` and `--to=plain`, which is what it does without them."""
+    words, data = shlex.split(words), data.encode()
+    assert ended(program, *words, input=data)[:2] == (status, written.encode())
+    theirs = [word for word in words if word not in ("--blanks", "--to=plain")]
+    got, wanted, _ = ended("numfmt", *theirs, input=data, env={**os.environ, "LC_ALL": "C"})
+    spelled = bytes if "--to=plain" in words else bare
+    assert (got, spelled(wanted)) == (status, spelled(written.encode()))
