@@ -9,8 +9,8 @@ from dataclasses import dataclass, fields
 
 # The program asks for this number of bytes in each read; for fewer if texts are long or there can be messages.
 CHUNK = 65536
-# What it asks for at least, if texts have at most 130 bytes; of a longer packet the rest would be lost.
-PACKET = 10_000
+# What it asks for at least, if texts have at most 240 bytes, as with a suffix; of a longer packet the rest would be lost.
+PACKET = 7_000
 SECONDS = 600
 # Shows values, but for the middle of long ones.
 SHORT = reprlib.Repr()
