@@ -185,6 +185,12 @@ def browser(place):
             started.close()
 
 
+def unescaped(text):
+    """Returns a text of the test vectors without their escapes."""
+    text = re.sub(r"\\\{(\d+)\*(\\u\{[0-9A-Fa-f]+\}|.)\}", lambda found: found[2] * int(found[1]), text, flags=re.S)
+    return re.sub(r"\\u\{([0-9A-Fa-f]+)\}", lambda found: chr(int(found[1], 16)), text)
+
+
 def typed(browser, text, reading="bytes"):
     """Types a text in the field by keys. Returns what the page answers, and what it marks."""
     browser.script(
@@ -213,17 +219,34 @@ def test_page_answers(browser, text, reading, parts, marked):
 
 
 def test_page_by_the_vectors(browser):
-    """Each text of the vectors that is a size has the exact form of the vectors on the page."""
-    rows = re.findall(
-        r'^\S+: parse byte cased "([^"\\]{1,40})" = (\d+)$',
-        Path(path("vectors/byte-unit.txt")).read_text("utf-8"),
-        re.M,
-    )
-    got = browser.script(
-        "const field = document.getElementById('text'); document.querySelector('[value=bytes]').click();"
-        "return arguments[0].map(text => { field.value = text; document.getElementById('form').dispatchEvent(new Event('input'));"
-        " return document.querySelector('.value')?.textContent.replace(/[^0-9]/g, '') ?? '' })", [text for text, _ in rows])  # fmt: skip
-    assert len(rows) > 30 and [(row, found) for row, found in zip(rows, got) if row[1] != found] == []
+    """Each text of the vectors that a field of one line holds is on the page the size of the vectors, or none."""
+    readings = {("byte", "cased"): "bytes", ("byte", "uncased"): "case", ("bit", "cased"): "bits"}
+    rows = []
+    found = re.findall(r'^\S+: parse (\w+) (\w+) "([^"]*)" = (.*)$', read("vectors/byte-unit.txt"), re.M)
+    for kind, case, text, wanted in found:
+        text = unescaped(text)
+        if (kind, case) in readings and len(text) < 200 and not re.search(r"[\0\r\n]", text):
+            rows.append((readings[kind, case], text, wanted if wanted.isdigit() else ""))
+    got = browser.script("""
+        const field = document.getElementById("text");
+        return arguments[0].map(([reading, text]) => {
+            document.querySelector(`[value=${reading}]`).checked = true;
+            field.value = text;
+            document.getElementById("form").dispatchEvent(new Event("input"));
+            return document.querySelector(".value")?.textContent.replace(/[^0-9]/g, "") ?? "";
+        })""", rows)  # fmt: skip
+    assert len(rows) > 500 and [(row, found) for row, found in zip(rows, got) if row[2] != found] == []
+
+
+def test_copying(browser):
+    """A click on a button to copy says whether the browser allows it."""
+    typed(browser, "1.5 KiB")
+    for what in ("number", "text", "link"):
+        browser.script("document.getElementById('copied').textContent = ''")
+        browser.script(f"document.querySelector('[data-copy={what}]').click()")
+        time.sleep(0.2)
+        assert browser.script("return document.getElementById('copied').textContent") in (
+            "Copied.", "The browser does not allow it.")  # fmt: skip
 
 
 def test_page_for_all(browser, place):
@@ -237,6 +260,7 @@ def test_page_for_all(browser, place):
         == 0
     )
     typed(browser, "10m", "binary")
+    time.sleep(0.5)
     link = browser.script("return location.href")
     assert link.endswith("#binary=10m")
     browser.open("about:blank")
