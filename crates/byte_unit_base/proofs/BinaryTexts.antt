@@ -14,7 +14,7 @@ use Rattle.byte_unit_base.specs.Fault.{Fault, IsSizeFault, letter_i}
 use Rattle.byte_unit_base.specs.Errors.{size_fault}
 use Rattle.byte_unit_base.specs.Kinds.{flags_for}
 use Rattle.byte_unit_base.specs.LeastOfKind.{IsLeastOf}
-use Rattle.byte_unit_base.specs.Accepted.{as_written, IsRead, IsReadAs, IsAcceptedAs, ExceedsAs, HasFault, IsRejectedAs}
+use Rattle.byte_unit_base.specs.Accepted.{as_written, IsReadAs, IsAcceptedAs, ExceedsAs, HasFault, IsRejectedAs}
 use Rattle.byte_unit_base.specs.ReaderLaws.{IsOneAnswer, Represents}
 use Rattle.byte_unit_base.specs.SizeReading.{IsReadingAs, IsSizeReading}
 use Rattle.byte_unit_base.specs.Parsed.{parsed_size, parsed_size_as, size_of_parsed}
@@ -219,7 +219,11 @@ module _ (meant other_meant : Shape → Shape) (kind : Kind) (ignore_case : Bool
   reading_to : (result : Result ℕ ParseError) → IsReadingAs meant kind ignore_case bytes result
       → IsReadingAs other_meant kind ignore_case other result
   reading_to (Ok n) r = record {
-    found = record { number = r.found.number; is_read = read_to r.found.number n r.found.is_read; below = r.found.below };
+    found = record {
+      number = r.found.number;
+      is_read = read_to r.found.number n r.found.is_read;
+      below = r.found.below;
+    };
     reads = λ m a. r.reads m (accepted_from m a);
     exceeds = λ number e. r.exceeds number (exceeds_from number e);
     fault = tt;
@@ -237,14 +241,14 @@ module _ (meant other_meant : Shape → Shape) (kind : Kind) (ignore_case : Bool
 module _ (kind : Kind) (ignore_case : Bool) (bytes other : List ℕ)
     (is : IsBinaryText (flags_for kind ignore_case) (trim_of bytes) (trim_of other)) where
   binary_to : (number n : ℕ) → IsBinaryRead kind ignore_case bytes number n
-      → IsRead current kind ignore_case other number n
+      → IsReadAs as_written current kind ignore_case other number n
   binary_to number n r = record {
     unit = binary_of r.unit;
     is_size = is.to number r.unit r.is_size;
     is_least = r.is_least;
   }
 
-  binary_from : (number n : ℕ) → IsRead current kind ignore_case other number n
+  binary_from : (number n : ℕ) → IsReadAs as_written current kind ignore_case other number n
       → IsBinaryRead kind ignore_case bytes number n
   binary_from number n r =
       let of = is.from number r.unit r.is_size in

@@ -7,7 +7,7 @@ use Rattle.byte_unit_base.specs.Version.{current}
 use Rattle.byte_unit_base.specs.SizeText.{trim_of}
 use Rattle.byte_unit_base.specs.Fault.{Fault, exceeded, IsSizeFault}
 use Rattle.byte_unit_base.specs.Kinds.{flags_for}
-use Rattle.byte_unit_base.specs.Accepted.{as_written, IsRead, IsAccepted, IsRejected}
+use Rattle.byte_unit_base.specs.Accepted.{as_written, IsReadAs, IsAccepted, IsRejected}
 use Rattle.byte_unit_base.specs.ReaderLaws.{IsOneAnswer, Represents}
 use Rattle.byte_unit_base.specs.Parsed.{parsed_unit, parsed_number, parsed_size, parsed_size_as, rounded_up, size_of_parsed}
 use Rattle.byte_unit_base.specs.ParsedLaws.{GivesAnswer, ParsedUnitsAreSpelled, ParsedNumbersAreRepresented}
@@ -49,7 +49,7 @@ parsed_numbers_are_represented flags bytes = gives_answer _ _ _ _ (one_answer (s
 
 module _ (kind : Kind) (ignore_case : Bool) (bytes : List ℕ) where
   by_size : (below : Bool) (number size : ℕ) → nat_lt size size_limit ≡ below
-      → IsRead current kind ignore_case bytes number size
+      → IsReadAs as_written current kind ignore_case bytes number size
       → IsAnswer (IsAccepted kind ignore_case bytes) (IsRejected kind ignore_case bytes)
       (cond below (Ok size) (Err (exceeded number)))
   by_size true number size e read = record { number = number; is_read = read; below = grind (arith, e) }

@@ -1,7 +1,10 @@
 -- What the parser of a size returns, by the result of parsing its number and unit, in each reading: `meant` is the unit
 -- that it takes for the unit that is written.
 use Rattle.std.proofs.Common.{◌≡◌, ℕ, Bool, List, Some, None, Ok, Err, sym, ap, arith, inl, inr, refl, ◌∙◌}
+use Rattle.std.specs.Str.{IsUtf8}
+use Rattle.std.proofs.lemmas.Str.{IsUtf8-from_ascii}
 use Rattle.byte_unit_base.specs.Shape.{Shape}
+use Rattle.byte_unit_base.specs.Spelling.{Flags}
 use Rattle.byte_unit_base.specs.Version.{current}
 use Rattle.byte_unit_base.specs.Units.{shape_of}
 use Rattle.byte_unit_base.specs.Fault.{exceeded, IsSizeFault}
@@ -22,7 +25,8 @@ use Rattle.byte_unit_base.specs.Errors.{size_fault}
 use Rattle.byte_unit_base.specs.Parsed.{parsed_number, parsed_size_as, rounded_up, size_of_parsed, size_within_limit}
 use Rattle.byte_unit_base.proofs.Computed.{rounded_up_is_least, size_within, size_above}
 use Rattle.byte_unit_base.proofs.Scans.{reads_meaning, reads_fault}
-use Rattle.byte_unit_base.proofs.SizeReads.{size_scan_is}
+use Rattle.byte_unit_base.proofs.SizeAscii.{trimmed_size, size_ascii}
+use Rattle.byte_unit_base.proofs.SizeReads.{size_scan_is, stated_reading}
 use Rattle.byte_unit_base.proofs.Rounding.{least_is_unique}
 
 -- an input has only the number and unit that the parser found, so each of its sizes is that number rounded up
@@ -112,3 +116,12 @@ module _ (meant : Shape → Shape) (kind : Kind) (ignore_case : Bool) (bytes : L
     fault = inr reading.fault;
     computed = sym (parsed_fault error reading.fault);
   }
+
+-- bytes that are a number and a unit are UTF-8, and the same number and unit when trimmed
+pub bytes_number : (flags : Flags) (bytes : List ℕ) (number : ℕ) (unit : UnitName)
+    → IsSizeText current flags bytes number (shape_of unit)
+    → IsUtf8 bytes × IsNumberReading flags bytes (Ok (number, unit))
+bytes_number flags bytes number unit is = (
+  IsUtf8-from_ascii bytes (size_ascii flags bytes number (shape_of unit) is),
+  stated_reading flags bytes (number, unit) (trimmed_size flags bytes number (shape_of unit) is),
+)

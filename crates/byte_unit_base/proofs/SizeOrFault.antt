@@ -1,5 +1,5 @@
--- Each input is accepted as one size, or rejected with one error, in each reading: `meant` is the unit that it takes for
--- the unit that is written.
+-- Each input is accepted as one size, or rejected with one error, in each reading: `meant` is the unit that it takes
+-- for the unit that is written.
 use Rattle.std.proofs.Common.{◌≡◌, ℕ, Bool, List, ◌⊎◌, inl, inr, ⊎_elim, sym, ap, subst, arith, ◌∙◌, refl}
 use Rattle.std.proofs.lemmas.Bool.{cases_lt}
 use Rattle.byte_unit_base.specs.Shape.{Shape}
@@ -57,7 +57,8 @@ module _ (meant : Shape → Shape) (kind : Kind) (ignore_case : Bool) (text : Li
       one_answer.some
 
   -- an input is accepted as one size, or its size is too large, or it is not in the grammar and has one error
-  pub one_of_three : IsOneOfThree (IsAcceptedAs meant current kind ignore_case text) (ExceedsAs meant current kind ignore_case text)
+  pub one_of_three : IsOneOfThree (IsAcceptedAs meant current kind ignore_case text)
+      (ExceedsAs meant current kind ignore_case text)
       (HasFault kind ignore_case text)
   one_of_three = record {
     some = some_of_three;
@@ -90,7 +91,8 @@ module _ (meant : Shape → Shape) (kind : Kind) (ignore_case : Bool) (text : Li
   no_refusal n fault a (inr f) = one_of_three.no_fault n fault a f
 
   -- an input is accepted as one size, or rejected with one error
-  pub accepted_or_refused : IsOneAnswer ℕ (IsAcceptedAs meant current kind ignore_case text) (IsRejectedAs meant current kind ignore_case text)
+  pub accepted_or_refused : IsOneAnswer ℕ (IsAcceptedAs meant current kind ignore_case text)
+      (IsRejectedAs meant current kind ignore_case text)
   accepted_or_refused = record {
     some = ⊎_elim (λ a. inl a) (λ r. inr (refusal r)) one_of_three.some;
     one_meaning = one_of_three.one_size;

@@ -23,10 +23,6 @@ pub record IsReadAs
   pub is_size : IsSizeText version (flags_for kind ignore_case) (trim_of text) number unit
   pub is_least : IsLeastOf kind number (meant unit) n
 
--- the same for the unit that is written
-abbrev pub IsRead : Version → Kind → Bool → List ℕ → ℕ → ℕ → Type 0
-IsRead = IsReadAs as_written
-
 -- the input is accepted as a size of `n` bytes or bits, which is below the limit of the version
 pub record IsAcceptedAs
     (meant : Shape → Shape) (version : Version) (kind : Kind) (ignore_case : Bool) (text : List ℕ) (n : ℕ)

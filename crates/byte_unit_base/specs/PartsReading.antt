@@ -132,8 +132,3 @@ IsNumberEnd bytes (Err stop) = (flags : Flags) → IsStop flags bytes stop
 abbrev pub IsPartsReading : Flags → List ℕ → Result (UnitName × ℕ) Stop → Type 0
 IsPartsReading flags bytes (Ok found) = IsSizeText current flags bytes found.1 (shape_of found.0)
 IsPartsReading flags bytes (Err stop) = IsStop flags bytes stop
-
--- the number and the unit of bytes that are a string, or where the parser stops in them
-abbrev pub IsBytesNumber : Flags → List ℕ → Result (UnitName × ℕ) Stop → Type 0
-IsBytesNumber flags bytes (Ok found) = IsUtf8 bytes × IsNumberReading flags bytes (Ok (found.1, found.0))
-IsBytesNumber flags bytes (Err stop) = IsStop flags bytes stop

@@ -11,8 +11,8 @@ use Rattle.byte_unit_base.specs.declared.kind.Kind.{Kind}
 use Rattle.byte_unit_base.specs.Accepted.{as_written, IsAcceptedAs, ExceedsAs, IsRejectedAs}
 use Rattle.byte_unit_base.specs.Parsed.{parsed_size_as}
 
--- the result is exactly the size that the input is accepted as, or the error that it is rejected with, if this unit is
--- meant by the unit that is written
+-- the result is exactly the size that the input is accepted as, or the error that it is rejected with, by the reading
+-- with this parameter
 pub record IsReadingAs
     (meant : Shape → Shape) (kind : Kind) (ignore_case : Bool) (bytes : List ℕ) (result : Result ℕ ParseError)
     : Type 0 where
@@ -24,8 +24,7 @@ pub record IsReadingAs
   -- the same as an equation, which a proof can compute for a literal; it follows from the others
   pub computed : result_map_both (λ n. n) size_fault result ≡ parsed_size_as meant kind ignore_case bytes
 
--- the result is exactly the size that the input is accepted as, or the error of a size that is too large (with its
--- number, scaled by 10^28), or of an input that is not in the grammar
+-- the result is exactly the size that the input is accepted as, or the error that it is rejected with
 abbrev pub IsSizeReading : Kind → Bool → List ℕ → Result ℕ ParseError → Type 0
 IsSizeReading = IsReadingAs as_written
 

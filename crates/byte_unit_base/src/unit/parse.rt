@@ -3,13 +3,15 @@
 ghost use Rattle.std.specs.Prelude.{◌≡◌, ◌≢◌, ◌≤◌, Bool, length, drop, Some};
 ghost use lib.Lanes.{digits_l};
 ghost use Rattle.byte_unit_base.specs.Spelling.{flags_of};
-ghost use Rattle.byte_unit_base.specs.UnitScan.{count_of};
-ghost use Rattle.byte_unit_base.specs.UnitWord.{letter_power, letters_of, word_of, bits_len};
+ghost use Rattle.byte_unit_base.specs.Units.{shape_of};
+ghost use Rattle.byte_unit_base.specs.UnitScan.{count_of, multiple_shape};
+ghost use Rattle.byte_unit_base.specs.UnitWord.{letter_power, multiple_of, letters_of, word_of, bits_len};
 ghost use Rattle.byte_unit_base.specs.PartsReading.{IsLineOf, IsUnitEnd};
 
 use crate::read::number::eight_at;
 use crate::read::stop::first_char;
-use crate::unit::scan::{Flags, UnitStop, Word, unit_of};
+use crate::unit::scan::{Flags, UnitStop, Word};
+use crate::unit::tables::BY_POWER;
 use crate::{Unit, UnitParseError};
 use std::simd::prelude::*;
 use std::str::FromStr;
@@ -112,6 +114,15 @@ fn letter_power(letter: u8) -> usize
     ensures { result ≡ letter_power letter }
 {
     usize::from(LETTER_POWERS[usize::from(letter)])
+}
+
+/// Returns the unit with the prefix of this position, or without a prefix if it is 0.
+#[inline(always)]
+pub fn unit_of(power: usize, binary: bool, bit: bool) -> Unit
+    requires few { power ≤ 9 }
+    ensures { shape_of result ≡ multiple_shape (multiple_of power binary) bit }
+{
+    BY_POWER[power][2 * usize::from(binary) + usize::from(bit)]
 }
 
 /// Returns how many of eight bytes are the letters of `bits` in either case, from the first on.
