@@ -237,9 +237,7 @@ fn is_ascii_from(bytes: &[u8], from: usize) -> bool
 
 /// Parses as `parse_bytes` does, from bytes in which `read_parts` stops at this place and for this reason.
 ///
-/// The two are passed apart, since a `Stop` would be in memory. `stopped_error` and `parse_text` are called, not
-/// inlined: LLVM then sees that the result is written whole, and does not clear its memory on the way of bytes that are
-/// accepted.
+/// The two are passed apart, since a `Stop` would be in memory.
 ///
 /// Bytes that are accepted come first in speed: if `parse_line` was made of `read_bytes`, whose test for ASCII is
 /// inlined, each line took 3 to 7 % more instructions.
@@ -256,29 +254,13 @@ fn parse_stopped(
     ensures reading { IsBytesReading kind ignore_case bytes.now result }
     ensures bound { IfSome result (λ answer. IfOk answer (λ n. n < size_limit)) }
 {
-    match stopped_error(bytes, place, reason, ignore_case, kind) {
-        Some(error) => Some(Err(error)),
+    match visible_next(bytes, place) {
+        Some(next) => {
+            let flags = flags_for(kind, ignore_case);
+            Some(Err(error_at(next, place == 0, reason, flags)))
+        }
         None => parse_text(bytes, ignore_case, kind),
     }
-}
-
-/// Returns the error of bytes in which `read_parts` stops at this place and for this reason. Returns `None` if there
-/// may be white space to trim, or characters past ASCII.
-#[inline(never)]
-fn stopped_error(
-    bytes: &[u8],
-    place: usize,
-    reason: Reason,
-    ignore_case: bool,
-    kind: Kind,
-) -> Option<ParseError>
-    requires { IsStopAt (flags_for kind ignore_case) bytes.now place reason }
-    ensures { IfSome result
-        (λ error. IsUtf8 bytes.now × IsSizeReading kind ignore_case bytes.now (Err error)) }
-{
-    let next = visible_next(bytes, place)?;
-    let flags = flags_for(kind, ignore_case);
-    Some(error_at(next, place == 0, reason, flags))
 }
 
 /// Parses as `parse_bytes` does, from the string that the bytes are, trimmed.
