@@ -9,7 +9,8 @@ use Rattle.byte_unit_base.specs.Fault.{Fault, exceeded, IsSizeFault}
 use Rattle.byte_unit_base.specs.Kinds.{flags_for}
 use Rattle.byte_unit_base.specs.Accepted.{as_written, IsReadAs, IsAccepted, IsRejected}
 use Rattle.byte_unit_base.specs.ReaderLaws.{IsOneAnswer, Represents}
-use Rattle.byte_unit_base.specs.Parsed.{parsed_unit, parsed_number, parsed_size, parsed_size_as, rounded_up, size_of_parsed}
+use Rattle.byte_unit_base.specs.Parsed.{parsed_unit, parsed_number, parsed_size, parsed_size_as}
+use Rattle.byte_unit_base.specs.Parsed.{rounded_up, size_of_parsed}
 use Rattle.byte_unit_base.specs.ParsedLaws.{GivesAnswer, ParsedUnitsAreSpelled, ParsedNumbersAreRepresented}
 use Rattle.byte_unit_base.specs.ParsedLaws.{ParsedSizesAreAccepted}
 use Rattle.byte_unit_base.specs.declared.kind.Kind.{Kind}
@@ -59,7 +60,8 @@ module _ (kind : Kind) (ignore_case : Bool) (bytes : List ℕ) where
   by_number : (r : Result (ℕ × Shape) Fault)
       → IsAnswer (Represents (flags_for kind ignore_case) (trim_of bytes))
       (IsSizeFault current (flags_for kind ignore_case) (trim_of bytes)) r
-      → IsAnswer (IsAccepted kind ignore_case bytes) (IsRejected kind ignore_case bytes) (size_of_parsed as_written kind r)
+      → IsAnswer (IsAccepted kind ignore_case bytes) (IsRejected kind ignore_case bytes)
+      (size_of_parsed as_written kind r)
   by_number (Ok found) h =
       let size = rounded_up kind found.0 found.1 in
       by_size (nat_lt size size_limit) found.0 size refl

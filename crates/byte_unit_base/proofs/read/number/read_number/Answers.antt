@@ -44,7 +44,8 @@ pub from_digits-number-requires-clause-digits : goal.from_digits-number-requires
 from_digits-number-requires-clause-digits c =
     fraction_below _ _ _ c.leading_digits-end.ensures.end c.leading_digits-end.ensures.bound c.if-end-eq0.false
     c.if-whole-ge-WHOLE_LIMIT.false c.value_of-whole.ensures.exact c.if-end-line.false c.if-line-end-ne46.false
-    _ c.leading_digits-stop.ensures.end c.leading_digits-stop.ensures.bound _ (c.value_of-digits.ensures.few (search rules))
+    _ c.leading_digits-stop.ensures.end c.leading_digits-stop.ensures.bound _
+    (c.value_of-digits.ensures.few (search rules))
 
 pub returns : goal.returns
 returns c =
