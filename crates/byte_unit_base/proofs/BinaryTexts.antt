@@ -1,8 +1,7 @@
 -- The binary reading of an input is the reading of the input with an `i` after its decimal prefix.
-use Rattle.std.proofs.Common.{◌≡◌, ℕ, ◌<◌, Bool, true, false, ◌⊎◌, inl, inr, ⊎_elim, List, [], ◌∷◌, ◌++◌, length}
+use Rattle.std.proofs.Common.{◌≡◌, ◌↔◌, ℕ, ◌<◌, Bool, true, false, ◌⊎◌, inl, inr, ⊎_elim, List, [], ◌∷◌, ◌++◌, length}
 use Rattle.std.proofs.Common.{replicate, Result, Ok, Err, refl, sym, ap, subst, ◌∙◌, arith, append_assoc}
 use Rattle.std.specs.Prelude.{nat_lt}
-use Rattle.std.specs.Result.{result_map_both}
 use Rattle.std.specs.Str.{skip_leading_whitespace, drop_trailing_whitespace}
 use Rattle.std.proofs.lemmas.Bool.{and_parts, cond_both}
 use Rattle.std.proofs.lemmas.Bool.Decides.{nat_tests}
@@ -15,12 +14,11 @@ use Rattle.byte_unit_base.specs.Fault.{Fault, IsSizeFault, letter_i}
 use Rattle.byte_unit_base.specs.Errors.{size_fault}
 use Rattle.byte_unit_base.specs.Kinds.{flags_for}
 use Rattle.byte_unit_base.specs.LeastOfKind.{IsLeastOf}
-use Rattle.byte_unit_base.specs.Accepted.{IsRead, IsAccepted, Exceeds, IsRejected}
+use Rattle.byte_unit_base.specs.Accepted.{as_written, IsReadAs, IsAcceptedAs, ExceedsAs, HasFault, IsRejectedAs}
 use Rattle.byte_unit_base.specs.ReaderLaws.{IsOneAnswer, Represents}
-use Rattle.byte_unit_base.specs.SizeReading.{IsSizeReading}
-use Rattle.byte_unit_base.specs.Parsed.{parsed_number, parsed_size, size_of_parsed}
-use Rattle.byte_unit_base.specs.BinaryReading.{binary_of, binary_parts, parsed_binary_size, IsBinaryRead, IsBinaryAccepted}
-use Rattle.byte_unit_base.specs.BinaryReading.{BinaryExceeds, IsBinaryRejected, IsBinaryReading}
+use Rattle.byte_unit_base.specs.SizeReading.{IsReadingAs, IsSizeReading}
+use Rattle.byte_unit_base.specs.Parsed.{parsed_size, parsed_size_as, size_of_parsed}
+use Rattle.byte_unit_base.specs.BinaryReading.{binary_of, IsBinaryRead, IsBinaryReading}
 use Rattle.byte_unit_base.specs.BinaryLaws.{HasDecimalPrefix, IsWithI, BinaryReadingsAreThoseWithI, EachTextHasOneWithI}
 use Rattle.byte_unit_base.specs.declared.errors.ParseError.{ParseError}
 use Rattle.byte_unit_base.specs.declared.kind.Kind.{Kind}
@@ -195,71 +193,37 @@ module _ (flags : Flags) (text other : List ℕ) where
   binary_text (inl h) = with_prefix h.0 h.1 h.2 h.3
   binary_text (inr h) = without_prefix h.0 h.1
 
--- the binary reading of the input is the reading of the other
-module _ (kind : Kind) (ignore_case : Bool) (bytes other : List ℕ)
-    (is : IsBinaryText (flags_for kind ignore_case) (trim_of bytes) (trim_of other)) where
-  read_to : (number n : ℕ) → IsBinaryRead kind ignore_case bytes number n
-      → IsRead current kind ignore_case other number n
-  read_to number n r = record {
-    unit = binary_of r.unit;
-    is_size = is.to number r.unit r.is_size;
-    is_least = r.is_least;
-  }
-
-  read_from : (number n : ℕ) → IsRead current kind ignore_case other number n
-      → IsBinaryRead kind ignore_case bytes number n
-  read_from number n r =
-      let of = is.from number r.unit r.is_size in
-      record {
-        unit = of.0;
-        is_size = of.1;
-        is_least = subst (λ u. IsLeastOf kind number u n) (sym of.2) r.is_least;
-      }
-
-  accepted_to : (n : ℕ) → IsBinaryAccepted kind ignore_case bytes n → IsAccepted kind ignore_case other n
-  accepted_to n a = record { number = a.number; is_read = read_to a.number n a.is_read; below = a.below }
-
-  accepted_from : (n : ℕ) → IsAccepted kind ignore_case other n → IsBinaryAccepted kind ignore_case bytes n
+-- if the numbers, sizes and errors of one reading of an input are those of another reading of another input, so are its
+-- results
+module _ (meant other_meant : Shape → Shape) (kind : Kind) (ignore_case : Bool) (bytes other : List ℕ)
+    (read_to : (number n : ℕ) → IsReadAs meant current kind ignore_case bytes number n
+    → IsReadAs other_meant current kind ignore_case other number n)
+    (read_from : (number n : ℕ) → IsReadAs other_meant current kind ignore_case other number n
+    → IsReadAs meant current kind ignore_case bytes number n)
+    (fault_to : (fault : Fault) → HasFault kind ignore_case bytes fault → HasFault kind ignore_case other fault)
+    (same_size : parsed_size_as meant kind ignore_case bytes ≡ parsed_size_as other_meant kind ignore_case other) where
+  accepted_from : (n : ℕ) → IsAcceptedAs other_meant current kind ignore_case other n
+      → IsAcceptedAs meant current kind ignore_case bytes n
   accepted_from n a = record { number = a.number; is_read = read_from a.number n a.is_read; below = a.below }
 
-  exceeds_to : (number : ℕ) → BinaryExceeds kind ignore_case bytes number → Exceeds kind ignore_case other number
-  exceeds_to number e = record { size = e.size; is_read = read_to number e.size e.is_read; above = e.above }
-
-  exceeds_from : (number : ℕ) → Exceeds kind ignore_case other number → BinaryExceeds kind ignore_case bytes number
+  exceeds_from : (number : ℕ) → ExceedsAs other_meant current kind ignore_case other number
+      → ExceedsAs meant current kind ignore_case bytes number
   exceeds_from number e = record { size = e.size; is_read = read_from number e.size e.is_read; above = e.above }
 
-  rejected_to : (fault : Fault) → IsBinaryRejected kind ignore_case bytes fault
-      → IsRejected kind ignore_case other fault
-  rejected_to fault (inl e) = inl (e.0, e.1, exceeds_to e.0 e.2)
-  rejected_to fault (inr f) = inr (is.fault_to fault f)
+  rejected_to : (fault : Fault) → IsRejectedAs meant current kind ignore_case bytes fault
+      → IsRejectedAs other_meant current kind ignore_case other fault
+  rejected_to fault (inl e) =
+      inl (e.0, e.1, record { size = e.2.size; is_read = read_to e.0 e.2.size e.2.is_read; above = e.2.above })
+  rejected_to fault (inr f) = inr (fault_to fault f)
 
-  rejected_from : (fault : Fault) → IsRejected kind ignore_case other fault
-      → IsBinaryRejected kind ignore_case bytes fault
-  rejected_from fault (inl e) = inl (e.0, e.1, exceeds_from e.0 e.2)
-  rejected_from fault (inr f) = inr (is.fault_from fault f)
-
-  -- both have the same number, one of the unit and the other of its binary unit, or the same error
-  same_parts : result_map_both binary_parts (λ fault. fault) (parsed_number (flags_for kind ignore_case) bytes)
-      ≡ parsed_number (flags_for kind ignore_case) other
-  same_parts =
-      let flags = flags_for kind ignore_case in
-      let of_bytes = parsed_numbers_are_represented flags bytes in
-      let of_other = parsed_numbers_are_represented flags other in
-      ⊎_elim
-      (λ m. ap (result_map_both binary_parts (λ fault. fault)) ((of_bytes.is_meaning m.0).1 m.1)
-      ∙ sym ((of_other.is_meaning (binary_parts m.0)).1 (is.to m.0.0 m.0.1 m.1)))
-      (λ f. ap (result_map_both binary_parts (λ fault. fault)) ((of_bytes.is_fault f.0).1 f.1)
-      ∙ sym ((of_other.is_fault f.0).1 (is.fault_to f.0 f.1)))
-      (one_answer flags (trim_of bytes)).some
-
-  same_size : parsed_binary_size kind ignore_case bytes ≡ parsed_size kind ignore_case other
-  unfolding parsed_binary_size parsed_size
-  same_size = ap (size_of_parsed kind) same_parts
-
-  reading_to : (result : Result ℕ ParseError) → IsBinaryReading kind ignore_case bytes result
-      → IsSizeReading kind ignore_case other result
+  reading_to : (result : Result ℕ ParseError) → IsReadingAs meant kind ignore_case bytes result
+      → IsReadingAs other_meant kind ignore_case other result
   reading_to (Ok n) r = record {
-    found = accepted_to n r.found;
+    found = record {
+      number = r.found.number;
+      is_read = read_to r.found.number n r.found.is_read;
+      below = r.found.below;
+    };
     reads = λ m a. r.reads m (accepted_from m a);
     exceeds = λ number e. r.exceeds number (exceeds_from number e);
     fault = tt;
@@ -273,28 +237,55 @@ module _ (kind : Kind) (ignore_case : Bool) (bytes other : List ℕ)
     computed = r.computed ∙ same_size;
   }
 
-  reading_from : (result : Result ℕ ParseError) → IsSizeReading kind ignore_case other result
-      → IsBinaryReading kind ignore_case bytes result
-  reading_from (Ok n) r = record {
-    found = accepted_from n r.found;
-    reads = λ m a. r.reads m (accepted_to m a);
-    exceeds = λ number e. r.exceeds number (exceeds_to number e);
-    fault = tt;
-    computed = r.computed ∙ sym same_size;
+-- the binary reading of the input is the reading of the other
+module _ (kind : Kind) (ignore_case : Bool) (bytes other : List ℕ)
+    (is : IsBinaryText (flags_for kind ignore_case) (trim_of bytes) (trim_of other)) where
+  binary_to : (number n : ℕ) → IsBinaryRead kind ignore_case bytes number n
+      → IsReadAs as_written current kind ignore_case other number n
+  binary_to number n r = record {
+    unit = binary_of r.unit;
+    is_size = is.to number r.unit r.is_size;
+    is_least = r.is_least;
   }
-  reading_from (Err error) r = record {
-    found = tt;
-    reads = λ m a. r.reads m (accepted_to m a);
-    exceeds = λ number e. r.exceeds number (exceeds_to number e);
-    fault = rejected_from (size_fault error) r.fault;
-    computed = r.computed ∙ sym same_size;
-  }
+
+  binary_from : (number n : ℕ) → IsReadAs as_written current kind ignore_case other number n
+      → IsBinaryRead kind ignore_case bytes number n
+  binary_from number n r =
+      let of = is.from number r.unit r.is_size in
+      record {
+        unit = of.0;
+        is_size = of.1;
+        is_least = subst (λ u. IsLeastOf kind number u n) (sym of.2) r.is_least;
+      }
+
+  -- both have the same number, one of the unit and the other of its binary unit, or the same error
+  same_parsed : parsed_size_as binary_of kind ignore_case bytes ≡ parsed_size kind ignore_case other
+  unfolding parsed_size_as
+  same_parsed =
+      let flags = flags_for kind ignore_case in
+      let of_bytes = parsed_numbers_are_represented flags bytes in
+      let of_other = parsed_numbers_are_represented flags other in
+      ⊎_elim
+      (λ m. ap (size_of_parsed binary_of kind) ((of_bytes.is_meaning m.0).1 m.1)
+      ∙ sym (ap (size_of_parsed as_written kind)
+      ((of_other.is_meaning (m.0.0, binary_of m.0.1)).1 (is.to m.0.0 m.0.1 m.1))))
+      (λ f. ap (size_of_parsed binary_of kind) ((of_bytes.is_fault f.0).1 f.1)
+      ∙ sym (ap (size_of_parsed as_written kind) ((of_other.is_fault f.0).1 (is.fault_to f.0 f.1))))
+      (one_answer flags (trim_of bytes)).some
+
+  same_reading : (result : Result ℕ ParseError)
+      → IsBinaryReading kind ignore_case bytes result ↔ IsSizeReading kind ignore_case other result
+  same_reading result = (
+    reading_to binary_of as_written kind ignore_case bytes other binary_to binary_from is.fault_to same_parsed result,
+    reading_to as_written binary_of kind ignore_case other bytes binary_from binary_to is.fault_from (sym same_parsed)
+        result,
+  )
 
 -- the binary reading of an input is the reading of the input with an `i` after its decimal prefix
 pub readings_with_i : BinaryReadingsAreThoseWithI
-readings_with_i kind ignore_case bytes other h result =
-    let is = binary_text (flags_for kind ignore_case) (trim_of bytes) (trim_of other) h in
-    (reading_to kind ignore_case bytes other is result, reading_from kind ignore_case bytes other is result)
+readings_with_i kind ignore_case bytes other h =
+    same_reading kind ignore_case bytes other
+    (binary_text (flags_for kind ignore_case) (trim_of bytes) (trim_of other) h)
 
 -- trimming changes nothing of a text with an `i` after its prefix
 

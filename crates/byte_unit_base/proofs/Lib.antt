@@ -19,7 +19,6 @@ pub mod SizeOfText
 pub mod SizeOrFault
 pub mod ParsedTexts
 pub mod BinaryUnits
-pub mod BinarySizes
 pub mod BinaryTexts
 pub mod OnLiterals
 pub mod ErrorTexts

@@ -7,9 +7,10 @@ use Rattle.byte_unit_base.specs.Version.{current}
 use Rattle.byte_unit_base.specs.SizeText.{trim_of}
 use Rattle.byte_unit_base.specs.Fault.{Fault, exceeded, IsSizeFault}
 use Rattle.byte_unit_base.specs.Kinds.{flags_for}
-use Rattle.byte_unit_base.specs.Accepted.{IsRead, IsAccepted, IsRejected}
+use Rattle.byte_unit_base.specs.Accepted.{as_written, IsReadAs, IsAccepted, IsRejected}
 use Rattle.byte_unit_base.specs.ReaderLaws.{IsOneAnswer, Represents}
-use Rattle.byte_unit_base.specs.Parsed.{parsed_unit, parsed_number, parsed_size, rounded_up, size_of_parsed}
+use Rattle.byte_unit_base.specs.Parsed.{parsed_unit, parsed_number, parsed_size, parsed_size_as}
+use Rattle.byte_unit_base.specs.Parsed.{rounded_up, size_of_parsed}
 use Rattle.byte_unit_base.specs.ParsedLaws.{GivesAnswer, ParsedUnitsAreSpelled, ParsedNumbersAreRepresented}
 use Rattle.byte_unit_base.specs.ParsedLaws.{ParsedSizesAreAccepted}
 use Rattle.byte_unit_base.specs.declared.kind.Kind.{Kind}
@@ -49,7 +50,7 @@ parsed_numbers_are_represented flags bytes = gives_answer _ _ _ _ (one_answer (s
 
 module _ (kind : Kind) (ignore_case : Bool) (bytes : List ℕ) where
   by_size : (below : Bool) (number size : ℕ) → nat_lt size size_limit ≡ below
-      → IsRead current kind ignore_case bytes number size
+      → IsReadAs as_written current kind ignore_case bytes number size
       → IsAnswer (IsAccepted kind ignore_case bytes) (IsRejected kind ignore_case bytes)
       (cond below (Ok size) (Err (exceeded number)))
   by_size true number size e read = record { number = number; is_read = read; below = grind (arith, e) }
@@ -59,7 +60,8 @@ module _ (kind : Kind) (ignore_case : Bool) (bytes : List ℕ) where
   by_number : (r : Result (ℕ × Shape) Fault)
       → IsAnswer (Represents (flags_for kind ignore_case) (trim_of bytes))
       (IsSizeFault current (flags_for kind ignore_case) (trim_of bytes)) r
-      → IsAnswer (IsAccepted kind ignore_case bytes) (IsRejected kind ignore_case bytes) (size_of_parsed kind r)
+      → IsAnswer (IsAccepted kind ignore_case bytes) (IsRejected kind ignore_case bytes)
+      (size_of_parsed as_written kind r)
   by_number (Ok found) h =
       let size = rounded_up kind found.0 found.1 in
       by_size (nat_lt size size_limit) found.0 size refl
@@ -68,10 +70,10 @@ module _ (kind : Kind) (ignore_case : Bool) (bytes : List ℕ) where
 
   size_is_answer : IsAnswer (IsAccepted kind ignore_case bytes) (IsRejected kind ignore_case bytes)
       (parsed_size kind ignore_case bytes)
-  unfolding parsed_size parsed_number
+  unfolding parsed_size_as parsed_number
   size_is_answer =
       by_number _ (reads_meaning_or_fault (size_scan_is (flags_for kind ignore_case)) (trim_of bytes))
 
 pub parsed_sizes_are_accepted : ParsedSizesAreAccepted
 parsed_sizes_are_accepted kind ignore_case bytes =
-    gives_answer _ _ _ _ (accepted_or_refused kind ignore_case bytes) (size_is_answer kind ignore_case bytes)
+    gives_answer _ _ _ _ (accepted_or_refused as_written kind ignore_case bytes) (size_is_answer kind ignore_case bytes)

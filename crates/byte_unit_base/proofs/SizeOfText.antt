@@ -1,5 +1,10 @@
--- What the parser of a size returns, by the result of parsing its number and unit.
+-- What the parser of a size returns, by the result of parsing its number and unit, in each reading: `meant` is the unit
+-- that it takes for the unit that is written.
 use Rattle.std.proofs.Common.{◌≡◌, ℕ, Bool, List, Some, None, Ok, Err, sym, ap, arith, inl, inr, refl, ◌∙◌}
+use Rattle.std.specs.Str.{IsUtf8}
+use Rattle.std.proofs.lemmas.Str.{IsUtf8-from_ascii}
+use Rattle.byte_unit_base.specs.Shape.{Shape}
+use Rattle.byte_unit_base.specs.Spelling.{Flags}
 use Rattle.byte_unit_base.specs.Version.{current}
 use Rattle.byte_unit_base.specs.Units.{shape_of}
 use Rattle.byte_unit_base.specs.Fault.{exceeded, IsSizeFault}
@@ -12,51 +17,54 @@ use Rattle.byte_unit_base.specs.LeastOfKind.{IsLeastOf}
 use Rattle.byte_unit_base.specs.SizeOrNone.{IsSizeOrNone}
 use Rattle.byte_unit_base.specs.Kinds.{flags_for}
 use Rattle.byte_unit_base.specs.Readings.{IsNumberReading}
-use Rattle.byte_unit_base.specs.Accepted.{IsRead}
-use Rattle.byte_unit_base.specs.SizeReading.{IsSizeReading}
+use Rattle.byte_unit_base.specs.Accepted.{IsReadAs}
+use Rattle.byte_unit_base.specs.SizeReading.{IsReadingAs}
 use Rattle.byte_unit_base.specs.SizeText.{trim_of, IsSizeText}
 use Rattle.byte_unit_base.specs.SizeScan.{with_shape}
 use Rattle.byte_unit_base.specs.Errors.{size_fault}
-use Rattle.byte_unit_base.specs.Parsed.{parsed_number, parsed_size, rounded_up, size_of_parsed, size_within_limit}
+use Rattle.byte_unit_base.specs.Parsed.{parsed_number, parsed_size_as, rounded_up, size_of_parsed, size_within_limit}
 use Rattle.byte_unit_base.proofs.Computed.{rounded_up_is_least, size_within, size_above}
 use Rattle.byte_unit_base.proofs.Scans.{reads_meaning, reads_fault}
-use Rattle.byte_unit_base.proofs.SizeReads.{size_scan_is}
+use Rattle.byte_unit_base.proofs.SizeAscii.{trimmed_size, size_ascii}
+use Rattle.byte_unit_base.proofs.SizeReads.{size_scan_is, stated_reading}
 use Rattle.byte_unit_base.proofs.Rounding.{least_is_unique}
 
 -- an input has only the number and unit that the parser found, so each of its sizes is that number rounded up
-found_as_read : {kind : Kind} {ignore_case : Bool} {bytes : List ℕ} {found : ℕ × UnitName} {number n : ℕ}
-    → IsNumberReading (flags_for kind ignore_case) bytes (Ok found)
-    → IsRead current kind ignore_case bytes number n → (found.0 ≡ number) × IsLeastOf kind found.0 (shape_of found.1) n
+found_as_read : {meant : Shape → Shape} {kind : Kind} {ignore_case : Bool} {bytes : List ℕ} {found : ℕ × UnitName}
+    {number n : ℕ} → IsNumberReading (flags_for kind ignore_case) bytes (Ok found)
+    → IsReadAs meant current kind ignore_case bytes number n
+    → (found.0 ≡ number) × IsLeastOf kind found.0 (meant (shape_of found.1)) n
 found_as_read {number} reading read =
     let same = reading.reads number read.unit read.is_size in (same.0, rw (same.0, same.1) read.is_least)
 
 -- the parser as a function finds the number and unit that the parser found, rounds the number up, and gives the result
 -- by the size
 
-module _ (kind : Kind) (ignore_case : Bool) (bytes : List ℕ) where
+module _ (meant : Shape → Shape) (kind : Kind) (ignore_case : Bool) (bytes : List ℕ) where
   parsed_found : (found : ℕ × UnitName)
       → IsSizeText current (flags_for kind ignore_case) (trim_of bytes) found.0 (shape_of found.1)
-      → parsed_size kind ignore_case bytes ≡ size_within_limit found.0 (rounded_up kind found.0 (shape_of found.1))
-  unfolding parsed_size parsed_number
+      → parsed_size_as meant kind ignore_case bytes
+      ≡ size_within_limit found.0 (rounded_up kind found.0 (meant (shape_of found.1)))
+  unfolding parsed_size_as parsed_number
   parsed_found found h =
-      ap (size_of_parsed kind)
+      ap (size_of_parsed meant kind)
       (reads_meaning (size_scan_is (flags_for kind ignore_case)) (trim_of bytes) (with_shape found) h)
 
   parsed_fault : (error : ParseError)
       → IsSizeFault current (flags_for kind ignore_case) (trim_of bytes) (size_fault error)
-      → parsed_size kind ignore_case bytes ≡ Err (size_fault error)
-  unfolding parsed_size parsed_number
+      → parsed_size_as meant kind ignore_case bytes ≡ Err (size_fault error)
+  unfolding parsed_size_as parsed_number
   parsed_fault error h =
-      ap (size_of_parsed kind)
+      ap (size_of_parsed meant kind)
       (reads_fault (size_scan_is (flags_for kind ignore_case)) (trim_of bytes) (size_fault error) h)
 
   -- the result if the number and unit give a size
   pub reading_of_size : (found : ℕ × UnitName) (n : ℕ)
       → IsNumberReading (flags_for kind ignore_case) bytes (Ok found)
-      → IsSizeOrNone (IsLeastOf kind found.0 (shape_of found.1)) (Some n)
-      → IsSizeReading kind ignore_case bytes (Ok n)
+      → IsSizeOrNone (IsLeastOf kind found.0 (meant (shape_of found.1))) (Some n)
+      → IsReadingAs meant kind ignore_case bytes (Ok n)
   reading_of_size found n reading size =
-      let unique = least_is_unique kind found.0 (shape_of found.1) in
+      let unique = least_is_unique kind found.0 (meant (shape_of found.1)) in
       record {
         found = record {
           number = found.0;
@@ -69,7 +77,7 @@ module _ (kind : Kind) (ignore_case : Bool) (bytes : List ℕ) where
             absurd (omega (arith, same, size.1, e.above));
         fault = tt;
         computed =
-            let same = unique _ n (rounded_up_is_least kind found.0 (shape_of found.1)) size.0 in
+            let same = unique _ n (rounded_up_is_least kind found.0 (meant (shape_of found.1))) size.0 in
             sym (parsed_found found reading.found
             ∙ (ap (size_within_limit found.0) same ∙ size_within found.0 n size.1));
       }
@@ -77,11 +85,11 @@ module _ (kind : Kind) (ignore_case : Bool) (bytes : List ℕ) where
   -- the result if the size of the number and unit reaches the limit: an error with the number
   pub reading_of_excess : (found : ℕ × UnitName)
       → IsNumberReading (flags_for kind ignore_case) bytes (Ok found)
-      → IsSizeOrNone (IsLeastOf kind found.0 (shape_of found.1)) None
-      → IsSizeReading kind ignore_case bytes (Err (Value (ExceededBounds found.0)))
+      → IsSizeOrNone (IsLeastOf kind found.0 (meant (shape_of found.1))) None
+      → IsReadingAs meant kind ignore_case bytes (Err (Value (ExceededBounds found.0)))
   reading_of_excess found reading none =
-      let rounded = rounded_up kind found.0 (shape_of found.1) in
-      let least = rounded_up_is_least kind found.0 (shape_of found.1) in
+      let rounded = rounded_up kind found.0 (meant (shape_of found.1)) in
+      let least = rounded_up_is_least kind found.0 (meant (shape_of found.1)) in
       record {
         found = tt;
         reads = λ m a. let other = found_as_read reading a.is_read in absurd (omega (arith, none m other.1, a.below));
@@ -100,7 +108,7 @@ module _ (kind : Kind) (ignore_case : Bool) (bytes : List ℕ) where
 
   -- the result if the input is not a number and a unit: its error
   pub reading_of_fault : (error : ParseError) → IsNumberReading (flags_for kind ignore_case) bytes (Err error)
-      → IsSizeReading kind ignore_case bytes (Err error)
+      → IsReadingAs meant kind ignore_case bytes (Err error)
   reading_of_fault error reading = record {
     found = tt;
     reads = λ m a. absurd (reading.reads a.number a.is_read.unit a.is_read.is_size);
@@ -108,3 +116,12 @@ module _ (kind : Kind) (ignore_case : Bool) (bytes : List ℕ) where
     fault = inr reading.fault;
     computed = sym (parsed_fault error reading.fault);
   }
+
+-- bytes that are a number and a unit are UTF-8, and the same number and unit when trimmed
+pub bytes_number : (flags : Flags) (bytes : List ℕ) (number : ℕ) (unit : UnitName)
+    → IsSizeText current flags bytes number (shape_of unit)
+    → IsUtf8 bytes × IsNumberReading flags bytes (Ok (number, unit))
+bytes_number flags bytes number unit is = (
+  IsUtf8-from_ascii bytes (size_ascii flags bytes number (shape_of unit) is),
+  stated_reading flags bytes (number, unit) (trimmed_size flags bytes number (shape_of unit) is),
+)

@@ -2,9 +2,11 @@
 use Rattle.std.proofs.Common.{◌≡◌, ℕ, zero, suc, ◌+◌, ◌*◌, ◌/◌, ◌%◌, ◌^◌, ◌≤◌, List, [], ◌∷◌, ◌++◌, Bool, true, false}
 use Rattle.std.proofs.Common.{not, eqb, ◌&&◌, ◌||◌, length, take, drop, Option, Some, None, zero-add, refl, sym, ap}
 use Rattle.std.proofs.Common.{◌∙◌, arith, get_or, replicate, append_assoc, length-append, Fits, w8}
+use Rattle.std.proofs.Common.{◌<◌, eqb→eq, slice_index_or}
 use Rattle.std.specs.Char.{to_ascii_lowercase}
 use Rattle.std.proofs.lemmas.Bool.Decides.{nat_tests}
 use Rattle.core.specs.Int.Digits.{AllBelowBase}
+use Rattle.core.proofs.dec2flt.DigitsLemmas.{every_below}
 use Rattle.core.proofs.dec2flt.Eight.{bytes_of, bytes-drop, zeros_after}
 use lib.Lanes.{digits_l, number_l}
 use mir.Val.{bool_byte}
@@ -16,9 +18,24 @@ use Rattle.byte_unit_base.specs.UnitWord.{letter_power, multiple_of, word_of, bi
 use Rattle.byte_unit_base.specs.UnitScan.{Multiple}
 use Rattle.byte_unit_base.specs.UnitScan.{One, Decimal, Binary}
 use Rattle.byte_unit_base.specs.UnitScan.{Empty}
+use Rattle.byte_unit_base.specs.declared.unit.parse.TheConstants.{LETTER_POWERS}
 use Rattle.byte_unit_base.proofs.Lines.{rest_of_line}
 use Rattle.byte_unit_base.proofs.UnitReached.{prefix_found}
 use Rattle.byte_unit_base.proofs.UnitStops.{walk, walk_line, walk_leads}
+
+-- the table has the position of each letter's prefix at its byte
+pub power_in_table : (letter : ℕ) → letter < 256 → slice_index_or LETTER_POWERS letter 0 ≡ letter_power letter
+power_in_table letter below =
+    let is = λ (c : ℕ). eqb (slice_index_or LETTER_POWERS c 0) (letter_power c) in
+    eqb→eq _ (letter_power letter) (every_below is 256 tt letter below)
+
+-- there are nine prefixes
+pub power_few : (letter : ℕ) → letter_power letter ≤ 9
+power_few letter =
+    elim (prefix_at letter) as (λ found. prefix_at letter ≡ found → elim found [ Some p ↦ p | None ↦ 0 ] ≤ 9) [
+      | Some p ↦ λ is. omega (arith, (prefix_found letter p is).1)
+      | None ↦ λ is. omega arith
+    ] refl
 
 -- the unit of the prefix at a position has this position
 pub shape_of_power : (n : ℕ) → 1 ≤ n → n ≤ 9 → (binary bit : Bool)

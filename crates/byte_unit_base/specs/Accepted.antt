@@ -1,4 +1,6 @@
--- What it means that an input is accepted as a size, or rejected. An input is given by its UTF-8 bytes.
+-- What it means that an input is accepted as a size, or rejected. An input is given by its UTF-8 bytes. A parameter,
+-- `meant`, is the unit that a reading takes for the unit that is written: that unit, or its binary unit
+-- (`BinaryReading`).
 use Rattle.std.specs.Prelude.{◌≡◌, ℕ, ◌<◌, ◌≤◌, ◌⊎◌, Bool, List}
 use Rattle.byte_unit_base.specs.Shape.{Shape}
 use Rattle.byte_unit_base.specs.Version.{Version, current}
@@ -8,18 +10,30 @@ use Rattle.byte_unit_base.specs.declared.kind.Kind.{Kind}
 use Rattle.byte_unit_base.specs.Kinds.{flags_for}
 use Rattle.byte_unit_base.specs.LeastOfKind.{IsLeastOf}
 
--- without the white space at its ends, the input is `number` (scaled by 10^28) of some unit, and `n` is that size,
--- rounded up to a whole number of bytes or bits
-pub record IsRead (version : Version) (kind : Kind) (ignore_case : Bool) (text : List ℕ) (number n : ℕ) : Type 0 where
+-- the unit that is written is the one that is meant
+abbrev pub as_written : Shape → Shape
+as_written unit = unit
+
+-- without the white space at its ends, the input is `number` (scaled by 10^28) of some unit, and `n` is that number of
+-- the unit that is meant, rounded up to a whole number of bytes or bits
+pub record IsReadAs
+    (meant : Shape → Shape) (version : Version) (kind : Kind) (ignore_case : Bool) (text : List ℕ) (number n : ℕ)
+    : Type 0 where
   pub unit : Shape
   pub is_size : IsSizeText version (flags_for kind ignore_case) (trim_of text) number unit
-  pub is_least : IsLeastOf kind number unit n
+  pub is_least : IsLeastOf kind number (meant unit) n
 
 -- the input is accepted as a size of `n` bytes or bits, which is below the limit of the version
-pub record IsAcceptedIn (version : Version) (kind : Kind) (ignore_case : Bool) (text : List ℕ) (n : ℕ) : Type 0 where
+pub record IsAcceptedAs
+    (meant : Shape → Shape) (version : Version) (kind : Kind) (ignore_case : Bool) (text : List ℕ) (n : ℕ)
+    : Type 0 where
   pub number : ℕ
-  pub is_read : IsRead version kind ignore_case text number n
+  pub is_read : IsReadAs meant version kind ignore_case text number n
   pub below : n < version.size_limit
+
+-- the same for the unit that is written
+abbrev pub IsAcceptedIn : Version → Kind → Bool → List ℕ → ℕ → Type 0
+IsAcceptedIn = IsAcceptedAs as_written
 
 -- The string is accepted as the size n in the current version.
 abbrev pub IsAccepted : Kind → Bool → List ℕ → ℕ → Type 0
@@ -27,10 +41,16 @@ IsAccepted = IsAcceptedIn current
 
 -- the input is in the grammar, but its size reaches the limit of the version; `number` is its number as written, scaled
 -- by 10^28
-pub record ExceedsIn (version : Version) (kind : Kind) (ignore_case : Bool) (text : List ℕ) (number : ℕ) : Type 0 where
+pub record ExceedsAs
+    (meant : Shape → Shape) (version : Version) (kind : Kind) (ignore_case : Bool) (text : List ℕ) (number : ℕ)
+    : Type 0 where
   pub size : ℕ
-  pub is_read : IsRead version kind ignore_case text number size
+  pub is_read : IsReadAs meant version kind ignore_case text number size
   pub above : version.size_limit ≤ size
+
+-- the same for the unit that is written
+abbrev pub ExceedsIn : Version → Kind → Bool → List ℕ → ℕ → Type 0
+ExceedsIn = ExceedsAs as_written
 
 -- The string is in the grammar of the current version, but its size, with this number as it is written, is 10^30 or
 -- more.
@@ -47,10 +67,14 @@ abbrev pub HasFault : Kind → Bool → List ℕ → Fault → Type 0
 HasFault = HasFaultIn current
 
 -- the input is rejected with this error: its size is too large, or it is not in the grammar
-abbrev pub IsRejectedIn : Version → Kind → Bool → List ℕ → Fault → Type 0
-IsRejectedIn version kind ignore_case text fault =
-    ((number : ℕ) × (fault ≡ exceeded number) × ExceedsIn version kind ignore_case text number)
+abbrev pub IsRejectedAs : (Shape → Shape) → Version → Kind → Bool → List ℕ → Fault → Type 0
+IsRejectedAs meant version kind ignore_case text fault =
+    ((number : ℕ) × (fault ≡ exceeded number) × ExceedsAs meant version kind ignore_case text number)
     ⊎ HasFaultIn version kind ignore_case text fault
+
+-- the same for the unit that is written
+abbrev pub IsRejectedIn : Version → Kind → Bool → List ℕ → Fault → Type 0
+IsRejectedIn = IsRejectedAs as_written
 
 -- The string is rejected with this error in the current version.
 abbrev pub IsRejected : Kind → Bool → List ℕ → Fault → Type 0

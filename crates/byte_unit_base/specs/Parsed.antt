@@ -9,6 +9,7 @@ use Rattle.byte_unit_base.specs.Spelling.{Flags}
 use Rattle.byte_unit_base.specs.SizeText.{trim_of}
 use Rattle.byte_unit_base.specs.Fault.{Fault, exceeded}
 use Rattle.byte_unit_base.specs.Kinds.{flags_for, bits_in}
+use Rattle.byte_unit_base.specs.Accepted.{as_written}
 use Rattle.byte_unit_base.specs.Scan.{read}
 use Rattle.byte_unit_base.specs.UnitScan.{unit_scan, start}
 use Rattle.byte_unit_base.specs.SizeScan.{size_scan}
@@ -36,11 +37,16 @@ rounded_up kind N unit = (N * bits unit + (scale * bits_in kind - 1)) / (scale *
 abbrev pub size_within_limit : ℕ → ℕ → Result ℕ Fault
 size_within_limit number size = if nat_lt size size_limit then Ok size else Err (exceeded number)
 
--- the size of this number and this unit, or the error
-abbrev pub size_of_parsed : Kind → Result (ℕ × Shape) Fault → Result ℕ Fault
-size_of_parsed kind (Ok found) = size_within_limit found.0 (rounded_up kind found.0 found.1)
-size_of_parsed kind (Err fault) = Err fault
+-- the size of this number and of the unit that is meant, or the error
+abbrev pub size_of_parsed : (Shape → Shape) → Kind → Result (ℕ × Shape) Fault → Result ℕ Fault
+size_of_parsed meant kind (Ok found) = size_within_limit found.0 (rounded_up kind found.0 (meant found.1))
+size_of_parsed meant kind (Err fault) = Err fault
 
 -- the size that the input is accepted as, or the error that it is rejected with
-unfoldable pub parsed_size : Kind → Bool → List ℕ → Result ℕ Fault
-parsed_size kind ignore_case bytes = size_of_parsed kind (parsed_number (flags_for kind ignore_case) bytes)
+unfoldable pub parsed_size_as : (Shape → Shape) → Kind → Bool → List ℕ → Result ℕ Fault
+parsed_size_as meant kind ignore_case bytes =
+    size_of_parsed meant kind (parsed_number (flags_for kind ignore_case) bytes)
+
+-- the same for the unit that is written
+abbrev pub parsed_size : Kind → Bool → List ℕ → Result ℕ Fault
+parsed_size = parsed_size_as as_written

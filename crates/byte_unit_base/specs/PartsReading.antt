@@ -16,7 +16,6 @@ use Rattle.byte_unit_base.specs.UnitScan.{UnitScan, unit_of, unit_step, start}
 use Rattle.byte_unit_base.specs.UnitWord.{unit_stop, stop_parser_state}
 use Rattle.byte_unit_base.specs.SizeScan.{SizeScan, Beginning, size_step, size_scan, size_at_end, size_or_fault}
 use Rattle.byte_unit_base.specs.SizeScan.{size_parser_state, after_number}
-use Rattle.byte_unit_base.specs.Readings.{IsNumberReading}
 use Rattle.byte_unit_base.specs.declared.unit.Unit.{Unit as UnitName}
 use Rattle.byte_unit_base.specs.declared.read.stop.Stop.{Stop}
 use Rattle.byte_unit_base.specs.declared.read.stop.Reason.{Reason}
@@ -132,8 +131,3 @@ IsNumberEnd bytes (Err stop) = (flags : Flags) → IsStop flags bytes stop
 abbrev pub IsPartsReading : Flags → List ℕ → Result (UnitName × ℕ) Stop → Type 0
 IsPartsReading flags bytes (Ok found) = IsSizeText current flags bytes found.1 (shape_of found.0)
 IsPartsReading flags bytes (Err stop) = IsStop flags bytes stop
-
--- the number and the unit of bytes that are a string, or where the parser stops in them
-abbrev pub IsBytesNumber : Flags → List ℕ → Result (UnitName × ℕ) Stop → Type 0
-IsBytesNumber flags bytes (Ok found) = IsUtf8 bytes × IsNumberReading flags bytes (Ok (found.1, found.0))
-IsBytesNumber flags bytes (Err stop) = IsStop flags bytes stop

@@ -2,30 +2,41 @@
 use Rattle.std.specs.Prelude.{◌≡◌, ℕ, Bool, false, List, Option, MatchOption, Result, Ok, IfOk, IfErr, IsErrAnd}
 use Rattle.std.specs.Result.{result_map_both}
 use Rattle.std.specs.Str.{IsUtf8, is_utf8}
+use Rattle.byte_unit_base.specs.Shape.{Shape}
+use Rattle.byte_unit_base.specs.Version.{current}
 use Rattle.byte_unit_base.specs.Fault.{exceeded}
 use Rattle.byte_unit_base.specs.Errors.{size_fault}
 use Rattle.byte_unit_base.specs.declared.errors.ParseError.{ParseError}
 use Rattle.byte_unit_base.specs.declared.kind.Kind.{Kind}
-use Rattle.byte_unit_base.specs.Accepted.{IsAccepted, Exceeds, IsRejected}
-use Rattle.byte_unit_base.specs.Parsed.{parsed_size}
+use Rattle.byte_unit_base.specs.Accepted.{as_written, IsAcceptedAs, ExceedsAs, IsRejectedAs}
+use Rattle.byte_unit_base.specs.Parsed.{parsed_size_as}
 
--- the result is exactly the size that the input is accepted as, or the error of a size that is too large (with its
--- number, scaled by 10^28), or of an input that is not in the grammar
-pub record IsSizeReading
-    (kind : Kind) (ignore_case : Bool) (bytes : List ℕ) (result : Result ℕ ParseError) : Type 0 where
-  pub found : IfOk result (IsAccepted kind ignore_case bytes)
-  pub reads : (n : ℕ) → IsAccepted kind ignore_case bytes n → result ≡ Ok n
-  pub exceeds : (number : ℕ) → Exceeds kind ignore_case bytes number
+-- the result is exactly the size that the input is accepted as, or the error that it is rejected with, by the reading
+-- with this parameter
+pub record IsReadingAs
+    (meant : Shape → Shape) (kind : Kind) (ignore_case : Bool) (bytes : List ℕ) (result : Result ℕ ParseError)
+    : Type 0 where
+  pub found : IfOk result (IsAcceptedAs meant current kind ignore_case bytes)
+  pub reads : (n : ℕ) → IsAcceptedAs meant current kind ignore_case bytes n → result ≡ Ok n
+  pub exceeds : (number : ℕ) → ExceedsAs meant current kind ignore_case bytes number
       → IsErrAnd result (λ error. size_fault error ≡ exceeded number)
-  pub fault : IfErr result (λ error. IsRejected kind ignore_case bytes (size_fault error))
+  pub fault : IfErr result (λ error. IsRejectedAs meant current kind ignore_case bytes (size_fault error))
   -- the same as an equation, which a proof can compute for a literal; it follows from the others
-  pub computed : result_map_both (λ n. n) size_fault result ≡ parsed_size kind ignore_case bytes
+  pub computed : result_map_both (λ n. n) size_fault result ≡ parsed_size_as meant kind ignore_case bytes
+
+-- the result is exactly the size that the input is accepted as, or the error that it is rejected with
+abbrev pub IsSizeReading : Kind → Bool → List ℕ → Result ℕ ParseError → Type 0
+IsSizeReading = IsReadingAs as_written
 
 -- the bytes are not UTF-8; the second part says it as an equation, which a proof can compute for a literal
 abbrev pub IsNotUtf8 : List ℕ → Type 0
 IsNotUtf8 bytes = ¬ IsUtf8 bytes × (is_utf8 bytes ≡ false)
 
+-- `None` if the bytes are not UTF-8, and otherwise a reading as a string
+abbrev pub IsBytesReadingAs : (Shape → Shape) → Kind → Bool → List ℕ → Option (Result ℕ ParseError) → Type 0
+IsBytesReadingAs meant kind ignore_case bytes result =
+    MatchOption result (IsNotUtf8 bytes) (λ answer. IsUtf8 bytes × IsReadingAs meant kind ignore_case bytes answer)
+
 -- `None` if the bytes are not UTF-8, and otherwise the result of parsing them as a string
 abbrev pub IsBytesReading : Kind → Bool → List ℕ → Option (Result ℕ ParseError) → Type 0
-IsBytesReading kind ignore_case bytes result =
-    MatchOption result (IsNotUtf8 bytes) (λ answer. IsUtf8 bytes × IsSizeReading kind ignore_case bytes answer)
+IsBytesReading = IsBytesReadingAs as_written

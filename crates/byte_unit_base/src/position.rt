@@ -2,13 +2,14 @@
 //!
 //! These calls parse the string once more, character by character, so that no parser keeps an index for them.
 
-ghost use Rattle.std.specs.Prelude.{◌≡◌, ◌≤◌, length, drop};
-ghost use Rattle.std.specs.Str.{IsUtf8};
-ghost use Rattle.byte_unit_base.specs.ErrorPosition.{IsSizePosition};
+ghost use Rattle.std.specs.Prelude.{◌≡◌, ◌+◌, ◌≤◌, length, drop};
+ghost use Rattle.std.specs.Str.{chars, IsUtf8};
+ghost use Rattle.byte_unit_base.specs.SizeText.{trim_of};
+ghost use Rattle.byte_unit_base.specs.ErrorPosition.{leading_white, IsSizePosition};
 ghost use Rattle.byte_unit_base.specs.PlaceReading.{IsWholeLen, IsPlacesLen, IsNumberPlace, IsUnitPlace, IsSizePlace};
 
 use crate::Unit;
-use crate::read::parts::leading_spaces;
+use crate::read::number::leading_spaces;
 use crate::unit::parse::read_unit;
 use crate::unit::scan::Flags;
 use byte_unit_math::{DECIMAL_PLACES, WHOLE_LIMIT};
@@ -29,10 +30,9 @@ use byte_unit_math::{DECIMAL_PLACES, WHOLE_LIMIT};
 pub fn of_size_error(s: &str) -> Option<usize>
     ensures { IsSizePosition s.now result }
 {
-    let rest = s.trim_start();
-    let text = rest.trim_end();
+    let (text, start) = trimmed(s);
     match size_place(text.as_bytes()) {
-        Some(place) => Some(s.len() - rest.len() + place),
+        Some(place) => Some(start + place),
         None => None,
     }
 }
@@ -55,13 +55,22 @@ impl Unit {
     pub fn error_position(s: &str) -> Option<usize>
         ensures { IsUnitPosition s.now result }
     {
-        let rest = s.trim_start();
-        let text = rest.trim_end();
+        let (text, start) = trimmed(s);
         match unit_place(text.as_bytes(), 0) {
-            Some(place) => Some(s.len() - rest.len() + place),
+            Some(place) => Some(start + place),
             None => None,
         }
     }
+}
+
+/// Returns the string without the white space at its ends, and the number of bytes of that at its start.
+fn trimmed(s: &str) -> (&str, usize)
+    ensures text { chars result.0.now ≡ trim_of s.now }
+    ensures start { result.1 ≡ leading_white s.now }
+    ensures bound { result.1 + length result.0.now ≤ length s.now }
+{
+    let rest = s.trim_start();
+    (rest.trim_end(), s.len() - rest.len())
 }
 
 /// Returns where bytes stop being the beginning of a number and a unit. Returns `None` if they are a number and a unit.

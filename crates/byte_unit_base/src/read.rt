@@ -1,19 +1,19 @@
 //! The parser of a number and a unit.
 
-ghost use Rattle.std.specs.Prelude.{◌≡◌};
+ghost use Rattle.std.specs.Prelude.{◌≡◌, IsTrue};
 ghost use Rattle.std.specs.Str.{chars};
 ghost use Rattle.byte_unit_base.specs.Spelling.{flags_of};
 ghost use Rattle.byte_unit_base.specs.SizeText.{trim_of};
+ghost use Rattle.byte_unit_base.specs.PartsReading.{HasVisibleEnds};
 ghost use Rattle.byte_unit_base.specs.Readings.{IsNumberReading};
 
-use crate::read::parts::{has_visible_ends, read_parts};
+use crate::read::number::read_parts;
 use crate::read::stop::{error_at, first_char};
 use crate::unit::scan::Flags;
 use crate::{ParseError, Unit};
 use byte_unit_math::Decimal;
 
 pub(crate) mod number;
-pub(crate) mod parts;
 pub(crate) mod stop;
 
 /// Parses a number and a unit from a string. White space at its ends is ignored.
@@ -60,6 +60,14 @@ pub fn read_size(
             Err(error_at(next, stop.place == 0, stop.reason, flags))
         }
     }
+}
+
+/// Returns whether the first and the last byte are visible ASCII, so that there is nothing to trim.
+#[inline(always)]
+pub fn has_visible_ends(bytes: &[u8]) -> bool
+    ensures { IsTrue result → HasVisibleEnds bytes.now }
+{
+    !bytes.is_empty() && bytes[0].is_ascii_graphic() && bytes[bytes.len() - 1].is_ascii_graphic()
 }
 
 /// Returns the string without the white space at its ends.

@@ -9,11 +9,12 @@ ghost use Rattle.byte_unit_base.specs.Readings.{IsNumberReading};
 ghost use Rattle.byte_unit_base.specs.SizeReading.{IsSizeReading, IsBytesReading};
 ghost use Rattle.byte_unit_base.specs.SizeOrNone.{IsSizeOfUnit, IsSizeOfDecimal};
 ghost use Rattle.byte_unit_base.specs.Line.{IsLine};
-ghost use Rattle.byte_unit_base.specs.PartsReading.{IsLineOf, IsStopAt, IsBytesNumber};
+ghost use Rattle.byte_unit_base.specs.PartsReading.{IsStopAt};
 ghost use Rattle.byte_unit_base.specs.Outcome.{IsCharOfStops, IsOutcome};
 
-use crate::read::parts::{has_visible_ends, read_parts};
-use crate::read::stop::{Reason, Stop, error_at, first_ascii};
+use crate::read::has_visible_ends;
+use crate::read::number::read_parts;
+use crate::read::stop::{Reason, error_at, first_ascii};
 use crate::unit::scan::Flags;
 use crate::{Kind, ParseError, Unit, ValueParseError, read_size};
 use byte_unit_math::{Decimal, least_size};
@@ -160,7 +161,7 @@ pub fn parse_line(
     ensures bound { IfSome result (λ answer. IfOk answer (λ n. n < size_limit)) }
 {
     let line = &bytes[..len];
-    match read_line(line, bytes, ignore_case, kind) {
+    match read_parts(line, bytes, flags_for(kind, ignore_case)) {
         Ok(found) => Some(size_of((found.1, found.0), kind)),
         Err(stop) => parse_stopped(line, stop.place, stop.reason, ignore_case, kind),
     }
@@ -196,30 +197,13 @@ pub enum Outcome {
 pub fn read_bytes(bytes: &[u8], ignore_case: bool, kind: Kind) -> Outcome
     ensures { IsOutcome kind ignore_case bytes.now result }
 {
-    match read_line(bytes, bytes, ignore_case, kind) {
+    match read_parts(bytes, bytes, flags_for(kind, ignore_case)) {
         Ok(found) => Outcome::Accepted(found.0, found.1),
         Err(stop) => match visible_next(bytes, stop.place) {
             Some(next) => Outcome::Stopped(next, stop.place == 0, stop.reason),
             None => Outcome::AsString,
         },
     }
-}
-
-/// Parses as `read_bytes` does, from a line, which is at the beginning of `bytes`.
-///
-/// # Errors
-/// Returns where the parser stops, also at white space that `parse` would trim.
-#[inline(always)]
-fn read_line(
-    line: &[u8],
-    bytes: &[u8],
-    ignore_case: bool,
-    kind: Kind,
-) -> Result<(Unit, Decimal), Stop>
-    requires { IsLineOf line.now bytes.now }
-    ensures { IsBytesNumber (flags_for kind ignore_case) line.now result }
-{
-    read_parts(line, bytes, flags_for(kind, ignore_case))
 }
 
 /// Returns the character of bytes at a place, or `Some(None)` at their end. Returns `None` if there may be white space
@@ -251,11 +235,9 @@ fn is_ascii_from(bytes: &[u8], from: usize) -> bool
     }
 }
 
-/// Parses as `parse_bytes` does, from bytes in which `read_line` stops at this place and for this reason.
+/// Parses as `parse_bytes` does, from bytes in which `read_parts` stops at this place and for this reason.
 ///
-/// The two are passed apart, since a `Stop` would be in memory. `stopped_error` and `parse_text` are called, not
-/// inlined: LLVM then sees that the result is written whole, and does not clear its memory on the way of bytes that are
-/// accepted.
+/// The two are passed apart, since a `Stop` would be in memory.
 ///
 /// Bytes that are accepted come first in speed: if `parse_line` was made of `read_bytes`, whose test for ASCII is
 /// inlined, each line took 3 to 7 % more instructions.
@@ -272,29 +254,13 @@ fn parse_stopped(
     ensures reading { IsBytesReading kind ignore_case bytes.now result }
     ensures bound { IfSome result (λ answer. IfOk answer (λ n. n < size_limit)) }
 {
-    match stopped_error(bytes, place, reason, ignore_case, kind) {
-        Some(error) => Some(Err(error)),
+    match visible_next(bytes, place) {
+        Some(next) => {
+            let flags = flags_for(kind, ignore_case);
+            Some(Err(error_at(next, place == 0, reason, flags)))
+        }
         None => parse_text(bytes, ignore_case, kind),
     }
-}
-
-/// Returns the error of bytes in which `read_line` stops at this place and for this reason. Returns `None` if there may
-/// be white space to trim, or characters past ASCII.
-#[inline(never)]
-fn stopped_error(
-    bytes: &[u8],
-    place: usize,
-    reason: Reason,
-    ignore_case: bool,
-    kind: Kind,
-) -> Option<ParseError>
-    requires { IsStopAt (flags_for kind ignore_case) bytes.now place reason }
-    ensures { IfSome result
-        (λ error. IsUtf8 bytes.now × IsSizeReading kind ignore_case bytes.now (Err error)) }
-{
-    let next = visible_next(bytes, place)?;
-    let flags = flags_for(kind, ignore_case);
-    Some(error_at(next, place == 0, reason, flags))
 }
 
 /// Parses as `parse_bytes` does, from the string that the bytes are, trimmed.

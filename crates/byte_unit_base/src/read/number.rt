@@ -1,16 +1,21 @@
-//! Parses a number at the beginning of a line. Its digits are loaded eight bytes at a time, as a number of 64 bits
-//! whose lowest byte is the first.
+//! Parses a number and a unit from a line. Digits are loaded eight bytes at a time, as a number of 64 bits whose lowest
+//! byte is the first.
 
-ghost use Rattle.std.specs.Prelude.{◌≡◌, ℕ, List, ◌+◌, ◌%◌, ◌^◌, ◌<◌, ◌≤◌, length, take, drop, slice_range};
+ghost use Rattle.std.specs.Prelude.{◌≡◌, ℕ, List, ◌+◌, ◌%◌, ◌^◌, ◌<◌, ◌≤◌, length, take, drop, replicate, slice_range};
 ghost use lib.Lanes.{number_l};
 ghost use Rattle.core.specs.Dec2flt.Digits.{IsEightBytes, IsEightDigits};
 ghost use Rattle.core.specs.Float.Numeral.{digits_len};
 ghost use Rattle.core.specs.Int.Digits.{number_from_digits};
 ghost use Rattle.std.specs.Str.Parse.{AllDigits, digits_value};
 ghost use Rattle.byte_unit_math.specs.Bounds.{whole_limit};
-ghost use Rattle.byte_unit_base.specs.PartsReading.{IsLineOf, IsNumberEnd, first_eight};
+ghost use Rattle.byte_unit_base.specs.SizeText.{space};
+ghost use Rattle.byte_unit_base.specs.PartsReading.{IsFirst, IsLineOf, IsNoSpace, IsNumberEnd};
+ghost use Rattle.byte_unit_base.specs.PartsReading.{IsPartsReading, first_eight};
 
 use crate::read::stop::{Reason, Stop};
+use crate::unit::Unit;
+use crate::unit::parse::read_unit;
+use crate::unit::scan::Flags;
 use byte_unit_math::{DECIMAL_PLACES, Decimal, WHOLE_LIMIT};
 use core::dec2flt::read_digits;
 use std::simd::prelude::*;
@@ -27,6 +32,45 @@ const NINETEEN_DIGITS: u128 = 10_000_000_000_000_000_000;
 /// The byte of one pair of digits in every four bytes.
 const PAIR_OF_FOUR_BYTES: u64 = 0x0000_00ff_0000_00ff;
 
+/// Parses a number and a unit from a line, which is not trimmed. Returns the unit and the number. The line is at the
+/// beginning of `bytes`: eight of them are loaded at once, past the end of the line too.
+///
+/// # Errors
+/// Returns where it stops.
+#[inline(always)]
+pub fn read_parts(line: &[u8], bytes: &[u8], flags: Flags) -> Result<(Unit, Decimal), Stop>
+    requires { IsLineOf line.now bytes.now }
+    ensures { IsPartsReading flags line.now result }
+{
+    match read_number(line, bytes) {
+        Ok(found) => {
+            let (end, number) = found;
+            let start = end + leading_spaces(&line[end..]);
+            match read_unit(line, bytes, start, flags) {
+                Ok(unit) => Ok((unit, number)),
+                Err(stop) => Err(Stop {
+                    place: start + stop.1,
+                    reason: Reason::InUnit(stop.0),
+                }),
+            }
+        }
+        Err(stop) => Err(stop),
+    }
+}
+
+/// Returns the number of leading spaces.
+pub fn leading_spaces(bytes: &[u8]) -> usize
+    ensures bound { result ≤ length bytes.now }
+    ensures spaces { take result bytes.now ≡ replicate result space }
+    ensures all { IsFirst IsNoSpace (drop result bytes.now) }
+{
+    let mut count = 0;
+    'spaces: while count < bytes.len() && bytes[count] == b' ' {
+        count += 1;
+    }
+    count
+}
+
 /// Parses a number at the beginning of a line: digits, and optionally a point and digits. Returns its length in bytes,
 /// and it. The line is at the beginning of `bytes`.
 ///
@@ -34,7 +78,7 @@ const PAIR_OF_FOUR_BYTES: u64 = 0x0000_00ff_0000_00ff;
 /// Returns where the parser stops: `NoDigit` or `TooLong`.
 #[tactic(auto, using(crate::proofs::NumberBytes::digits_of_run))]
 #[inline(always)]
-pub fn read_number(line: &[u8], bytes: &[u8]) -> Result<(usize, Decimal), Stop>
+fn read_number(line: &[u8], bytes: &[u8]) -> Result<(usize, Decimal), Stop>
     requires { IsLineOf line.now bytes.now }
     ensures { IsNumberEnd line.now result }
 {
@@ -45,7 +89,7 @@ pub fn read_number(line: &[u8], bytes: &[u8]) -> Result<(usize, Decimal), Stop>
             reason: Reason::NoDigit,
         });
     }
-    let whole = whole_part(&line[..end], value);
+    let whole = value_of(&line[..end], value);
     if whole >= WHOLE_LIMIT {
         return Err(Stop {
             place: 0,
@@ -75,13 +119,14 @@ pub fn read_number(line: &[u8], bytes: &[u8]) -> Result<(usize, Decimal), Stop>
     Ok((stop, number))
 }
 
-/// Returns the value of the digits of a whole part, from the last 64 bits of that value. If one of both is 2^112 or
-/// more, so is the other.
+/// Returns the value of digits, from the last 64 bits of that value. For more than 38 digits the result may be another
+/// number if both are 2^112 or more.
 #[tactic(auto, using(crate::proofs::NumberBytes::short_digits))]
 #[inline(always)]
-fn whole_part(digits: &[u8], last_bits: u64) -> u128
+fn value_of(digits: &[u8], last_bits: u64) -> u128
     requires digits { AllDigits 10 digits.now }
     requires last_bits { last_bits ≡ digits_value 10 digits.now % 2 ^ 64 }
+    ensures few { length digits.now ≤ LONG_DIGITS → result ≡ digits_value 10 digits.now }
     ensures exact { result < whole_limit → result ≡ digits_value 10 digits.now }
     ensures large { whole_limit ≤ result → whole_limit ≤ digits_value 10 digits.now }
 {
@@ -90,13 +135,13 @@ fn whole_part(digits: &[u8], last_bits: u64) -> u128
     } else if digits.len() <= LONG_DIGITS {
         long_value(digits, last_bits)
     } else {
-        long_whole(digits)
+        longer_value(digits)
     }
 }
 
-/// Returns the value of the digits, of which there may be any number, as `whole_part` does.
+/// Returns the value of any number of digits. If it or the result is 2^112 or more, so is the other.
 #[inline(never)]
-fn long_whole(digits: &[u8]) -> u128
+fn longer_value(digits: &[u8]) -> u128
     requires { AllDigits 10 digits.now }
     ensures exact { result < whole_limit → result ≡ digits_value 10 digits.now }
     ensures large { whole_limit ≤ result → whole_limit ≤ digits_value 10 digits.now }
@@ -109,22 +154,6 @@ fn long_whole(digits: &[u8]) -> u128
         }
     }
     whole
-}
-
-/// Returns the value of at most 38 digits, from the last 64 bits of that value.
-#[tactic(auto, using(crate::proofs::NumberBytes::short_digits))]
-#[inline(always)]
-fn value_of(digits: &[u8], last_bits: u64) -> u128
-    requires digits { AllDigits 10 digits.now }
-    requires few { length digits.now ≤ LONG_DIGITS }
-    requires last_bits { last_bits ≡ digits_value 10 digits.now % 2 ^ 64 }
-    ensures { result ≡ digits_value 10 digits.now }
-{
-    if digits.len() <= SHORT_DIGITS {
-        u128::from(last_bits)
-    } else {
-        long_value(digits, last_bits)
-    }
 }
 
 /// Returns the value of 19 to 38 digits, from the last 64 bits of that value.

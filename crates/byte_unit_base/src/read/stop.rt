@@ -2,8 +2,8 @@
 
 ghost use Rattle.std.specs.Prelude.{◌≡◌};
 ghost use Rattle.std.specs.Str.{chars, IsAscii};
-ghost use Rattle.byte_unit_base.specs.Errors.{size_fault, value_fault};
-ghost use Rattle.byte_unit_base.specs.PartsReading.{missing_digit, next_char, stop_fault};
+ghost use Rattle.byte_unit_base.specs.Errors.{size_fault};
+ghost use Rattle.byte_unit_base.specs.PartsReading.{next_char, stop_fault};
 
 use crate::unit::scan::{Flags, UnitStop};
 use crate::{ParseError, ValueParseError};
@@ -43,21 +43,13 @@ pub fn error_at(next: Option<char>, at_start: bool, reason: Reason, flags: Flags
     ensures { size_fault result ≡ stop_fault flags at_start reason next }
 {
     match reason {
-        Reason::NoDigit => ParseError::Value(no_digit(next, at_start)),
+        Reason::NoDigit => ParseError::Value(match next {
+            Some(c) => ValueParseError::NotNumber(c),
+            None if at_start => ValueParseError::NoValue,
+            None => ValueParseError::NotNumber('.'),
+        }),
         Reason::TooLong => ParseError::Value(ValueParseError::NumberTooLong),
         Reason::InUnit(stop) => ParseError::Unit(stop.error_before(next, flags)),
-    }
-}
-
-/// Returns the error of a string in which a digit is missing, by the character there.
-#[inline(always)]
-fn no_digit(next: Option<char>, at_start: bool) -> ValueParseError
-    ensures { value_fault result ≡ missing_digit at_start next }
-{
-    match next {
-        Some(c) => ValueParseError::NotNumber(c),
-        None if at_start => ValueParseError::NoValue,
-        None => ValueParseError::NotNumber('.'),
     }
 }
 

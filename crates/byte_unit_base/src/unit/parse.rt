@@ -3,13 +3,15 @@
 ghost use Rattle.std.specs.Prelude.{◌≡◌, ◌≢◌, ◌≤◌, Bool, length, drop, Some};
 ghost use lib.Lanes.{digits_l};
 ghost use Rattle.byte_unit_base.specs.Spelling.{flags_of};
-ghost use Rattle.byte_unit_base.specs.UnitScan.{count_of};
-ghost use Rattle.byte_unit_base.specs.UnitWord.{letter_power, letters_of, word_of, bits_len};
+ghost use Rattle.byte_unit_base.specs.Units.{shape_of};
+ghost use Rattle.byte_unit_base.specs.UnitScan.{count_of, multiple_shape};
+ghost use Rattle.byte_unit_base.specs.UnitWord.{multiple_of, letters_of, word_of, bits_len};
 ghost use Rattle.byte_unit_base.specs.PartsReading.{IsLineOf, IsUnitEnd};
 
 use crate::read::number::eight_at;
 use crate::read::stop::first_char;
-use crate::unit::scan::{Flags, UnitStop, Word, unit_of};
+use crate::unit::scan::{Flags, UnitStop, Word};
+use crate::unit::tables::BY_POWER;
 use crate::{Unit, UnitParseError};
 use std::simd::prelude::*;
 use std::str::FromStr;
@@ -87,7 +89,7 @@ pub(crate) fn read_unit(
         return Ok(unit_of(0, false, !flags.prefer_byte));
     }
     let text = eight_at(bytes, from);
-    let power = letter_power((text % 256) as u8);
+    let power = usize::from(LETTER_POWERS[(text % 256) as usize]);
     let second = (text / 256 % 256) as u8;
     let binary = (power != 0) & ((second == b'i') | (second == b'I'));
     let start = usize::from(power != 0) + usize::from(binary);
@@ -105,13 +107,13 @@ pub(crate) fn read_unit(
     Err((stop, end))
 }
 
-/// Returns the position of the prefix of a letter in either case, from 1 for K to 9 for R. Returns 0 if the byte is no
-/// prefix letter.
+/// Returns the unit with the prefix of this position, or without a prefix if it is 0.
 #[inline(always)]
-fn letter_power(letter: u8) -> usize
-    ensures { result ≡ letter_power letter }
+pub fn unit_of(power: usize, binary: bool, bit: bool) -> Unit
+    requires few { power ≤ 9 }
+    ensures { shape_of result ≡ multiple_shape (multiple_of power binary) bit }
 {
-    usize::from(LETTER_POWERS[usize::from(letter)])
+    BY_POWER[power][2 * usize::from(binary) + usize::from(bit)]
 }
 
 /// Returns how many of eight bytes are the letters of `bits` in either case, from the first on.
@@ -154,7 +156,8 @@ fn letters(length: usize) -> Word
     }
 }
 
-/// The position of the prefix of each letter, by its byte.
+/// The position of the prefix of each letter in either case, by its byte: from 1 for K to 9 for R, or 0 if the byte is
+/// no prefix letter.
 static LETTER_POWERS: [u8; 256] = [
     0, 0, 0, 0, 0, 0, 0, 0, 0, 0, 0, 0, 0, 0, 0, 0, 0, 0, 0, 0, 0, 0, 0, 0, 0, 0, 0, 0, 0, 0, 0, 0,
     0, 0, 0, 0, 0, 0, 0, 0, 0, 0, 0, 0, 0, 0, 0, 0, 0, 0, 0, 0, 0, 0, 0, 0, 0, 0, 0, 0, 0, 0, 0, 0,

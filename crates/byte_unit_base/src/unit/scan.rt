@@ -1,12 +1,9 @@
-//! The unit of a prefix and a suffix, and the error of a unit in which the parser stops.
+//! The error of a unit in which the parser stops.
 
-ghost use Rattle.std.specs.Prelude.{◌≡◌, ◌≤◌, ℕ};
-ghost use Rattle.byte_unit_base.specs.UnitScan.{multiple_shape};
-ghost use Rattle.byte_unit_base.specs.UnitWord.{multiple_of};
-ghost use Rattle.byte_unit_base.specs.Units.{shape_of};
+ghost use Rattle.std.specs.Prelude.{◌≡◌, ℕ};
 
-use crate::unit::tables::{BEGINNING, BY_POWER};
-use crate::{Unit, UnitParseError};
+use crate::UnitParseError;
+use crate::unit::tables::BEGINNING;
 
 /// The letters of a suffix (`B`, `b`, `bit`, `bits`) read so far, in either case.
 #[derive(Clone, Copy)]
@@ -76,7 +73,11 @@ impl UnitStop {
         ensures { unit_fault result ≡ unit_stop_fault flags self next }
     {
         match next {
-            Some(c) => self.error_at(flags, c),
+            Some(c) => UnitParseError {
+                character: c,
+                expected_characters: self.expected(flags).characters(),
+                also_expect_no_character: !matches!(self.word, Word::Bi),
+            },
             None => UnitParseError::STOPS_AT_BI,
         }
     }
@@ -89,18 +90,6 @@ impl UnitStop {
         match next {
             Some(_) => self.expected(flags),
             None => Expected::Nothing,
-        }
-    }
-
-    /// Returns the error of a character that cannot continue a unit.
-    #[inline(always)]
-    fn error_at(self, flags: Flags, character: char) -> UnitParseError
-        ensures { unit_fault result ≡ fault_at current flags (stop_parser_state self) character }
-    {
-        UnitParseError {
-            character,
-            expected_characters: self.expected(flags).characters(),
-            also_expect_no_character: !matches!(self.word, Word::Bi),
         }
     }
 
@@ -189,13 +178,4 @@ impl Expected {
             Expected::Nothing => &[],
         }
     }
-}
-
-/// Returns the unit with the prefix of this position, or without a prefix if it is 0.
-#[inline(always)]
-pub fn unit_of(power: usize, binary: bool, bit: bool) -> Unit
-    requires few { power ≤ 9 }
-    ensures { shape_of result ≡ multiple_shape (multiple_of power binary) bit }
-{
-    BY_POWER[power][2 * usize::from(binary) + usize::from(bit)]
 }

@@ -1,4 +1,5 @@
 -- The reading of a size from that of its number and unit, and its error from theirs.
+use Rattle.byte_unit_base.specs.Accepted.{as_written}
 use Rattle.byte_unit_base.proofs.SizeOfText.{reading_of_fault}
 use Rattle.byte_unit_base.proofs.size.parse.Goals as goal
 
@@ -7,5 +8,5 @@ returns-in-Ok-clause-reading c =
     c.size_of.ensures.reading c.args.ignore_case c.args.s.now (rw c.flags_for-flags.ensures at c.in-Ok.ensures)
 
 pub returns-in-Err-clause-reading : goal.returns-in-Err-clause-reading
-returns-in-Err-clause-reading c = reading_of_fault c.args.kind c.args.ignore_case c.args.s.now c.in-Err.error
+returns-in-Err-clause-reading c = reading_of_fault as_written c.args.kind c.args.ignore_case c.args.s.now c.in-Err.error
     (rw c.flags_for-flags.ensures at c.in-Err.ensures)

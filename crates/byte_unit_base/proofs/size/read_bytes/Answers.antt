@@ -1,5 +1,13 @@
 -- The number and the unit, or the error by the character where the parser stops.
+use Rattle.byte_unit_base.specs.Kinds.{flags_for}
+use Rattle.byte_unit_base.proofs.SizeOfText.{bytes_number}
 use Rattle.byte_unit_base.proofs.size.read_bytes.Goals as goal
 
+pub returns-in-Ok : goal.returns-in-Ok
+returns-in-Ok c =
+    bytes_number (flags_for c.args.kind c.args.ignore_case) c.args.bytes.now c.in-Ok.found.1 c.in-Ok.found.0
+    (rw c.flags_for.ensures at c.in-Ok.ensures)
+
 pub returns-in-Some : goal.returns-in-Some
-returns-in-Some c = c.in-Some.ensures c.args.kind c.args.ignore_case c.in-Err.stop.reason c.in-Err.ensures
+returns-in-Some c =
+    c.in-Some.ensures c.args.kind c.args.ignore_case c.in-Err.stop.reason (rw c.flags_for.ensures at c.in-Err.ensures)

@@ -4,6 +4,7 @@ use Rattle.std.specs.Str.{chars, IsAscii}
 use Rattle.std.proofs.lemmas.List.{take_rest}
 use Rattle.std.proofs.lemmas.Str.{IsAscii-append, IsUtf8-from_ascii}
 use Rattle.byte_unit_base.specs.Kinds.{flags_for}
+use Rattle.byte_unit_base.specs.Accepted.{as_written}
 use Rattle.byte_unit_base.specs.PartsReading.{next_char, stop_fault}
 use Rattle.byte_unit_base.proofs.Trim.{trim_visible}
 use Rattle.byte_unit_base.proofs.SizeReads.{stop_reading}
@@ -24,4 +25,4 @@ returns-then-is_ascii_from c kind ignore_case reason stop error error_is =
     let next_is = c.first_ascii.ensures ∙ ap (λ rest. next_char (chars rest)) (take_rest bytes place) in
     let reading = stop_reading flags bytes bytes place reason error (sym (trim_visible bytes utf8 ends)) utf8 stop
     (error_is ∙ ap (stop_fault flags (nat_eq place 0) reason) next_is) in
-    (utf8, reading_of_fault kind ignore_case bytes error reading)
+    (utf8, reading_of_fault as_written kind ignore_case bytes error reading)

@@ -1,6 +1,6 @@
 -- The line begins with a whole part, or with a whole part, a point and a fraction, or stops where a digit is missing or
 -- is one too many.
-use Rattle.std.proofs.Common.{◌≢◌, ◌<◌, length, get_or, arith}
+use Rattle.std.proofs.Common.{◌≢◌, ◌<◌, length, get_or, arith, rules}
 use Rattle.byte_unit_base.specs.Number.{point}
 use Rattle.byte_unit_base.proofs.NumberEnds.{leading_whole, leading_precise, stops_at_start, stops_after_point}
 use Rattle.byte_unit_base.proofs.NumberEnds.{stops_in_whole, stops_in_fraction, fraction_below}
@@ -14,7 +14,7 @@ returns-then-end-eq0 c =
 
 pub returns-then-whole-ge-WHOLE_LIMIT : goal.returns-then-whole-ge-WHOLE_LIMIT
 returns-then-whole-ge-WHOLE_LIMIT c = stops_in_whole c.args.line.now _ c.leading_digits-end.ensures.end
-    (c.whole_part-whole.ensures.large (omega (arith, c.if-whole-ge-WHOLE_LIMIT.true)))
+    (c.value_of-whole.ensures.large (omega (arith, c.if-whole-ge-WHOLE_LIMIT.true)))
 
 pub returns-then-end-line : goal.returns-then-end-line
 returns-then-end-line c =
@@ -24,31 +24,32 @@ returns-then-end-line c =
       | then-end-line-via-then-end-line w ↦ λ inside. absurd (omega (arith, inside, w.if-end-line.true))
       | then-end-line-via-else-end-line+then-line-end-ne46 w ↦ λ inside. w.if-line-end-ne46.true
     ] in
-    leading_whole bytes run.result.0 c.whole_part-whole.result run.ensures.end run.ensures.bound c.if-end-eq0.false
-    c.if-whole-ge-WHOLE_LIMIT.false c.whole_part-whole.ensures.exact c.from_digits.result other
+    leading_whole bytes run.result.0 c.value_of-whole.result run.ensures.end run.ensures.bound c.if-end-eq0.false
+    c.if-whole-ge-WHOLE_LIMIT.false c.value_of-whole.ensures.exact c.from_digits.result other
     (omega (arith, c.from_digits.ensures))
 
 pub returns-then-places-eq0 : goal.returns-then-places-eq0
 returns-then-places-eq0 c =
     stops_after_point _ _ _ c.leading_digits-end.ensures.end c.leading_digits-end.ensures.bound c.if-end-eq0.false
-    c.if-whole-ge-WHOLE_LIMIT.false c.whole_part-whole.ensures.exact c.if-end-line.false c.if-line-end-ne46.false
+    c.if-whole-ge-WHOLE_LIMIT.false c.value_of-whole.ensures.exact c.if-end-line.false c.if-line-end-ne46.false
     (omega (arith, c.if-places-eq0.true, c.leading_digits-stop.ensures.end))
 
 pub returns-then-places : goal.returns-then-places
 returns-then-places c =
     stops_in_fraction _ _ _ c.leading_digits-end.ensures.end c.leading_digits-end.ensures.bound c.if-end-eq0.false
-    c.if-whole-ge-WHOLE_LIMIT.false c.whole_part-whole.ensures.exact c.if-end-line.false c.if-line-end-ne46.false
+    c.if-whole-ge-WHOLE_LIMIT.false c.value_of-whole.ensures.exact c.if-end-line.false c.if-line-end-ne46.false
     _ c.leading_digits-stop.ensures.end c.leading_digits-stop.ensures.bound (omega (arith, c.if-places.true))
 
 pub from_digits-number-requires-clause-digits : goal.from_digits-number-requires-clause-digits
 from_digits-number-requires-clause-digits c =
     fraction_below _ _ _ c.leading_digits-end.ensures.end c.leading_digits-end.ensures.bound c.if-end-eq0.false
-    c.if-whole-ge-WHOLE_LIMIT.false c.whole_part-whole.ensures.exact c.if-end-line.false c.if-line-end-ne46.false
-    _ c.leading_digits-stop.ensures.end c.leading_digits-stop.ensures.bound _ c.value_of-digits.ensures
+    c.if-whole-ge-WHOLE_LIMIT.false c.value_of-whole.ensures.exact c.if-end-line.false c.if-line-end-ne46.false
+    _ c.leading_digits-stop.ensures.end c.leading_digits-stop.ensures.bound _
+    (c.value_of-digits.ensures.few (search rules))
 
 pub returns : goal.returns
 returns c =
     leading_precise _ _ _ c.leading_digits-end.ensures.end c.leading_digits-end.ensures.bound c.if-end-eq0.false
-    c.if-whole-ge-WHOLE_LIMIT.false c.whole_part-whole.ensures.exact c.if-end-line.false c.if-line-end-ne46.false
+    c.if-whole-ge-WHOLE_LIMIT.false c.value_of-whole.ensures.exact c.if-end-line.false c.if-line-end-ne46.false
     _ c.leading_digits-stop.ensures.end c.leading_digits-stop.ensures.bound _ _ c.if-places-eq0.false
-    (omega (arith, c.if-places.false)) c.value_of-digits.ensures c.from_digits-number.ensures
+    (omega (arith, c.if-places.false)) (c.value_of-digits.ensures.few (search rules)) c.from_digits-number.ensures

@@ -2,7 +2,7 @@
 use Rattle.std.proofs.Common.{sym}
 use Rattle.std.proofs.lemmas.List.{take_rest}
 use Rattle.byte_unit_base.proofs.NumberEnds.{stops_in_unit}
-use Rattle.byte_unit_base.proofs.read.parts.read_parts.Goals as goal
+use Rattle.byte_unit_base.proofs.read.number.read_parts.Goals as goal
 
 pub returns-in-Err-read_unit : goal.returns-in-Err-read_unit
 returns-in-Err-read_unit c =

@@ -1,6 +1,6 @@
 use Rattle.std.proofs.Common.{length, ◌-◌, ◌≡◌, ◌≤◌, take, replicate}
 use Rattle.byte_unit_base.specs.SizeText.{space}
-use Rattle.byte_unit_base.proofs.read.parts.leading_spaces.Given as goal
+use Rattle.byte_unit_base.proofs.read.number.leading_spaces.Given as goal
 
 -- the first `count` bytes are spaces
 abbrev pub invariant-spaces : goal.invariant-spaces

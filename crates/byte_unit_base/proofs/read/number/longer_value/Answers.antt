@@ -2,7 +2,7 @@
 use Rattle.std.proofs.Common.{◌+◌, ◌*◌, get_or, refl, arith}
 use Rattle.std.proofs.lemmas.Str.Parse.{digit_at, digits_value-take-le}
 use Rattle.byte_unit_base.proofs.NumberBytes.{one_digit_more}
-use Rattle.byte_unit_base.proofs.read.number.long_whole.Goals as goal
+use Rattle.byte_unit_base.proofs.read.number.longer_value.Goals as goal
 
 pub overflow_sub-digit : goal.overflow_sub-digit
 overflow_sub-digit c =
