@@ -56,15 +56,17 @@ IsWritten-error kind read written (Err _) error is_error is_written =
 
 module _ (kind : Kind) (course : Course) (served : IsServed kind course) where
   -- the lines that end in what was read, then those that end in the next piece, are those of both
-  ended_lines-piece : (piece : List ℕ) → ended_records line_end [] course.read ++ ended_records line_end course.line piece ≡ ended_records line_end [] (course.read ++ piece)
+  ended_lines-piece : (piece : List ℕ) → ended_records line_end [] course.read ++ ended_records line_end course.line piece
+      ≡ ended_records line_end [] (course.read ++ piece)
   ended_lines-piece piece = rw (served.begun, ended_records-append line_end [] course.read piece) refl
 
   -- answering the lines that end in the next piece keeps the invariant
-  pub IsServed-piece : (piece answers line : List ℕ) → AreAnswers kind (ended_records line_end course.line piece) answers → line ≡ begun_record line_end course.line piece
+  pub IsServed-piece : (piece answers line : List ℕ) → AreAnswers kind (ended_records line_end course.line piece) answers
+      → line ≡ begun_record line_end course.line piece
       → IsServed kind (record { read = course.read ++ piece; written = course.written ++ answers; line = line })
   IsServed-piece piece answers line are_answers line_is = record {
     answered = subst (λ lines. AreAnswers kind lines (course.written ++ answers)) (ended_lines-piece piece)
-        (AreAnswers-append kind (ended_records line_end [] course.read) (ended_records line_end course.line piece) course.written answers served.answered are_answers);
+        (AreAnswers-append kind _ _ course.written answers served.answered are_answers);
     begun = rw (line_is, served.begun, begun_record-append line_end [] course.read piece) refl;
   }
 
@@ -88,7 +90,8 @@ module _ (kind : Kind) (course : Course) (served : IsServed kind course) where
   report_with_last_line some answer is_answer =
       let ended = ended_records line_end [] course.read in
       rw (records_of-ended_records line_end course.read, ← served.begun, nonempty_record-nonempty course.line some)
-      (AreAnswers-append kind ended (course.line ∷ []) course.written answer served.answered (AreAnswers-single kind course.line answer is_answer))
+      (AreAnswers-append kind ended (course.line ∷ []) course.written answer served.answered
+      (AreAnswers-single kind course.line answer is_answer))
 
   -- after the call that writes the answer to the last line, what is written is right for the result of that call
   pub IsWritten-last_line : course.line ≢ [] → (answer : List ℕ) → IsAnswer kind course.line answer
@@ -112,7 +115,8 @@ prefix_of_report each kind read written (whole, (answered, (unanswered, ended_is
     let lines : answered ++ others ≡ lines_of read =
     rw (records_of-ended_records line_end read, ended_is, append_assoc answered unanswered last) refl in (
       whole ++ rest.0,
-      subst (λ lines. AreAnswers kind lines (whole ++ rest.0)) lines (AreAnswers-append kind answered others whole rest.0 are_answers rest.1),
+      subst (λ lines. AreAnswers kind lines (whole ++ rest.0)) lines
+          (AreAnswers-append kind answered others whole rest.0 are_answers rest.1),
       IsPrefix-longer written whole rest.0 is_prefix,
     )
 

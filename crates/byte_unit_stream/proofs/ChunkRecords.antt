@@ -41,7 +41,8 @@ module _ (end : ℕ) where
       grind (arith, nat_tests, ended_records-append [] front back, ended_records-append (part ++ byte ∷ []) front back)
 
   -- the unfinished record after two chunks is the one after the second, begun by the one after the first
-  pub begun_record-append : (part front back : List ℕ) → begun_record end part (front ++ back) ≡ begun_record end (begun_record end part front) back
+  pub begun_record-append : (part front back : List ℕ)
+      → begun_record end part (front ++ back) ≡ begun_record end (begun_record end part front) back
   begun_record-append part [] back = refl
   begun_record-append part (byte ∷ front) back =
       grind (arith, nat_tests, begun_record-append [] front back, begun_record-append (part ++ byte ∷ []) front back)
@@ -109,7 +110,8 @@ module _ (end : ℕ) where
 
   -- the records that end before a place come first, then those that end after it
   pub ended_records-take-drop : (part bytes : List ℕ) (place : ℕ)
-      → ended_records end part bytes ≡ ended_records end part (take place bytes) ++ ended_records end (begun_record end part (take place bytes)) (drop place bytes)
+      → ended_records end part bytes ≡ ended_records end part (take place bytes)
+      ++ ended_records end (begun_record end part (take place bytes)) (drop place bytes)
   ended_records-take-drop part bytes place =
       ap (ended_records end part) (sym (take-append-drop place bytes)) ∙ ended_records-append part (take place bytes) (drop place bytes)
 

@@ -59,7 +59,8 @@ module _ (end : ℕ) where
 
 -- between two reads: each record that ended is shorter than the limit and a read together, the unfinished one is within
 -- the limit, and no capacity has fallen
-pub record IsWithin {Z : Type 0} (end longest chunk : ℕ) (part waiting : Vec ℕ Z) (read : List ℕ) (part_now waiting_now : Vec ℕ Z) : Type 0 where
+pub record IsWithin {Z : Type 0} (end longest chunk : ℕ) (part waiting : Vec ℕ Z) (read : List ℕ)
+    (part_now waiting_now : Vec ℕ Z) : Type 0 where
   pub finished : longest_of (ended_records end [] read) < longest + chunk
   pub unfinished : vec_len part_now ≤ longest
   pub part_capacity : vec_capacity part ≤ vec_capacity part_now
