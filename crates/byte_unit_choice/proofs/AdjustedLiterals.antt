@@ -4,6 +4,7 @@ use Rattle.std.proofs.Common.{leb, arith, ⊎_elim, inl, inr, IfOk}
 use Rattle.std.specs.List.{AllByRecursion}
 use Rattle.std.specs.Result.{result_map_both}
 use Rattle.std.proofs.lemmas.Bool.{and_parts, cases_lt, cond-true, cond-false, le-leb, lt-leb}
+use Rattle.std.proofs.lemmas.Bool.Decides.{nat_tests}
 use Rattle.byte_unit_math.specs.Bounds.{unit_limit}
 use Rattle.byte_unit_base.specs.Shape.{Shape, bits}
 use Rattle.byte_unit_base.specs.Units.{shape_of}
@@ -57,11 +58,9 @@ module _ (family : Family) (in_bits : ℕ) (own : Shape) where
       → AllByRecursion (InFamily current family) units → first_not_above in_bits own units ≡ own
   first_is_own none [] members = refl
   first_is_own none (x ∷ xs) members =
-      ⊎_elim
-      (λ above. cond-false _ x (first_not_above in_bits own xs) (lt-leb (bits x) in_bits above)
-      ∙ first_is_own none xs members.1)
-      (λ below. absurd (none x (eligible x members.0 below)))
-      (cases_lt in_bits (bits x))
+      let rest = first_is_own none xs members.1 in
+      let above : ¬ (bits x ≤ in_bits) = λ below. none x (eligible x members.0 below) in
+      grind (arith, nat_tests, rest, above)
 
 computed_shape : (kind : Kind) (size : ℕ) (unit : Shape)
     → IsLargestOrOwn kind (IsEligibleUnit (own_family kind) Both (size * bits_in kind)) unit

@@ -3,7 +3,8 @@ use Rattle.std.proofs.Common.{◌≡◌, ℕ, ◌+◌, ◌*◌, ◌<◌, ◌≤�
 use Rattle.std.proofs.Common.{◌∷◌, ◌++◌, length, drop, get_or, ◌&&◌, leb, arith, sym, ap, ◌∙◌, refl, rules, ◌/◌}
 use Rattle.std.specs.List.{AllByRecursion}
 use Rattle.std.proofs.lemmas.List.{drop_at, drop-drop}
-use Rattle.std.proofs.lemmas.Bool.{and_parts, cases_lt, leb-true, agree_below, agree_below_at}
+use Rattle.std.proofs.lemmas.Bool.{and_parts, cases_lt, agree_below, agree_below_at}
+use Rattle.std.proofs.lemmas.Bool.Decides.{nat_tests}
 use Rattle.byte_unit_math.specs.Bounds.{unit_limit}
 use Rattle.byte_unit_base.specs.Shape.{Shape, shape, bits}
 use Rattle.byte_unit_base.specs.Version.{current}
@@ -64,10 +65,7 @@ all_in_family family (suc n) few = let rest = all_in_family family n (omega arit
 pub le_of_falls : (xs : List Shape) (bound : ℕ) (unit : Shape) → falls bound xs ≡ true → IsIn unit xs
     → bits unit ≤ bound
 le_of_falls [] bound unit h i = absurd i
-le_of_falls (x ∷ xs) bound unit h i =
-    let parts = and_parts (leb (bits x) bound) (falls (bits x) xs) h in
-    let first = leb-true (bits x) bound parts.0 in
-    ⊎_elim (λ e. omega (arith, ap bits e, first)) (λ k. omega (arith, first, le_of_falls xs (bits x) unit parts.1 k)) i
+le_of_falls (x ∷ xs) bound unit h i = grind (arith, nat_tests, le_of_falls xs (bits x) unit)
 
 -- the units after any index of a falling list fall from the unit at the index
 pub falls_after : (xs : List Shape) (bound i : ℕ) (d : Shape) → falls bound xs ≡ true → i < length xs

@@ -8,6 +8,7 @@ use Rattle.byte_unit_math.specs.Bounds.{scale}
 use Rattle.byte_unit_math.specs.Steps.{saturating_add}
 use Rattle.byte_unit_math.specs.Exact.{IsLeastPlaces}
 use Rattle.byte_unit_math.specs.Powers.{IsTwoFive}
+use Rattle.byte_unit_math.proofs.Expanding.{IsQuotient-times}
 use Rattle.byte_unit_math.proofs.Powers.{exact_by_powers, places_by_powers}
 use Rattle.byte_unit_base.specs.Shape.{Shape, shape, bits, twos, fives}
 use Rattle.byte_unit_choice.specs.Multiples.{prefix_count}
@@ -18,7 +19,7 @@ use Rattle.byte_unit_base.specs.declared.kind.Kind.{Kind}
 use Rattle.byte_unit_base.specs.declared.kind.Kind.TheVariants.{Byte, Bit}
 use Rattle.byte_unit_choice.specs.declared.family.Family.{Family}
 use Rattle.byte_unit_choice.proofs.Choosing.{some_bits}
-use Rattle.byte_unit_choice.proofs.Quotients.{number_times_unit, stated_where_exact}
+use Rattle.byte_unit_choice.proofs.Quotients.{stated_where_exact}
 use Rattle.byte_unit_choice.proofs.SizePowers.{eight_times}
 
 -- a number is at least the product of its powers
@@ -136,7 +137,7 @@ few_places : (family : Family) (in_bits precision number places a b : ℕ) (unit
     → places ≤ max (twos unit - a) (fives unit - b)
 few_places family in_bits precision number places a b unit powers chosen least =
     let within = places_within precision in
-    let product = number_times_unit in_bits (bits unit) within number (omega arith) chosen.number_is in
+    let product = IsQuotient-times in_bits (bits unit) within number (omega arith) chosen.number_is in
     let lacking = max (twos unit - a) (fives unit - b) in
     let exact = (places_by_powers in_bits (twos unit) (fives unit) a b powers).has in
     least.least lacking (stated_where_exact in_bits (bits unit) number lacking (some_bits unit) product exact)

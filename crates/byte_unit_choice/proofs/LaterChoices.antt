@@ -1,13 +1,14 @@
 -- The laws of the chosen unit at a precision of 0, at higher precisions, and of its product with the number.
 use Rattle.std.proofs.Common.{ℕ, ◌<◌, ◌≤◌, ⊎_elim, arith}
 use Rattle.std.proofs.Math.Nat.{mul-le-mul_right}
+use Rattle.byte_unit_math.proofs.Expanding.{IsQuotient-times}
 use Rattle.byte_unit_base.specs.Shape.{Shape, bits}
 use Rattle.byte_unit_base.specs.Version.{Version}
 use Rattle.byte_unit_choice.specs.Family.{InFamily}
 use Rattle.byte_unit_choice.specs.Choice.{IsLargest, IsExactUnitIn, places_within}
 use Rattle.byte_unit_choice.specs.ChoiceLaws.{Divides, MorePlacesGiveNoSmallerUnit, NumberTimesUnitIsSize}
 use Rattle.byte_unit_choice.specs.declared.family.Family.{Family}
-use Rattle.byte_unit_choice.proofs.Quotients.{exact_more, number_times_unit}
+use Rattle.byte_unit_choice.proofs.Quotients.{exact_more}
 use Rattle.byte_unit_choice.proofs.Choosing.{some_bits}
 use Rattle.byte_unit_choice.proofs.SomeChoice.{choice_or_none}
 
@@ -41,4 +42,4 @@ no_smaller version family in_bits low high number unit le h =
 -- the chosen number times the chosen unit is the size, scaled by 10^28
 pub number_times_chosen : NumberTimesUnitIsSize
 number_times_chosen version family in_bits precision number unit h =
-    number_times_unit in_bits (bits unit) (places_within precision) number (omega arith) h.number_is
+    IsQuotient-times in_bits (bits unit) (places_within precision) number (omega arith) h.number_is

@@ -1,9 +1,9 @@
 -- A size has at most one chosen unit and number.
-use Rattle.std.proofs.Common.{◌≡◌, ℕ, ◌*◌, ◌^◌, ◌-◌, ◌≤◌, Bool, true, arith, sym, ap, ◌∙◌}
+use Rattle.std.proofs.Common.{◌≡◌, ℕ, ◌*◌, ◌^◌, ◌≤◌, Bool, true, arith, sym, ◌∙◌}
 use Rattle.std.proofs.Math.Nat.{eq_of_mul-eq-mul_right}
 use Rattle.byte_unit_math.specs.Exact.{IsQuotient}
-use Rattle.byte_unit_math.specs.Bounds.{places_of_decimal}
 use Rattle.byte_unit_math.specs.Powers.{IsTwoFive}
+use Rattle.byte_unit_math.proofs.Expanding.{IsQuotient-times}
 use Rattle.byte_unit_math.proofs.Powers.{exact_by_powers}
 use Rattle.byte_unit_base.specs.Shape.{Shape, shape, bits, twos, fives}
 use Rattle.byte_unit_choice.specs.Choice.{IsLargest, IsExactUnitIn, places_within}
@@ -51,18 +51,11 @@ one_largest version family in_bits precision unit other largest other_largest =
     same_unit unit other largest.has.member.prefix.some other_largest.has.member.prefix.some
     (omega (arith, largest.largest other other_largest.has, other_largest.largest unit largest.has))
 
--- an exact quotient has only one value
-same_number : (size places unit number other : ℕ) → 1 ≤ unit → IsQuotient size unit places number
-    → IsQuotient size unit places other → number ≡ other
-same_number size places unit number other some quotient other_quotient =
-    let same = sym quotient.exact ∙ other_quotient.exact in
-    let count = eq_of_mul-eq-mul_right unit (omega (arith, some)) quotient.count other_quotient.count same in
-    quotient.number ∙ (ap (λ count. count * 10 ^ (places_of_decimal - places)) count ∙ sym other_quotient.number)
-
 -- a size has at most one chosen unit and number
 pub one_choice : ChoicesAreOne
 one_choice version family in_bits precision number other_number unit other_unit chosen other =
     let same = one_largest version family in_bits precision unit other_unit chosen.unit_is other.unit_is in
-    let places = places_within precision in
-    let quotient : IsQuotient in_bits (bits unit) places other_number = rw same other.number_is in
-    (same, same_number in_bits places (bits unit) number other_number (some_bits unit) chosen.number_is quotient)
+    let quotient : IsQuotient in_bits (bits unit) (places_within precision) other_number = rw same other.number_is in
+    let product = IsQuotient-times _ _ _ number (omega arith) chosen.number_is in
+    let other_product = IsQuotient-times _ _ _ other_number (omega arith) quotient in
+    (same, eq_of_mul-eq-mul_right (bits unit) (some_bits unit) number other_number (product ∙ sym other_product))

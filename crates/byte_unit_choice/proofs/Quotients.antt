@@ -3,6 +3,7 @@ use Rattle.std.proofs.Common.{◌≡◌, ℕ, ◌-◌, ◌*◌, ◌/◌, ◌^◌
 use Rattle.std.proofs.Math.Nat.{eq_of_mul-eq-mul_right}
 use Rattle.byte_unit_math.specs.Bounds.{places_of_decimal, scale}
 use Rattle.byte_unit_math.specs.Exact.{IsExactAt, IsLeastPlaces, IsQuotient, IsFirstExact}
+use Rattle.byte_unit_math.proofs.Expanding.{IsQuotient-times}
 use Rattle.byte_unit_math.proofs.Scales.{pow10_split}
 
 -- a size that is exact at some number of places is exact at each greater number of places
@@ -11,15 +12,6 @@ exact_more size unit few more h e =
     let p = ap (λ n. size * n) (pow10_split few more h) in
     let q = ap (λ n. n * 10 ^ (more - few)) e.1 in
     (e.0 * 10 ^ (more - few), p ∙ omega (arith, q))
-
--- an exact quotient times the unit is the size, scaled by 10^28
-pub number_times_unit : (size unit places number : ℕ) → places ≤ places_of_decimal → IsQuotient size unit places number
-    → number * unit ≡ size * scale
-number_times_unit size unit places number room h =
-    let n = ap (λ x. x * unit) h.number in
-    let e = ap (λ x. x * 10 ^ (places_of_decimal - places)) h.exact in
-    let p = ap (λ x. size * x) (pow10_split places places_of_decimal room) in
-    n ∙ omega (arith, e, p)
 
 -- if a number times the unit is the size, it is the exact quotient at each number of places at which the size is exact
 pub quotient_of_product : (size unit places number : ℕ) → 1 ≤ unit → places ≤ places_of_decimal
@@ -55,7 +47,7 @@ exact_where_stated size unit number digits product e =
 pub places_of_quotient : (size unit places digits number : ℕ) → 1 ≤ unit → places ≤ places_of_decimal
     → IsQuotient size unit places number → IsFirstExact size unit places digits → IsLeastPlaces number scale digits
 places_of_quotient size unit places digits number some room quotient first =
-    let product = number_times_unit size unit places number room quotient in
+    let product = IsQuotient-times size unit places number room quotient in
     let exact : IsExactAt size unit digits = ⊎_elim (λ e. e) (λ e. rw e (quotient.count, quotient.exact)) first.ends in
     record {
       has = stated_where_exact size unit number digits some product exact;

@@ -185,12 +185,7 @@ none_found Has rows i done remain unit h =
 -- if the tests of a row hold, its unit is not above the size and has no greater exponents
 pub row_powers : {family : Family} {row : ShapeRow} (in_bits a b : ℕ) → IsRow family row
     → ((leb row.bits in_bits && leb row.twos a) && leb row.fives b) ≡ true → HasPowers family in_bits a b row.unit
-row_powers {family} {row} in_bits a b is h = record {
-  member = is.member;
-  not_above = grind (arith, nat_tests, is.bits_are, h);
-  few_twos = grind (arith, nat_tests, is.twos_are, h);
-  few_fives = grind (arith, nat_tests, is.fives_are, h);
-}
+row_powers in_bits a b is h = grind (arith, nat_tests, is.bits_are, is.twos_are, is.fives_are, is.member, h)
 
 -- if the unit of a row is not above the size and has no greater exponents, the tests of the row hold
 pub powers_in_row : {family : Family} {row : ShapeRow} (in_bits a b : ℕ) → IsRow family row

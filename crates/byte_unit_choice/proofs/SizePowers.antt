@@ -105,9 +105,8 @@ module _ {family : Family} {in_bits most a b : ℕ} (precision : ℕ) (same : mo
 pub exact_by_row : {family : Family} {in_bits most a b B : ℕ} (unit : Shape) → most ≤ places_of_decimal → B ≡ bits unit
     → IsTwoFive in_bits a b
     → HasPowers family in_bits (a + most) (b + most) unit → IsExactAt in_bits B (places_within most)
-exact_by_row {family} {in_bits} {most} {a} {b} {B} unit room same powers h =
-    let within : places_within most ≡ most = omega (arith, room) in
-    rw (same, within) ((exact_by_powers in_bits (twos unit) (fives unit) a b most powers).1 (h.few_twos, h.few_fives))
+exact_by_row {most = most} unit room same powers h =
+    rw same (exact_of_powers most (omega (arith, room)) powers unit h).exact
 
 -- with at most five digits after the point, a size divided by a unit stays below the limit of a whole part
 pub count_fits : {row : ShapeRow} (size divisor places : ℕ) → IsMultiple row → (divisor ≡ 8) ⊎ (divisor ≡ 1)

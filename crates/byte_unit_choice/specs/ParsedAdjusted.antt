@@ -14,7 +14,8 @@ use Rattle.byte_unit_base.specs.declared.kind.Kind.{Kind}
 -- the first of the units that is not above the size, which is in bits, or else `own`
 abbrev pub first_not_above : ℕ → Shape → List Shape → Shape
 first_not_above in_bits own [] = own
-first_not_above in_bits own (unit ∷ units) = if nat_le (bits unit) in_bits then unit else first_not_above in_bits own units
+first_not_above in_bits own (unit ∷ units) =
+    if nat_le (bits unit) in_bits then unit else first_not_above in_bits own units
 
 -- the largest unit of the kind that is not above the size, or the base unit of the kind if there is none
 abbrev pub largest_unit_of : Kind → ℕ → Shape

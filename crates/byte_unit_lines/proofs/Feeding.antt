@@ -1,7 +1,6 @@
 -- Lemmas: the loop over the lines that end in a chunk.
-use Rattle.std.proofs.Common.{◌≡◌, ◌≢◌, ◌+◌, ◌*◌, ◌<◌, ◌≤◌, ℕ, zero, suc, List, [], ◌∷◌, ◌++◌, take, drop, get_or, length}
-use Rattle.std.proofs.Common.{vec_len, arith, false, eqb, sym, ap, subst, ◌∙◌, append_assoc, false-eqb}
-use Rattle.std.proofs.lemmas.List.{take_more}
+use Rattle.std.proofs.Common.{◌≡◌, ◌+◌, ◌*◌, ◌≤◌, ℕ, List, [], ◌∷◌, ◌++◌, take, drop, length}
+use Rattle.std.proofs.Common.{vec_len, refl, sym, ap, subst, ◌∙◌, append_assoc}
 use Rattle.std.specs.Prelude.{vec_capacity}
 use Rattle.std.specs.declared.vec.Vec.{Vec}
 use Rattle.byte_unit_lines.specs.Answer.{Kind, IsAnswer}
@@ -40,18 +39,14 @@ pub record IsAnsweredTo (kind : Kind) (now next : Feed) (place : ℕ) : Type 0 w
 
 -- that line comes first, and the state after it gives the other lines and the same unfinished line
 module _ (kind : Kind) (now next : Feed) (place : ℕ) (is_answered : IsAnsweredTo kind now next place) where
-  ended_lines-next : ended_records line_end now.line now.rest ≡ (now.line ++ take place now.rest) ∷ ended_records line_end next.line next.rest
+  ended_lines-next : ended_records line_end now.line now.rest
+      ≡ (now.line ++ take place now.rest) ∷ ended_records line_end next.line next.rest
   ended_lines-next =
-      let this = now.line ++ take place now.rest in
-      ended_records-EndsAt line_end now.line now.rest place is_answered.ends
-      ∙ ap (λ line. this ∷ ended_records line_end line (drop (place + 1) now.rest)) (sym is_answered.line_is)
-      ∙ ap (λ rest. this ∷ ended_records line_end next.line rest) (sym is_answered.rest_is)
+      rw (ended_records-EndsAt line_end now.line now.rest place is_answered.ends, is_answered.line_is, is_answered.rest_is) refl
 
   begun_line-next : begun_record line_end now.line now.rest ≡ begun_record line_end next.line next.rest
   begun_line-next =
-      begun_record-EndsAt line_end now.line now.rest place is_answered.ends
-      ∙ ap (λ line. begun_record line_end line (drop (place + 1) now.rest)) (sym is_answered.line_is)
-      ∙ ap (begun_record line_end next.line) (sym is_answered.rest_is)
+      rw (begun_record-EndsAt line_end now.line now.rest place is_answered.ends, is_answered.line_is, is_answered.rest_is) refl
 
 -- one more answered line keeps the invariant
 pub IsFed-step : (kind : Kind) (start now next : Feed) (place : ℕ) → IsFed kind start now → IsAnsweredTo kind now next place

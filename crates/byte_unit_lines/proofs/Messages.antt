@@ -1,7 +1,6 @@
 -- Lemmas: the bytes that are appended for a line are its answer.
-use Rattle.std.proofs.Common.{◌≡◌, ℕ, ◌+◌, List, [], ◌∷◌, ◌++◌, false, if◌then◌else◌, codes, refl, sym, ap}
-use Rattle.std.proofs.Common.{◌∙◌, ◌<◌, append_assoc, append-nil, set}
-use Rattle.std.proofs.Common.{Result, Ok, Err, OnOk, is_ok, length, take}
+use Rattle.std.proofs.Common.{◌≡◌, ℕ, ◌+◌, List, [], ◌∷◌, ◌++◌, false, if◌then◌else◌, codes, refl, sym, ap, ◌∙◌, ◌<◌}
+use Rattle.std.proofs.Common.{append_assoc, append-nil, set, Result, Ok, Err, OnOk, is_ok, length, take}
 use Rattle.std.specs.Prelude.{⊤}
 use Rattle.std.specs.Fmt.{decimal}
 use Rattle.std.specs.Str.{IsUtf8}
@@ -18,8 +17,8 @@ pub AddsAnswer-if_ok : {E : Type 0} (kind : Kind) (line : List ℕ) (result : Re
 AddsAnswer-if_ok kind line (Ok _) old added new is_answer is_added = (added, is_answer, is_added)
 AddsAnswer-if_ok kind line (Err _) old added new is_answer is_added = tt
 
--- the digits of a size, ` = `, the size with a unit and the line end, written to a buffer, are the answer to a line that
--- is accepted as this size
+-- the digits of a size, ` = `, the size with a unit and the line end, written to a buffer, are the answer to a line
+-- that is accepted as this size
 pub answer_with_size :
     {kind : Kind} {number : ℕ} (line bytes : List ℕ) (count : ℕ) → IsUtf8 line → IsAccepted kind false line number
     → IsTextWithDigits kind number (codes " = ") (take count bytes) → count < length bytes

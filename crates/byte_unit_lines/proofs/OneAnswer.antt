@@ -36,10 +36,9 @@ module _ (texts : TextsAreAcceptedOrRejected) (forms : SizeHasOneForm) (kind : K
   size_has_one_message : (number : ℕ) (said other : List ℕ) → ShowsSize kind number said → ShowsSize kind number other → said ≡ other
   size_has_one_message number said other says also =
       let alternate = forms current kind number alternate_spec in
-      says.message_is
-      ∙ ap (λ digits. digits ++ codes " = " ++ says.with_unit) (says.is_digits ∙ sym also.is_digits)
-      ∙ ap (λ form. also.digits ++ codes " = " ++ form) (alternate.one says.with_unit says.is_with_unit ∙ sym (alternate.one also.with_unit also.is_with_unit))
-      ∙ sym also.message_is
+      let this = alternate.one says.with_unit says.is_with_unit in
+      let that = alternate.one also.with_unit also.is_with_unit in
+      rw (says.message_is, also.message_is, says.is_digits, also.is_digits, this, that) refl
 
   -- each string that is accepted or rejected has a message
   text_has_message : (text : List ℕ) → IsUtf8 text
@@ -83,17 +82,15 @@ module _ (texts : TextsAreAcceptedOrRejected) (forms : SizeHasOneForm) (kind : K
   -- a line has at most one answer
   line_has_one_answer : (line answer other : List ℕ) → IsAnswer kind line answer → IsAnswer kind line other → answer ≡ other
   line_has_one_answer line answer other answers also =
-      answers.ended ∙ ap (λ said. said ++ 10 ∷ []) (line_has_one_message line answers.message also.message answers.is_message also.is_message) ∙ sym also.ended
+      rw (answers.ended, also.ended, line_has_one_message line _ _ answers.is_message also.is_message) refl
 
   -- lines have at most one list of answers
   AreAnswers-unique : (lines : List (List ℕ)) (out other : List ℕ)
       → AreAnswers kind lines out → AreAnswers kind lines other → out ≡ other
   AreAnswers-unique [] out other none also = none ∙ sym also
   AreAnswers-unique (line ∷ lines) out other answers also =
-      answers.4
-      ∙ ap (λ answer. answer ++ answers.1) (line_has_one_answer line answers.0 also.0 answers.2 also.2)
-      ∙ ap (λ rest. also.0 ++ rest) (AreAnswers-unique lines answers.1 also.1 answers.3 also.3)
-      ∙ sym also.4
+      let first = line_has_one_answer line answers.0 also.0 answers.2 also.2 in
+      rw (answers.4, also.4, first, AreAnswers-unique lines answers.1 also.1 answers.3 also.3) refl
 
   -- each input has exactly one report
   pub input_has_one_report : EachLineHasAnAnswer → (bytes : List ℕ) → HasOneReport kind bytes

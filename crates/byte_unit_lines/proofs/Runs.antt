@@ -1,20 +1,19 @@
 -- Lemmas: the loop of a run, read by read.
-use Rattle.std.proofs.Common.{◌≡◌, ◌≢◌, ◌+◌, ℕ, List, [], ◌∷◌, ◌++◌, Option, Result, Ok, Err}
+use Rattle.std.proofs.Common.{◌≡◌, ◌≢◌, ℕ, List, [], ◌∷◌, ◌++◌, Option, Result, Ok, Err}
 use Rattle.std.specs.Prelude.{⊤, IsErrAnd}
-use Rattle.std.proofs.Common.{sym, ap, subst, ◌∙◌, append_assoc, append-nil}
+use Rattle.std.proofs.Common.{refl, sym, subst, append_assoc, append-nil}
 use Rattle.std.specs.Io.KnownBytes.{Appends, Consumes}
 use Rattle.std.proofs.KnownBytes.{Appends-trans, Consumes-trans}
 use Rattle.byte_unit_lines.specs.Answer.{Kind, IsAnswer}
 use Rattle.byte_unit_lines.specs.Laws.{EachLineHasAnAnswer}
-use Rattle.byte_unit_lines.specs.Lines.{finished_lines, lines_of}
+use Rattle.byte_unit_lines.specs.Lines.{finished_lines, lines_of, line_end}
 use Rattle.byte_unit_lines.specs.Report.{AreAnswers, IsReport}
-use Rattle.byte_unit_lines.specs.Outcome.{AnswerFirst, IsWritten}
+use Rattle.byte_unit_lines.specs.Outcome.{IsWritten}
 use Rattle.byte_unit_lines.specs.Answered.{BeginFirst, IsAnswered}
 use Rattle.byte_unit_lines.specs.declared.run.RunError.{RunError}
 use Rattle.byte_unit_lines.specs.declared.run.RunError.TheVariants.{Memory, Read, Write}
 use Rattle.byte_unit_lines.proofs.Answering.{AreAnswers-append, AreAnswers-single, lines_have_answers}
 use Rattle.byte_unit_lines.proofs.Answering.{IsAnswered-append}
-use Rattle.byte_unit_lines.specs.Lines.{line_end}
 use Rattle.byte_unit_stream.specs.Chunks.{ended_records, begun_record, nonempty_record}
 use Rattle.byte_unit_stream.proofs.Bytes.{IsWrittenBy}
 use Rattle.byte_unit_stream.proofs.ChunkRecords.{ended_records-append, begun_record-append}
@@ -57,22 +56,23 @@ IsWritten-error kind read written (Err _) error is_error is_written =
 
 module _ (kind : Kind) (course : Course) (served : IsServed kind course) where
   -- the lines that end in what was read, then those that end in the next piece, are those of both
-  ended_lines-piece : (piece : List ℕ) → ended_records line_end [] course.read ++ ended_records line_end course.line piece ≡ ended_records line_end [] (course.read ++ piece)
-  ended_lines-piece piece =
-      ap (λ line. ended_records line_end [] course.read ++ ended_records line_end line piece) served.begun ∙ sym (ended_records-append line_end [] course.read piece)
+  ended_lines-piece : (piece : List ℕ) → ended_records line_end [] course.read ++ ended_records line_end course.line piece
+      ≡ ended_records line_end [] (course.read ++ piece)
+  ended_lines-piece piece = rw (served.begun, ended_records-append line_end [] course.read piece) refl
 
   -- answering the lines that end in the next piece keeps the invariant
-  pub IsServed-piece : (piece answers line : List ℕ) → AreAnswers kind (ended_records line_end course.line piece) answers → line ≡ begun_record line_end course.line piece
+  pub IsServed-piece : (piece answers line : List ℕ) → AreAnswers kind (ended_records line_end course.line piece) answers
+      → line ≡ begun_record line_end course.line piece
       → IsServed kind (record { read = course.read ++ piece; written = course.written ++ answers; line = line })
   IsServed-piece piece answers line are_answers line_is = record {
     answered = subst (λ lines. AreAnswers kind lines (course.written ++ answers)) (ended_lines-piece piece)
-        (AreAnswers-append kind (ended_records line_end [] course.read) (ended_records line_end course.line piece) course.written answers served.answered are_answers);
-    begun = line_is ∙ ap (λ begun. begun_record line_end begun piece) served.begun ∙ sym (begun_record-append line_end [] course.read piece);
+        (AreAnswers-append kind _ _ course.written answers served.answered are_answers);
+    begun = rw (line_is, served.begun, begun_record-append line_end [] course.read piece) refl;
   }
 
   -- between two reads, the answers to all finished lines are written
   pub finished_lines_answered : AreAnswers kind (finished_lines course.read) course.written
-  finished_lines_answered = subst (λ lines. AreAnswers kind lines course.written) (sym (finished_records-ended_records line_end course.read)) served.answered
+  finished_lines_answered = rw (finished_records-ended_records line_end course.read) served.answered
 
   -- so what is written is right for a run that is out of memory then
   pub first_lines_answered : IsWritten kind course.read (Err Memory) course.written
@@ -81,22 +81,17 @@ module _ (kind : Kind) (course : Course) (served : IsServed kind course) where
   -- at the end of the input, what is written is the report if there is no unfinished line
   pub report_without_last_line : course.line ≡ [] → IsReport kind course.read course.written
   report_without_last_line none =
-      let ended = ended_records line_end [] course.read in
-      let lines : lines_of course.read ≡ ended =
-      records_of-ended_records line_end course.read ∙ ap (λ line. ended ++ nonempty_record line) (sym served.begun ∙ none) ∙ append-nil ended in
-      subst (λ lines. AreAnswers kind lines course.written) (sym lines) served.answered
+      rw (records_of-ended_records line_end course.read, ← served.begun, none, append-nil (ended_records line_end [] course.read))
+      served.answered
 
   -- with the answer to the unfinished line it is the report, if there is one
   report_with_last_line : course.line ≢ [] → (answer : List ℕ) → IsAnswer kind course.line answer
       → IsReport kind course.read (course.written ++ answer)
   report_with_last_line some answer is_answer =
       let ended = ended_records line_end [] course.read in
-      let lines : lines_of course.read ≡ ended ++ course.line ∷ [] =
-      records_of-ended_records line_end course.read
-      ∙ ap (λ line. ended ++ nonempty_record line) (sym served.begun)
-      ∙ ap (λ last. ended ++ last) (nonempty_record-nonempty course.line some) in
-      subst (λ lines. AreAnswers kind lines (course.written ++ answer)) (sym lines)
-      (AreAnswers-append kind ended (course.line ∷ []) course.written answer served.answered (AreAnswers-single kind course.line answer is_answer))
+      rw (records_of-ended_records line_end course.read, ← served.begun, nonempty_record-nonempty course.line some)
+      (AreAnswers-append kind ended (course.line ∷ []) course.written answer served.answered
+      (AreAnswers-single kind course.line answer is_answer))
 
   -- after the call that writes the answer to the last line, what is written is right for the result of that call
   pub IsWritten-last_line : course.line ≢ [] → (answer : List ℕ) → IsAnswer kind course.line answer
@@ -118,16 +113,17 @@ prefix_of_report each kind read written (whole, (answered, (unanswered, ended_is
     let others = unanswered ++ last in
     let rest = lines_have_answers kind (each kind) others in
     let lines : answered ++ others ≡ lines_of read =
-    sym (append_assoc answered unanswered last) ∙ ap (λ ended. ended ++ last) (sym ended_is) ∙ sym (records_of-ended_records line_end read) in (
+    rw (records_of-ended_records line_end read, ended_is, append_assoc answered unanswered last) refl in (
       whole ++ rest.0,
-      subst (λ lines. AreAnswers kind lines (whole ++ rest.0)) lines (AreAnswers-append kind answered others whole rest.0 are_answers rest.1),
+      subst (λ lines. AreAnswers kind lines (whole ++ rest.0)) lines
+          (AreAnswers-append kind answered others whole rest.0 are_answers rest.1),
       IsPrefix-longer written whole rest.0 is_prefix,
     )
 
 -- what an error leaves written for the lines that ended is right for a run that fails with this error
 IsWritten-ended_lines : EachLineHasAnAnswer → (kind : Kind) (read : List ℕ) (error : RunError) (written : List ℕ)
     → IsAnswered kind (ended_records line_end [] read) (Err error) written → IsWritten kind read (Err error) written
-IsWritten-ended_lines each kind read Memory written at = subst (λ lines. AnswerFirst kind lines written) (sym (finished_records-ended_records line_end read)) at
+IsWritten-ended_lines each kind read Memory written at = rw (finished_records-ended_records line_end read) at
 IsWritten-ended_lines each kind read Read written at = absurd at
 IsWritten-ended_lines each kind read Write written at = prefix_of_report each kind read written at
 

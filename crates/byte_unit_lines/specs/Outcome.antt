@@ -1,5 +1,5 @@
 -- What a run has written, by what it has read and how it ended.
-use Rattle.std.specs.Prelude.{◌≡◌, ℕ, List, ◌++◌, Result, Ok, Err, ⊤}
+use Rattle.std.specs.Prelude.{ℕ, List, Result, Ok, Err, ⊤}
 use Rattle.byte_unit_lines.specs.Answer.{Kind}
 use Rattle.byte_unit_lines.specs.Lines.{finished_lines}
 use Rattle.byte_unit_lines.specs.Report.{AreAnswers, IsReport}

@@ -13,7 +13,7 @@ use Rattle.byte_unit_math.specs.Finite.{IsExpansion}
 use Rattle.byte_unit_math.specs.ShortExpansion.{IsShortExpansion, finite_of}
 use Rattle.byte_unit_math.specs.declared.short.ShortExpansion.{ShortExpansion}
 use Rattle.byte_unit_math.proofs.Digits.{length_last_digits, last_digits_below_ten, value_of_last_digits}
-use Rattle.byte_unit_math.proofs.Expanding.{IsLeastPlaces-last_digit}
+use Rattle.byte_unit_math.proofs.Expanding.{IsLeastPlaces-last_digit, product_positive}
 use Rattle.byte_unit_math.proofs.Texts.{SameFraction, expansion_of_same_fraction}
 use Rattle.byte_unit_math.proofs.Scales.{pow10_split, pow10_times_rest, power_of_sum}
 use Rattle.byte_unit_math.proofs.TwosFives.{FivesOff-trailing_zeros, trailing_zeros_divide}
@@ -35,9 +35,7 @@ masked_rest n p few =
 
 -- A remainder by 2^p, times 5^p, is below 10^p.
 pub rest_below_ten_power : (n p : ℕ) → n % 2 ^ p * 5 ^ p < 10 ^ p
-rest_below_ten_power n p =
-    rw (ten_power p) (mul-lt-mul_of_pos_right {k = 5 ^ p} (mod_below n (2 ^ p) (omega (arith, one-le-pow p 2 (omega arith))))
-    (omega (arith, one-le-pow p 5 (omega arith))))
+rest_below_ten_power n p = grind (arith, ten_power, mul-lt-mul_of_pos_right, mod_below, one-le-pow)
 
 -- A power of five is odd.
 five_power_odd : (p : ℕ) → 5 ^ p % 2 ≡ 1
@@ -130,10 +128,6 @@ odd_if_shared (suc n) most k small few k_is below =
     let all : k ≡ trailing_zeros w128 (suc n) = grind arith in
     rw all (FivesOff-trailing_zeros (suc n) (omega arith) small).odd
 
--- The product of positive numbers is positive.
-pub some_product : {a b : ℕ} → 1 ≤ a → 1 ≤ b → 0 < a * b
-some_product {a} {b} some some' = omega (arith, mul-le 1 1 a b some some')
-
 -- Equal fractions have the same expansion.
 pub short_of_same_fraction :
     {num den num' den' : ℕ} {e : ShortExpansion} → SameFraction num den num' den' → IsShortExpansion num den e
@@ -148,13 +142,8 @@ short_of_same_fraction {num} {den} {num'} {den'} {e} same h = record {
 pub short_of_decimal :
     {N num den : ℕ} {e : ShortExpansion} → 0 < den → N * den ≡ num * scale → AreParts N e.whole e.digits e.places
     → IsShortExpansion num den e
-short_of_decimal {N} {num} {den} {e} some same parts =
-    let fractions : SameFraction N scale num den = record { positive = omega arith; positive' = some; same = same } in
-    record {
-      few = omega (arith, parts.few);
-      below = parts.below;
-      is_expansion = expansion_of_same_fraction N scale num den (finite_of e) fractions (parts_expansion parts);
-    }
+short_of_decimal some same parts = short_of_same_fraction (record { positive = omega arith; positive' = some; same = same })
+    (record { few = omega (arith, parts.few); below = parts.below; is_expansion = parts_expansion parts })
 
 -- A power of two that numerator and binary unit share can be left out.
 pub reduced_binary : (number reduced shared left twos : ℕ) → twos ≡ left + shared → number ≡ reduced * 2 ^ shared
@@ -174,7 +163,7 @@ reduced_decimal number reduced shared left twos fives sum number_is =
     let first = power_of_sum 2 twos (left + fives) shared sum in
     let second = power_of_sum 2 (left + fives) left fives (omega arith) in
     record {
-      positive = some_product (one-le-pow left 2 (omega arith)) (one-le-pow fives 10 (omega arith));
-      positive' = some_product (one-le-pow twos 2 (omega arith)) (one-le-pow fives 5 (omega arith));
+      positive = mul-le 1 1 _ _ (one-le-pow left 2 (omega arith)) (one-le-pow fives 10 (omega arith));
+      positive' = product_positive twos fives;
       same = rw (number_is, first, second, ten_power fives) (omega arith);
     }

@@ -1,5 +1,5 @@
 -- Lemmas on sequences that are written.
-use Rattle.std.proofs.Common.{arith, ◌≡◌, ℕ, suc, ◌+◌, ◌<◌, ◌≤◌, List, ◌∷◌, length, drop, get_or, Result, Ok, Err, refl, sym, ◌∙◌, ap, subst}
+use Rattle.std.proofs.Common.{arith, ◌≡◌, ℕ, suc, ◌+◌, ◌<◌, ◌≤◌, List, ◌∷◌, length, drop, get_or, Result, sym, ◌∙◌, ap, subst}
 use Rattle.std.proofs.Math.Seq.{drop-cons}
 use Rattle.std.proofs.Math.ListN.{drop_of_length-le}
 use Rattle.byte_unit_serde.specs.Outcomes.{Returns, WritingEach}
@@ -10,22 +10,6 @@ abbrev pub Continues :
 Continues {S} {E} Writing end_returns values rest first last =
     (result : Result Unit E) (new : S) → WritingEach Writing end_returns rest last result new
     → WritingEach Writing end_returns values first result new
-
--- One more value is written after the others.
-pub continues_more :
-    {S E A : Type 0} (Writing : A → Returns S Unit E) (end_returns : Returns S Unit E) (values rest : List A)
-    (value : A) (first last next : S) → Continues Writing end_returns values (value ∷ rest) first last
-    → Writing value last (Ok tt) next → Continues Writing end_returns values rest first next
-continues_more Writing end_returns values rest value first last next before writes result new ends =
-    before result new (Ok tt, next, writes, ends)
-
--- The error of one more value is returned.
-pub continues_error :
-    {S E A : Type 0} (Writing : A → Returns S Unit E) (end_returns : Returns S Unit E) (values rest : List A)
-    (value : A) (first last next : S) (error : E) → Continues Writing end_returns values (value ∷ rest) first last
-    → Writing value last (Err error) next → WritingEach Writing end_returns values first (Err error) next
-continues_error Writing end_returns values rest value first last next error before writes =
-    before (Err error) next (Err error, next, writes, (refl, refl))
 
 -- What ends the sequence is returned after all values.
 pub continues_end :

@@ -1,32 +1,20 @@
 // Rendered from crates/byte_unit_serde/src/byte.rt. Do not edit.
 //! A size in bits as a string, for `#[serde(with = "byte_unit_serde::bit")]`.
 
-ghost use Rattle.std.specs.Prelude.{◌≡◌, false, None, IfOk, OnOk};
+ghost use Rattle.std.specs.Prelude.{◌≡◌, false, None, OnOk};
 ghost use Rattle.byte_unit.specs.Accepted.{IsAccepted};
 ghost use Rattle.byte_unit.specs.Forms.{IsText};
 ghost use Rattle.byte_unit.specs.declared.Kind.TheVariants.{Bit as InBits};
 ghost use Rattle.byte_unit_serde.specs.Outcomes.{ReadingSize, WritingSize, WritingSizeAs};
-ghost use Rattle.byte_unit_serde.specs.Serialized.{ReadsString, WritesSize, WritesSizeAs};
+ghost use Rattle.byte_unit_serde.specs.Serialized.{WritesSize, WritesSizeAs};
 
 use crate::messages::size_message;
 use crate::strings::{DeserializeString, SerializeString};
+pub use crate::strings::{deserialize, serialize};
 use crate::{Sink, Source};
 use byte_unit::{Bit, FormatSpec};
 use serde::Deserializer;
 use std::alloc::Global;
-
-/// Writes the string of the size: its text with a unit, by `FormatSpec::ALTERNATE`. Does not allocate.
-///
-/// # Errors
-///
-/// Returns the format's error if the format cannot write a string.
-pub fn serialize<S: Sink>(size: &Bit, out: &mut S) -> Result<(), S::Error>
-    ensures written { OnOk result
-        (WritesSize InBits size.now (S.written out.old) (S.written out.new)) }
-    ensures exact { WritingSize InBits S.str_returns size.now out.old result out.new }
-{
-    write_as(size, FormatSpec::ALTERNATE, out)
-}
 
 /// Writes the text of the size by the spec, which has no width, as a string. Does not allocate.
 pub(crate) fn write_as<S: Sink>(size: &Bit, spec: FormatSpec, out: &mut S) -> Result<(), S::Error>
@@ -45,24 +33,6 @@ pub(crate) fn write_as<S: Sink>(size: &Bit, spec: FormatSpec, out: &mut S) -> Re
     }
 }
 
-/// Reads a string as `FromStr` parses it.
-///
-/// # Errors
-///
-/// Returns the format's error if the value is not a string, or the string is rejected.
-pub fn deserialize<'de, F: Source>(
-    alloc: Global,
-    from: &mut Deserializer<'de, '_, F>,
-) -> Result<Bit, F::Error>
-    ensures string { IfOk result
-        (ReadsString (IsAccepted InBits false) F.gives from.old from.new) }
-    ensures exact { ReadingSize InBits F.string_returns F.rejects from.old result from.new }
-{
-    let text = F::read_string(alloc, from)?;
-    text.parse::<Bit>()
-        .map_err(|error| F::rejection(from, size_message(&error)))
-}
-
 impl SerializeString for Bit {
     type Value = Bit;
 
@@ -71,7 +41,7 @@ impl SerializeString for Bit {
     ghost writing = { WritingSize InBits };
 
     fn serialize_string<S: Sink>(size: &Bit, out: &mut S) -> Result<(), S::Error> {
-        serialize(size, out)
+        write_as(size, FormatSpec::ALTERNATE, out)
     }
 }
 
@@ -86,6 +56,8 @@ impl DeserializeString for Bit {
         alloc: Global,
         from: &mut Deserializer<'_, '_, F>,
     ) -> Result<Bit, F::Error> {
-        deserialize(alloc, from)
+        let text = F::read_string(alloc, from)?;
+        text.parse::<Bit>()
+            .map_err(|error| F::rejection(from, size_message(&error)))
     }
 }

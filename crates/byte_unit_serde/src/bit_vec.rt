@@ -1,46 +1,4 @@
 // Rendered from crates/byte_unit_serde/src/byte_vec.rt. Do not edit.
 //! A list of sizes in bits as strings, for `#[serde(with = "byte_unit_serde::bit_vec")]`.
 
-ghost use Rattle.std.specs.Prelude.{false, IfErr, IfOk, OnOk};
-ghost use Rattle.serde.specs.Event.{WritesSeq};
-ghost use Rattle.byte_unit.specs.Accepted.{IsAccepted};
-ghost use Rattle.byte_unit.specs.declared.Kind.TheVariants.{Bit as InBits};
-ghost use Rattle.byte_unit_serde.specs.Outcomes.{IsListError, ReadingSize, WritingList, WritingSize};
-ghost use Rattle.byte_unit_serde.specs.Serialized.{ReadsSeq, WritesSize};
-
-use crate::{Sink, Source, lists};
-use byte_unit::Bit;
-use serde::Deserializer;
-use std::alloc::Global;
-
-/// Writes a sequence of the strings of the sizes, each as [`crate::bit::serialize`] does. Does not allocate.
-///
-/// # Errors
-///
-/// Returns the format's error if the format cannot write it.
-pub fn serialize<S: Sink>(sizes: &Vec<Bit>, out: &mut S) -> Result<(), S::Error>
-    ensures written { OnOk result
-        (WritesSeq (WritesSize InBits) sizes.now.items (S.written out.old) (S.written out.new)) }
-    ensures exact { WritingList S.begin_returns S.end_returns (WritingSize InBits S.str_returns)
-        sizes.now.items out.old result out.new }
-{
-    lists::serialize::<Bit, S>(sizes, out)
-}
-
-/// Reads a sequence of strings, each as [`crate::bit::deserialize`] does.
-///
-/// # Errors
-///
-/// Returns the format's error if the value is not a sequence of strings, a string is rejected, or an allocation fails.
-pub fn deserialize<'de, F: Source>(
-    alloc: Global,
-    from: &mut Deserializer<'de, '_, F>,
-) -> Result<Vec<Bit>, F::Error>
-    ensures list { IfOk result (λ sizes.
-        ReadsSeq (IsAccepted InBits false) F.gives F.stays from.old from.new sizes.items) }
-    ensures error { let Reading = ReadingSize InBits F.string_returns F.rejects in IfErr result
-        (IsListError (IsAccepted InBits false) F.gives F.stays F.begin_returns
-        F.next_returns Reading F.refuses from.old from.new) }
-{
-    lists::deserialize::<Bit, F>(alloc, from)
-}
+pub use crate::lists::{deserialize, serialize};

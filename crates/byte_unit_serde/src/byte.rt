@@ -1,31 +1,19 @@
 //! A size in bytes as a string, for `#[serde(with = "byte_unit_serde::byte")]`.
 
-ghost use Rattle.std.specs.Prelude.{◌≡◌, false, None, IfOk, OnOk};
+ghost use Rattle.std.specs.Prelude.{◌≡◌, false, None, OnOk};
 ghost use Rattle.byte_unit.specs.Accepted.{IsAccepted};
 ghost use Rattle.byte_unit.specs.Forms.{IsText};
 ghost use Rattle.byte_unit.specs.declared.Kind.TheVariants.{Byte as InBytes};
 ghost use Rattle.byte_unit_serde.specs.Outcomes.{ReadingSize, WritingSize, WritingSizeAs};
-ghost use Rattle.byte_unit_serde.specs.Serialized.{ReadsString, WritesSize, WritesSizeAs};
+ghost use Rattle.byte_unit_serde.specs.Serialized.{WritesSize, WritesSizeAs};
 
 use crate::messages::size_message;
 use crate::strings::{DeserializeString, SerializeString};
+pub use crate::strings::{deserialize, serialize};
 use crate::{Sink, Source};
 use byte_unit::{Byte, FormatSpec};
 use serde::Deserializer;
 use std::alloc::Global;
-
-/// Writes the string of the size: its text with a unit, by `FormatSpec::ALTERNATE`. Does not allocate.
-///
-/// # Errors
-///
-/// Returns the format's error if the format cannot write a string.
-pub fn serialize<S: Sink>(size: &Byte, out: &mut S) -> Result<(), S::Error>
-    ensures written { OnOk result
-        (WritesSize InBytes size.now (S.written out.old) (S.written out.new)) }
-    ensures exact { WritingSize InBytes S.str_returns size.now out.old result out.new }
-{
-    write_as(size, FormatSpec::ALTERNATE, out)
-}
 
 /// Writes the text of the size by the spec, which has no width, as a string. Does not allocate.
 pub(crate) fn write_as<S: Sink>(size: &Byte, spec: FormatSpec, out: &mut S) -> Result<(), S::Error>
@@ -44,24 +32,6 @@ pub(crate) fn write_as<S: Sink>(size: &Byte, spec: FormatSpec, out: &mut S) -> R
     }
 }
 
-/// Reads a string as `FromStr` parses it.
-///
-/// # Errors
-///
-/// Returns the format's error if the value is not a string, or the string is rejected.
-pub fn deserialize<'de, F: Source>(
-    alloc: Global,
-    from: &mut Deserializer<'de, '_, F>,
-) -> Result<Byte, F::Error>
-    ensures string { IfOk result
-        (ReadsString (IsAccepted InBytes false) F.gives from.old from.new) }
-    ensures exact { ReadingSize InBytes F.string_returns F.rejects from.old result from.new }
-{
-    let text = F::read_string(alloc, from)?;
-    text.parse::<Byte>()
-        .map_err(|error| F::rejection(from, size_message(&error)))
-}
-
 impl SerializeString for Byte {
     type Value = Byte;
 
@@ -70,7 +40,7 @@ impl SerializeString for Byte {
     ghost writing = { WritingSize InBytes };
 
     fn serialize_string<S: Sink>(size: &Byte, out: &mut S) -> Result<(), S::Error> {
-        serialize(size, out)
+        write_as(size, FormatSpec::ALTERNATE, out)
     }
 }
 
@@ -85,6 +55,8 @@ impl DeserializeString for Byte {
         alloc: Global,
         from: &mut Deserializer<'_, '_, F>,
     ) -> Result<Byte, F::Error> {
-        deserialize(alloc, from)
+        let text = F::read_string(alloc, from)?;
+        text.parse::<Byte>()
+            .map_err(|error| F::rejection(from, size_message(&error)))
     }
 }

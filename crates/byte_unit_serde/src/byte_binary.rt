@@ -19,8 +19,8 @@ use byte_unit::{Byte, FormatSpec, Unit};
 use serde::Deserializer;
 use std::alloc::Global;
 
-/// Writes a string of the size without a decimal prefix, since [`deserialize`] takes that for the binary one: the text of
-/// [`crate::byte::serialize`] if its unit has a binary prefix, and else the number of bytes. Does not allocate.
+/// Writes a string of the size without a decimal prefix, since [`deserialize`] takes that for the binary one: the text
+/// of [`crate::byte::serialize`] if its unit has a binary prefix, and else the number of bytes. Does not allocate.
 ///
 /// So what is written is read as the same size, also by the other modules: see the law `binary_string_reads_back`.
 ///

@@ -8,9 +8,9 @@ ghost use Rattle.byte_unit_serde.specs.Outcomes.{ReadingSizeBy};
 ghost use Rattle.byte_unit_serde.specs.Serialized.{ReadsString};
 
 use crate::Source;
-pub use crate::byte::serialize;
 use crate::messages::size_message;
 use crate::strings::DeserializeString;
+pub use crate::strings::serialize;
 use byte_unit::Byte;
 use serde::Deserializer;
 use std::alloc::Global;

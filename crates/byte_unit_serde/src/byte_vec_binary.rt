@@ -26,7 +26,7 @@ pub fn serialize<S: Sink>(sizes: &Vec<Byte>, out: &mut S) -> Result<(), S::Error
     ensures exact { WritingList S.begin_returns S.end_returns
         (WritingSizeAs (IsBinaryString InBytes) S.str_returns) sizes.now.items out.old result out.new }
 {
-    lists::serialize::<Binary, S>(sizes, out)
+    lists::serialize_as::<Binary, S>(sizes, out)
 }
 
 /// Reads a sequence of strings, each as [`crate::byte_binary::deserialize`] does.
@@ -45,5 +45,5 @@ pub fn deserialize<'de, F: Source>(
         IfErr result (IsListError (IsBinaryAccepted InBytes true) F.gives F.stays F.begin_returns
         F.next_returns Reading F.refuses from.old from.new) }
 {
-    lists::deserialize::<Binary, F>(alloc, from)
+    lists::deserialize_as::<Binary, F>(alloc, from)
 }

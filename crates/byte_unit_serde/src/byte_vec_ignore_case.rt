@@ -9,7 +9,7 @@ ghost use Rattle.byte_unit_serde.specs.Outcomes.{IsListError, ReadingSizeBy};
 ghost use Rattle.byte_unit_serde.specs.Serialized.{ReadsSeq};
 
 use crate::byte_ignore_case::IgnoreCase;
-pub use crate::byte_vec::serialize;
+pub use crate::lists::serialize;
 use crate::{Source, lists};
 use byte_unit::Byte;
 use serde::Deserializer;
@@ -31,5 +31,5 @@ pub fn deserialize<'de, F: Source>(
         IfErr result (IsListError (IsAccepted InBytes true) F.gives F.stays F.begin_returns
         F.next_returns Reading F.refuses from.old from.new) }
 {
-    lists::deserialize::<IgnoreCase, F>(alloc, from)
+    lists::deserialize_as::<IgnoreCase, F>(alloc, from)
 }

@@ -10,12 +10,42 @@ use crate::{Sink, Source};
 use serde::Deserializer;
 use std::alloc::Global;
 
-/// Writes a sequence of the strings of the values, each as `W` does. Does not allocate.
+/// Writes a sequence of the strings of the values, each as [`crate::strings::serialize`] does. Does not allocate.
 ///
 /// # Errors
 ///
 /// Returns the format's error if the format cannot write it.
-pub(crate) fn serialize<W: SerializeString, S: Sink>(
+pub fn serialize<T: SerializeString<Value = T>, S: Sink>(
+    values: &Vec<T>,
+    out: &mut S,
+) -> Result<(), S::Error>
+    ensures written { OnOk result
+        (WritesSeq T.writes values.now.items (S.written out.old) (S.written out.new)) }
+    ensures exact { WritingList S.begin_returns S.end_returns (T.writing S.str_returns)
+        values.now.items out.old result out.new }
+{
+    serialize_as::<T, S>(values, out)
+}
+
+/// Reads a sequence of strings, each as [`crate::strings::deserialize`] does.
+///
+/// # Errors
+///
+/// Returns the format's error if the value is not a sequence of strings, a string is rejected, or an allocation fails.
+pub fn deserialize<'de, T: DeserializeString<Value = T> + Drop, F: Source>(
+    alloc: Global,
+    from: &mut Deserializer<'de, '_, F>,
+) -> Result<Vec<T>, F::Error>
+    ensures list { IfOk result (λ values.
+        ReadsSeq T.means F.gives F.stays from.old from.new values.items) }
+    ensures error { IfErr result (IsListError T.means F.gives F.stays F.begin_returns F.next_returns
+        (T.reading F.string_returns F.rejects) F.refuses from.old from.new) }
+{
+    deserialize_as::<T, F>(alloc, from)
+}
+
+/// Writes a sequence of the strings of the values, each as `W` does. The errors are those of [`serialize`].
+pub(crate) fn serialize_as<W: SerializeString, S: Sink>(
     values: &Vec<W::Value>,
     out: &mut S,
 ) -> Result<(), S::Error>
@@ -31,12 +61,8 @@ pub(crate) fn serialize<W: SerializeString, S: Sink>(
     out.end_list()
 }
 
-/// Reads a sequence of strings, each as `R` does.
-///
-/// # Errors
-///
-/// Returns the format's error if the value is not a sequence of strings, a string is rejected, or an allocation fails.
-pub(crate) fn deserialize<'de, R: DeserializeString, F: Source>(
+/// Reads a sequence of strings, each as `R` does. The errors are those of [`deserialize`].
+pub(crate) fn deserialize_as<'de, R: DeserializeString, F: Source>(
     alloc: Global,
     from: &mut Deserializer<'de, '_, F>,
 ) -> Result<Vec<R::Value>, F::Error>

@@ -1,45 +1,4 @@
 // Rendered from crates/byte_unit_serde/src/optional_byte.rt. Do not edit.
 //! A size in bits as a string, or nothing, for `#[serde(with = "byte_unit_serde::optional_bit", default)]`.
 
-ghost use Rattle.std.specs.Prelude.{false, IfOk, OnOk};
-ghost use Rattle.serde.specs.Event.{WritesOption};
-ghost use Rattle.byte_unit.specs.Accepted.{IsAccepted};
-ghost use Rattle.byte_unit.specs.declared.Kind.TheVariants.{Bit as InBits};
-ghost use Rattle.byte_unit_serde.specs.Outcomes.{ReadingOption, ReadingSize, WritingOption, WritingSize};
-ghost use Rattle.byte_unit_serde.specs.Serialized.{ReadsOption, WritesSize};
-
-use crate::{Sink, Source, options};
-use byte_unit::Bit;
-use serde::Deserializer;
-use std::alloc::Global;
-
-/// Writes the string of the size, as [`crate::bit::serialize`] does, or nothing. Does not allocate.
-///
-/// # Errors
-///
-/// Returns the format's error if the format cannot write it.
-pub fn serialize<S: Sink>(size: &Option<Bit>, out: &mut S) -> Result<(), S::Error>
-    ensures written { OnOk result
-        (WritesOption (WritesSize InBits) size.now (S.written out.old) (S.written out.new)) }
-    ensures exact { WritingOption S.none_returns (WritingSize InBits S.str_returns)
-        size.now out.old result out.new }
-{
-    options::serialize::<Bit, S>(size, out)
-}
-
-/// Reads nothing, or a string as [`crate::bit::deserialize`] does.
-///
-/// # Errors
-///
-/// Returns the format's error if the value is neither nothing nor a string, or the string is rejected.
-pub fn deserialize<'de, F: Source>(
-    alloc: Global,
-    from: &mut Deserializer<'de, '_, F>,
-) -> Result<Option<Bit>, F::Error>
-    ensures option { IfOk result
-        (ReadsOption (IsAccepted InBits false) F.gives F.stays from.old from.new) }
-    ensures exact { ReadingOption F.none_returns (ReadingSize InBits F.string_returns F.rejects)
-        from.old result from.new }
-{
-    options::deserialize::<Bit, F>(alloc, from)
-}
+pub use crate::options::{deserialize, serialize};

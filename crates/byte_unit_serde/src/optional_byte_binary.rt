@@ -26,7 +26,7 @@ pub fn serialize<S: Sink>(size: &Option<Byte>, out: &mut S) -> Result<(), S::Err
     ensures exact { WritingOption S.none_returns
         (WritingSizeAs (IsBinaryString InBytes) S.str_returns) size.now out.old result out.new }
 {
-    options::serialize::<Binary, S>(size, out)
+    options::serialize_as::<Binary, S>(size, out)
 }
 
 /// Reads nothing, or a string as [`crate::byte_binary::deserialize`] does.
@@ -44,5 +44,5 @@ pub fn deserialize<'de, F: Source>(
         (ReadingSizeBy (IsBinaryReading InBytes true) F.string_returns F.rejects)
         from.old result from.new }
 {
-    options::deserialize::<Binary, F>(alloc, from)
+    options::deserialize_as::<Binary, F>(alloc, from)
 }

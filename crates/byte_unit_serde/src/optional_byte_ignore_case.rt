@@ -9,7 +9,7 @@ ghost use Rattle.byte_unit_serde.specs.Outcomes.{ReadingOption, ReadingSizeBy};
 ghost use Rattle.byte_unit_serde.specs.Serialized.{ReadsOption};
 
 use crate::byte_ignore_case::IgnoreCase;
-pub use crate::optional_byte::serialize;
+pub use crate::options::serialize;
 use crate::{Source, options};
 use byte_unit::Byte;
 use serde::Deserializer;
@@ -30,5 +30,5 @@ pub fn deserialize<'de, F: Source>(
         (ReadingSizeBy (IsSizeReading InBytes true) F.string_returns F.rejects)
         from.old result from.new }
 {
-    options::deserialize::<IgnoreCase, F>(alloc, from)
+    options::deserialize_as::<IgnoreCase, F>(alloc, from)
 }

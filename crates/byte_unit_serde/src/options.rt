@@ -10,12 +10,41 @@ use crate::{Sink, Source};
 use serde::Deserializer;
 use std::alloc::Global;
 
-/// Writes the string of the value as `W` does, or nothing. Does not allocate.
+/// Writes the string of the value, as [`crate::strings::serialize`] does, or nothing. Does not allocate.
 ///
 /// # Errors
 ///
 /// Returns the format's error if the format cannot write it.
-pub(crate) fn serialize<W: SerializeString, S: Sink>(
+pub fn serialize<T: SerializeString<Value = T>, S: Sink>(
+    value: &Option<T>,
+    out: &mut S,
+) -> Result<(), S::Error>
+    ensures written { OnOk result
+        (WritesOption T.writes value.now (S.written out.old) (S.written out.new)) }
+    ensures exact { WritingOption S.none_returns (T.writing S.str_returns)
+        value.now out.old result out.new }
+{
+    serialize_as::<T, S>(value, out)
+}
+
+/// Reads nothing, or a string as [`crate::strings::deserialize`] does.
+///
+/// # Errors
+///
+/// Returns the format's error if the value is neither nothing nor a string, or the string is rejected.
+pub fn deserialize<'de, T: DeserializeString<Value = T> + Drop, F: Source>(
+    alloc: Global,
+    from: &mut Deserializer<'de, '_, F>,
+) -> Result<Option<T>, F::Error>
+    ensures option { IfOk result (ReadsOption T.means F.gives F.stays from.old from.new) }
+    ensures exact { ReadingOption F.none_returns (T.reading F.string_returns F.rejects)
+        from.old result from.new }
+{
+    deserialize_as::<T, F>(alloc, from)
+}
+
+/// Writes the string of the value as `W` does, or nothing. The errors are those of [`serialize`].
+pub(crate) fn serialize_as<W: SerializeString, S: Sink>(
     value: &Option<W::Value>,
     out: &mut S,
 ) -> Result<(), S::Error>
@@ -30,12 +59,8 @@ pub(crate) fn serialize<W: SerializeString, S: Sink>(
     }
 }
 
-/// Reads nothing, or a string as `R` does.
-///
-/// # Errors
-///
-/// Returns the format's error if the value is neither nothing nor a string, or the string is rejected.
-pub(crate) fn deserialize<'de, R: DeserializeString, F: Source>(
+/// Reads nothing, or a string as `R` does. The errors are those of [`deserialize`].
+pub(crate) fn deserialize_as<'de, R: DeserializeString, F: Source>(
     alloc: Global,
     from: &mut Deserializer<'de, '_, F>,
 ) -> Result<Option<R::Value>, F::Error>

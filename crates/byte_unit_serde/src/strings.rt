@@ -1,4 +1,4 @@
-//! The ways to write and to read a value that is stored as a string.
+//! Values that are stored as strings, and the ways to write and to read them.
 
 ghost use Rattle.std.specs.Prelude.{ℕ, List, IfOk, OnOk};
 ghost use Rattle.serde.specs.Event.{Log};
@@ -8,6 +8,38 @@ ghost use Rattle.byte_unit_serde.specs.Serialized.{ReadsString};
 use crate::{Sink, Source};
 use serde::Deserializer;
 use std::alloc::Global;
+
+/// Writes the string of the value: the text of a size with its unit, by `FormatSpec::ALTERNATE`, or the name of a unit.
+/// Does not allocate.
+///
+/// # Errors
+///
+/// Returns the format's error if the format cannot write a string.
+pub fn serialize<T: SerializeString<Value = T>, S: Sink>(
+    value: &T,
+    out: &mut S,
+) -> Result<(), S::Error>
+    ensures written { OnOk result (T.writes value.now (S.written out.old) (S.written out.new)) }
+    ensures exact { T.writing S.str_returns value.now out.old result out.new }
+{
+    T::serialize_string(value, out)
+}
+
+/// Reads a string as `FromStr` of the type parses it. In that of a unit `b` means bits, `B` bytes, and a prefix alone
+/// is a multiple of bytes.
+///
+/// # Errors
+///
+/// Returns the format's error if the value is not a string, or the string is rejected.
+pub fn deserialize<'de, T: DeserializeString<Value = T> + Drop, F: Source>(
+    alloc: Global,
+    from: &mut Deserializer<'de, '_, F>,
+) -> Result<T, F::Error>
+    ensures string { IfOk result (ReadsString T.means F.gives from.old from.new) }
+    ensures exact { T.reading F.string_returns F.rejects from.old result from.new }
+{
+    T::deserialize_string(alloc, from)
+}
 
 /// A way to write a value as a string.
 pub trait SerializeString {

@@ -1,7 +1,7 @@
 -- Lemmas: where the first record of some bytes ends, found byte by byte or in blocks. Fields end in the same way, at a
 -- delimiter.
 use Rattle.std.proofs.Common.{◌≡◌, ◌≢◌, ◌+◌, ◌<◌, ◌≤◌, ℕ, zero, suc, List, [], ◌∷◌, ◌++◌, take, drop, get_or, length}
-use Rattle.std.proofs.Common.{arith, false, eqb, sym, ap, subst, ◌∙◌, append_assoc, false-eqb}
+use Rattle.std.proofs.Common.{arith, false, eqb, refl, sym, subst, append_assoc, false-eqb}
 use Rattle.std.proofs.lemmas.List.{take_more}
 use Rattle.byte_unit_stream.specs.Chunks.{ended_records, begun_record, IsUnbroken}
 use Rattle.byte_unit_stream.specs.Records.{parts}
@@ -13,11 +13,9 @@ use Rattle.byte_unit_stream.proofs.ChunkRecords.{ended_records-take-drop, begun_
 pub IsUnbroken-other_byte : (end : ℕ) (bytes : List ℕ) (place : ℕ) → place < length bytes → IsUnbroken end (take place bytes)
     → get_or bytes place 0 ≢ end → IsUnbroken end (take (place + 1) bytes)
 IsUnbroken-other_byte end bytes place fits unbroken is_other part = (
-  ended_records-take-other_byte end part bytes place fits is_other ∙ (unbroken part).0,
-  begun_record-take-other_byte end part bytes place fits is_other
-      ∙ ap (λ begun. begun ++ get_or bytes place 0 ∷ []) (unbroken part).1
-      ∙ append_assoc part (take place bytes) (get_or bytes place 0 ∷ [])
-      ∙ ap (λ begun. part ++ begun) (sym (take_more bytes place 0 fits)),
+  rw (ended_records-take-other_byte end part bytes place fits is_other) (unbroken part).0,
+  rw (begun_record-take-other_byte end part bytes place fits is_other, (unbroken part).1, take_more bytes place 0 fits)
+      (append_assoc part (take place bytes) (get_or bytes place 0 ∷ [])),
 )
 
 -- the same for several bytes, none of which is an end byte
@@ -38,32 +36,22 @@ EndsAt end bytes place = (place < length bytes) × (get_or bytes place 0 ≡ end
 module _ (end : ℕ) (part bytes : List ℕ) (place : ℕ) (ends : EndsAt end bytes place) where
   pub ended_records-EndsAt : ended_records end part bytes ≡ (part ++ take place bytes) ∷ ended_records end [] (drop (place + 1) bytes)
   ended_records-EndsAt =
-      let rest = drop (place + 1) bytes in
-      ended_records-take-drop end part bytes (place + 1)
-      ∙ ap (λ begun. ended_records end part (take (place + 1) bytes) ++ ended_records end begun rest) (begun_record-take-end_byte end part bytes place ends.0 ends.1)
-      ∙ ap (λ records. records ++ ended_records end [] rest) (
-      ended_records-take-end_byte end part bytes place ends.0 ends.1
-      ∙ ap (λ records. records ++ begun_record end part (take place bytes) ∷ []) (ends.2 part).0
-      ∙ ap (λ begun. begun ∷ []) (ends.2 part).1)
+      let records = ended_records-take-end_byte end part bytes place ends.0 ends.1 in
+      let begun = begun_record-take-end_byte end part bytes place ends.0 ends.1 in
+      rw (ended_records-take-drop end part bytes (place + 1), records, begun, (ends.2 part).0, (ends.2 part).1) refl
 
   pub begun_record-EndsAt : begun_record end part bytes ≡ begun_record end [] (drop (place + 1) bytes)
   begun_record-EndsAt =
-      begun_record-take-drop end part bytes (place + 1)
-      ∙ ap (λ begun. begun_record end begun (drop (place + 1) bytes)) (begun_record-take-end_byte end part bytes place ends.0 ends.1)
+      rw (begun_record-take-drop end part bytes (place + 1), begun_record-take-end_byte end part bytes place ends.0 ends.1) refl
 
 -- the parts of bytes in which none ends: the bytes themselves
 pub parts-IsUnbroken : (end : ℕ) (bytes : List ℕ) → IsUnbroken end bytes → parts end bytes ≡ bytes ∷ []
-parts-IsUnbroken end bytes unbroken =
-    parts-ended_records end bytes
-    ∙ ap (λ ended. ended ++ begun_record end [] bytes ∷ []) (unbroken []).0
-    ∙ ap (λ begun. begun ∷ []) (unbroken []).1
+parts-IsUnbroken end bytes unbroken = rw (parts-ended_records end bytes, (unbroken []).0, (unbroken []).1) refl
 
 -- the parts of bytes in which the first one ends at this place: that one, then the parts of the rest
 pub parts-EndsAt : (end : ℕ) (bytes : List ℕ) (place : ℕ) → EndsAt end bytes place
     → parts end bytes ≡ take place bytes ∷ parts end (drop (place + 1) bytes)
 parts-EndsAt end bytes place ends =
-    let rest = drop (place + 1) bytes in
-    parts-ended_records end bytes
-    ∙ ap (λ ended. ended ++ begun_record end [] bytes ∷ []) (ended_records-EndsAt end [] bytes place ends)
-    ∙ ap (λ begun. take place bytes ∷ (ended_records end [] rest ++ begun ∷ [])) (begun_record-EndsAt end [] bytes place ends)
-    ∙ ap (λ parts. take place bytes ∷ parts) (sym (parts-ended_records end rest))
+    let others = parts-ended_records end (drop (place + 1) bytes) in
+    let begun = begun_record-EndsAt end [] bytes place ends in
+    rw (parts-ended_records end bytes, ended_records-EndsAt end [] bytes place ends, begun, others) refl

@@ -1,8 +1,9 @@
 -- Lemmas: the longest record of an input that comes in chunks.
-use Rattle.std.proofs.Common.{◌≡◌, ◌+◌, ◌<◌, ◌≤◌, ℕ, List, [], ◌∷◌, ◌++◌, length, max, true, false, cond, eqb}
+use Rattle.std.proofs.Common.{◌≡◌, ◌+◌, ◌<◌, ◌≤◌, ℕ, List, [], ◌∷◌, ◌++◌, length, max}
 use Rattle.std.proofs.Common.{arith, ap, ◌∙◌, length-append, vec_len}
 use Rattle.std.specs.Prelude.{vec_capacity}
 use Rattle.std.specs.declared.vec.Vec.{Vec}
+use Rattle.std.proofs.lemmas.Bool.Decides.{nat_tests}
 use Rattle.byte_unit_stream.specs.Records.{longest_of, longest_record}
 use Rattle.byte_unit_stream.specs.Chunks.{ended_records, begun_record, nonempty_record}
 use Rattle.byte_unit_stream.proofs.ChunkRecords.{ended_records-append, records_of-ended_records}
@@ -32,13 +33,9 @@ module _ (end : ℕ) where
       → longest_of (ended_records end part bytes) < bound
   longest_of-ended_records part [] bound some fits = some
   longest_of-ended_records part (byte ∷ bytes) bound some fits =
-      let on = part ++ byte ∷ [] in
-      let rest_fits : length bytes + 1 + length part ≤ bound = omega arith in
-      elim (eqb byte end)
-      as (λ ends. longest_of (cond ends (part ∷ ended_records end [] bytes) (ended_records end on bytes)) < bound) [
-        | true ↦ let others = longest_of-ended_records [] bytes bound some (omega arith) in omega (arith, others)
-        | false ↦ longest_of-ended_records on bytes bound some (omega (arith, length-append part (byte ∷ [])))
-      ]
+      let others = longest_of-ended_records [] bytes bound some (omega arith) in
+      let on = longest_of-ended_records (part ++ byte ∷ []) bytes bound some (omega (arith, length-append part (byte ∷ []))) in
+      grind (arith, nat_tests, others, on)
 
   -- so those that end in a next chunk stay below a bound that the unfinished record and the chunk do not exceed
   pub longest_of-ended_records-append : (front back : List ℕ) (bound : ℕ) → longest_of (ended_records end [] front) < bound
@@ -62,7 +59,8 @@ module _ (end : ℕ) where
 
 -- between two reads: each record that ended is shorter than the limit and a read together, the unfinished one is within
 -- the limit, and no capacity has fallen
-pub record IsWithin {Z : Type 0} (end longest chunk : ℕ) (part waiting : Vec ℕ Z) (read : List ℕ) (part_now waiting_now : Vec ℕ Z) : Type 0 where
+pub record IsWithin {Z : Type 0} (end longest chunk : ℕ) (part waiting : Vec ℕ Z) (read : List ℕ)
+    (part_now waiting_now : Vec ℕ Z) : Type 0 where
   pub finished : longest_of (ended_records end [] read) < longest + chunk
   pub unfinished : vec_len part_now ≤ longest
   pub part_capacity : vec_capacity part ≤ vec_capacity part_now

@@ -1,6 +1,6 @@
-//! Typical uses of `byte_unit`, proved: limits from strings, quotas, settings from JSON, entries of a report, a log that
-//! is rotated by size, and error messages. Each function propagates a parse error in a way that the toolchain supports
-//! and the prover accepts.
+//! Typical uses of `byte_unit`, proved: limits from strings, quotas, settings from JSON, entries of a report, a log
+//! that is rotated by size, and error messages. Each function propagates a parse error in a way that the toolchain
+//! supports and the prover accepts.
 #![tactic(auto)]
 
 pub mod adjusted;

@@ -1,5 +1,5 @@
-//! Reads the limits of a service from TOML into a struct, and prints them and the rules that they break, with status 1 if
-//! there are any. Takes the default limits if the input is empty or only white space.
+//! Reads the limits of a service from TOML into a struct, and prints them and the rules that they break, with status 1
+//! if there are any. Takes the default limits if the input is empty or only white space.
 #![tactic(auto)]
 
 ghost use Rattle.std.specs.Prelude.{◌↔◌, IsTrue};

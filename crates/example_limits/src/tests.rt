@@ -9,8 +9,8 @@ const VALID: &str =
     "file = \"20 MB\"\ntotal = \"1.5 GiB\"\ncache = \"256 MiB\"\ndisk = \"1.75 GiB\"\nrate = \"1 Mbit\"\n";
 
 /// Documents, and the reasons for which they are rejected: the messages of the rules that the limits break, each in a
-/// line, or the error in one line. At `disk = "2 GiB"` and at `450 B` with one bit a second, limits are at the bound of a
-/// rule.
+/// line, or the error in one line. At `disk = "2 GiB"` and at `450 B` with one bit a second, limits are at the bound
+/// of a rule.
 const REASONS: &[(&str, &str)] = &[
     (VALID, ""),
     (
@@ -35,7 +35,8 @@ const REASONS: &[(&str, &str)] = &[
     ),
     (
         "file = \"1 KB\"\ntotal = \"999 B\"\ndisk = \"998 B\"\nrate = \"2 b\"\n",
-        "`file` exceeds `total`\n`total` and `cache` exceed `disk`\na file of the size `file` takes more than an hour at `rate`\n",
+        "`file` exceeds `total`\n`total` and `cache` exceed `disk`\n\
+a file of the size `file` takes more than an hour at `rate`\n",
     ),
     ("file = \"20 XB\"\n", "bad unit in `file`"),
     ("file = \"B\"\n", "not a number in `file`"),

@@ -63,7 +63,8 @@ const ROWS: &[Row] = &rows! {
     (&["", "-z", "1536", "2 KB"], b"", sum!(3536), b"1.5 KiB\x002 KB\x00", b""),
     (&["", "--header", "4096K"], b"", sum!(4_096_000), b"4.096 MB\n", b""),
     (&["", "1KB\n2KB"], b"", Err(RunError::Rejected), b"",
-        b"byte-unit: line 1: '1KB\\u{a}2KB': the character '\\n' is incorrect ('i' or no character is expected) (character 4)\n"),
+        b"byte-unit: line 1: '1KB\\u{a}2KB': the character '\\n' is incorrect \
+('i' or no character is expected) (character 4)\n"),
     (&["", "--invalid=warn", "1\n2", "x", ""], b"", Ok(Tally { total: 0, beyond: false, rejected: true }),
         b"1\n2\nx\n\n", b"byte-unit: line 1: '1\\u{a}2': the character '\\n' is incorrect \
 ('B', 'K', 'M', 'G', 'T', 'P', 'E', 'Z', 'Y' or 'R' or no character is expected) (character 2)

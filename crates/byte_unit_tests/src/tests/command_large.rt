@@ -63,7 +63,7 @@ fn long_texts_of_one_read(rt: HostRuntime) {
     );
 }
 
-/// The lengths of the beginnings of records: shorter than a read of 65,536 bytes, longer than one, than two and than 30.
+/// Lengths of the beginnings of records: shorter than a read of 65,536 bytes, longer than one, than two and than 30.
 const LENGTHS: &[usize] = &[65_530, 65_536, 131_072, 200_000, 2_000_000];
 
 #[test]

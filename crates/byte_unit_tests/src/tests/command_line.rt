@@ -18,7 +18,8 @@ fn failure(rt: &impl Abort, alloc: Global, outcome: Result<Option<Byte>, Error>)
 }
 
 const REJECTED: &str =
-    "error: invalid value '20XB' for '--max-size <max-size>': the character 'X' is incorrect ('B', 'K', 'M', 'G', 'T', 'P', 'E', 'Z', 'Y' or 'R' or no character is expected)
+    "error: invalid value '20XB' for '--max-size <max-size>': the character 'X' is incorrect \
+('B', 'K', 'M', 'G', 'T', 'P', 'E', 'Z', 'Y' or 'R' or no character is expected)
 
 Usage: copy [OPTIONS]
 

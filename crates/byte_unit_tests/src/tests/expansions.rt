@@ -89,7 +89,7 @@ fn one_in_yobibytes_and_robibytes(rt: HostRuntime) {
     assert_from(&rt, &e, 88, &[7, 0, 3, 1, 2, 5]);
 }
 
-/// A numerator, the exponents of 2 and 5 in the denominator, the integer part, the number of decimals, and the first one.
+/// A numerator, the exponents of 2 and 5 in the denominator, the integer part, the number of decimals, and the first.
 const DENOMINATORS_OF_2_AND_5: &[(u128, u32, u32, u128, u32, u8)] = &rows! {
     (13, 3, 0, 1, 3, 6),
     (7, 1, 1, 0, 1, 7),

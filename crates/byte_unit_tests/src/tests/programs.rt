@@ -3,8 +3,8 @@ use super::asserting::assert_for;
 use byte_unit::{Bit, Byte, Unit};
 use std::process::Abort;
 
-/// The manual page of a program or the program, a size as it writes or takes it, the number of bytes (bits for a `Bit`),
-/// and the call that reads it: of bytes with `ignore_case`.
+/// The manual page of a program or the program, a size as it writes or takes it, the number of bytes (bits for a
+/// `Bit`), and the call that reads it: of bytes with `ignore_case`.
 const PROGRAMS: &[(&str, &str, u64, &str)] = &rows! {
     ("ls(1), du(1), df(1), -h", "2.9M", 3_040_871, "Byte::parse_str_binary"),
     ("the same, --si", "2.9M", 2_900_000, "Byte::parse_str"),

@@ -190,8 +190,8 @@ fn toml_values(rt: HostRuntime) {
     assert_error(&rt, alloc, bit_from_toml(lines), "not a TOML string");
     assert_error(&rt, alloc, unit_from_toml(lines), "not a TOML string");
     let wrong = table.get("wrong").expect(&rt, "a string");
-    let message =
-        "the character 'X' is incorrect ('B', 'K', 'M', 'G', 'T', 'P', 'E', 'Z', 'Y' or 'R' or no character is expected)";
+    let message = "the character 'X' is incorrect \
+('B', 'K', 'M', 'G', 'T', 'P', 'E', 'Z', 'Y' or 'R' or no character is expected)";
     assert_error(&rt, alloc, byte_from_toml(wrong), message);
     assert_error(&rt, alloc, bit_from_toml(wrong), message);
 }

@@ -1,5 +1,5 @@
-//! Tests of sizes at their limits, of long strings and lists, of each unit and of `null`, stored by `serde` in JSON and in
-//! TOML.
+//! Tests of sizes at their limits, of long strings and lists, of each unit and of `null`, stored by `serde` in JSON and
+//! in TOML.
 use super::asserting::{assert_for, assert_is};
 use super::serde_strings::{Lists, Options, Values, assert_reason, read_and_write, toml_limit};
 use byte_unit::{Bit, Byte, Unit};

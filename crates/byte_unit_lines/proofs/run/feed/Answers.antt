@@ -50,7 +50,8 @@ loop-n-preserved g c =
     let so_far = c.loop-n.invariant in
     let within = ends.0 in
     let left = ap length rest_is ∙ length-drop (place + 1) rest in
-    let fits : IsFedWithin c.args.line.now c.args.waiting.now c.args.bytes.now c.if-is_empty.line c.if-is_empty.waiting next.rest = elim c.if-is_empty.branch [
+    let fits : IsFedWithin c.args.line.now c.args.waiting.now c.args.bytes.now c.if-is_empty.line c.if-is_empty.waiting
+    next.rest = elim c.if-is_empty.branch [
       | then-is_empty+in_ok-add_answer w ↦
           let same = ap (λ line. vec_len line) w.line-is in
           let added = ap (λ waiting. vec_len waiting) w.waiting-is in

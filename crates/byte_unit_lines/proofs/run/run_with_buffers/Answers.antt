@@ -5,7 +5,6 @@ use Rattle.std.proofs.lemmas.List.{length-take, take_all}
 use Rattle.std.proofs.lemmas.Result.{on_ok_weaker}
 use Rattle.std.proofs.KnownBytes.{Appends-trans, Consumes-kept, Consumes-trans}
 use Rattle.byte_unit_lines.specs.Answer.{IsAnswer}
-use Rattle.byte_unit_stream.specs.Streams.{reader_of, writer_of}
 use Rattle.byte_unit_lines.specs.declared.run.RunError.TheVariants.{Memory, Write}
 use Rattle.byte_unit_lines.proofs.Runs.{Course, IsServed, course_of, HasServed-piece, finished_lines_answered}
 use Rattle.byte_unit_lines.proofs.Runs.{IsWritten-piece, IsWritten-error, IsWritten-last_line}
@@ -20,13 +19,10 @@ use Rattle.byte_unit_lines.proofs.run.run_with_buffers.Goals as goal
 
 pub returns-in-None-clause-run : goal.returns-in-None-clause-run
 returns-in-None-clause-run g c =
-    let left = g.R.Read.remaining (reader_of c.args.reader.now) in
-    let between = g.R.Read.remaining (reader_of c.reads.reader) in
-    let rest = g.R.Read.remaining (reader_of c.read.new.self) in
     let so_far = c.reads.invariant.0 in (
       so_far.read,
       so_far.written,
-      Consumes-kept left between rest so_far.read so_far.gave c.in-None.ensures.none,
+      Consumes-kept _ _ _ so_far.read so_far.gave c.in-None.ensures.none,
       so_far.took,
       finished_lines_answered c.args.kind (course_of so_far) so_far.served,
     )
@@ -51,8 +47,6 @@ reads-init g c = (
 
 pub reads-preserved : goal.reads-preserved
 reads-preserved g c =
-    let rest = g.R.Read.remaining (reader_of c.read.new.self) in
-    let holds = g.W.Write.contents (writer_of c.answer_piece.new.writer) in
     let so_far = c.reads.invariant.0 in
     let within = c.reads.invariant.1 in
     let piece = take c.in-Some.n c.read.new.buf in
@@ -63,7 +57,7 @@ reads-preserved g c =
     omega (arith, ap length so_far.served.begun, c.reads.line.ok.0, within.unfinished) in
     let short : length piece ≤ length c.args.buffer.now =
     omega (arith, length-take c.in-Some.n c.read.new.buf, c.read.auto.buf, c.reads.auto.buffer) in (
-      HasServed-piece so_far rest holds piece answers.0 line.items c.answer_piece.new.waiting.items c.in-Some.ensures.came
+      HasServed-piece so_far _ _ piece answers.0 line.items c.answer_piece.new.waiting.items c.in-Some.ensures.came
           answers.1 answers.2 fed.line fed.waiting,
       record {
         finished = longest_of-ended_records-append line_end so_far.read piece (c.args.longest + length c.args.buffer.now)
@@ -76,67 +70,60 @@ reads-preserved g c =
 
 pub returns-then-len-longest-clause-run : goal.returns-then-len-longest-clause-run
 returns-then-len-longest-clause-run g c =
-    let rest = g.R.Read.remaining (reader_of c.read.new.self) in
-    let holds = g.W.Write.contents (writer_of c.answer_piece.new.writer) in
     let so_far = c.reads.invariant.0 in
     let piece = take c.in-Some.n c.read.new.buf in
     let fed = c.in_ok-answer_piece-in-Some.ensures in
     let answers = fed.written in
-    let next = HasServed-piece so_far rest holds piece answers.0 c.answer_piece.new.line.items c.answer_piece.new.waiting.items
+    let next = HasServed-piece so_far _ _ piece answers.0 c.answer_piece.new.line.items c.answer_piece.new.waiting.items
     c.in-Some.ensures.came answers.1 answers.2 fed.line fed.waiting in
     (next.read, next.written, next.gave, next.took, first_lines_answered c.args.kind (course_of next) next.served)
 
 pub returns-then-len-longest-clause-memory : goal.returns-then-len-longest-clause-memory
 returns-then-len-longest-clause-memory g c = λ _ _.
-    let rest = g.R.Read.remaining (reader_of c.read.new.self) in
     let so_far = c.reads.invariant.0 in
     let piece = take c.in-Some.n c.read.new.buf in
     let read = so_far.read ++ piece in
     let line = c.answer_piece.new.line in
     let fed = c.in_ok-answer_piece-in-Some.ensures in
     let begun : line.items ≡ begun_record line_end [] read =
-    fed.line ∙ ap (λ begun. begun_record line_end begun piece) so_far.served.begun ∙ sym (begun_record-append line_end [] so_far.read piece) in
+    rw (fed.line, so_far.served.begun, begun_record-append line_end [] so_far.read piece) refl in
     let long = longest_record-unfinished line_end read line.items begun in (
       read,
-      Consumes-trans _ _ rest so_far.read piece so_far.gave c.in-Some.ensures.came,
+      Consumes-trans _ _ _ so_far.read piece so_far.gave c.in-Some.ensures.came,
       omega (arith, long, c.if-len-longest.true, c.len.ensures, line.ok.0),
     )
 
 pub returns-then-is_empty-clause-bound : goal.returns-then-is_empty-clause-bound
 returns-then-is_empty-clause-bound g c =
-    let rest = g.R.Read.remaining (reader_of c.read.new.self) in
     let so_far = c.reads.invariant.0 in
     let within = c.reads.invariant.1 in
     let end = c.in-Some-eq0 in
-    let none = ap (λ count. take count c.read.new.buf) end.field-0-test in
     let line = c.reads.line in
     let bound = c.args.longest + length c.args.buffer.now in (
       so_far.read,
-      Consumes-at_end _ _ rest so_far.read (take end.field-0 c.read.new.buf) so_far.gave end.ensures.came none,
+      Consumes-at_end _ _ _ so_far.read (take end.field-0 c.read.new.buf) so_far.gave end.ensures.came
+          (ap (λ count. take count c.read.new.buf) end.field-0-test),
       longest_record-below line_end so_far.read line.items bound so_far.served.begun within.finished
           (omega (arith, within.unfinished, line.ok.0, c.requires.buffer)),
     )
 
 pub returns-in_ok-add_answer-clause-bound : goal.returns-in_ok-add_answer-clause-bound
 returns-in_ok-add_answer-clause-bound g c =
-    let rest = g.R.Read.remaining (reader_of c.read.new.self) in
     let so_far = c.reads.invariant.0 in
     let within = c.reads.invariant.1 in
     let end = c.in-Some-eq0 in
-    let none = ap (λ count. take count c.read.new.buf) end.field-0-test in
     let line = c.reads.line in
     let bound = c.args.longest + length c.args.buffer.now in
     on_ok_weaker c.write_whole.result (λ _. (
       so_far.read,
-      Consumes-at_end _ _ rest so_far.read (take end.field-0 c.read.new.buf) so_far.gave end.ensures.came none,
+      Consumes-at_end _ _ _ so_far.read (take end.field-0 c.read.new.buf) so_far.gave end.ensures.came
+          (ap (λ count. take count c.read.new.buf) end.field-0-test),
       longest_record-below line_end so_far.read line.items bound so_far.served.begun within.finished
           (omega (arith, within.unfinished, line.ok.0, c.requires.buffer)),
     )) c.write_whole.ensures.ok
 
 pub returns-in_err-answer_piece-in-Some-clause-run : goal.returns-in_err-answer_piece-in-Some-clause-run
 returns-in_err-answer_piece-in-Some-clause-run g c =
-    let rest = g.R.Read.remaining (reader_of c.read.new.self) in
-    let holds = g.W.Write.contents (writer_of c.answer_piece.new.writer) in
     let each = c.each_line_has_an_answer.ensures in
     let so_far = c.reads.invariant.0 in
     let piece = take c.in-Some.n c.read.new.buf in
@@ -148,48 +135,42 @@ returns-in_err-answer_piece-in-Some-clause-run g c =
     let at = IsWritten-piece each c.args.kind (course_of so_far) so_far.served piece error answers.0 answers.2 in (
       read,
       written,
-      Consumes-trans _ _ rest so_far.read piece so_far.gave c.in-Some.ensures.came,
-      Appends-trans _ _ holds so_far.written answers.0 so_far.took answers.1,
+      Consumes-trans _ _ _ so_far.read piece so_far.gave c.in-Some.ensures.came,
+      Appends-trans _ _ _ so_far.written answers.0 so_far.took answers.1,
       IsWritten-error c.args.kind read written c.from_residual.result error c.from_residual.ensures.1 at,
     )
 
 pub returns-then-is_empty-clause-run : goal.returns-then-is_empty-clause-run
 returns-then-is_empty-clause-run g c =
-    let rest = g.R.Read.remaining (reader_of c.read.new.self) in
     let so_far = c.reads.invariant.0 in
     let end = c.in-Some-eq0 in
-    let none = ap (λ count. take count c.read.new.buf) end.field-0-test in
     let empty = empty_from_length c.reads.line.items (vec_len c.reads.line) c.reads.line.ok.0 c.if-is_empty.ensures in (
       so_far.read,
       so_far.written,
-      Consumes-at_end _ _ rest so_far.read (take end.field-0 c.read.new.buf) so_far.gave end.ensures.came none,
+      Consumes-at_end _ _ _ so_far.read (take end.field-0 c.read.new.buf) so_far.gave end.ensures.came
+          (ap (λ count. take count c.read.new.buf) end.field-0-test),
       so_far.took,
       report_without_last_line c.args.kind (course_of so_far) so_far.served empty,
     )
 
 pub returns-in_err-add_answer-clause-run : goal.returns-in_err-add_answer-clause-run
 returns-in_err-add_answer-clause-run g c =
-    let rest = g.R.Read.remaining (reader_of c.read.new.self) in
     let so_far = c.reads.invariant.0 in
     let end = c.in-Some-eq0 in
-    let none = ap (λ count. take count c.read.new.buf) end.field-0-test in
     let error = c.from_residual-in_err-add_answer in
     let at = first_lines_answered c.args.kind (course_of so_far) so_far.served in (
       so_far.read,
       so_far.written,
-      Consumes-at_end _ _ rest so_far.read (take end.field-0 c.read.new.buf) so_far.gave end.ensures.came none,
+      Consumes-at_end _ _ _ so_far.read (take end.field-0 c.read.new.buf) so_far.gave end.ensures.came
+          (ap (λ count. take count c.read.new.buf) end.field-0-test),
       so_far.took,
       IsWritten-error c.args.kind so_far.read so_far.written error.result Memory error.ensures.1 at,
     )
 
 pub returns-in_ok-add_answer-clause-run : goal.returns-in_ok-add_answer-clause-run
 returns-in_ok-add_answer-clause-run g c =
-    let rest = g.R.Read.remaining (reader_of c.read.new.self) in
-    let held = g.W.Write.contents (writer_of c.reads.writer) in
-    let holds = g.W.Write.contents (writer_of c.write_whole.new.writer) in
     let so_far = c.reads.invariant.0 in
     let end = c.in-Some-eq0 in
-    let none = ap (λ count. take count c.read.new.buf) end.field-0-test in
     let line = c.deref.result.now in
     let begun = nonempty_from_length c.reads.line.items (vec_len c.reads.line) c.reads.line.ok.0 c.if-is_empty.ensures in
     let some : line ≢ [] = λ empty. begun (sym c.deref.ensures.value ∙ empty) in
@@ -203,12 +184,13 @@ returns-in_ok-add_answer-clause-run g c =
     let whole = take_all c.len-else-is_empty.result line (omega arith) in
     let is_answer = subst (IsAnswer c.args.kind line) same (subst (λ text. IsAnswer c.args.kind text added.0) whole added.1) in
     let write = c.write_whole.ensures in
-    let by : IsWrittenBy held holds bytes Write c.write_whole.result =
+    let by : IsWrittenBy _ _ bytes Write c.write_whole.result =
     record { whole = write.ok; part = write.err; is_error = write.write } in
     let answer = IsWritten-last_line c.args.kind course served some bytes is_answer c.write_whole.result by in (
       so_far.read,
       so_far.written ++ answer.0,
-      Consumes-at_end _ _ rest so_far.read (take end.field-0 c.read.new.buf) so_far.gave end.ensures.came none,
-      Appends-trans _ _ holds so_far.written answer.0 so_far.took answer.1,
+      Consumes-at_end _ _ _ so_far.read (take end.field-0 c.read.new.buf) so_far.gave end.ensures.came
+          (ap (λ count. take count c.read.new.buf) end.field-0-test),
+      Appends-trans _ _ _ so_far.written answer.0 so_far.took answer.1,
       answer.2,
     )

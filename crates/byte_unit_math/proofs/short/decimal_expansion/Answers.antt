@@ -1,10 +1,10 @@
 -- The scaled number is split at the point.
 use Rattle.std.proofs.Common.{◌≡◌, ℕ, ◌+◌, ◌*◌, ◌/◌, ◌^◌, ◌<◌, ◌≤◌, arith, ap, ◌∙◌}
 use Rattle.std.proofs.Math.Nat.{pow-le-pow_right, mul-le-mul_left, one-le-pow, div-le_self}
-use Rattle.std.proofs.lemmas.Nat.{mod_below}
+use Rattle.std.proofs.lemmas.Nat.{mod_below, mul-le}
 use Rattle.byte_unit_math.specs.Bounds.{bits_limit, places_of_decimal, scale}
 use Rattle.byte_unit_math.proofs.Scales.{cut_at_point}
-use Rattle.byte_unit_math.proofs.ShortExpansions.{AreParts, ten_over_two, decimal_is_exact, short_of_decimal, some_product}
+use Rattle.byte_unit_math.proofs.ShortExpansions.{AreParts, ten_over_two, decimal_is_exact, short_of_decimal}
 use Rattle.byte_unit_math.proofs.short.decimal_expansion.Goals.{After-power_of_ten, After-div_rem-whole}
 use Rattle.byte_unit_math.proofs.short.decimal_expansion.Goals as goal
 
@@ -34,12 +34,8 @@ start_of c = (goal.at.from_digits-number-requires-clause-whole c).After-power_of
 
 pub from_digits-number-requires-clause-whole : goal.from_digits-number-requires-clause-whole
 from_digits-number-requires-clause-whole c =
-    omega (
-      arith,
-      c.div_rem-whole.ensures.quotient,
-      div-le_self (scaled_of (start_of c)) c.power_of_ten-2.result,
-      scaled_small (start_of c),
-    )
+    let below = div-le_self (scaled_of (start_of c)) c.power_of_ten-2.result in
+    omega (arith, c.div_rem-whole.ensures.quotient, below, scaled_small (start_of c))
 
 pub from_digits-number-requires-clause-digits : goal.from_digits-number-requires-clause-digits
 from_digits-number-requires-clause-digits c =
@@ -65,16 +61,12 @@ returns c =
     (cut_at_point (c.args.numerator * 5 ^ c.args.twos) (c.args.tens + c.args.twos) few)
     ∙ decimal_is_exact c.args.numerator c.args.twos c.args.tens few) in
     let least = c.places.ensures.least in
-    let digits = c.digits.ensures.value c.places.result least in
-    let below = c.digits.ensures.bound c.places.result least in
-    let parts : AreParts number.result c.whole.result c.digits.result c.places.result =
-    record {
+    let parts : AreParts number.result c.whole.result c.digits.result c.places.result = record {
       few = c.places.ensures.bound;
       least = least;
       whole_is = c.whole.ensures.value;
-      digits_are = digits;
-      below = below;
+      digits_are = c.digits.ensures.value c.places.result least;
+      below = c.digits.ensures.bound c.places.result least;
     } in
-    let some =
-    some_product (one-le-pow c.args.twos 2 (omega arith)) (one-le-pow c.args.tens 10 (omega arith)) in
+    let some = mul-le 1 1 _ _ (one-le-pow c.args.twos 2 (omega arith)) (one-le-pow c.args.tens 10 (omega arith)) in
     short_of_decimal some exact parts

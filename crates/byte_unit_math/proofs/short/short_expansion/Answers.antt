@@ -1,7 +1,5 @@
 -- Numerator and denominator are divided by the same power of two.
 use Rattle.std.proofs.Common.{◌≡◌, ◌+◌, ◌-◌, ◌*◌, ◌/◌, ◌^◌, ◌≤◌, arith}
-use Rattle.std.specs.Int.{trailing_zeros, w128}
-use Rattle.std.proofs.Math.Nat.{min-le_left, min-le_right}
 use Rattle.std.proofs.lemmas.Option.{IfSome_then}
 use Rattle.byte_unit_math.proofs.Expanding.{exponents_within_places}
 use Rattle.byte_unit_math.proofs.ShortExpansions.{odd_if_shared, shared_twos, reduced_binary, reduced_decimal, short_of_same_fraction}
@@ -10,23 +8,14 @@ use Rattle.byte_unit_math.proofs.short.short_expansion.Goals as goal
 
 -- At most the twos beside the fives are shared.
 shared_few : (c : After-min-shared) → c.min-shared.result ≤ c.args.twos - c.args.fives
-shared_few c =
-    omega (
-      arith,
-      c.min-shared.ensures,
-      min-le_right (trailing_zeros w128 c.args.numerator) (c.args.twos - c.args.fives),
-    )
+shared_few c = omega (arith, c.min-shared.ensures)
 
 -- The numerator is the reduced one times the power of two that was shared.
 number_is : (c : After-min-shared)
     → c.args.numerator ≡ c.args.numerator / 2 ^ c.min-shared.result * 2 ^ c.min-shared.result
 number_is c =
     shared_twos c.args.numerator c.min-shared.result (omega (arith, c.requires.small))
-    (omega (
-      arith,
-      c.min-shared.ensures,
-      min-le_left (trailing_zeros w128 c.args.numerator) (c.args.twos - c.args.fives),
-    ))
+    (omega (arith, c.min-shared.ensures))
 
 pub overflow_shr-reduced : goal.overflow_shr-reduced
 overflow_shr-reduced c =

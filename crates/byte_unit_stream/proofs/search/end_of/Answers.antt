@@ -35,7 +35,8 @@ returns-then-ends-ne0-clause-some c =
     let some : 0 < mask_l (map (is_end_byte c.args.end) vector) = omega (arith, mask, c.if-ends-ne0.true) in
     let count = prefix_len (λ byte. not (is_end_byte c.args.end byte)) vector in
     let counted = ap (count_trailing_zeros 64) mask ∙ trailing_mask_l (is_end_byte c.args.end) 64 vector (omega (arith, long)) some in
-    let small = subst (λ lanes. mask_l (map (is_end_byte c.args.end) vector) < 2 ^ lanes) (length-map vector (is_end_byte c.args.end) ∙ long) (mask_l-lt (map (is_end_byte c.args.end) vector)) in
+    let small = subst (λ lanes. mask_l (map (is_end_byte c.args.end) vector) < 2 ^ lanes)
+    (length-map vector (is_end_byte c.args.end) ∙ long) (mask_l-lt (map (is_end_byte c.args.end) vector)) in
     let lowest = (bit_at-trailing_zeros w16 (mask_l (map (is_end_byte c.args.end) vector)) some small).0 in
     let within : count < 16 = omega (arith, lowest, trailing_mask_l (is_end_byte c.args.end) 16 vector (omega (arith, long)) some) in
     let hit = run_in_chunk_stops (is_end_byte c.args.end) bytes start 16 count 0 room refl within in

@@ -1,9 +1,9 @@
 -- Each iteration writes one more value; then the sequence is ended. The first error is returned.
-use Rattle.std.proofs.Common.{rules, ◌≡◌, length, subst, Ok, Err}
+use Rattle.std.proofs.Common.{rules, ◌≡◌, length, subst, refl, Ok, Err}
 use Rattle.std.proofs.lemmas.Result.{on_ok_weaker}
 use Rattle.serde.proofs.Events.{WritesEach-more, WritesSeq-ends}
-use Rattle.byte_unit_serde.proofs.Writing.{Continues, continues_more, continues_error, continues_end, drop_value}
-use Rattle.byte_unit_serde.proofs.lists.serialize.Goals as goal
+use Rattle.byte_unit_serde.proofs.Writing.{Continues, continues_end, drop_value}
+use Rattle.byte_unit_serde.proofs.lists.serialize_as.Goals as goal
 
 pub returns-in_err-begin_list-clause-exact : goal.returns-in_err-begin_list-clause-exact
 returns-in_err-begin_list-clause-exact g c =
@@ -19,8 +19,8 @@ returns-in_err-serialize_string-clause-exact g c =
     c.loop-item.invariant.1 in
     let failed : Writing c.item-item.result c.loop-item.out (Err c.in_err-serialize_string.field-0.0) c.serialize_string.new.out =
     search rules in
-    let error = continues_error Writing g.S.Sink.end_returns values _ c.item-item.result c.begin_list.new.self
-    c.loop-item.out c.serialize_string.new.out c.in_err-serialize_string.field-0.0 before failed in (
+    let error = before (Err c.in_err-serialize_string.field-0.0) c.serialize_string.new.out
+    (Err c.in_err-serialize_string.field-0.0, c.serialize_string.new.out, failed, (refl, refl)) in (
       Ok c.in_ok-begin_list.field-0,
       c.begin_list.new.self,
       subst (λ len. g.S.Sink.begin_returns len c.args.out.now (Ok c.in_ok-begin_list.field-0) c.begin_list.new.self)
@@ -38,8 +38,7 @@ loop-item-preserved g c =
     let wrote : Writing c.item-item.result c.loop-item.out (Ok tt) c.serialize_string.new.out = search rules in (
       WritesEach-more g.W.SerializeString.writes _ _ _ _ _ _ c.loop-item-test.true c.item-item.is c.loop-item.invariant.0
           c.in_ok-serialize_string.ensures.written,
-      continues_more Writing g.S.Sink.end_returns values _ c.item-item.result c.begin_list.new.self c.loop-item.out
-          c.serialize_string.new.out before wrote,
+      λ result new ends. before result new (Ok tt, c.serialize_string.new.out, wrote, ends),
     )
 
 pub returns-clause-written : goal.returns-clause-written

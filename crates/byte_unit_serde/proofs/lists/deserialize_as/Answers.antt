@@ -1,19 +1,23 @@
 -- Each iteration reads one more item; the sequence ends after the last, or with an error.
-use Rattle.std.proofs.Common.{rules, ◌≡◌, [], ◌∷◌, ◌++◌, subst, sym, Err}
+use Rattle.std.proofs.Common.{rules, ◌≡◌, [], ◌∷◌, ◌++◌, subst, sym, Err, inl, inr}
 use Rattle.serde.specs.Steps.{Stays}
 use Rattle.byte_unit_serde.specs.Serialized.{ReadsEach}
-use Rattle.byte_unit_serde.proofs.Reading.{reads_each_snoc, next_error, item_error, append_error, holds_of_error}
-use Rattle.byte_unit_serde.proofs.lists.deserialize.Goals as goal
+use Rattle.byte_unit_serde.proofs.Reading.{reads_each_snoc, holds_of_error}
+use Rattle.byte_unit_serde.proofs.lists.deserialize_as.Goals as goal
 
 pub returns-in_err-next_in_list-clause-error : goal.returns-in_err-next_in_list-clause-error
 returns-in_err-next_in_list-clause-error g c =
     let returned : g.F.Source.next_returns c.loop-alloc.from (Err c.in_err-next_in_list.field-0.0)
     c.next_in_list.new.from = search rules in
-    let error = next_error g.R.DeserializeString.means g.F.Format.gives g.F.Format.stays g.F.Source.begin_returns
-    g.F.Source.next_returns (g.R.DeserializeString.reading g.F.Source.string_returns g.F.Source.rejects) g.F.Source.refuses
-    c.loop-alloc.items.items c.args.from.now c.begin_list.new.from c.loop-alloc.from c.next_in_list.new.from
-    c.in_err-next_in_list.field-0.0 c.in_ok-begin_list.ensures.given c.loop-alloc.invariant returned in
-    holds_of_error _ c.from_residual-in_err-next_in_list.result c.in_err-next_in_list.field-0.0 (search rules) error
+    holds_of_error _ c.from_residual-in_err-next_in_list.result c.in_err-next_in_list.field-0.0 (search rules)
+    (inr (
+      c.begin_list.new.from,
+      c.loop-alloc.from,
+      c.loop-alloc.items.items,
+      c.in_ok-begin_list.ensures.given,
+      c.loop-alloc.invariant,
+      inl returned,
+    ))
 
 pub returns-then-not-branch-clause-list : goal.returns-then-not-branch-clause-list
 returns-then-not-branch-clause-list g c =
@@ -24,12 +28,15 @@ returns-in_err-item-clause-error g c =
     let looks : Stays g.F.Format.stays c.loop-alloc.from c.next_in_list.new.from = search rules in
     let failed : g.R.DeserializeString.reading g.F.Source.string_returns g.F.Source.rejects c.next_in_list.new.from
     (Err c.in_err-item.field-0.0) c.deserialize_string.new.from = search rules in
-    let error = item_error g.R.DeserializeString.means g.F.Format.gives g.F.Format.stays g.F.Source.begin_returns
-    g.F.Source.next_returns (g.R.DeserializeString.reading g.F.Source.string_returns g.F.Source.rejects) g.F.Source.refuses
-    c.loop-alloc.items.items c.args.from.now c.begin_list.new.from c.loop-alloc.from c.next_in_list.new.from
-    c.deserialize_string.new.from c.in_err-item.field-0.0 c.in_ok-begin_list.ensures.given c.loop-alloc.invariant looks
-    failed in
-    holds_of_error _ c.from_residual-in_err-item.result c.in_err-item.field-0.0 (search rules) error
+    holds_of_error _ c.from_residual-in_err-item.result c.in_err-item.field-0.0 (search rules)
+    (inr (
+      c.begin_list.new.from,
+      c.loop-alloc.from,
+      c.loop-alloc.items.items,
+      c.in_ok-begin_list.ensures.given,
+      c.loop-alloc.invariant,
+      inr (inl (c.next_in_list.new.from, looks, failed)),
+    ))
 
 pub loop-alloc-preserved : goal.loop-alloc-preserved
 loop-alloc-preserved g c =
@@ -45,9 +52,12 @@ pub returns-in_err-append-clause-error : goal.returns-in_err-append-clause-error
 returns-in_err-append-clause-error g c =
     let looks : Stays g.F.Format.stays c.loop-alloc.from c.next_in_list.new.from = search rules in
     let failed : g.F.Source.refuses c.deserialize_string.new.from c.in_err-append.field-0.0 = search rules in
-    let error = append_error g.R.DeserializeString.means g.F.Format.gives g.F.Format.stays g.F.Source.begin_returns
-    g.F.Source.next_returns (g.R.DeserializeString.reading g.F.Source.string_returns g.F.Source.rejects) g.F.Source.refuses
-    c.loop-alloc.items.items c.in_ok-item.item c.args.from.now c.begin_list.new.from c.loop-alloc.from
-    c.next_in_list.new.from c.deserialize_string.new.from c.in_err-append.field-0.0 c.in_ok-begin_list.ensures.given
-    c.loop-alloc.invariant looks c.in_ok-item.ensures.string failed in
-    holds_of_error _ c.from_residual-in_err-append.result c.in_err-append.field-0.0 (search rules) error
+    holds_of_error _ c.from_residual-in_err-append.result c.in_err-append.field-0.0 (search rules)
+    (inr (
+      c.begin_list.new.from,
+      c.loop-alloc.from,
+      c.loop-alloc.items.items,
+      c.in_ok-begin_list.ensures.given,
+      c.loop-alloc.invariant,
+      inr (inr (inl (c.next_in_list.new.from, c.in_ok-item.item, looks, c.in_ok-item.ensures.string, failed))),
+    ))
