@@ -10,9 +10,10 @@ ghost use Rattle.byte_unit_math.specs.Finite.{IsExpansion, ulps_of, cut_after};
 ghost use Rattle.byte_unit_math.specs.Nearest.{IsNearest};
 ghost use Rattle.byte_unit_math.specs.Numeral.{fraction_text, glyphs, text_of};
 
+use crate::binary::binary_digits;
 use crate::decimal::{Decimal, ONE};
 use crate::decimal_digits::fmt_u128;
-use crate::dividing::div_rem_digit;
+use crate::dividing::{div_rem, div_rem_digit};
 use std::marker::Model;
 use std::{fmt, str};
 
@@ -75,8 +76,28 @@ impl Expansion {
         requires den { 2 ^ twos * 5 ^ fives ≤ unit_limit }
         ensures { IsExpansion numerator (2 ^ twos * 5 ^ fives) result }
     {
+        if fives == 0 {
+            return Expansion::binary(numerator, twos);
+        }
         let den = power_of_two(twos) * power_of_five(fives);
-        divide(numerator / den, numerator % den, den)
+        let (whole, rest) = div_rem(numerator, den);
+        divide(whole, rest, den)
+    }
+
+    /// Creates the expansion of `numerator / 2^twos`, without division.
+    fn binary(numerator: u128, twos: u32) -> Expansion
+        requires small { numerator < bits_limit }
+        requires few { twos ≤ expansion_places }
+        ensures { IsExpansion numerator (2 ^ twos) result }
+    {
+        let shared = numerator.trailing_zeros().min(twos);
+        let places = twos - shared;
+        let reduced = numerator >> shared;
+        Expansion {
+            whole: reduced >> places,
+            digits: binary_digits(reduced & ((1 << places) - 1), places),
+            places,
+        }
     }
 
     /// Creates an `Expansion` with the digits of a `Decimal`.
@@ -318,7 +339,7 @@ pub fn glyphs_of(e: &Expansion) -> [u8; EXPANSION_PLACES]
 }
 
 /// Returns `2^exponent`.
-fn power_of_two(exponent: u32) -> u128
+pub(crate) fn power_of_two(exponent: u32) -> u128
     requires { 2 ^ exponent ≤ unit_limit }
     ensures { result ≡ 2 ^ exponent }
 {
@@ -326,7 +347,7 @@ fn power_of_two(exponent: u32) -> u128
 }
 
 /// Returns `5^exponent`.
-fn power_of_five(exponent: u32) -> u128
+pub(crate) fn power_of_five(exponent: u32) -> u128
     requires { 5 ^ exponent ≤ unit_limit }
     ensures { result ≡ 5 ^ exponent }
 {
