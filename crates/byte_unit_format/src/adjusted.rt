@@ -192,7 +192,7 @@ fn write_longer(
     }
 }
 
-/// Writes as `write_longer`, digit by digit.
+/// Writes as `write_longer`, by way of an array of digits.
 #[inline(never)]
 fn write_expanded(
     size: u128,
