@@ -6,9 +6,8 @@ ghost use Rattle.byte_unit_math.specs.Steps.{saturating_add};
 ghost use Rattle.byte_unit_math.specs.ShortExpansion.{IsShortExpansion};
 
 use crate::dividing::div_rem;
-use crate::expansion::{power_of_five, power_of_two};
 use crate::quotient::exact_quotient;
-use crate::tens::power_of_ten;
+use crate::tens::{power_of_five, power_of_ten, power_of_two};
 use crate::{DECIMAL_PLACES, Decimal, Steps};
 
 /// The most digits after the point of a [`ShortExpansion`].
@@ -40,6 +39,7 @@ pub struct ShortExpansion {
 /// assert!(rt; short_expansion(3, 38, 0).is_some());
 /// assert!(rt; short_expansion(3, 39, 0).is_none());
 /// ```
+#[inline(always)]
 pub fn short_expansion(numerator: u128, twos: u32, fives: u32) -> Option<ShortExpansion>
     requires small { numerator < bits_limit }
     requires order { fives ≤ twos }
@@ -111,6 +111,7 @@ fn decimal_expansion(numerator: u128, twos: u32, tens: u32) -> Option<ShortExpan
 /// assert_eq!(rt; exact_number(13, 3, 0, 3, &mut steps), Decimal::from_digits(1, 625, 3));
 /// assert_eq!(rt; steps.count(), 3);
 /// ```
+#[inline(never)]
 pub fn exact_number(
     numerator: u128,
     twos: u32,
