@@ -86,7 +86,8 @@ macro_rules! adjusted_type {
             /// assert_eq!(adjusted.write_text(FormatSpec::PLAIN, &mut []), Err(Needed { len: 8 }));
             /// ```
             pub fn write_text(self, spec: $crate::FormatSpec, out: &mut [u8]) -> Result<&str, $crate::Needed> {
-                let len = $crate::library::adjusted_text(self.size.as_u128(), $kind, self.unit, spec, out);
+                let buffer = $crate::library::maybe_unwritten(out);
+                let len = $crate::library::adjusted_text(self.size.as_u128(), $kind, self.unit, spec, buffer);
                 $crate::text::written(out, len)
             }
         }

@@ -180,22 +180,42 @@ pub(crate) fn parse_many<O, T: Size>(
     code == sys::BYTE_UNIT_OK
 }
 
+/// Returns a buffer as one that may be unwritten, for the calls below: they write a text to its beginning, or nothing.
+pub(crate) fn maybe_unwritten(out: &mut [u8]) -> &mut [MaybeUninit<u8>] {
+    // SAFETY: only the library writes to it, and it writes bytes.
+    unsafe { &mut *(out as *mut [u8] as *mut [MaybeUninit<u8>]) }
+}
+
 /// Writes the text of a size, if it fits, and returns its length.
-pub(crate) fn text(size: u128, kind: Kind, spec: FormatSpec, out: &mut [u8]) -> usize {
-    unsafe { sys::byte_unit_text(size.into(), kind.flag(), spec.into(), out.as_mut_ptr(), out.len()) }
+pub(crate) fn text(size: u128, kind: Kind, spec: FormatSpec, out: &mut [MaybeUninit<u8>]) -> usize {
+    unsafe { sys::byte_unit_text(size.into(), kind.flag(), spec.into(), out.as_mut_ptr().cast(), out.len()) }
 }
 
 /// Writes the text of a size in a unit, if it fits, and returns its length.
-pub(crate) fn adjusted_text(size: u128, kind: Kind, unit: Unit, spec: FormatSpec, out: &mut [u8]) -> usize {
+pub(crate) fn adjusted_text(
+    size: u128,
+    kind: Kind,
+    unit: Unit,
+    spec: FormatSpec,
+    out: &mut [MaybeUninit<u8>],
+) -> usize {
     let (flags, unit) = (kind.flag(), unit as u32);
-    unsafe { sys::byte_unit_adjusted_text(size.into(), flags, unit, spec.into(), out.as_mut_ptr(), out.len()) }
+    unsafe { sys::byte_unit_adjusted_text(size.into(), flags, unit, spec.into(), out.as_mut_ptr().cast(), out.len()) }
 }
 
 /// Writes the text of a size in the largest unit of the type, if it fits, and returns its length.
 #[cfg(feature = "std")]
-pub(crate) fn approximate_text(size: u128, kind: Kind, unit_type: UnitType, spec: FormatSpec, out: &mut [u8]) -> usize {
+pub(crate) fn approximate_text(
+    size: u128,
+    kind: Kind,
+    unit_type: UnitType,
+    spec: FormatSpec,
+    out: &mut [MaybeUninit<u8>],
+) -> usize {
     let (flags, unit_type) = (kind.flag(), unit_type as u32);
-    unsafe { sys::byte_unit_approximate_text(size.into(), flags, unit_type, spec.into(), out.as_mut_ptr(), out.len()) }
+    unsafe {
+        sys::byte_unit_approximate_text(size.into(), flags, unit_type, spec.into(), out.as_mut_ptr().cast(), out.len())
+    }
 }
 
 /// Returns the largest unit of the kind and of the type that is not above the size, or the kind's own.

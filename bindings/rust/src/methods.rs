@@ -209,7 +209,8 @@ macro_rules! size_methods {
             /// assert_eq!(size.write_text(FormatSpec::PLAIN, &mut out[..3]), Err(Needed { len: 4 }));
             /// ```
             pub fn write_text(self, spec: $crate::FormatSpec, out: &mut [u8]) -> Result<&str, $crate::Needed> {
-                let len = $crate::library::text(self.0, $kind, spec, out);
+                let buffer = $crate::library::maybe_unwritten(out);
+                let len = $crate::library::text(self.0, $kind, spec, buffer);
                 $crate::text::written(out, len)
             }
         }

@@ -1,6 +1,7 @@
 //! Texts of sizes: into a formatter with its flags, and into a caller's buffer.
 
 use core::fmt::{self, Alignment, Formatter, Write};
+use core::mem::MaybeUninit;
 use core::str;
 
 use crate::errors::Needed;
@@ -14,11 +15,17 @@ const MOST_PLACES: usize = 93;
 /// More than the length of each text without a width, with at most `MOST_PLACES` digits after the point.
 const TEXT_LEN: usize = 160;
 
+/// A buffer for such a text, which only the library writes.
+type Buffer = [MaybeUninit<u8>; TEXT_LEN];
+
+/// A buffer that is not written yet.
+const UNWRITTEN: Buffer = [MaybeUninit::uninit(); TEXT_LEN];
+
 /// Formats a size with the unit that represents it exactly within the precision.
 pub(crate) fn format_with_unit(size: u128, kind: Kind, f: &mut Formatter<'_>) -> fmt::Result {
     // Above 28, each precision is as 28.
     let (spec, _) = spec_of(f, 28);
-    let mut out = [0; TEXT_LEN];
+    let mut out = UNWRITTEN;
     let len = library::text(size, kind, spec, &mut out);
     lay_out(text_in(&out, len)?, 0, f)
 }
@@ -26,7 +33,7 @@ pub(crate) fn format_with_unit(size: u128, kind: Kind, f: &mut Formatter<'_>) ->
 /// Formats a size in a unit.
 pub(crate) fn format_adjusted(size: u128, kind: Kind, unit: Unit, f: &mut Formatter<'_>) -> fmt::Result {
     let (spec, left_out) = spec_of(f, MOST_PLACES);
-    let mut out = [0; TEXT_LEN];
+    let mut out = UNWRITTEN;
     let len = library::adjusted_text(size, kind, unit, spec, &mut out);
     let text = text_in(&out, len)?;
     let all_shown = left_out > 0 && places_of(text) == MOST_PLACES;
@@ -35,7 +42,7 @@ pub(crate) fn format_adjusted(size: u128, kind: Kind, unit: Unit, f: &mut Format
 
 /// Returns the 64-bit float that is nearest to a size in a unit.
 pub(crate) fn nearest_float(size: u128, kind: Kind, unit: Unit) -> f64 {
-    let mut out = [0; TEXT_LEN];
+    let mut out = UNWRITTEN;
     let len = library::adjusted_text(size, kind, unit, FormatSpec::PLAIN, &mut out);
     let text = text_in(&out, len).unwrap_or_default();
     number_of(text).parse().unwrap_or_default()
@@ -50,17 +57,17 @@ pub(crate) fn approximate_text(
     precision: u16,
 ) -> std::string::String {
     let spec = FormatSpec { precision: Some(precision), ..FormatSpec::PLAIN };
-    let mut out = [0; TEXT_LEN];
+    let mut out = UNWRITTEN;
     let len = library::approximate_text(size, kind, unit_type, spec, &mut out);
-    if let Ok(text) = written(&out, len) {
+    if let Ok(text) = text_in(&out, len) {
         return text.into();
     }
     let mut long = std::vec![0; len];
-    library::approximate_text(size, kind, unit_type, spec, &mut long);
+    library::approximate_text(size, kind, unit_type, spec, library::maybe_unwritten(&mut long));
     std::string::String::from_utf8(long).unwrap_or_default()
 }
 
-/// Returns the text that a call wrote to the beginning of `out`, or the length that it needs.
+/// Returns the text that a call wrote to the beginning of a caller's buffer, or the length that it needs.
 pub(crate) fn written(out: &[u8], len: usize) -> Result<&str, Needed> {
     match out.get(..len) {
         Some(text) => Ok(str::from_utf8(text).unwrap_or_default()),
@@ -68,8 +75,11 @@ pub(crate) fn written(out: &[u8], len: usize) -> Result<&str, Needed> {
     }
 }
 
-fn text_in(out: &[u8], len: usize) -> Result<&str, fmt::Error> {
-    written(out, len).map_err(|_| fmt::Error)
+/// Returns the text of a length that a call of the library wrote to the beginning of a buffer.
+fn text_in(out: &Buffer, len: usize) -> Result<&str, fmt::Error> {
+    let text = out.get(..len).ok_or(fmt::Error)?;
+    // SAFETY: the library has written these bytes, since they fit, and they are ASCII.
+    Ok(unsafe { str::from_utf8_unchecked(&*(text as *const [MaybeUninit<u8>] as *const [u8])) })
 }
 
 /// Returns the digits and the point at the beginning of a text.

@@ -1,9 +1,8 @@
 -- A size as an exact quotient: at more places, and times its unit.
-use Rattle.std.proofs.Common.{◌≡◌, ℕ, ◌-◌, ◌*◌, ◌/◌, ◌^◌, ◌≤◌, ⊎_elim, arith, ap, ◌∙◌}
+use Rattle.std.proofs.Common.{◌≡◌, ℕ, ◌-◌, ◌*◌, ◌/◌, ◌^◌, ◌≤◌, arith, ap, ◌∙◌}
 use Rattle.std.proofs.Math.Nat.{eq_of_mul-eq-mul_right}
 use Rattle.byte_unit_math.specs.Bounds.{places_of_decimal, scale}
-use Rattle.byte_unit_math.specs.Exact.{IsExactAt, IsLeastPlaces, IsQuotient, IsFirstExact}
-use Rattle.byte_unit_math.proofs.Expanding.{IsQuotient-times}
+use Rattle.byte_unit_math.specs.Exact.{IsExactAt, IsLeastPlaces, IsQuotient}
 use Rattle.byte_unit_math.proofs.Scales.{pow10_split}
 
 -- a size that is exact at some number of places is exact at each greater number of places
@@ -34,25 +33,6 @@ stated_where_exact size unit number digits some product e =
     let p = ap (λ x. x * 10 ^ digits) product in
     let q = ap (λ x. x * scale) e.1 in
     (e.0, eq_of_mul-eq-mul_right unit (omega (arith, some)) (number * 10 ^ digits) (e.0 * scale) (omega (arith, p, q)))
-
--- if an exact quotient needs at most these digits after the point, the size is exact at them
-exact_where_stated : (size unit number digits : ℕ) → number * unit ≡ size * scale → IsExactAt number scale digits
-    → IsExactAt size unit digits
-exact_where_stated size unit number digits product e =
-    let p = ap (λ x. x * 10 ^ digits) product in
-    let q = ap (λ x. x * unit) e.1 in
-    (e.0, eq_of_mul-eq-mul_right scale (omega arith) (size * 10 ^ digits) (e.0 * unit) (omega (arith, p, q)))
-
--- the digits at which a division first ends are the least number of digits after the point that its quotient needs
-pub places_of_quotient : (size unit places digits number : ℕ) → 1 ≤ unit → places ≤ places_of_decimal
-    → IsQuotient size unit places number → IsFirstExact size unit places digits → IsLeastPlaces number scale digits
-places_of_quotient size unit places digits number some room quotient first =
-    let product = IsQuotient-times size unit places number room quotient in
-    let exact : IsExactAt size unit digits = ⊎_elim (λ e. e) (λ e. rw e (quotient.count, quotient.exact)) first.ends in
-    record {
-      has = stated_where_exact size unit number digits some product exact;
-      least = λ fewer e. first.first fewer (exact_where_stated size unit number fewer product e);
-    }
 
 -- a whole number needs no digits after the point
 pub whole_takes_none : (whole : ℕ) → IsLeastPlaces (whole * scale) scale 0

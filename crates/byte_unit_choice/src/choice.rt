@@ -14,7 +14,7 @@ ghost use Rattle.byte_unit_base.specs.declared.kind.Kind.{Kind};
 use crate::{Family, UnitType};
 use byte_unit_base::{PREFIXES, Unit};
 use byte_unit_math::{
-    DECIMAL_PLACES, Decimal, Factors, Steps, exact_quotient, factored_quotient, factors_of,
+    DECIMAL_PLACES, Decimal, Factors, Steps, exact_number, factored_quotient, factors_of,
 };
 
 /// Up to this many places a number is computed from the factors of the size: in any unit their product fits 128 bits.
@@ -77,8 +77,7 @@ pub fn choose_unit(
             let lacking = row.twos.saturating_sub(twos);
             let places = lacking.max(row.fives.saturating_sub(fives));
             let number = if places > FEW_PLACES {
-                // The size is exact in the unit, so this is `Some`.
-                exact_quotient(in_bits, row.bits, most, steps).unwrap()
+                exact_number(in_bits, row.twos, row.fives, most, steps)
             } else {
                 let factors = Factors { left, twos, fives };
                 factored_quotient(factors, row.twos, row.fives, places, steps)

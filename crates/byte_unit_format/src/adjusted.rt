@@ -192,7 +192,7 @@ fn write_longer(
     }
 }
 
-/// Writes as `write_longer`, digit by digit.
+/// Writes as `write_longer`, by way of an array of digits.
 #[inline(never)]
 fn write_expanded(
     size: u128,
@@ -297,11 +297,16 @@ fn expanded(size: u128, kind: Kind, unit: Unit, rounding: Rounding) -> (Expansio
         (text_of (pad_of result.1 result.0)) }
     ensures bound { result.1 < 2 ^ 16 }
 {
-    let exact = number_in_unit(size, kind, unit);
     match rounding {
-        Rounding::Exact => with_all_places(exact),
-        Rounding::To(places) => (exact.rounded(places, Ties::Even), places),
-        Rounding::AtMost(places) => with_all_places(exact.rounded(places, Ties::Up)),
+        Rounding::Exact => with_all_places(number_in_unit(size, kind, unit)),
+        Rounding::To(places) => {
+            let exact = divided_in_unit(size, kind, unit);
+            (exact.rounded(places, Ties::Even), places)
+        }
+        Rounding::AtMost(places) => {
+            let exact = divided_in_unit(size, kind, unit);
+            with_all_places(exact.rounded(places, Ties::Up))
+        }
     }
 }
 
@@ -352,7 +357,18 @@ fn scaled_parts<'a>(number: u128, places: u32, unit: Unit, spec: FormatSpec) -> 
 /// assert_eq!(rt; (number.whole(), number.digit(1)), (1, 5));
 /// assert_eq!(rt; number_in_unit(1, Kind::Bit, Unit::KB).places(), 6);
 /// ```
+#[inline(never)]
 pub fn number_in_unit(size: u128, kind: Kind, unit: Unit) -> Expansion
+    requires { size < size_limit }
+    ensures { IsExpansion (size * bits_in kind) (bits (shape_of unit)) result }
+{
+    let (twos, fives) = unit.powers();
+    Expansion::in_full(size * kind.bits(), twos, fives)
+}
+
+/// Returns the same as `number_in_unit`, by long division.
+#[inline(always)]
+fn divided_in_unit(size: u128, kind: Kind, unit: Unit) -> Expansion
     requires { size < size_limit }
     ensures { IsExpansion (size * bits_in kind) (bits (shape_of unit)) result }
 {

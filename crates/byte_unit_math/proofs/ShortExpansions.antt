@@ -3,12 +3,12 @@ use Rattle.std.proofs.Common.{◌≡◌, ◌≢◌, ℕ, zero, suc, ◌+◌, ◌
 use Rattle.std.specs.Int.{trailing_zeros, w128}
 use Rattle.std.specs.Int.Count.{trailing_of_zero}
 use Rattle.std.proofs.Math.Nat.{mul-lt-mul_of_pos_right, one-le-pow, div-add-mod', pow-zero, pow-succ', mod-eq_of_lt}
-use Rattle.std.proofs.Math.Nat.{pow-le-pow_right}
+use Rattle.std.proofs.Math.Nat.{pow-le-pow_right, mul-le-mul_left, le_of_mul-le-mul_right}
 use Rattle.std.proofs.lemmas.Nat.{mul-pow, mul-le, mod_below, and_mask}
 use Rattle.std.proofs.lemmas.Nat.Bits.{bit_at-trailing_zeros}
-use Rattle.byte_unit_math.specs.Bounds.{scale, places_of_decimal, places_of_number}
+use Rattle.byte_unit_math.specs.Bounds.{scale, places_of_decimal, expansion_places}
 use Rattle.byte_unit_math.specs.Digits.{last_digits}
-use Rattle.byte_unit_math.specs.Exact.{IsLeastPlaces}
+use Rattle.byte_unit_math.specs.Exact.{IsExactAt, IsLeastPlaces}
 use Rattle.byte_unit_math.specs.Finite.{IsExpansion}
 use Rattle.byte_unit_math.specs.ShortExpansion.{IsShortExpansion, finite_of}
 use Rattle.byte_unit_math.specs.declared.short.ShortExpansion.{ShortExpansion}
@@ -27,9 +27,9 @@ pub ten_over_two : (p : ℕ) → 10 ^ p / 2 ^ p ≡ 5 ^ p
 ten_over_two p = rw (ten_power p) (grind (arith, one-le-pow))
 
 -- Masked by its last p bits, a number is its remainder by 2^p.
-pub masked_rest : (n p : ℕ) → p ≤ places_of_number → bit_and n (1 * 2 ^ p % 2 ^ 128 - 1) ≡ n % 2 ^ p
+pub masked_rest : (n p : ℕ) → p ≤ expansion_places → bit_and n (1 * 2 ^ p % 2 ^ 128 - 1) ≡ n % 2 ^ p
 masked_rest n p few =
-    let small : 1 * 2 ^ p < 2 ^ 128 = omega (arith, pow-le-pow_right {n = 2} (omega arith) {i = p} {j = 38} few) in
+    let small : 1 * 2 ^ p < 2 ^ 128 = omega (arith, pow-le-pow_right {n = 2} (omega arith) {i = p} {j = 93} few) in
     let one : 1 * 2 ^ p % 2 ^ 128 ≡ 2 ^ p = omega (arith, mod-eq_of_lt small) in
     ap (λ power. bit_and n (power - 1)) one ∙ and_mask n p
 
@@ -43,7 +43,7 @@ five_power_odd zero = rw (pow-zero 5) (omega arith)
 five_power_odd (suc p) = rw (pow-succ' 5 p) (omega (arith, five_power_odd p))
 
 -- The product of an odd number and a power of five does not end in the digit 0.
-odd_times_fives : (n p : ℕ) → n % 2 ≢ 0 → 0 < n * 5 ^ p % 10
+pub odd_times_fives : (n p : ℕ) → n % 2 ≢ 0 → 0 < n * 5 ^ p % 10
 odd_times_fives n p odd =
     let power = 5 ^ p in
     let five : power ≡ power / 2 * 2 + 1 = omega (arith, five_power_odd p) in
@@ -53,7 +53,7 @@ odd_times_fives n p odd =
     omega (arith, product)
 
 -- The whole part, and the remainder by 2^p as p digits, are the number times 5^p.
-binary_count : (n p : ℕ) → n / 2 ^ p * 10 ^ p + n % 2 ^ p * 5 ^ p ≡ n * 5 ^ p
+pub binary_count : (n p : ℕ) → n / 2 ^ p * 10 ^ p + n % 2 ^ p * 5 ^ p ≡ n * 5 ^ p
 binary_count n p =
     let power = ap (λ power. n / 2 ^ p * power) (ten_power p) in
     let number = ap (λ m. m * 5 ^ p) (div-add-mod' n (2 ^ p)) in
@@ -167,3 +167,33 @@ reduced_decimal number reduced shared left twos fives sum number_is =
       positive' = product_positive twos fives;
       same = rw (number_is, first, second, ten_power fives) (omega arith);
     }
+
+-- A short expansion is exactly the fraction.
+pub short_is_exact : {num den : ℕ} {e : ShortExpansion} → IsShortExpansion num den e
+    → num * 10 ^ e.places ≡ (e.whole * 10 ^ e.places + e.digits) * den
+short_is_exact {num} {den} {e} h =
+    let value = value_of_last_digits e.places e.digits ∙ mod-eq_of_lt h.below in
+    rw (length_last_digits e.places e.digits, value) at h.is_expansion.exact
+
+-- It has no more places than the fraction is exact with.
+pub short_places : {num den : ℕ} {e : ShortExpansion} (places : ℕ) → IsShortExpansion num den e → IsExactAt num den places
+    → e.places ≤ places
+short_places {num} {den} {e} places h exact =
+    omega (arith, h.is_expansion.least places exact, length_last_digits e.places e.digits)
+
+-- Its whole part is at most the numerator.
+pub short_whole : {num den : ℕ} {e : ShortExpansion} → 1 ≤ den → IsShortExpansion num den e → e.whole ≤ num
+short_whole {num} {den} {e} some h =
+    let once = mul-le-mul_left (e.whole * 10 ^ e.places + e.digits) some in
+    let power : 0 < 10 ^ e.places = omega (arith, one-le-pow e.places 10 (omega arith)) in
+    le_of_mul-le-mul_right {m = e.whole} {n = num} {k = 10 ^ e.places} (omega (arith, short_is_exact h, once)) power
+
+-- Scaled by 10^28, it is the fraction scaled by 10^28.
+pub short_scaled : {num den : ℕ} {e : ShortExpansion} → e.places ≤ places_of_decimal → IsShortExpansion num den e
+    → (e.whole * scale + e.digits * 10 ^ (places_of_decimal - e.places)) * den ≡ num * scale
+short_scaled {num} {den} {e} few h =
+    let behind = 10 ^ (places_of_decimal - e.places) in
+    let times = ap (λ n. n * behind) (short_is_exact h) in
+    let all = ap (λ n. num * n) (pow10_times_rest e.places few) in
+    let whole = ap (λ n. e.whole * n * den) (pow10_times_rest e.places few) in
+    omega (arith, times, all, whole)

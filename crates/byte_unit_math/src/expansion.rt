@@ -10,14 +10,19 @@ ghost use Rattle.byte_unit_math.specs.Finite.{IsExpansion, ulps_of, cut_after};
 ghost use Rattle.byte_unit_math.specs.Nearest.{IsNearest};
 ghost use Rattle.byte_unit_math.specs.Numeral.{fraction_text, glyphs, text_of};
 
+use crate::binary::binary_digits;
 use crate::decimal::{Decimal, ONE};
 use crate::decimal_digits::fmt_u128;
 use crate::dividing::div_rem_digit;
+use crate::tens::{power_of_five, power_of_two};
 use std::marker::Model;
 use std::{fmt, str};
 
 /// The most digits after the point of an [`Expansion`].
 pub const EXPANSION_PLACES: usize = 93;
+
+/// Up to this many digits after the point, one digit after another is faster than a group of them.
+const FEW_PLACES: u32 = 4;
 
 /// How to round a number halfway between two decimals.
 #[derive(Debug, Clone, Copy, PartialEq, Eq)]
@@ -77,6 +82,33 @@ impl Expansion {
     {
         let den = power_of_two(twos) * power_of_five(fives);
         divide(numerator / den, numerator % den, den)
+    }
+
+    /// Creates the same expansion as `new`, with the same precondition. Over a power of 2 it takes no division.
+    ///
+    /// # Examples
+    /// ```rust
+    /// assert_eq!(rt; Expansion::in_full(3, 93, 0).places(), 93);
+    /// ```
+    pub fn in_full(numerator: u128, twos: u32, fives: u32) -> Expansion
+        requires small { numerator < bits_limit }
+        requires den { 2 ^ twos * 5 ^ fives ≤ unit_limit }
+        ensures { IsExpansion numerator (2 ^ twos * 5 ^ fives) result }
+    {
+        if fives == 0 {
+            return Expansion::binary(numerator, twos);
+        }
+        Expansion::new(numerator, twos, fives)
+    }
+
+    /// Creates the expansion of `numerator / 2^twos`.
+    fn binary(numerator: u128, twos: u32) -> Expansion
+        requires small { numerator < bits_limit }
+        requires few { twos ≤ expansion_places }
+        ensures { IsExpansion numerator (2 ^ twos) result }
+    {
+        let shared = numerator.trailing_zeros().min(twos);
+        in_lowest_terms(numerator >> shared, twos - shared)
     }
 
     /// Creates an `Expansion` with the digits of a `Decimal`.
@@ -317,20 +349,24 @@ pub fn glyphs_of(e: &Expansion) -> [u8; EXPANSION_PLACES]
     glyphs
 }
 
-/// Returns `2^exponent`.
-fn power_of_two(exponent: u32) -> u128
-    requires { 2 ^ exponent ≤ unit_limit }
-    ensures { result ≡ 2 ^ exponent }
+/// Expands `numerator / 2^places`, which is in lowest terms.
+#[inline(always)]
+fn in_lowest_terms(numerator: u128, places: u32) -> Expansion
+    requires small { numerator < bits_limit }
+    requires few { places ≤ expansion_places }
+    requires odd { 0 < places → numerator % 2 ≢ 0 }
+    ensures { IsExpansion numerator (2 ^ places) result }
 {
-    1 << exponent
-}
-
-/// Returns `5^exponent`.
-fn power_of_five(exponent: u32) -> u128
-    requires { 5 ^ exponent ≤ unit_limit }
-    ensures { result ≡ 5 ^ exponent }
-{
-    5u128.pow(exponent)
+    let whole = numerator >> places;
+    let rest = numerator & ((1 << places) - 1);
+    if places <= FEW_PLACES {
+        return divide(whole, rest, 1 << places);
+    }
+    Expansion {
+        whole,
+        digits: binary_digits(rest, places),
+        places,
+    }
 }
 
 /// Expands `whole + remainder / den` by long division.

@@ -97,3 +97,12 @@ fn last_16_digits(n: u64) -> u8x16
     let digits = (pairs / ten + pairs % ten * u16x8::splat(256)).to_le_bytes();
     digits + u8x16::splat(b'0')
 }
+
+/// Returns the digits of a number below 10^16 as numbers, with leading zeros.
+#[inline(always)]
+pub(crate) fn last_16_values(n: u64) -> u8x16
+    requires { n < 10 ^ 16 }
+    ensures { result ≡ last_digits 16 n }
+{
+    last_16_digits(n) - u8x16::splat(b'0')
+}

@@ -1,11 +1,14 @@
 //! Terminating decimal expansions with few digits after the point, by one product and one division or shift.
-ghost use Rattle.std.specs.Prelude.{◌≢◌, ℕ, ◌*◌, ◌%◌, ◌^◌, ◌<◌, ◌≤◌, IfSome};
-ghost use Rattle.byte_unit_math.specs.Bounds.{bits_limit, unit_limit};
+ghost use Rattle.std.specs.Prelude.{◌≡◌, ◌≢◌, ℕ, ◌*◌, ◌%◌, ◌^◌, ◌<◌, ◌≤◌, min, IfSome};
+ghost use Rattle.byte_unit_math.specs.Bounds.{bits_limit, places_of_decimal, scale, unit_limit};
+ghost use Rattle.byte_unit_math.specs.Exact.{IsExactAt, IsLeastPlaces};
+ghost use Rattle.byte_unit_math.specs.Steps.{saturating_add};
 ghost use Rattle.byte_unit_math.specs.ShortExpansion.{IsShortExpansion};
 
 use crate::dividing::div_rem;
-use crate::tens::power_of_ten;
-use crate::{DECIMAL_PLACES, Decimal};
+use crate::quotient::exact_quotient;
+use crate::tens::{power_of_five, power_of_ten, power_of_two};
+use crate::{DECIMAL_PLACES, Decimal, Steps};
 
 /// The most digits after the point of a [`ShortExpansion`].
 const MOST_PLACES: u32 = 38;
@@ -36,6 +39,7 @@ pub struct ShortExpansion {
 /// assert!(rt; short_expansion(3, 38, 0).is_some());
 /// assert!(rt; short_expansion(3, 39, 0).is_none());
 /// ```
+#[inline(always)]
 pub fn short_expansion(numerator: u128, twos: u32, fives: u32) -> Option<ShortExpansion>
     requires small { numerator < bits_limit }
     requires order { fives ≤ twos }
@@ -91,4 +95,67 @@ fn decimal_expansion(numerator: u128, twos: u32, tens: u32) -> Option<ShortExpan
         digits: number.digits(),
         places: number.places(),
     })
+}
+
+/// Returns `numerator / (2^twos * 5^fives)`, which is exact within `places` digits after the point; more than 28 count
+/// as 28. It takes one product and one division or shift, or else long division.
+///
+/// Precondition (proved at every call): `numerator < 8 * 10^30`, `2^twos * 5^fives <= 2^93`, and the quotient is exact
+/// with so many places.
+///
+/// Counts one step for each digit after the point of the result.
+///
+/// # Examples
+/// ```rust
+/// let mut steps = Steps::new();
+/// assert_eq!(rt; exact_number(13, 3, 0, 3, &mut steps), Decimal::from_digits(1, 625, 3));
+/// assert_eq!(rt; steps.count(), 3);
+/// ```
+#[inline(never)]
+pub fn exact_number(
+    numerator: u128,
+    twos: u32,
+    fives: u32,
+    places: u32,
+    steps: &mut Steps,
+) -> Decimal
+    requires small { numerator < bits_limit }
+    requires den { 2 ^ twos * 5 ^ fives ≤ unit_limit }
+    requires exact { IsExactAt numerator (2 ^ twos * 5 ^ fives) (min places places_of_decimal) }
+    ensures exact { result * (2 ^ twos * 5 ^ fives) ≡ numerator * scale }
+    ensures steps { (least : ℕ) × IsLeastPlaces result scale least
+        × (steps.new ≡ saturating_add steps.old least) }
+{
+    let number = quotient_of(numerator, twos, fives, places);
+    steps.advance_by(number.places());
+    number
+}
+
+/// Returns the same as `exact_number`, without counting.
+fn quotient_of(numerator: u128, twos: u32, fives: u32, places: u32) -> Decimal
+    requires small { numerator < bits_limit }
+    requires den { 2 ^ twos * 5 ^ fives ≤ unit_limit }
+    requires exact { IsExactAt numerator (2 ^ twos * 5 ^ fives) (min places places_of_decimal) }
+    ensures { result * (2 ^ twos * 5 ^ fives) ≡ numerator * scale }
+{
+    if fives > twos {
+        return divided(numerator, twos, fives, places);
+    }
+    match short_expansion(numerator, twos, fives) {
+        Some(parts) => Decimal::from_digits(parts.whole, parts.digits, parts.places),
+        None => divided(numerator, twos, fives, places),
+    }
+}
+
+/// Returns the same as `quotient_of`, by long division.
+#[inline(never)]
+#[tactic(auto, using(crate::proofs::Expanding::powers))]
+fn divided(numerator: u128, twos: u32, fives: u32, places: u32) -> Decimal
+    requires small { numerator < bits_limit }
+    requires den { 2 ^ twos * 5 ^ fives ≤ unit_limit }
+    requires exact { IsExactAt numerator (2 ^ twos * 5 ^ fives) (min places places_of_decimal) }
+    ensures { result * (2 ^ twos * 5 ^ fives) ≡ numerator * scale }
+{
+    let unit = power_of_two(twos) * power_of_five(fives);
+    exact_quotient(numerator, unit, places, &mut Steps::new()).unwrap()
 }

@@ -1,5 +1,6 @@
-//! Powers of 10 and of 5.
+//! Powers of 10, of 5 and of 2.
 ghost use Rattle.std.specs.Prelude.{◌≡◌, ◌^◌, ◌≤◌};
+ghost use Rattle.byte_unit_math.specs.Bounds.{unit_limit};
 
 /// The powers of 10 that fit 128 bits.
 const POWERS: [u128; 39] = [
@@ -59,6 +60,22 @@ pub fn power_of_ten(exponent: u32) -> u128
     ensures { result ≡ 10 ^ exponent }
 {
     POWERS[exponent as usize]
+}
+
+/// Returns `2^exponent`.
+pub(crate) fn power_of_two(exponent: u32) -> u128
+    requires { 2 ^ exponent ≤ unit_limit }
+    ensures { result ≡ 2 ^ exponent }
+{
+    1 << exponent
+}
+
+/// Returns `5^exponent`.
+pub(crate) fn power_of_five(exponent: u32) -> u128
+    requires { 5 ^ exponent ≤ unit_limit }
+    ensures { result ≡ 5 ^ exponent }
+{
+    5u128.pow(exponent)
 }
 
 /// The powers of 5 below 2^112.

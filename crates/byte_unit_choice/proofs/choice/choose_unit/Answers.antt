@@ -1,13 +1,13 @@
 -- The first row that passes the test is the largest unit in which the size is exact; the number times the unit is the
 -- size; if no row passes, no unit of the set is such. The steps are those of `factors_of` and one for each place.
-use Rattle.std.proofs.Common.{◌≡◌, ◌*◌, ◌^◌, ℕ, arith, refl, ap, subst, sym, ◌∙◌}
-use Rattle.std.proofs.lemmas.Bool.{both_ways, some_since}
-use Rattle.byte_unit_math.specs.Bounds.{scale, whole_limit}
-use Rattle.byte_unit_math.specs.Exact.{IsLeastPlaces}
+use Rattle.std.proofs.Common.{◌≡◌, ◌*◌, ◌^◌, ℕ, min, arith, refl, ap, subst, sym, ◌∙◌}
+use Rattle.std.proofs.lemmas.Bool.{both_ways}
+use Rattle.byte_unit_math.specs.Bounds.{scale, places_of_decimal, whole_limit}
+use Rattle.byte_unit_math.specs.Exact.{IsExactAt, IsLeastPlaces}
 use Rattle.byte_unit_math.specs.Steps.{saturating_add}
 use Rattle.byte_unit_choice.proofs.Choosing.{some_bits}
 use Rattle.byte_unit_choice.proofs.FewSteps.{few_of_choice, few_of_none}
-use Rattle.byte_unit_choice.proofs.Quotients.{places_of_quotient, quotient_of_product, whole_takes_none}
+use Rattle.byte_unit_choice.proofs.Quotients.{quotient_of_product, whole_takes_none}
 use Rattle.byte_unit_choice.proofs.Rows.{HasPowers, no_row, search_start, power_of_powers, row_multiple}
 use Rattle.byte_unit_choice.proofs.Rows.{row_at_is_row, row_powers, powers_in_row, unit_found, unit_passed, none_found}
 use Rattle.byte_unit_choice.proofs.SizePowers.{in_bits_powers, in_bits_product, chosen_by_powers, none_by_powers}
@@ -45,21 +45,19 @@ loop-row-preserved c =
       steps = c.loop-row.invariant.steps;
     }
 
-pub exact_quotient-requires-clause-some_unit : goal.exact_quotient-requires-clause-some_unit
-exact_quotient-requires-clause-some_unit c =
-    omega (arith, (row_multiple (row_at_is_row no_row c.multiples_within-row-items.ensures c.loop-row-test.true)).large)
+pub exact_number-number-requires-clause-den : goal.exact_number-number-requires-clause-den
+exact_number-number-requires-clause-den c =
+    let multiple = row_multiple (row_at_is_row no_row c.multiples_within-row-items.ensures c.loop-row-test.true) in
+    omega (arith, multiple.small, multiple.powers)
 
-pub exact_quotient-requires-clause-small_unit : goal.exact_quotient-requires-clause-small_unit
-exact_quotient-requires-clause-small_unit c =
-    (row_multiple (row_at_is_row no_row c.multiples_within-row-items.ensures c.loop-row-test.true)).small
-
-pub unwrap-number-requires : goal.unwrap-number-requires
-unwrap-number-requires c =
+pub exact_number-number-requires-clause-exact : goal.exact_number-number-requires-clause-exact
+exact_number-number-requires-clause-exact c =
+    let in_bits = c.args.size * c.args.divisor in
     let is_row = row_at_is_row no_row c.multiples_within-row-items.ensures c.loop-row-test.true in
-    let has = row_powers (c.args.size * c.args.divisor) _ _ is_row c.if-row-in_bits.true in
+    let has = row_powers in_bits _ _ is_row c.if-row-in_bits.true in
     let powers = in_bits_powers c.args.size c.args.divisor _ _ c.requires.divisor c.factors_of-left.ensures.powers in
-    some_since c.exact_quotient.result _ _ c.exact_quotient.ensures.none (λ not. not
-    (exact_by_row _ (omega (arith, c.min-most.ensures)) is_row.bits_are powers has))
+    subst (λ unit. IsExactAt in_bits unit (min c.min-most.result places_of_decimal)) (row_multiple is_row).powers
+    (exact_by_row _ (omega (arith, c.min-most.ensures)) is_row.bits_are powers has)
 
 pub factored_quotient-number-requires-clause-small : goal.factored_quotient-number-requires-clause-small
 factored_quotient-number-requires-clause-small c =
@@ -81,7 +79,7 @@ returns-then-row-in_bits-clause-exact c =
     elim c.if-places-gt-FEW_PLACES.branch [
       | then-places-gt-FEW_PLACES w ↦
           ap (λ n. n * _) w.number-is
-          ∙ (rw w.unwrap-number.ensures at w.exact_quotient.ensures.exact)
+          ∙ (ap (λ n. w.exact_number-number.result * n) multiple.powers ∙ w.exact_number-number.ensures.exact)
       | else-places-gt-FEW_PLACES w ↦
           ap (λ n. n * _) w.number-is
           ∙ (ap (λ n. w.factored_quotient-number.result * n) multiple.powers
@@ -112,11 +110,9 @@ returns-then-row-in_bits-clause-steps c =
     × (c.if-places-gt-FEW_PLACES.steps ≡ saturating_add mid places) =
     elim c.if-places-gt-FEW_PLACES.branch [
       | then-places-gt-FEW_PLACES w ↦
-          let digits = w.exact_quotient.ensures.steps in
-          let quotient = rw w.unwrap-number.ensures at w.exact_quotient.ensures.quotient in
-          let least = places_of_quotient _ _ _ digits.0 _ (omega (arith, multiple.large)) (omega arith) quotient digits.1 in
-          let same = subst (λ n. IsLeastPlaces n scale digits.0) (sym w.number-is) least in
-          (digits.0, same, omega (arith, w.steps-is, digits.2, unmoved))
+          let places = w.exact_number-number.ensures.steps in
+          let same = subst (λ n. IsLeastPlaces n scale places.0) (sym w.number-is) places.1 in
+          (places.0, same, omega (arith, w.steps-is, places.2, unmoved))
       | else-places-gt-FEW_PLACES w ↦
           let places = w.factored_quotient-number.ensures.steps in
           let same = subst (λ n. IsLeastPlaces n scale places.0) (sym w.number-is) places.1 in

@@ -12,7 +12,7 @@ digits_of c =
 
 digits_are : (c : After-power_of_ten) → digits_of c ≡ c.args.numerator % 2 ^ c.args.places * 5 ^ c.args.places
 digits_are c =
-    rw (masked_rest c.args.numerator c.args.places c.if-places-gt-MOST_PLACES.false, c.power_of_ten.ensures)
+    rw (masked_rest c.args.numerator c.args.places (omega (arith, c.if-places-gt-MOST_PLACES.false)), c.power_of_ten.ensures)
     (ap (λ power. c.args.numerator % 2 ^ c.args.places * power) (ten_over_two c.args.places))
 
 digits_below : (c : After-power_of_ten) → digits_of c < 10 ^ c.args.places

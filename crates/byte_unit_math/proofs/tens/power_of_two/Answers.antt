@@ -3,7 +3,7 @@ use Rattle.std.proofs.Common.{◌+◌, ◌*◌, ◌^◌, ◌<◌, arith}
 use Rattle.std.proofs.Math.Nat.{mod-eq_of_lt}
 use Rattle.byte_unit_math.specs.Bounds.{expansion_places, unit_limit}
 use Rattle.byte_unit_math.proofs.Scales.{exponent_at_most}
-use Rattle.byte_unit_math.proofs.expansion.power_of_two.Goals as goal
+use Rattle.byte_unit_math.proofs.tens.power_of_two.Goals as goal
 
 pub overflow_shl-result : goal.overflow_shl-result
 overflow_shl-result c =

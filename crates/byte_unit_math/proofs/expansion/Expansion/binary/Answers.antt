@@ -1,0 +1,37 @@
+-- Numerator and denominator are divided by the same power of two.
+use Rattle.std.proofs.Common.{◌≡◌, ◌+◌, ◌-◌, ◌*◌, ◌/◌, ◌^◌, ◌≤◌, arith, subst}
+use Rattle.std.specs.Int.{trailing_zeros, w128}
+use Rattle.std.proofs.Math.Nat.{min-le_left, min-le_right, div-le_self, pow-zero}
+use Rattle.byte_unit_math.specs.Finite.{IsExpansion}
+use Rattle.byte_unit_math.proofs.Texts.{expansion_of_same_fraction}
+use Rattle.byte_unit_math.proofs.ShortExpansions.{odd_if_shared, reduced_binary, shared_twos}
+use Rattle.byte_unit_math.proofs.expansion.Expansion.binary.Goals.{After-min-shared}
+use Rattle.byte_unit_math.proofs.expansion.Expansion.binary.Goals as goal
+
+shared_few : (c : After-min-shared) → c.min-shared.result ≤ c.args.twos
+shared_few c =
+    omega (arith, c.min-shared.ensures, min-le_right (trailing_zeros w128 c.args.numerator) c.args.twos)
+
+pub in_lowest_terms-requires-clause-small : goal.in_lowest_terms-requires-clause-small
+in_lowest_terms-requires-clause-small c =
+    omega (arith, c.requires.small, div-le_self c.args.numerator (2 ^ c.min-shared.result))
+
+pub in_lowest_terms-requires-clause-odd : goal.in_lowest_terms-requires-clause-odd
+in_lowest_terms-requires-clause-odd c = λ some.
+    odd_if_shared c.args.numerator c.args.twos c.min-shared.result (omega (arith, c.requires.small))
+    (omega (arith, c.requires.few)) c.min-shared.ensures (omega (arith, some))
+
+pub returns : goal.returns
+returns c =
+    let start = (goal.at.returns c).After-min-shared in
+    let shared = c.min-shared.result in
+    let reduced = c.args.numerator / 2 ^ shared in
+    let places = c.args.twos - shared in
+    let number_is = shared_twos c.args.numerator shared (omega (arith, c.requires.small))
+    (omega (arith, c.min-shared.ensures, min-le_left (trailing_zeros w128 c.args.numerator) c.args.twos)) in
+    let sum : c.args.twos ≡ places + shared = omega (arith, shared_few start) in
+    let same = reduced_binary c.args.numerator reduced shared places c.args.twos sum number_is in
+    let expansion = expansion_of_same_fraction reduced (2 ^ places) c.args.numerator (2 ^ c.args.twos * 5 ^ 0)
+    c.in_lowest_terms.result same c.in_lowest_terms.ensures in
+    let unit : 2 ^ c.args.twos * 5 ^ 0 ≡ 2 ^ c.args.twos = rw (pow-zero 5) (omega arith) in
+    subst (λ den. IsExpansion c.args.numerator den c.in_lowest_terms.result) unit expansion

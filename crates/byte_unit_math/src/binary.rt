@@ -1,0 +1,47 @@
+//! The digits after the point of a fraction with a binary denominator, sixteen at a time.
+
+ghost use Rattle.std.specs.Prelude.{◌≡◌, ◌-◌, ◌*◌, ◌^◌, ◌<◌, ◌≤◌, length, take, drop, replicate};
+ghost use Rattle.std.specs.List.{All};
+ghost use Rattle.byte_unit_math.specs.Bounds.{expansion_places};
+ghost use Rattle.byte_unit_math.specs.Digits.{last_digits};
+
+use crate::EXPANSION_PLACES;
+use crate::lanes::last_16_values;
+use crate::tens::POWERS_OF_FIVE;
+use std::simd::prelude::*;
+
+/// The number of digits that one product gives.
+const GROUP: u32 = 16;
+
+/// The length of an array of whole groups, from which 93 digits are copied: they begin within the first group.
+const GROUPS_LEN: usize = 112;
+
+/// Returns the digits after the point of `numerator / 2^places`, and then zeros.
+///
+/// A product with a power of 5 gives the next digits: before its last `left` bits, since 10^n / 2^n is 5^n.
+pub(crate) fn binary_digits(numerator: u128, places: u32) -> [u8; EXPANSION_PLACES]
+    requires few { places ≤ expansion_places }
+    requires below { numerator < 2 ^ places }
+    ensures size { length result ≡ expansion_places }
+    ensures small { All (λ d. d < 10) result }
+    ensures digits { take places result ≡ last_digits places (numerator * 5 ^ places) }
+    ensures zeros { drop places result ≡ replicate (expansion_places - places) 0 }
+{
+    let mut groups = [0u8; GROUPS_LEN];
+    let mut rest = numerator;
+    let mut left = places;
+    let mut end: usize = 0;
+    while left > 0 {
+        // The first group may have fewer digits, with zeros before them.
+        let count = (left - 1) % GROUP + 1;
+        left -= count;
+        let product = rest * POWERS_OF_FIVE[count as usize];
+        rest = product & ((1 << left) - 1);
+        last_16_values((product >> left) as u64).copy_to_slice(&mut groups[end..end + 16]);
+        end += 16;
+    }
+    let start = end - places as usize;
+    let mut digits = [0u8; EXPANSION_PLACES];
+    digits.copy_from_slice(&groups[start..start + EXPANSION_PLACES]);
+    digits
+}
