@@ -56,6 +56,7 @@ pub fn append_layout<A: Allocator>(
 
 /// Writes what `append_layout` appends to the beginning of `out`, and returns its length. Writes nothing if it does not
 /// fit. Does not allocate.
+#[inline(always)]
 #[tactic(auto, using(crate::proofs::TextParts::writes_form))]
 pub fn write_layout(
     e: &Expansion,

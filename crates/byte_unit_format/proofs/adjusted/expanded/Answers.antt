@@ -23,7 +23,7 @@ returns-in-To-clause-number c =
 
 pub returns-in-AtMost-clause-number : goal.returns-in-AtMost-clause-number
 returns-in-AtMost-clause-number c =
-    let exact = c.divided_in_unit-exact-in-AtMost in
+    let exact = c.divided_in_unit-exact in
     let unit = shape_of c.args.unit in
     let near = c.rounded-in-AtMost.ensures in
     rw c.in-AtMost.is (
