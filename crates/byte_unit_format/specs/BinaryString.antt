@@ -14,7 +14,7 @@ use Rattle.byte_unit_format.specs.declared.spec.FormatSpec.{FormatSpec}
 abbrev pub has_binary_prefix : Shape → Bool
 has_binary_prefix unit = if nat_lt 0 unit.power then unit.binary else false
 
--- How a size is formatted whose text with a unit is in this one: with it, if it has a binary prefix, and else as digits.
+-- How a size is formatted whose text with a unit is in this one: with it if it has a binary prefix, and else as digits.
 abbrev pub binary_spec : Shape → FormatSpec
 binary_spec unit = if has_binary_prefix unit then alternate_spec else plain_spec
 

@@ -101,7 +101,7 @@ fn decimal_expansion(numerator: u128, twos: u32, tens: u32) -> Option<ShortExpan
 /// as 28. It takes one product and one division or shift, or else long division.
 ///
 /// Precondition (proved at every call): `numerator < 8 * 10^30`, `2^twos * 5^fives <= 2^93`, and the quotient is exact
-/// with so many places.
+/// within these digits.
 ///
 /// Counts one step for each digit after the point of the result.
 ///

@@ -1,5 +1,5 @@
 -- Each group of digits is the next one, and the last `places` digits of all groups are copied.
-use Rattle.std.proofs.Common.{◌≡◌, ◌+◌, ◌-◌, ◌*◌, ◌/◌, ◌%◌, ◌^◌, ◌≤◌, ℕ, get_or, length, take, drop, arith, ap, sym, ◌∙◌, subst}
+use Rattle.std.proofs.Common.{◌≡◌, ◌+◌, ◌-◌, ◌*◌, ◌/◌, ◌%◌, ◌^◌, ◌≤◌, get_or, length, take, drop, arith, ap, sym, ◌∙◌, subst}
 use lib.Lanes.{put_chunk}
 use borrow.Rule.Slice.PartMut.{put_mid, mid_of}
 use Rattle.byte_unit_math.specs.Bounds.{expansion_places}
@@ -8,7 +8,7 @@ use Rattle.byte_unit_math.proofs.Digits.{length_last_digits}
 use Rattle.byte_unit_math.proofs.Scales.{powers_from}
 use Rattle.byte_unit_math.proofs.ShortExpansions.{masked_rest}
 use Rattle.byte_unit_math.proofs.BinaryDigits.{IsGrouped, IsGrouped-start, IsGrouped-room, IsGrouped-more, product_is}
-use Rattle.byte_unit_math.proofs.BinaryDigits.{product_fits, group_small, group_stored, copied_front, copied_zeros, end_is}
+use Rattle.byte_unit_math.proofs.BinaryDigits.{product_fits, group_small, group_stored, copied_front, copied_zeros}
 use Rattle.byte_unit_math.proofs.binary.binary_digits.Goals.{After-copy_from_slice}
 use Rattle.byte_unit_math.proofs.binary.binary_digits.Goals as goal
 

@@ -1,5 +1,5 @@
 -- The digits are those of the remainder, which is odd.
-use Rattle.std.proofs.Common.{◌≡◌, ◌+◌, ◌-◌, ◌*◌, ◌/◌, ◌%◌, ◌^◌, ◌<◌, ◌≤◌, bit_and, take, arith, ap, sym, ◌∙◌, subst}
+use Rattle.std.proofs.Common.{◌≡◌, ◌-◌, ◌*◌, ◌/◌, ◌%◌, ◌^◌, ◌<◌, ◌≤◌, bit_and, arith, ap, sym, ◌∙◌, subst}
 use Rattle.std.proofs.Math.Nat.{div-add-mod', div-le_self, one-le-pow, pow-le-pow_right, pow-zero}
 use Rattle.std.proofs.lemmas.Nat.{mod_below}
 use Rattle.byte_unit_math.specs.Bounds.{expansion_places, unit_limit, whole_limit}
