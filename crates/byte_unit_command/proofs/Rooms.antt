@@ -51,7 +51,9 @@ pub split_room-cut : (room rest count : ℕ) → 0 < count → count ≤ rest
 split_room-cut room rest count some fits =
     let same : count - 1 + 1 ≡ count = omega (arith, some) in
     let step = split_room-step room rest (count - 1) (omega (arith, some, fits)) in
-    let cut = subst (λ taken. room + (count - 1) + 1 + split_room room (rest - taken) ≤ split_room room rest) same step in
+    let Fits : ℕ → Type 0 = λ taken.
+    room + (count - 1) + 1 + split_room room (rest - taken) ≤ split_room room rest in
+    let cut = subst Fits same step in
     omega (arith, cut, some)
 
 -- one field more fits

@@ -117,11 +117,13 @@ pub AreFields-copied_blanks : (options : Options) → between_of options ≡ [] 
 AreFields-copied_blanks options between [] number past = other (past number (omega arith)) refl refl
 AreFields-copied_blanks options between (byte ∷ bytes) number past =
     let not_chosen = past number (omega arith) in
-    let next = AreFields-copied_blanks options between bytes (number + 1) (λ later high. past later (omega (arith, high))) in
+    let next = AreFields-copied_blanks options between bytes (number + 1)
+    (λ later high. past later (omega (arith, high))) in
     elim (not (is_blank byte) && begins_blank bytes) as (λ ends. AreFields options number
     (cond ends ((byte ∷ []) ∷ blank_fields bytes) (onto_first byte (blank_fields bytes))) (byte ∷ bytes) []) [
       | true ↦
-          subst (λ mark. AreFields options number ((byte ∷ []) ∷ blank_fields bytes) (byte ∷ (mark ++ bytes)) []) between
+          subst (λ mark. AreFields options number ((byte ∷ []) ∷ blank_fields bytes) (byte ∷ (mark ++ bytes)) [])
+          between
           (AreFields-cons options number (byte ∷ []) (blank_fields bytes) (byte ∷ []) bytes [] []
           (blank_fields_IsSplit bytes) (other not_chosen refl refl) next)
       | false ↦

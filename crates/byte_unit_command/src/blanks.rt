@@ -17,8 +17,7 @@ use crate::converter::Converter;
 use crate::error::RunError;
 use crate::field::{is_chosen, is_in_order, ranges_from};
 use crate::options::Options;
-use crate::size::write_size;
-use crate::text::{add_padded, add_size};
+use crate::text::add_in_width;
 use std::alloc::{AllocError, Allocator};
 
 impl<A: Allocator> Converter<A> {
@@ -70,7 +69,8 @@ impl<A: Allocator> Converter<A> {
     }
 }
 
-/// Appends the text of a size that replaces the field with this number.
+/// Appends the text of a size that replaces the field with this number: between blanks, the blank that separates the
+/// field, and the size in at least the width of the options, or in the columns that the field has.
 ///
 /// Preconditions (proved at every call): `BLANKS` says whether fields are between blanks, `size` is less than 10^30, and
 /// `digits` has capacity for any text.
@@ -99,9 +99,11 @@ pub(crate) fn add_placed<const BLANKS: bool, A: Allocator>(
 {
     let blanks = value_of(BLANKS);
     if blanks {
-        return add_in_columns(options, number, field, size, digits, text);
+        text.extend_from_slice(gap_of(number > 1, field))?;
+        let width = width_of(options, number, field);
+        return add_in_width(options, width, size, digits, text);
     }
-    add_size(options, size, digits, text)
+    add_in_width(options, options.width as usize, size, digits, text)
 }
 
 /// Returns a constant as a value, of whose branches a proof can speak.
@@ -110,46 +112,6 @@ fn value_of(constant: bool) -> bool
     ensures { result ≡ constant }
 {
     constant
-}
-
-/// Appends the text of a size that replaces the field with this number, between blanks: the blank that separates the
-/// field, and the size in at least the width of the options, or in the columns that the field has.
-///
-/// Preconditions (proved at every call): fields are between blanks, `size` is less than 10^30, and `digits` has
-/// capacity for any text.
-///
-/// # Errors
-///
-/// Returns `AllocError` if allocation fails.
-fn add_in_columns<A: Allocator>(
-    options: &Options,
-    number: u64,
-    field: &[u8],
-    size: u128,
-    digits: &mut [u8],
-    text: &mut Vec<u8, A>,
-) -> Result<(), AllocError>
-    requires blanks { at_blanks options.now ≡ true }
-    requires size { size < size_limit }
-    requires capacity { text_limit ≤ length digits.old }
-    ensures ok { OnOk result ((placed : List ℕ) × IsPlaced options.now number field.now size placed
-        × (text.new.items ≡ text.old.items ++ placed)) }
-    ensures kept { IsPrefix text.old.items text.new.items }
-    ensures succeeds { vec_len text.old + (text_room options.now + length field.now)
-        ≤ vec_capacity text.old → IsOk result }
-    ensures len { vec_len text.new ≤ vec_len text.old + (text_room options.now + length field.now) }
-    ensures capacity { vec_capacity text.old ≤ vec_capacity text.new }
-{
-    text.extend_from_slice(gap_of(number > 1, field))?;
-    let len = write_size(options, size, digits);
-    let width = width_of(options, number, field);
-    add_padded(
-        width,
-        options.align_left,
-        options.suffix,
-        &digits[..len],
-        text,
-    )
 }
 
 /// Returns the least number of columns of a size that replaces the field with this number, between blanks.

@@ -4,7 +4,7 @@ ghost use Rattle.std.specs.Prelude.{◌≡◌, ◌≤◌, ◌⊎◌, ◌∷◌, 
 ghost use Rattle.std.specs.Prelude.{OnOk, OnErr, IsOk, IfErr, IsErrOf, IsTrue, IsFalse, false, vec_capacity};
 ghost use Rattle.byte_unit.specs.Forms.{text_limit};
 ghost use Rattle.byte_unit_command.specs.Capacity.{field_room, fields_room, record_room};
-ghost use Rattle.byte_unit_command.specs.Field.{IsSize, IsNoSize};
+ghost use Rattle.byte_unit_command.specs.Field.{IsNoSize};
 ghost use Rattle.byte_unit_command.specs.Fields.{IsChosen, at_blanks};
 ghost use Rattle.byte_unit_command.specs.RunState.{AddsField, AddsFields, AddsRecords, Grows, HasRoom};
 ghost use Rattle.byte_unit_command.specs.RunState.{Aborts, IsRejectedField};
@@ -276,41 +276,9 @@ impl<A: Allocator> Converter<A> {
             self.waiting.extend_from_slice(field)?;
             return Ok(());
         }
-        match accepted(options, field) {
-            Some(size) => self.add_found::<BLANKS>(options, number, field, size, digits),
-            None => self.add_rejected(options, number, field),
-        }
-    }
-
-    /// Does what [`add_field`](Converter::add_field) does, for a field that is a size.
-    ///
-    /// Preconditions (proved at every call): the field with this number is chosen, this is its size, and `digits` has
-    /// capacity for the text of any size.
-    #[inline(always)]
-    fn add_found<const BLANKS: bool>(
-        &mut self,
-        options: &Options,
-        number: u64,
-        field: &[u8],
-        size: u128,
-        digits: &mut [u8],
-    ) -> Result<(), RunError>
-        requires capacity { text_limit ≤ length digits.old }
-        requires blanks { at_blanks options.now ≡ BLANKS }
-        requires chosen { IsChosen options.now.fields.now number }
-        requires size { IsSize options.now field.now size }
-        ensures ok { OnOk result
-            (AddsField options.now number field.now (state_of self.old) (state_of self.new)) }
-        ensures kept { IsPrefix self.old.waiting.items self.new.waiting.items }
-        ensures kept_messages { IsPrefix (messages_of self.old.notices)
-            (messages_of self.new.notices) }
-        ensures error { IfErr result (λ error. error ≡ RunError.Memory) }
-        ensures succeeds { HasRoom self.old.waiting (field_room options.now (length field.now))
-            → FieldHasNoMessage options.now number field.now (state_of self.old) → IsOk result }
-        ensures len { Grows self.old.waiting self.new.waiting
-            (field_room options.now (length field.now)) }
-        ensures capacity { vec_capacity self.old.waiting ≤ vec_capacity self.new.waiting }
-    {
+        let Some(size) = accepted(options, field) else {
+            return self.add_rejected(options, number, field);
+        };
         // For the proof: no text has two sizes, or is both a size and rejected.
         texts_are_sizes_or_not();
         if self.progress.tally.add(options, size) {

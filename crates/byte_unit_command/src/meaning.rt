@@ -159,7 +159,7 @@ fn precision_of(human_readable: bool, value: Option<u16>) -> Option<u16>
     }
 }
 
-/// Checks that the exact form has so many digits after the point.
+/// Checks that the exact form can have the number of digits after the point that is asked for.
 ///
 /// # Errors
 ///

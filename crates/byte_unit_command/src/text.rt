@@ -15,35 +15,39 @@ use std::alloc::{AllocError, Allocator};
 /// The most bytes of a text that are copied in one piece of a constant length.
 pub(crate) const AT_ONCE: usize = 64;
 
-/// Appends the text of a size to `text`. `digits` is a buffer for it.
+/// Appends the text of a size in at least `width` columns to `text`. `digits` is a buffer for it.
+///
+/// The only call that writes a size, so that the ways to write it are inlined here.
 ///
 /// Preconditions (proved at every call): `size` is less than 10^30, and `digits` has capacity for any text.
 ///
 /// # Errors
 ///
 /// Returns `AllocError` if allocation fails.
-pub(crate) fn add_size<A: Allocator>(
+pub(crate) fn add_in_width<A: Allocator>(
     options: &Options,
+    width: usize,
     size: u128,
     digits: &mut [u8],
     text: &mut Vec<u8, A>,
 ) -> Result<(), AllocError>
     requires size { size < size_limit }
     requires capacity { text_limit ≤ length digits.old }
-    ensures ok { OnOk result ((shown : List ℕ) × IsShown options.now size shown
+    ensures ok { OnOk result ((shown : List ℕ)
+        × IsShown (record options.now { width = width }) size shown
         × (text.new.items ≡ text.old.items ++ shown)) }
     ensures kept { IsPrefix text.old.items text.new.items }
-    ensures succeeds { vec_len text.old + text_room options.now ≤ vec_capacity text.old
+    ensures succeeds { vec_len text.old + max width (text_room options.now) ≤ vec_capacity text.old
         → IsOk result }
-    ensures len { vec_len text.new ≤ vec_len text.old + text_room options.now }
+    ensures len { vec_len text.new ≤ vec_len text.old + max width (text_room options.now) }
     ensures capacity { vec_capacity text.old ≤ vec_capacity text.new }
 {
     let len = write_size(options, size, digits);
-    if options.width == 0 {
+    if width == 0 {
         return add_unpadded(options, digits, len, text);
     }
     add_padded(
-        options.width as usize,
+        width,
         options.align_left,
         options.suffix,
         &digits[..len],
@@ -137,7 +141,7 @@ fn add_first<A: Allocator>(
 /// # Errors
 ///
 /// Returns `AllocError` if allocation fails.
-pub(crate) fn add_padded<A: Allocator>(
+fn add_padded<A: Allocator>(
     width: usize,
     align_left: bool,
     suffix: &[u8],

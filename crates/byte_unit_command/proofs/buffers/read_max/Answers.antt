@@ -1,5 +1,5 @@
--- The texts of as many sizes as a read has bytes take no more than the bytes that are divided by the longest of them, or
--- than one text.
+-- The texts of as many sizes as a read has bytes take no more than the bytes that are divided by the longest of them,
+-- or than one text.
 use Rattle.std.proofs.Common.{◌≡◌, ℕ, zero, suc, ◌+◌, ◌*◌, ◌/◌, ◌≤◌, max, arith, subst}
 use Rattle.std.proofs.Math.Nat.{mul-le-mul_left, mul-le-mul_right, mul-div-le, mul-one}
 use Rattle.byte_unit_command.specs.Capacity.{texts_max, text_max}

@@ -1,5 +1,5 @@
--- What was written is the text, and in a given unit it has no more bytes than its digits, the point, a space and the unit
--- allow.
+-- What was written is the text, and in a given unit it has no more bytes than its digits, the point, a space and the
+-- unit allow.
 use Rattle.std.proofs.Common.{◌≤◌, ℕ, sym, subst, arith}
 use Rattle.byte_unit_command.specs.Capacity.{form_max}
 use Rattle.byte_unit_command.specs.CallOptions.{kind_of}
