@@ -1,5 +1,5 @@
 -- Lemmas: what is shown can be read again.
-use Rattle.std.proofs.Common.{◌≡◌, ◌≢◌, ℕ, ◌-◌, ◌<◌, Bool, List, ◌++◌, Option, refl, sym, ap, subst, ◌∙◌}
+use Rattle.std.proofs.Common.{◌≡◌, ◌≢◌, ℕ, ◌<◌, Bool, List, ◌++◌, Option, refl, sym, ap, subst, ◌∙◌}
 use Rattle.byte_unit.specs.Accepted.{IsAccepted}
 use Rattle.byte_unit.specs.Bounds.{size_limit}
 use Rattle.byte_unit.specs.Version.{current}

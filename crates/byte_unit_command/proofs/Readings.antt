@@ -1,5 +1,6 @@
 -- Lemmas: what the parser has returned for a field.
-use Rattle.std.proofs.Common.{◌≡◌, ℕ, ◌<◌, ◌≤◌, Bool, true, false, List, [], Option, None, Some, Result, Ok, Err, inr, sym, subst}
+use Rattle.std.proofs.Common.{◌≡◌, ℕ, ◌<◌, ◌≤◌, Bool, true, false, List, [], Option, None, Some, Result, Ok}
+use Rattle.std.proofs.Common.{Err, inr, sym, subst}
 use Rattle.std.specs.Prelude.{IfSome, IfNone}
 use Rattle.std.specs.Str.{IsUtf8}
 use Rattle.byte_unit.specs.Errors.{size_fault}

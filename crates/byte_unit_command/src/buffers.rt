@@ -86,8 +86,8 @@ impl<A: Allocator + Copy> Buffers<A> {
     }
 }
 
-/// Returns the most bytes that a run reads at once into a buffer of `len` bytes: fewer if texts are long or there can be
-/// messages, so that few of them wait to be written; and at least one.
+/// Returns the most bytes that a run reads at once into a buffer of `len` bytes: fewer if texts are long or there can
+/// be messages, so that few of them wait to be written; and at least one.
 pub(crate) fn read_max(options: &Options, len: usize) -> usize
     ensures most { result ≡ most_of_read options.now len }
     ensures texts { most_of_text options.now * result ≤ max texts_max (most_of_text options.now) }

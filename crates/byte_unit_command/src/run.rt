@@ -56,7 +56,8 @@ pub fn run<R: Read, W: Write, E: Write>(
 {
     let mut buffer = [0u8; CHUNK];
     let mut digits = [0u8; DIGITS];
-    let mut buffers = Buffers::new(alloc);
+    // By reference, so that the functions for messages are others than those for wrong calls, and inlined.
+    let mut buffers = Buffers::new(&alloc);
     run_with_buffers(
         &mut buffers,
         options,
@@ -109,8 +110,8 @@ pub fn run_with_capacity<A: Allocator, R: Read, W: Write, E: Write>(
     Ok(run_with_buffers(&mut buffers, options, longest, buffer, digits, streams))
 }
 
-/// Does what [`run`] does, for records of at most `longest` bytes, in the caller's buffers, and with reads of at most the
-/// length of `buffer`.
+/// Does what [`run`] does, for records of at most `longest` bytes, in the caller's buffers, and with reads of at most
+/// the length of `buffer`.
 ///
 /// Preconditions (proved at every call): `buffer` is not empty, `buffers` are, and `digits` has capacity for the text
 /// of any size.

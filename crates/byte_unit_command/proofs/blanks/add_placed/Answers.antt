@@ -1,6 +1,7 @@
--- What is appended is the blank that separates the field, and the size in its width; not between blanks, nothing is before
--- it, and the width is that of the options.
-use Rattle.std.proofs.Common.{◌≡◌, ◌++◌, true, false, length, true≢false, ap, subst, sym, ◌∙◌, refl, append_assoc, arith}
+-- What is appended is the blank that separates the field, and the size in its width; not between blanks, nothing is
+-- before it, and the width is that of the options.
+use Rattle.std.proofs.Common.{◌≡◌, ◌++◌, true, false, length, true≢false, ap, subst, sym, ◌∙◌, refl}
+use Rattle.std.proofs.Common.{append_assoc, arith}
 use Rattle.std.proofs.lemmas.Result.{on_ok_weaker}
 use Rattle.byte_unit_command.specs.Fields.{at_blanks, gap_by, gap_of, width_by, width_of}
 use Rattle.byte_unit_command.specs.Shown.{IsShown}
@@ -47,7 +48,8 @@ returns-clause-ok g c =
 
 pub returns-in_err-extend_from_slice-clause-succeeds : goal.returns-in_err-extend_from_slice-clause-succeeds
 returns-in_err-extend_from_slice-clause-succeeds g c = λ room.
-    absurd (true≢false (sym (c.in_err-extend_from_slice.ensures.succeeds (omega (arith, room, c.gap_of.ensures.bound)))))
+    let failed = c.in_err-extend_from_slice.ensures in
+    absurd (true≢false (sym (failed.succeeds (omega (arith, room, c.gap_of.ensures.bound)))))
 
 pub returns-then-blanks-clause-succeeds : goal.returns-then-blanks-clause-succeeds
 returns-then-blanks-clause-succeeds g c = λ room.

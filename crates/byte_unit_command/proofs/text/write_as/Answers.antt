@@ -6,7 +6,7 @@ use Rattle.byte_unit_command.specs.CallOptions.{kind_of}
 use Rattle.byte_unit_command.specs.Shown.{BeginsWithForm, IsFormText}
 use Rattle.byte_unit_command.proofs.Lengths.{adjusted-narrow}
 use Rattle.byte_unit_command.proofs.Numbers.{begins_with}
-use Rattle.byte_unit_command.proofs.size.write_as.Goals as goal
+use Rattle.byte_unit_command.proofs.text.write_as.Goals as goal
 
 pub returns-in-InUnit-clause-narrow : goal.returns-in-InUnit-clause-narrow
 returns-in-InUnit-clause-narrow g c =

@@ -4,7 +4,7 @@ use Rattle.byte_unit_command.specs.Shown.{BeginsWithForm, IsFormText}
 use Rattle.byte_unit_command.specs.declared.options.Form.TheVariants.{NumberOf}
 use Rattle.byte_unit_command.proofs.Lengths.{adjusted-narrow}
 use Rattle.byte_unit_command.proofs.Numbers.{begins_with_number, needed_is}
-use Rattle.byte_unit_command.proofs.size.write_number.Goals as goal
+use Rattle.byte_unit_command.proofs.text.write_number.Goals as goal
 
 pub overflow_sub-result : goal.overflow_sub-result
 overflow_sub-result c = omega (arith, needed_is _ _ _ _ _ _ _ c.write_adjusted-len.ensures.written)
