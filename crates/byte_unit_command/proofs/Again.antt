@@ -1,5 +1,5 @@
 -- Lemmas: what is shown can be read again.
-use Rattle.std.proofs.Common.{◌≡◌, ◌≢◌, ℕ, ◌-◌, ◌<◌, Bool, List, ◌++◌, Option, refl, sym, ap, subst, ◌∙◌}
+use Rattle.std.proofs.Common.{◌≡◌, ◌≢◌, ℕ, ◌<◌, Bool, List, ◌++◌, Option, refl, sym, ap, subst, ◌∙◌}
 use Rattle.byte_unit.specs.Accepted.{IsAccepted}
 use Rattle.byte_unit.specs.Bounds.{size_limit}
 use Rattle.byte_unit.specs.Version.{current}
@@ -35,11 +35,13 @@ form_is_read exact digits kind (Largest unit_type) precision size ignore_case te
     absurd lossless
 
 pub shown_is_read : SizeFormReadsBack → PlainFormReadsBack → ShownSizesAreRead
-shown_is_read exact digits = λ options others size text below lossless no_width same_kind same_suffix no_binary (form, is_form, shown_is).
+shown_is_read exact digits =
+    λ options others size text below lossless no_width same_kind same_suffix no_binary (form, is_form, shown_is).
     let suffix = options.suffix.now in
     let shown = shown_is ∙ padded-none options.width options.align_left (form ++ suffix) no_width in
     let is : without_suffix others.suffix.now text ≡ form =
-    ap (λ suffix. without_suffix suffix text) same_suffix ∙ (ap (without_suffix suffix) shown ∙ without_it form suffix) in
+    ap (λ suffix. without_suffix suffix text) same_suffix
+    ∙ (ap (without_suffix suffix) shown ∙ without_it form suffix) in
     let ignore_case = ignores_case others.kind others.ignore_case in
     let at = form_is_read exact digits options.kind options.form options.precision size ignore_case form below
     lossless is_form in
@@ -56,7 +58,8 @@ exact_again shown_read texts one_form =
     let spec = exact_spec options.precision in
     let lossless : IsLossless options.form = subst IsLossless (sym exact) tt in
     let accepted = shown_read options options size text below lossless no_width refl refl no_binary shown in
-    let same : again ≡ size = (texts options.binary kind ignore_case (without_suffix options.suffix.now text)).one_meaning again size read accepted in
+    let answer = texts options.binary kind ignore_case (without_suffix options.suffix.now text) in
+    let same : again ≡ size = answer.one_meaning again size read accepted in
     let form = shown.0 in
     let is_form : IsFormText kind Exact options.precision size form =
     subst (λ way. IsFormText kind way options.precision size form) exact shown.1 in

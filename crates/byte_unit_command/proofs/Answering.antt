@@ -29,7 +29,8 @@ HasFed-from_empty options bytes before new result none untold ok error =
     let Has : List ℕ → List ℕ → Type 0 = λ out messages. HasFed options
     (ended_records options.record_end before.part.items bytes)
     (record (state_of before.converter) { out = out; messages = messages }) (state_of new.converter) result in
-    subst (λ out. Has out []) none (subst (Has before.converter.waiting.items) untold (record { ok = ok; error = error }))
+    subst (λ out. Has out []) none
+    (subst (Has before.converter.waiting.items) untold (record { ok = ok; error = error }))
 
 -- all of it was written; `now` is the state after that
 pub IsAnswered-fed : {options : Options} {records : List (List ℕ)} {old new : State} (result : Result ⊤ RunError)

@@ -92,7 +92,7 @@ blank_fields-whole bytes place within last so_far =
       | inr more ↦ blank_fields-end bytes (place + 1) last (IsUncut-step bytes place more so_far goes_on)
     ]
 
--- between blanks, there is a delimiter that stands for them
+-- if fields are between blanks, the options have a delimiter
 pub delimiter-at_blanks : (mark : Option ℕ) (blanks : Bool) → splits_at_blanks mark blanks ≡ true
     → (delimiter : ℕ) × (mark ≡ Some delimiter)
 delimiter-at_blanks None blanks at = absurd (true≢false (sym at))

@@ -148,7 +148,8 @@ AddsField-rejected options number field old (Ok _) messages new_messages out tal
     }
 
 -- a record without a delimiter is one field
-pub fields_of-whole : (options : Options) (bytes : List ℕ) → options.delimiter ≡ None → fields_of options bytes ≡ bytes ∷ []
+pub fields_of-whole : (options : Options) (bytes : List ℕ) → options.delimiter ≡ None
+    → fields_of options bytes ≡ bytes ∷ []
 fields_of-whole options bytes none = ap (λ mark. fields_by (splits_at_blanks mark options.blanks) mark bytes) none
 
 module _ (options : Options) (bytes : List ℕ) (old : State) where

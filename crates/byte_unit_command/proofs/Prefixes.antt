@@ -75,5 +75,6 @@ module _ (one_text : SizeTextsHaveOneAnswer) (one_least : EachNumberHasOneLeastS
   }
 
 pub sizes_or_not : TextsAreAcceptedOrRejected → SizeTextsHaveOneAnswer → EachNumberHasOneLeastSize → TextsAreSizesOrNot
-sizes_or_not texts one_text one_least true kind ignore_case text = binary_answer one_text one_least kind ignore_case text
+sizes_or_not texts one_text one_least true kind ignore_case text =
+    binary_answer one_text one_least kind ignore_case text
 sizes_or_not texts one_text one_least false kind ignore_case text = texts kind ignore_case text

@@ -1,5 +1,6 @@
 -- Lemmas: what the parser has returned for a field.
-use Rattle.std.proofs.Common.{◌≡◌, ℕ, ◌<◌, ◌≤◌, Bool, true, false, List, [], Option, None, Some, Result, Ok, Err, inr, sym, subst}
+use Rattle.std.proofs.Common.{◌≡◌, ℕ, ◌<◌, ◌≤◌, Bool, true, false, List, [], Option, None, Some, Result, Ok}
+use Rattle.std.proofs.Common.{Err, inr, sym, subst}
 use Rattle.std.specs.Prelude.{IfSome, IfNone}
 use Rattle.std.specs.Str.{IsUtf8}
 use Rattle.byte_unit.specs.Errors.{size_fault}
@@ -47,7 +48,7 @@ no-size-of options field binary kind {error} binary_is kind_is answer_is found_i
     let here : Of binary kind = (read.0, (_, fault-of binary kind (case kind) field error read.1)) in
     inr (subst (λ binary. Of binary options.kind) (sym binary_is) (subst (λ kind. Of binary kind) (sym kind_is) here))
 
--- a number that stands for a size, or for none, without a suffix
+-- without a suffix, a field is the size that was found, or no size if none was found
 pub found-size : (options : Options) (field : List ℕ) → options.suffix.now ≡ [] → (size no_size : ℕ)
     (result : Option ℕ) → (size < no_size → IsSizeText options field size)
     → IfSome result (λ n. (n ≡ size) × (size < no_size)) → IfSome result (IsSize options field)

@@ -36,7 +36,7 @@ fields_room-split options bytes delimiter is =
     let room = text_room options in ap (λ mark. room * fields_max mark bytes + bytes) is
 
 -- a field with its delimiter takes no more of it than the bytes after them leave
-pub split_room-step : (room rest place : ℕ) → place < rest
+split_room-step : (room rest place : ℕ) → place < rest
     → room + place + 1 + split_room room (rest - (place + 1)) ≤ split_room room rest
 split_room-step room rest place fits =
     let left = rest - (place + 1) in
@@ -51,7 +51,9 @@ pub split_room-cut : (room rest count : ℕ) → 0 < count → count ≤ rest
 split_room-cut room rest count some fits =
     let same : count - 1 + 1 ≡ count = omega (arith, some) in
     let step = split_room-step room rest (count - 1) (omega (arith, some, fits)) in
-    let cut = subst (λ taken. room + (count - 1) + 1 + split_room room (rest - taken) ≤ split_room room rest) same step in
+    let Fits : ℕ → Type 0 = λ taken.
+    room + (count - 1) + 1 + split_room room (rest - taken) ≤ split_room room rest in
+    let cut = subst Fits same step in
     omega (arith, cut, some)
 
 -- one field more fits
@@ -136,49 +138,38 @@ module _ (options : Options) where
 
 -- between two fields of a record: the text has grown by no more than the bytes that are no longer left account for, no
 -- capacity has fallen, and if there is no message about the record, there is none about the fields that are left
-pub record IsSplitWithin {Z : Type 0} (options : Options) (old : State) (split : List ℕ → List (List ℕ))
-    (bytes : List ℕ) (text : Vec ℕ Z) (number : ℕ) (rest : List ℕ) (text_now : Vec ℕ Z) : Type 0 where
+pub record IsSplitWithin {Z : Type 0} (options : Options) (old : State) (bytes : List ℕ) (text : Vec ℕ Z) (number : ℕ)
+    (rest : List ℕ) (text_now : Vec ℕ Z) : Type 0 where
   pub len : vec_len text_now + split_room (text_room options) (length rest)
       ≤ vec_len text + split_room (text_room options) (length bytes)
   pub capacity : vec_capacity text ≤ vec_capacity text_now
-  pub untold : AreMessagesOfFields options old.word old.place 1 (split bytes) []
-      → AreMessagesOfFields options old.word old.place number (split rest) []
+  pub untold : FieldsHaveNoMessage options bytes old
+      → AreMessagesOfFields options old.word old.place number (fields_of options rest) []
 
 -- if there is no message about the record, there is none about the first of the fields that are left
-pub IsSplitWithin-first : {Z : Type 0} {options : Options} {old : State} {split : List ℕ → List (List ℕ)}
-    {bytes : List ℕ} {text : Vec ℕ Z} {number : ℕ} {rest : List ℕ} {text_now : Vec ℕ Z}
-    → IsSplitWithin options old split bytes text number rest text_now → fields_of options bytes ≡ split bytes
-    → (field : List ℕ) (others : List (List ℕ)) → split rest ≡ field ∷ others
+pub IsSplitWithin-first : {Z : Type 0} {options : Options} {old : State} {bytes : List ℕ} {text : Vec ℕ Z} {number : ℕ}
+    {rest : List ℕ} {text_now : Vec ℕ Z} → IsSplitWithin options old bytes text number rest text_now
+    → (field : List ℕ) (others : List (List ℕ)) → fields_of options rest ≡ field ∷ others
     → FieldsHaveNoMessage options bytes old → FieldHasNoMessage options number field old
-IsSplitWithin-first {options = options} {old = old} {bytes = bytes} {number = number} within fields_are field others
-    are untold =
-    let all = subst (λ fields. AreMessagesOfFields options old.word old.place 1 fields []) fields_are untold in
+IsSplitWithin-first {options = options} {old = old} {number = number} within field others are untold =
     first-untold options old.word old.place number field others
-    (subst (λ fields. AreMessagesOfFields options old.word old.place number fields []) are (within.untold all))
+    (subst (λ fields. AreMessagesOfFields options old.word old.place number fields []) are (within.untold untold))
 
 -- in a text with capacity for the record, there is room for the fields that are left
-pub IsSplitWithin-fits : {Z : Type 0} {options : Options} {old : State} {split : List ℕ → List (List ℕ)}
-    {bytes : List ℕ} {text : Vec ℕ Z} {number : ℕ} {rest : List ℕ} {text_now : Vec ℕ Z}
-    → IsSplitWithin options old split bytes text number rest text_now → (delimiter : ℕ)
+pub IsSplitWithin-fits : {Z : Type 0} {options : Options} {old : State} {bytes : List ℕ} {text : Vec ℕ Z} {number : ℕ}
+    {rest : List ℕ} {text_now : Vec ℕ Z} → IsSplitWithin options old bytes text number rest text_now → (delimiter : ℕ)
     → options.delimiter ≡ Some delimiter → vec_len text + fields_room options (length bytes) ≤ vec_capacity text
     → vec_len text_now + split_room (text_room options) (length rest) ≤ vec_capacity text_now
 IsSplitWithin-fits {options = options} {bytes = bytes} within delimiter is room =
     omega (arith, within.len, within.capacity, room, fields_room-split options (length bytes) delimiter is)
 
--- one more field and its delimiter keep this
-pub split_len-step : (room old all text rest place added ended left : ℕ) → place < rest
-    → text + split_room room rest ≤ old + split_room room all → added ≤ text + (room + place) → ended ≡ added + 1
-    → left ≡ rest - (place + 1) → ended + split_room room left ≤ old + split_room room all
-split_len-step room old all text rest place added ended left fits so_far more ended_is left_is =
+-- one more field and the bytes after it keep this
+pub split_len-step : (room old all text rest place gap added ended left : ℕ) → 0 < place + gap → place + gap ≤ rest
+    → text + split_room room rest ≤ old + split_room room all → added ≤ text + (room + place) → ended ≡ added + gap
+    → left ≡ rest - (place + gap) → ended + split_room room left ≤ old + split_room room all
+split_len-step room old all text rest place gap added ended left some fits so_far more ended_is left_is =
     subst (λ left. ended + split_room room left ≤ old + split_room room all) (sym left_is)
-    (omega (arith, split_room-step room rest place fits, so_far, more, ended_is))
-
-pub split_len-cut : (room old all text rest count added left : ℕ) → 0 < count → count ≤ rest
-    → text + split_room room rest ≤ old + split_room room all → added ≤ text + (room + count) → left ≡ rest - count
-    → added + split_room room left ≤ old + split_room room all
-split_len-cut room old all text rest count added left some fits so_far more left_is =
-    subst (λ left. added + split_room room left ≤ old + split_room room all) (sym left_is)
-    (omega (arith, split_room-cut room rest count some fits, so_far, more))
+    (omega (arith, split_room-cut room rest (place + gap) some fits, so_far, more, ended_is))
 
 -- from the start to now, the buffers have grown by no more than the bytes that are no longer left account for, and no
 -- capacity has fallen

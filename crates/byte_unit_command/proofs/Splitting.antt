@@ -1,6 +1,7 @@
 -- Lemmas: the loop over the fields of a record.
 use Rattle.std.proofs.Common.{◌≡◌, ◌≤◌, ◌<◌, ℕ, ◌+◌, List, [], ◌∷◌, ◌++◌, length, Some, Bool, refl, sym, ap}
 use Rattle.std.proofs.Common.{subst, ◌∙◌, arith, append_assoc, append-nil, inl, inr, true, false, cond, eqb, not, ◌&&◌}
+use Rattle.std.proofs.Common.{take, drop, length-drop}
 use Rattle.std.proofs.lemmas.Bool.{eqb-true}
 use Rattle.std.specs.List.{onto_first}
 use Rattle.byte_unit_command.specs.Field.{Found, IsField, other, size, rejected}
@@ -78,7 +79,7 @@ AreFields-byte options number byte (field ∷ next ∷ others) text found not_ch
     )
 
 -- fields none of which is chosen are copied, with the delimiters between them
-pub AreFields-copied : (options : Options) (delimiter : ℕ) → between_of options ≡ delimiter ∷ []
+AreFields-copied : (options : Options) (delimiter : ℕ) → between_of options ≡ delimiter ∷ []
     → (bytes : List ℕ) (number : ℕ) → ((later : ℕ) → number ≤ later → ¬ IsChosen options.fields.now later)
     → AreFields options number (parts delimiter bytes) bytes []
 AreFields-copied options delimiter between [] number past = other (past number (omega arith)) refl refl
@@ -100,7 +101,7 @@ AreFields-copied options delimiter between (byte ∷ bytes) number past =
     elim (eqb byte delimiter) as Copies [ true ↦ on_end | false ↦ on_other ] refl
 
 -- there is a first field between blanks, so the list is not empty
-pub blank_fields_IsSplit : (bytes : List ℕ) → IsSplit (blank_fields bytes)
+blank_fields_IsSplit : (bytes : List ℕ) → IsSplit (blank_fields bytes)
 blank_fields_IsSplit [] = ([], [], refl)
 blank_fields_IsSplit (byte ∷ bytes) =
     let split = blank_fields_IsSplit bytes in
@@ -111,23 +112,49 @@ blank_fields_IsSplit (byte ∷ bytes) =
     ]
 
 -- fields between blanks none of which is chosen are copied
-pub AreFields-copied_blanks : (options : Options) → between_of options ≡ [] → (bytes : List ℕ) (number : ℕ)
+AreFields-copied_blanks : (options : Options) → between_of options ≡ [] → (bytes : List ℕ) (number : ℕ)
     → ((later : ℕ) → number ≤ later → ¬ IsChosen options.fields.now later)
     → AreFields options number (blank_fields bytes) bytes []
 AreFields-copied_blanks options between [] number past = other (past number (omega arith)) refl refl
 AreFields-copied_blanks options between (byte ∷ bytes) number past =
     let not_chosen = past number (omega arith) in
-    let next = AreFields-copied_blanks options between bytes (number + 1) (λ later high. past later (omega (arith, high))) in
+    let next = AreFields-copied_blanks options between bytes (number + 1)
+    (λ later high. past later (omega (arith, high))) in
     elim (not (is_blank byte) && begins_blank bytes) as (λ ends. AreFields options number
     (cond ends ((byte ∷ []) ∷ blank_fields bytes) (onto_first byte (blank_fields bytes))) (byte ∷ bytes) []) [
       | true ↦
-          subst (λ mark. AreFields options number ((byte ∷ []) ∷ blank_fields bytes) (byte ∷ (mark ++ bytes)) []) between
+          subst (λ mark. AreFields options number ((byte ∷ []) ∷ blank_fields bytes) (byte ∷ (mark ++ bytes)) [])
+          between
           (AreFields-cons options number (byte ∷ []) (blank_fields bytes) (byte ∷ []) bytes [] []
           (blank_fields_IsSplit bytes) (other not_chosen refl refl) next)
       | false ↦
           AreFields-byte options number byte (blank_fields bytes) bytes [] not_chosen
           (AreFields-copied_blanks options between bytes number past)
     ]
+
+-- between delimiters and between blanks
+module _ (options : Options) (delimiter : ℕ) (is : options.delimiter ≡ Some delimiter) where
+  -- there is a first field
+  fields_IsSplit : (bytes : List ℕ) → IsSplit (fields_of options bytes)
+  fields_IsSplit bytes =
+      let either : (blanks : Bool) → IsSplit (fields_by blanks (Some delimiter) bytes) =
+      λ blanks. elim blanks as (λ blanks. IsSplit (fields_by blanks (Some delimiter) bytes))
+      [ true ↦ blank_fields_IsSplit bytes | false ↦ parts_IsSplit delimiter bytes ] in
+      subst (λ mark. IsSplit (fields_by (at_blanks options) mark bytes)) (sym is) (either (at_blanks options))
+
+  -- fields none of which is chosen are copied, with the bytes between them
+  pub fields_copied : (bytes : List ℕ) (number : ℕ)
+      → ((later : ℕ) → number ≤ later → ¬ IsChosen options.fields.now later)
+      → AreFields options number (fields_of options bytes) bytes []
+  fields_copied bytes number past =
+      let Copies : Bool → Type 0 = λ blanks. between_of options ≡ bytes_between blanks (Some delimiter)
+      → AreFields options number (fields_by blanks (Some delimiter) bytes) bytes [] in
+      let either : Copies (at_blanks options) = elim (at_blanks options) as Copies [
+        | true ↦ λ between. AreFields-copied_blanks options between bytes number past
+        | false ↦ λ between. AreFields-copied options delimiter between bytes number past
+      ] in
+      subst (λ mark. AreFields options number (fields_by (at_blanks options) mark bytes) bytes []) (sym is)
+      (either (ap (bytes_between (at_blanks options)) is))
 
 -- fields none of which is chosen have no messages
 AreMessagesOfFields-none : (options : Options) (word : List ℕ) (place : ℕ) (fields : List (List ℕ)) (number : ℕ)
@@ -143,31 +170,29 @@ AreMessagesOfFields-none options word place (field ∷ fields) number past = (
   refl,
 )
 
--- between two fields of a record: those before are appended and counted, and the rest gives the others; `split`
--- gives the fields of bytes
-pub record IsSplitting (options : Options) (split : List ℕ → List (List ℕ)) (bytes : List ℕ) (old : State)
-    (number : ℕ) (rest : List ℕ) (new : State) : Type 0 where
+-- between two fields of a record: those before are appended and counted, and the rest gives the others
+pub record IsSplitting (options : Options) (bytes : List ℕ) (old : State) (number : ℕ) (rest : List ℕ) (new : State)
+    : Type 0 where
   pub text : List ℕ
   pub messages : List ℕ
   pub found : List Found
   pub new_is : new ≡ after options old text messages found
   pub passes : Passes options found
   pub goes_on : (more : List ℕ) (more_found : List Found)
-      → AreFields options number (split rest) more more_found
-      → AreFields options 1 (split bytes) (text ++ more) (found ++ more_found)
-  pub tells_on : (more : List ℕ) → AreMessagesOfFields options old.word old.place number (split rest) more
-      → AreMessagesOfFields options old.word old.place 1 (split bytes) (messages ++ more)
-  pub rejects : HasRejectedField options number (split rest)
-      → HasRejectedField options 1 (split bytes)
+      → AreFields options number (fields_of options rest) more more_found
+      → AreFields options 1 (fields_of options bytes) (text ++ more) (found ++ more_found)
+  pub tells_on : (more : List ℕ) → AreMessagesOfFields options old.word old.place number (fields_of options rest) more
+      → AreMessagesOfFields options old.word old.place 1 (fields_of options bytes) (messages ++ more)
+  pub rejects : HasRejectedField options number (fields_of options rest)
+      → HasRejectedField options 1 (fields_of options bytes)
   pub tells_to : options.invalid ≡ Abort → (more : List ℕ)
-      → AreMessagesToRejected options old.word old.place number (split rest) more
-      → AreMessagesToRejected options old.word old.place 1 (split bytes) (messages ++ more)
+      → AreMessagesToRejected options old.word old.place number (fields_of options rest) more
+      → AreMessagesToRejected options old.word old.place 1 (fields_of options bytes) (messages ++ more)
   pub few : number + length rest ≤ 1 + length bytes
 
 -- before the first field
-pub IsSplitting-start : (options : Options) (split : List ℕ → List (List ℕ)) (bytes : List ℕ) (old : State)
-    → IsSplitting options split bytes old 1 bytes old
-IsSplitting-start options split bytes old =
+pub IsSplitting-start : (options : Options) (bytes : List ℕ) (old : State) → IsSplitting options bytes old 1 bytes old
+IsSplitting-start options bytes old =
     let With : List ℕ → List ℕ → State = λ out messages. record old { out = out; messages = messages } in record {
       text = [];
       messages = [];
@@ -183,8 +208,8 @@ IsSplitting-start options split bytes old =
       few = omega arith;
     }
 
-module _ {options : Options} {split : List ℕ → List (List ℕ)} {bytes : List ℕ} {old : State} {number : ℕ}
-    {rest : List ℕ} {new : State} (so_far : IsSplitting options split bytes old number rest new) where
+module _ {options : Options} {bytes : List ℕ} {old : State} {number : ℕ} {rest : List ℕ} {new : State}
+    (so_far : IsSplitting options bytes old number rest new) where
   -- the messages about a field, for the place of the record
   messages-old : (field : List ℕ) (is_rejected : Bool) (messages : List ℕ)
       → AreFieldMessages options new.word new.place number field is_rejected messages
@@ -200,9 +225,10 @@ module _ {options : Options} {split : List ℕ → List (List ℕ)} {bytes : Lis
       subst (FieldHasNoMessage options number field) (sym so_far.new_is) none
 
   -- one more field and the bytes after it
-  pub IsSplitting-step : (field behind : List ℕ) → split rest ≡ field ∷ split behind → IsSplit (split behind)
-      → length behind < length rest → (next : State) → AddsField options number field new next
-      → IsSplitting options split bytes old (number + 1) behind (record next { out = next.out ++ between_of options })
+  IsSplitting-step : (field behind : List ℕ) → fields_of options rest ≡ field ∷ fields_of options behind
+      → IsSplit (fields_of options behind) → length behind < length rest → (next : State)
+      → AddsField options number field new next
+      → IsSplitting options bytes old (number + 1) behind (record next { out = next.out ++ between_of options })
   IsSplitting-step field behind first is_split shorter next adds =
       let own_messages = messages-old field (has_rejected adds.found) adds.messages adds.are_messages in
       let both = after-then options old new next so_far.text adds.text so_far.messages adds.messages so_far.found
@@ -214,9 +240,9 @@ module _ {options : Options} {split : List ℕ → List (List ℕ)} {bytes : Lis
             (between_of options) (so_far.found ++ adds.found) both;
         passes = Passes-append options so_far.found adds.found so_far.passes adds.passes;
         goes_on = λ more more_found are.
-            let whole = AreFields-cons options number field (split behind) adds.text more adds.found
+            let whole = AreFields-cons options number field (fields_of options behind) adds.text more adds.found
             more_found is_split adds.is_field are in
-            let at : AreFields options number (split rest)
+            let at : AreFields options number (fields_of options rest)
             (adds.text ++ between_of options ++ more) (adds.found ++ more_found) =
             subst (λ fields. AreFields options number fields (adds.text ++ between_of options ++ more)
             (adds.found ++ more_found)) (sym first) whole in
@@ -227,37 +253,37 @@ module _ {options : Options} {split : List ℕ → List (List ℕ)} {bytes : Lis
             sym (append_assoc so_far.text (adds.text ++ between_of options) more)
             ∙ ap (λ text. text ++ more) (sym (append_assoc so_far.text adds.text (between_of options))) in
             let found_same = sym (append_assoc so_far.found adds.found more_found) in
-            subst (λ text. AreFields options 1 (split bytes) text
+            subst (λ text. AreFields options 1 (fields_of options bytes) text
             ((so_far.found ++ adds.found) ++ more_found)) text_same
-            (subst (λ found. AreFields options 1 (split bytes)
+            (subst (λ found. AreFields options 1 (fields_of options bytes)
             (so_far.text ++ (adds.text ++ between_of options ++ more)) found) found_same all);
         tells_on = λ more are.
-            let whole : AreMessagesOfFields options old.word old.place number (field ∷ split behind)
+            let whole : AreMessagesOfFields options old.word old.place number (field ∷ fields_of options behind)
             (adds.messages ++ more) =
             (adds.messages, more, has_rejected adds.found, own_messages, are, refl) in
             let at = subst (λ fields. AreMessagesOfFields options old.word old.place number fields
             (adds.messages ++ more)) (sym first) whole in
-            subst (AreMessagesOfFields options old.word old.place 1 (split bytes))
+            subst (AreMessagesOfFields options old.word old.place 1 (fields_of options bytes))
             (sym (append_assoc so_far.messages adds.messages more)) (so_far.tells_on (adds.messages ++ more) at);
         rejects = λ has. so_far.rejects (subst (HasRejectedField options number) (sym first) (inr has));
         tells_to = λ mode more are.
             let own = subst (λ is_rejected. AreFieldMessages options old.word old.place number field
             is_rejected adds.messages) (adds.passes mode) own_messages in
             let whole : AreMessagesToRejected options old.word old.place number
-            (field ∷ split behind) (adds.messages ++ more) =
+            (field ∷ fields_of options behind) (adds.messages ++ more) =
             inr (adds.messages, more, own, are, refl) in
             let at = subst (λ fields. AreMessagesToRejected options old.word old.place number fields
             (adds.messages ++ more)) (sym first) whole in
-            subst (AreMessagesToRejected options old.word old.place 1 (split bytes))
+            subst (AreMessagesToRejected options old.word old.place 1 (fields_of options bytes))
             (sym (append_assoc so_far.messages adds.messages more)) (so_far.tells_to mode (adds.messages ++ more) at);
         few = omega (arith, so_far.few, shorter);
       }
 
   -- a rejected field, which is the first of the rest
-  pub Aborts-first : fields_of options bytes ≡ split bytes → (field : List ℕ) (others : List (List ℕ)) → split rest
-      ≡ field ∷ others → (next_messages : List ℕ) → IsRejectedField options number field new next_messages
+  pub Aborts-first : (field : List ℕ) (others : List (List ℕ)) → fields_of options rest ≡ field ∷ others
+      → (next_messages : List ℕ) → IsRejectedField options number field new next_messages
       → Aborts options bytes old next_messages
-  Aborts-first fields_are field others first next_messages is =
+  Aborts-first field others first next_messages is =
       let has = so_far.rejects (subst (HasRejectedField options number) (sym first) (inl (is.chosen, is.no_size))) in
       let whole : AreMessagesToRejected options old.word old.place number (field ∷ others) is.messages =
       inl (messages-old field true is.messages is.are_messages) in
@@ -265,21 +291,19 @@ module _ {options : Options} {split : List ℕ → List (List ℕ)} {bytes : Lis
       (sym first) whole in
       let all = so_far.tells_to is.mode is.messages at in record {
         mode = is.mode;
-        has_rejected = subst (HasRejectedField options 1) (sym fields_are) has;
+        has_rejected = has;
         messages = so_far.messages ++ is.messages;
-        to_rejected =
-            subst (λ fields. AreMessagesToRejected options old.word old.place 1 fields (so_far.messages ++ is.messages))
-            (sym fields_are) all;
+        to_rejected = all;
         messages_are =
             is.messages_are ∙ ap (λ state. state.messages ++ is.messages) so_far.new_is
             ∙ append_assoc old.messages so_far.messages is.messages;
       }
 
   -- the last field
-  pub AddsFields-last : fields_of options bytes ≡ split bytes → split rest ≡ rest ∷ [] → (next : State)
+  pub AddsFields-last : fields_of options rest ≡ rest ∷ [] → (next : State)
       → AddsField options number rest new next → AddsFields options bytes old next
-  AddsFields-last fields_are last next adds =
-      let at : AreFields options number (split rest) adds.text adds.found =
+  AddsFields-last last next adds =
+      let at : AreFields options number (fields_of options rest) adds.text adds.found =
       subst (λ fields. AreFields options number fields adds.text adds.found) (sym last) adds.is_field in
       let all = so_far.goes_on adds.text adds.found at in
       let own_messages = messages-old rest (has_rejected adds.found) adds.messages adds.are_messages in
@@ -291,36 +315,53 @@ module _ {options : Options} {split : List ℕ → List (List ℕ)} {bytes : Lis
         text = so_far.text ++ adds.text;
         messages = so_far.messages ++ adds.messages;
         found = so_far.found ++ adds.found;
-        are_fields = subst (λ fields. AreFields options 1 fields (so_far.text ++ adds.text)
-            (so_far.found ++ adds.found)) (sym fields_are) all;
-        are_messages =
-            subst (λ fields. AreMessagesOfFields options old.word old.place 1 fields (so_far.messages ++ adds.messages))
-            (sym fields_are) told;
+        are_fields = all;
+        are_messages = told;
         passes = Passes-append options so_far.found adds.found so_far.passes adds.passes;
         new_is = after-then options old new next so_far.text adds.text so_far.messages adds.messages so_far.found
             adds.found so_far.new_is adds.new_is;
       }
 
   -- the other fields are copied with the bytes between them
-  pub AddsFields-copied : fields_of options bytes ≡ split bytes → AreFields options number (split rest) rest []
+  pub AddsFields-copied : AreFields options number (fields_of options rest) rest []
       → ((later : ℕ) → number ≤ later → ¬ IsChosen options.fields.now later)
       → AddsFields options bytes old (record new { out = new.out ++ rest })
-  AddsFields-copied fields_are copied past =
+  AddsFields-copied copied past =
       let all = so_far.goes_on rest [] copied in
-      let told = so_far.tells_on [] (AreMessagesOfFields-none options old.word old.place (split rest) number
+      let told = so_far.tells_on [] (AreMessagesOfFields-none options old.word old.place (fields_of options rest) number
       past) in
       let nothing = append-nil so_far.messages in
       let text = so_far.text ++ rest in record {
         text = text;
         messages = so_far.messages ++ [];
         found = so_far.found ++ [];
-        are_fields = subst (λ fields. AreFields options 1 fields text (so_far.found ++ [])) (sym fields_are) all;
-        are_messages =
-            subst (λ fields. AreMessagesOfFields options old.word old.place 1 fields (so_far.messages ++ []))
-            (sym fields_are) told;
+        are_fields = all;
+        are_messages = told;
         passes = subst (Passes options) (sym (append-nil so_far.found)) so_far.passes;
         new_is =
             after-more options old new so_far.text so_far.messages rest so_far.found so_far.new_is
             ∙ ap (λ messages. after options old text messages so_far.found) (sym nothing)
             ∙ ap (after options old text (so_far.messages ++ [])) (sym (append-nil so_far.found));
       }
+
+-- the first field ends at this place, and the others begin this number of bytes after it
+abbrev pub EndsFirst : Options → List ℕ → ℕ → ℕ → Type 0
+EndsFirst options bytes place gap =
+    (0 < place + gap) × (place + gap ≤ length bytes)
+    × (fields_of options bytes ≡ take place bytes ∷ fields_of options (drop (place + gap) bytes))
+
+-- one more field and the bytes after it, by the place where the field ends
+pub IsSplitting-at : {options : Options} {bytes : List ℕ} {old : State} {number : ℕ} {rest : List ℕ} {new : State}
+    → IsSplitting options bytes old number rest new → (delimiter : ℕ)
+    → options.delimiter ≡ Some delimiter → (place gap : ℕ) → EndsFirst options rest place gap → (next : State)
+    → AddsField options number (take place rest) new next → (out : List ℕ) → out ≡ next.out ++ between_of options
+    → IsSplitting options bytes old (number + 1) (drop (place + gap) rest)
+    (record next { out = out })
+IsSplitting-at {options = options} {bytes = bytes} {old = old} {number = number} {rest = rest} so_far delimiter is place
+    gap ends next adds out out_is =
+    let behind = drop (place + gap) rest in
+    let shorter : length behind < length rest = omega (arith, ends.0, ends.1, length-drop (place + gap) rest) in
+    subst (λ out. IsSplitting options bytes old (number + 1) behind (record next { out = out }))
+    (sym out_is)
+    (IsSplitting-step so_far (take place rest) behind ends.2 (fields_IsSplit options delimiter is behind) shorter next
+    adds)

@@ -49,8 +49,9 @@ module _ (options : Options) (word : List ℕ) (place number : ℕ) (field : Lis
       ≡ false
   within-untold law n is_rejected chosen is (other not _ _) = absurd (not chosen)
   within-untold law n is_rejected chosen is (size same _ also _ messages) =
-      let one = (law options.binary options.kind (ignores_case options.kind options.ignore_case) (without_suffix options.suffix.now
-      field)).one_meaning same n also.1 is.1 in
+      let answer = law options.binary options.kind (ignores_case options.kind options.ignore_case)
+      (without_suffix options.suffix.now field) in
+      let one = answer.one_meaning same n also.1 is.1 in
       subst (λ n. is_beyond options n ≡ false) one (limits-none same messages)
   within-untold law n is_rejected chosen is (rejected reason _ _ _ _ message) = absurd (IsMessage-some reason message)
   within-untold law n is_rejected chosen is (ignored _ none _ _ _) =

@@ -6,7 +6,8 @@ use Rattle.byte_unit_command.specs.CallOptions.{IsWrongPrecision, AreFieldsSepar
 use Rattle.byte_unit_command.specs.CallOptions.{FieldsAreRight, PaddingIsRight, ModeIsRight}
 use Rattle.byte_unit_command.specs.CallOptions.{wrong_to, wrong_precision, wrong_delimiter, wrong_field, wrong_padding}
 use Rattle.byte_unit_command.specs.CallOptions.{wrong_no_unit, wrong_invalid, wrong_max, wrong_min, IsWrongNoUnit}
-use Rattle.byte_unit_command.specs.Meaning.{IsFrom, IsForm, IsNoForm, IsDelimiter, IsNoDelimiter, IsPadding, IsNoPadding}
+use Rattle.byte_unit_command.specs.Meaning.{IsFrom, IsForm, IsNoForm, IsDelimiter, IsNoDelimiter, IsPadding}
+use Rattle.byte_unit_command.specs.Meaning.{IsNoPadding}
 use Rattle.byte_unit_command.specs.Meaning.{IsMode, IsNoMode, IsLimit, IsNoLimit, IsShownForm}
 use Rattle.byte_unit_command.specs.Values.{text_of}
 use Rattle.byte_unit_command.specs.declared.options.Form.{Form}
@@ -62,7 +63,8 @@ module _ (values : Values) (wrong : Wrong) {kind : Kind} (kind_is : kind ≡ kin
               padding_right : PaddingIsRight values
               padding_right = (fields_right, (width, align_left, is_padding))
 
-              pub is_wrong_mode : IsWrongOf (codes "--invalid") values.invalid IsNoMode wrong → IsFirstWrong values wrong
+              pub is_wrong_mode : IsWrongOf (codes "--invalid") values.invalid IsNoMode wrong
+                  → IsFirstWrong values wrong
               is_wrong_mode is = wrong_invalid binary is_from padding_right is
 
               module _ (invalid : Invalid) (is_mode : IsMode (text_of values.invalid) invalid) where

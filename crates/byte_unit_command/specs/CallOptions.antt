@@ -36,7 +36,7 @@ abbrev pub IsFormOf : Values → Form → Type 0
 IsFormOf values form =
     IsForm (form_without values.human_readable) (kind_of values.bits) values.ignore_case (text_of values.to) form
 
--- the byte between two fields, by the delimiter that is given: with `--blanks` a space, which stands for all blanks
+-- the byte between two fields, by the delimiter that is given: with `--blanks` a space, in place of any blank
 abbrev pub separator_of : Bool → Option ℕ → Option ℕ
 separator_of blanks delimiter = if blanks then Some 32 else delimiter
 

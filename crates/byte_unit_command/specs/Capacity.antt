@@ -59,8 +59,8 @@ fields_room options bytes = text_room options * fields_max options.delimiter byt
 abbrev pub record_room : Options → ℕ → ℕ
 record_room options bytes = fields_room options bytes + 1
 
--- the most bytes that what is written at the end of the input takes, if the last record has this many bytes: that record
--- and the line of the total
+-- the most bytes that what is written at the end of the input takes, if the last record has this many bytes: that
+-- record and the line of the total
 abbrev pub end_room : Options → ℕ → ℕ
 end_room options bytes = record_room options bytes + text_room options + 1
 
@@ -89,8 +89,8 @@ texts_max = 2621440
 abbrev pub read_max : Options → ℕ → ℕ
 read_max options chunk = min chunk (max 1 (texts_max / (text_max options + message_room options)))
 
--- the most fields of the records that end in a read of at most `chunk` bytes, if at most `longest` bytes of the first of
--- them were read before
+-- the most fields of the records that end in a read of at most `chunk` bytes, if at most `longest` bytes of the first
+-- of them were read before
 abbrev pub read_fields_max : Option ℕ → ℕ → ℕ → ℕ
 read_fields_max None longest chunk = chunk
 read_fields_max (Some delimiter) longest chunk = longest + chunk

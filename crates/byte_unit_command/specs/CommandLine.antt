@@ -65,8 +65,8 @@ operands = record (new_rule (codes "SIZE")) {
 abbrev pub rules : List Rule
 rules =
     flag (codes "bits") ∷ ignore_case ∷ value (codes "from") ∷ value (codes "to") ∷ flag (codes "no-unit")
-    ∷ suffix ∷ precision ∷ human_readable ∷ delimiter ∷ blanks ∷ fields ∷ header ∷ padding ∷ value (codes "invalid") ∷ flag (codes "total") ∷ value (codes "max") ∷ value (codes "min") ∷ zero_terminated
-    ∷ operands ∷ []
+    ∷ suffix ∷ precision ∷ human_readable ∷ delimiter ∷ blanks ∷ fields ∷ header ∷ padding ∷ value (codes "invalid")
+    ∷ flag (codes "total") ∷ value (codes "max") ∷ value (codes "min") ∷ zero_terminated ∷ operands ∷ []
 
 -- the command, which has a version. The last of an option that is given more than once holds
 abbrev pub command_line : App

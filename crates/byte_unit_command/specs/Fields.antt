@@ -62,8 +62,8 @@ gap_of options number field = gap_by (at_blanks options) number field
 abbrev pub columns_of : ℕ → List ℕ → ℕ
 columns_of number field = cond (nat_lt 1 number) (length field - 1) (cond (begins_blank field) (length field) 0)
 
--- the least number of columns of a size that replaces a field: that of the options; without one, and between blanks, the
--- columns of the field
+-- the least number of columns of a size that replaces a field: that of the options; without one, and between blanks,
+-- the columns of the field
 abbrev pub width_by : Bool → ℕ → ℕ → List ℕ → ℕ
 width_by true zero number field = columns_of number field
 width_by true (suc width) number field = suc width

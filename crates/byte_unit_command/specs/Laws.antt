@@ -32,7 +32,8 @@ TextsAreSizesOrNot =
     → IsOneAnswer ℕ (IsAcceptedBy binary kind ignore_case text) (IsRejectedBy binary kind ignore_case text)
 
 -- law: what is shown for a size in the exact form or as digits, without padding, is parsed as that size by a run with
--- any options of the same kind and suffix that read prefixes as they are. So nothing is lost by `--to=plain` and then `--to=exact`
+-- any options of the same kind and suffix that read prefixes as they are. So nothing is lost by `--to=plain` and then
+-- `--to=exact`
 abbrev pub ShownSizesAreRead : Type 0
 ShownSizesAreRead =
     (options others : Options) (size : ℕ) (text : List ℕ) → size < size_limit → IsLossless options.form
@@ -44,5 +45,5 @@ ShownSizesAreRead =
 abbrev pub ExactTwiceIsOnce : Type 0
 ExactTwiceIsOnce =
     (options : Options) (size : ℕ) (text : List ℕ) → size < size_limit → options.form ≡ Exact → options.width ≡ 0
-    → options.binary ≡ false → IsShown options size text → (again : ℕ) (text_again : List ℕ) → IsReadAs options text again
-    → IsShown options again text_again → text_again ≡ text
+    → options.binary ≡ false → IsShown options size text → (again : ℕ) (text_again : List ℕ)
+    → IsReadAs options text again → IsShown options again text_again → text_again ≡ text

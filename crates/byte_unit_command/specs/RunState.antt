@@ -190,7 +190,8 @@ pub record Tells (failed_before failed : Bool) (messages told : List ℕ) : Type
 -- from these states of the output and of standard error to those, something was written and told of messages for which
 -- this holds. `contents` and `tells` are those of the two writers
 pub record WritesAndTells {W E : Type 0} (contents : W → Option (List ℕ)) (tells : E → Option (List ℕ))
-    (old_writer writer : FusedWriter W) (old_errors errors : FusedWriter E) (Holds : List ℕ → List ℕ → Type 0) : Type 0 where
+    (old_writer writer : FusedWriter W) (old_errors errors : FusedWriter E) (Holds : List ℕ → List ℕ → Type 0)
+    : Type 0 where
   pub written : List ℕ
   pub messages : List ℕ
   pub told : List ℕ

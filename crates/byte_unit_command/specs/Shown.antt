@@ -24,8 +24,8 @@ abbrev pub adjusted_spec : Option ℕ → FormatSpec
 adjusted_spec precision = record plain_spec { precision = precision }
 
 -- the text of a size in a form: in the largest unit, not above the size, that represents it exactly within the
--- precision; as digits; in the given unit; as the number of that unit alone; in the largest unit of the type that is not
--- above the size
+-- precision; as digits; in the given unit; as the number of that unit alone; in the largest unit of the type that is
+-- not above the size
 abbrev pub IsFormText : Kind → Form → Option ℕ → ℕ → List ℕ → Type 0
 IsFormText kind Exact precision size text = IsText kind size (exact_spec precision) text
 IsFormText kind Plain precision size text = IsText kind size plain_spec text

@@ -5,7 +5,8 @@ use Rattle.byte_unit.specs.FaultText.{parse_text, unit_text}
 use Rattle.byte_unit_command.specs.Messages.{quote}
 use Rattle.byte_unit_command.specs.declared.wrong.ValueError.{ValueError}
 use Rattle.byte_unit_command.specs.declared.wrong.ValueError.TheVariants.{Unit as UnitFault, Blank, NoUnit, Precision}
-use Rattle.byte_unit_command.specs.declared.wrong.ValueError.TheVariants.{From, Delimiter, NoDelimiter, Fields, Padding, Mode, Size}
+use Rattle.byte_unit_command.specs.declared.wrong.ValueError.TheVariants.{From, Delimiter, NoDelimiter, Fields, Padding}
+use Rattle.byte_unit_command.specs.declared.wrong.ValueError.TheVariants.{Mode, Size}
 use Rattle.byte_unit_command.specs.declared.wrong.Wrong.{Wrong}
 
 -- the words for a reason. An error of the library has its message; where the library's contract says nothing of that,

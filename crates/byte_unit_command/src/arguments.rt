@@ -46,9 +46,10 @@ Exit status:
 /// Returns the command, with its options.
 ///
 /// The contract says what clap's parser reads of it: the name and the letter of each option, whether it takes a value,
-/// and which numbers are values; and that the last of an option that is given twice holds. It does not say, and tests do,
-/// that `--ignore-case` excludes `--bits` and `--blanks` excludes `--delimiter`, that a number after `--header` needs `=`,
-/// that `--padding`, `--field` and `--suffix` take a value with a hyphen, and the texts of the help and the version.
+/// and which numbers are values; and that the last of an option that is given twice holds. It does not say, and tests
+/// do, that `--ignore-case` excludes `--bits` and `--blanks` excludes `--delimiter`, that a number after `--header`
+/// needs `=`, that `--padding`, `--field` and `--suffix` take a value with a hyphen, and the texts of the help and the
+/// version.
 ///
 /// # Errors
 ///

@@ -1,79 +1,71 @@
-//! Fields between blanks.
+//! Fields between blanks, or between delimiters.
 
-ghost use Rattle.std.specs.Prelude.{◌≡◌, ◌+◌, ◌-◌, ◌<◌, ◌≤◌, ◌⊎◌, ◌∷◌, ◌++◌, ◌&&◌, [], ℕ, List, not};
+ghost use Rattle.std.specs.Prelude.{◌≡◌, ◌+◌, ◌-◌, ◌<◌, ◌≤◌, ◌∷◌, ◌++◌, ◌&&◌, [], ℕ, List, Some, not};
 ghost use Rattle.std.specs.Prelude.{cond, drop, length, take, true};
-ghost use Rattle.std.specs.Prelude.{OnOk, IsOk, IfErr, IsErrOf, IfSome, IfNone, vec_capacity, vec_len};
+ghost use Rattle.std.specs.Prelude.{OnOk, IsOk, IfSome, IfNone, vec_capacity};
 ghost use Rattle.byte_unit.specs.Bounds.{size_limit};
 ghost use Rattle.byte_unit.specs.Forms.{text_limit};
-ghost use Rattle.byte_unit_command.specs.Capacity.{field_room, fields_room, text_room};
+ghost use Rattle.byte_unit_command.specs.Capacity.{field_room, text_room};
 ghost use Rattle.byte_unit_command.specs.Field.{IsPlaced};
-ghost use Rattle.byte_unit_command.specs.Fields.{at_blanks, begins_blank as has_blank_first, blank_fields, gap_by};
-ghost use Rattle.byte_unit_command.specs.Fields.{is_blank as is_a_blank, width_by};
-ghost use Rattle.byte_unit_command.specs.RunState.{AddsFields, Aborts, FieldsHaveNoMessage, Grows, HasRoom};
-ghost use Rattle.byte_unit_command.specs.RunState.{messages_of, state_of};
+ghost use Rattle.byte_unit_command.specs.Fields.{at_blanks, begins_blank as has_blank_first, between_of, blank_fields};
+ghost use Rattle.byte_unit_command.specs.Fields.{fields_of, gap_by, is_blank as is_a_blank, width_by};
+ghost use Rattle.byte_unit_command.specs.RunState.{Grows, HasRoom};
 ghost use Rattle.byte_unit_stream.specs.Prefix.{IsPrefix};
 
-use crate::converter::Converter;
-use crate::error::RunError;
-use crate::field::{is_chosen, is_in_order, ranges_from};
 use crate::options::Options;
-use crate::size::write_size;
-use crate::text::{add_padded, add_size};
+use crate::text::add_in_width;
+use byte_unit_stream::end_of;
 use std::alloc::{AllocError, Allocator};
 
-impl<A: Allocator> Converter<A> {
-    /// Does what [`add_fields`](Converter::add_fields) does, with the fields between blanks.
-    #[inline(never)]
-    pub(crate) fn add_between_blanks(
-        &mut self,
-        options: &Options,
-        bytes: &[u8],
-        digits: &mut [u8],
-    ) -> Result<(), RunError>
-        requires blanks { at_blanks options.now ≡ true }
-        requires capacity { text_limit ≤ length digits.old }
-        ensures ok { OnOk result
-            (AddsFields options.now bytes.now (state_of self.old) (state_of self.new)) }
-        ensures kept { IsPrefix self.old.waiting.items self.new.waiting.items }
-        ensures kept_messages { IsPrefix (messages_of self.old.notices)
-            (messages_of self.new.notices) }
-        ensures rejected { IsErrOf result RunError.Rejected
-            → Aborts options.now bytes.now (state_of self.old) (messages_of self.new.notices) }
-        ensures error { IfErr result
-            (λ error. (error ≡ RunError.Memory) ⊎ (error ≡ RunError.Rejected)) }
-        ensures succeeds { HasRoom self.old.waiting (fields_room options.now (length bytes.now))
-            → FieldsHaveNoMessage options.now bytes.now (state_of self.old) → IsOk result }
-        ensures len { Grows self.old.waiting self.new.waiting
-            (fields_room options.now (length bytes.now)) }
-        ensures capacity { vec_capacity self.old.waiting ≤ vec_capacity self.new.waiting }
-    {
-        // For the proof: there are fewer fields than a `u64` counts.
-        let _len = bytes.len();
-        let in_order = is_in_order(options.fields);
-        let fields = ranges_from(options.fields, 1);
-        let mut ranges = fields;
-        let mut rest = bytes;
-        let mut number = 1u64;
-        while let Some(n) = end_of_field(rest) {
-            let chosen = is_chosen(ranges, in_order, number);
-            self.add_field::<true>(options, number, chosen, &rest[..n], digits)?;
-            rest = &rest[n..];
-            number += 1;
-            ranges = ranges_from(ranges, number);
-            if ranges.is_empty() {
-                self.waiting.extend_from_slice(rest)?;
-                return Ok(());
-            }
-        }
-        let chosen = is_chosen(ranges, in_order, number);
-        self.add_field::<true>(options, number, chosen, rest, digits)
-    }
+/// Returns the bytes between two fields: `mark`, which has the delimiter, or nothing between blanks.
+///
+/// Preconditions (proved at every call): `delimiter` is that of the options, and `BLANKS` says whether fields are
+/// between blanks.
+#[inline(always)]
+pub(crate) fn between<'a, const BLANKS: bool>(
+    options: &Options,
+    delimiter: u8,
+    mark: &'a [u8],
+) -> &'a [u8]
+    requires delimiter { options.now.delimiter ≡ Some delimiter }
+    requires blanks { at_blanks options.now ≡ BLANKS }
+    requires mark { mark.now ≡ delimiter ∷ [] }
+    ensures { result.now ≡ between_of options.now }
+{
+    let blanks = value_of(BLANKS);
+    if blanks { &[] } else { mark }
 }
 
-/// Appends the text of a size that replaces the field with this number.
+/// Returns the number of bytes of the first field, or `None` if there is no other field.
 ///
-/// Preconditions (proved at every call): `BLANKS` says whether fields are between blanks, `size` is less than 10^30, and
-/// `digits` has capacity for any text.
+/// Preconditions (proved at every call): `delimiter` is that of the options, and `BLANKS` says whether fields are
+/// between blanks.
+#[inline(always)]
+pub(crate) fn end_of_first<const BLANKS: bool>(
+    options: &Options,
+    delimiter: u8,
+    bytes: &[u8],
+) -> Option<usize>
+    requires delimiter { options.now.delimiter ≡ Some delimiter }
+    requires blanks { at_blanks options.now ≡ BLANKS }
+    ensures some { IfSome result (λ n. (0 < n + length (between_of options.now))
+        × (n + length (between_of options.now) ≤ length bytes.now)
+        × (fields_of options.now bytes.now ≡ take n bytes.now
+        ∷ fields_of options.now (drop (n + length (between_of options.now)) bytes.now))) }
+    ensures none { IfNone result (fields_of options.now bytes.now ≡ bytes.now ∷ []) }
+{
+    let blanks = value_of(BLANKS);
+    if blanks {
+        return end_of_field(bytes);
+    }
+    end_of(bytes, delimiter)
+}
+
+/// Appends the text of a size that replaces the field with this number: between blanks, the blank that separates the
+/// field, and the size in at least the width of the options, or in the columns that the field has.
+///
+/// Preconditions (proved at every call): `BLANKS` says whether fields are between blanks, `size` is less than 10^30,
+/// and `digits` has capacity for any text.
 ///
 /// # Errors
 ///
@@ -99,9 +91,11 @@ pub(crate) fn add_placed<const BLANKS: bool, A: Allocator>(
 {
     let blanks = value_of(BLANKS);
     if blanks {
-        return add_in_columns(options, number, field, size, digits, text);
+        text.extend_from_slice(gap_of(number > 1, field))?;
+        let width = width_of(options, number, field);
+        return add_in_width(options, width, size, digits, text);
     }
-    add_size(options, size, digits, text)
+    add_in_width(options, options.width as usize, size, digits, text)
 }
 
 /// Returns a constant as a value, of whose branches a proof can speak.
@@ -110,46 +104,6 @@ fn value_of(constant: bool) -> bool
     ensures { result ≡ constant }
 {
     constant
-}
-
-/// Appends the text of a size that replaces the field with this number, between blanks: the blank that separates the
-/// field, and the size in at least the width of the options, or in the columns that the field has.
-///
-/// Preconditions (proved at every call): fields are between blanks, `size` is less than 10^30, and `digits` has
-/// capacity for any text.
-///
-/// # Errors
-///
-/// Returns `AllocError` if allocation fails.
-fn add_in_columns<A: Allocator>(
-    options: &Options,
-    number: u64,
-    field: &[u8],
-    size: u128,
-    digits: &mut [u8],
-    text: &mut Vec<u8, A>,
-) -> Result<(), AllocError>
-    requires blanks { at_blanks options.now ≡ true }
-    requires size { size < size_limit }
-    requires capacity { text_limit ≤ length digits.old }
-    ensures ok { OnOk result ((placed : List ℕ) × IsPlaced options.now number field.now size placed
-        × (text.new.items ≡ text.old.items ++ placed)) }
-    ensures kept { IsPrefix text.old.items text.new.items }
-    ensures succeeds { vec_len text.old + (text_room options.now + length field.now)
-        ≤ vec_capacity text.old → IsOk result }
-    ensures len { vec_len text.new ≤ vec_len text.old + (text_room options.now + length field.now) }
-    ensures capacity { vec_capacity text.old ≤ vec_capacity text.new }
-{
-    text.extend_from_slice(gap_of(number > 1, field))?;
-    let len = write_size(options, size, digits);
-    let width = width_of(options, number, field);
-    add_padded(
-        width,
-        options.align_left,
-        options.suffix,
-        &digits[..len],
-        text,
-    )
 }
 
 /// Returns the least number of columns of a size that replaces the field with this number, between blanks.

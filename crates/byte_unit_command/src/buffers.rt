@@ -2,11 +2,10 @@
 
 ghost use Rattle.std.specs.Prelude.{◌≡◌, ◌+◌, ◌*◌, ◌<◌, ◌≤◌, max, IfOk, IfSome, IfNone};
 ghost use Rattle.byte_unit_command.specs.Capacity.{AreEmpty, HaveCapacity, texts_max};
-ghost use Rattle.byte_unit_command.specs.Capacity.{can_tell_more as can_have_more_messages, form_max as most_of_form};
-ghost use Rattle.byte_unit_command.specs.Capacity.{passes_with_message as has_message_on_passing};
+ghost use Rattle.byte_unit_command.specs.Capacity.{form_max as most_of_form};
 ghost use Rattle.byte_unit_command.specs.Capacity.{message_room as room_of_messages, read_room as room_of_read};
 ghost use Rattle.byte_unit_command.specs.Capacity.{read_max as most_of_read, text_max as most_of_text};
-ghost use Rattle.byte_unit_command.specs.Capacity.{text_room as room_of_text, unit_places as places_in_unit};
+ghost use Rattle.byte_unit_command.specs.Capacity.{text_room as room_of_text};
 
 use crate::converter::{Converter, Progress};
 use crate::notice::Notices;
@@ -23,8 +22,8 @@ const NARROW_TEXT: usize = 37;
 /// The most digits after the point of a size in a given unit, but for zeros.
 const UNIT_PLACES: usize = 93;
 
-/// The most bytes that the texts of the sizes of one read may take, if each byte of it begins a field: 40 bytes for each
-/// of 65,536.
+/// The most bytes that the texts of the sizes of one read may take, if each byte of it begins a field: 40 bytes for
+/// each of 65,536.
 const TEXTS_MAX: usize = 2_621_440;
 
 /// The bytes that are counted for the messages about a field.
@@ -87,8 +86,8 @@ impl<A: Allocator + Copy> Buffers<A> {
     }
 }
 
-/// Returns the most bytes that a run reads at once into a buffer of `len` bytes: fewer if texts are long or there can be
-/// messages, so that few of them wait to be written; and at least one.
+/// Returns the most bytes that a run reads at once into a buffer of `len` bytes: fewer if texts are long or there can
+/// be messages, so that few of them wait to be written; and at least one.
 pub(crate) fn read_max(options: &Options, len: usize) -> usize
     ensures most { result ≡ most_of_read options.now len }
     ensures texts { most_of_text options.now * result ≤ max texts_max (most_of_text options.now) }
@@ -111,28 +110,20 @@ fn counted(options: &Options) -> Option<usize>
     text_max(options)?.checked_add(message_room(options))
 }
 
-/// Returns the bytes that are counted for the messages about a field.
+/// Returns the bytes that are counted for the messages about a field: none if a run has at most one message.
 fn message_room(options: &Options) -> usize
     ensures room { result ≡ room_of_messages options.now }
     ensures bound { result ≤ 128 }
 {
-    if can_tell_more(options) { MESSAGE } else { 0 }
-}
-
-/// Returns `true` if a run can have more than one message.
-fn can_tell_more(options: &Options) -> bool
-    ensures { result ≡ can_have_more_messages options.now }
-{
-    passes_with_message(options.invalid) || options.max.is_some() || options.min.is_some()
-}
-
-/// Returns `true` if a run goes on at a rejected field, with a message.
-fn passes_with_message(invalid: Invalid) -> bool
-    ensures { result ≡ has_message_on_passing invalid }
-{
-    match invalid {
-        Invalid::Abort | Invalid::Ignore => false,
-        Invalid::Fail | Invalid::Warn => true,
+    match options.invalid {
+        Invalid::Fail | Invalid::Warn => MESSAGE,
+        Invalid::Abort | Invalid::Ignore => {
+            if options.max.is_some() || options.min.is_some() {
+                MESSAGE
+            } else {
+                0
+            }
+        }
     }
 }
 
@@ -176,19 +167,9 @@ fn form_max(form: Form, precision: Option<u16>) -> usize
 {
     match form {
         Form::Exact | Form::Plain => NARROW_TEXT,
-        Form::InUnit(_) | Form::NumberOf(_) | Form::Largest(_) => {
-            NARROW_TEXT + unit_places(precision)
-        }
-    }
-}
-
-/// Returns the most digits after the point of a size in a given unit.
-fn unit_places(precision: Option<u16>) -> usize
-    ensures most { result ≡ places_in_unit precision }
-    ensures bound { result < 65536 }
-{
-    match precision {
-        None => UNIT_PLACES,
-        Some(precision) => UNIT_PLACES.max(precision as usize),
+        Form::InUnit(_) | Form::NumberOf(_) | Form::Largest(_) => match precision {
+            None => NARROW_TEXT + UNIT_PLACES,
+            Some(precision) => NARROW_TEXT + UNIT_PLACES.max(precision as usize),
+        },
     }
 }

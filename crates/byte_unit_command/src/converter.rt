@@ -4,7 +4,7 @@ ghost use Rattle.std.specs.Prelude.{◌≡◌, ◌≤◌, ◌⊎◌, ◌∷◌, 
 ghost use Rattle.std.specs.Prelude.{OnOk, OnErr, IsOk, IfErr, IsErrOf, IsTrue, IsFalse, false, vec_capacity};
 ghost use Rattle.byte_unit.specs.Forms.{text_limit};
 ghost use Rattle.byte_unit_command.specs.Capacity.{field_room, fields_room, record_room};
-ghost use Rattle.byte_unit_command.specs.Field.{IsSize, IsNoSize};
+ghost use Rattle.byte_unit_command.specs.Field.{IsNoSize};
 ghost use Rattle.byte_unit_command.specs.Fields.{IsChosen, at_blanks};
 ghost use Rattle.byte_unit_command.specs.RunState.{AddsField, AddsFields, AddsRecords, Grows, HasRoom};
 ghost use Rattle.byte_unit_command.specs.RunState.{Aborts, IsRejectedField};
@@ -12,16 +12,15 @@ ghost use Rattle.byte_unit_command.specs.RunState.{FieldHasNoMessage, FieldsHave
 ghost use Rattle.byte_unit_command.specs.RunState.{at_next, messages_of, no_tally, state_of, tally_with};
 ghost use Rattle.byte_unit_stream.specs.Prefix.{IsPrefix};
 
-use crate::blanks::add_placed;
+use crate::blanks::{add_placed, between, end_of_first};
 use crate::error::RunError;
-use crate::field::{is_chosen, is_in_order, ranges_from};
+use crate::field::{is_chosen, is_in_one, is_in_order, ranges_from};
 use crate::laws::texts_are_sizes_or_not;
 use crate::notice::{Notices, add_limit_notice, add_reject_notice};
 use crate::options::{Invalid, Options};
 use crate::place::Place;
 use crate::size::accepted;
 use crate::tally::Tally;
-use byte_unit_stream::end_of;
 use std::alloc::Allocator;
 
 /// How far a run has come.
@@ -178,16 +177,22 @@ impl<A: Allocator> Converter<A> {
     {
         match options.delimiter {
             None => {
-                let chosen = is_chosen(options.fields, false, 1);
+                let chosen = is_in_one(options.fields, 1);
                 self.add_field::<false>(options, 1, chosen, bytes, digits)
             }
-            Some(_) if options.blanks => self.add_between_blanks(options, bytes, digits),
-            Some(delimiter) => self.add_split(options, delimiter, bytes, digits),
+            Some(delimiter) if options.blanks => {
+                self.add_split::<true>(options, delimiter, bytes, digits)
+            }
+            Some(delimiter) => self.add_split::<false>(options, delimiter, bytes, digits),
         }
     }
 
-    /// Does what [`add_fields`](Converter::add_fields) does, with the fields between delimiters.
-    fn add_split(
+    /// Does what [`add_fields`](Converter::add_fields) does, with the fields between delimiters or blanks.
+    ///
+    /// Preconditions (proved at every call): `delimiter` is that of the options, `BLANKS` says whether fields are
+    /// between blanks, and `digits` has capacity for the text of any size.
+    #[inline(never)]
+    fn add_split<const BLANKS: bool>(
         &mut self,
         options: &Options,
         delimiter: u8,
@@ -195,7 +200,7 @@ impl<A: Allocator> Converter<A> {
         digits: &mut [u8],
     ) -> Result<(), RunError>
         requires delimiter { options.now.delimiter ≡ Some delimiter }
-        requires blanks { at_blanks options.now ≡ false }
+        requires blanks { at_blanks options.now ≡ BLANKS }
         requires capacity { text_limit ≤ length digits.old }
         ensures ok { OnOk result
             (AddsFields options.now bytes.now (state_of self.old) (state_of self.new)) }
@@ -216,14 +221,16 @@ impl<A: Allocator> Converter<A> {
         let _len = bytes.len();
         let in_order = is_in_order(options.fields);
         let fields = ranges_from(options.fields, 1);
+        let mark = [delimiter];
+        let between = between::<BLANKS>(options, delimiter, &mark);
         let mut ranges = fields;
         let mut rest = bytes;
         let mut number = 1u64;
-        while let Some(n) = end_of(rest, delimiter) {
+        while let Some(n) = end_of_first::<BLANKS>(options, delimiter, rest) {
             let chosen = is_chosen(ranges, in_order, number);
-            self.add_field::<false>(options, number, chosen, &rest[..n], digits)?;
-            self.waiting.extend_from_slice(&[delimiter])?;
-            rest = &rest[n + 1..];
+            self.add_field::<BLANKS>(options, number, chosen, &rest[..n], digits)?;
+            self.waiting.extend_from_slice(between)?;
+            rest = &rest[n + between.len()..];
             number += 1;
             ranges = ranges_from(ranges, number);
             if ranges.is_empty() {
@@ -232,7 +239,7 @@ impl<A: Allocator> Converter<A> {
             }
         }
         let chosen = is_chosen(ranges, in_order, number);
-        self.add_field::<false>(options, number, chosen, rest, digits)
+        self.add_field::<BLANKS>(options, number, chosen, rest, digits)
     }
 
     /// Appends what is written for the field with this number, and counts what is found in it.
@@ -245,7 +252,7 @@ impl<A: Allocator> Converter<A> {
     /// - `Rejected` if the field is not a size, in the mode `abort`.
     /// - `Memory` if allocation fails.
     #[inline(always)]
-    pub(crate) fn add_field<const BLANKS: bool>(
+    fn add_field<const BLANKS: bool>(
         &mut self,
         options: &Options,
         number: u64,
@@ -276,41 +283,9 @@ impl<A: Allocator> Converter<A> {
             self.waiting.extend_from_slice(field)?;
             return Ok(());
         }
-        match accepted(options, field) {
-            Some(size) => self.add_found::<BLANKS>(options, number, field, size, digits),
-            None => self.add_rejected(options, number, field),
-        }
-    }
-
-    /// Does what [`add_field`](Converter::add_field) does, for a field that is a size.
-    ///
-    /// Preconditions (proved at every call): the field with this number is chosen, this is its size, and `digits` has
-    /// capacity for the text of any size.
-    #[inline(always)]
-    fn add_found<const BLANKS: bool>(
-        &mut self,
-        options: &Options,
-        number: u64,
-        field: &[u8],
-        size: u128,
-        digits: &mut [u8],
-    ) -> Result<(), RunError>
-        requires capacity { text_limit ≤ length digits.old }
-        requires blanks { at_blanks options.now ≡ BLANKS }
-        requires chosen { IsChosen options.now.fields.now number }
-        requires size { IsSize options.now field.now size }
-        ensures ok { OnOk result
-            (AddsField options.now number field.now (state_of self.old) (state_of self.new)) }
-        ensures kept { IsPrefix self.old.waiting.items self.new.waiting.items }
-        ensures kept_messages { IsPrefix (messages_of self.old.notices)
-            (messages_of self.new.notices) }
-        ensures error { IfErr result (λ error. error ≡ RunError.Memory) }
-        ensures succeeds { HasRoom self.old.waiting (field_room options.now (length field.now))
-            → FieldHasNoMessage options.now number field.now (state_of self.old) → IsOk result }
-        ensures len { Grows self.old.waiting self.new.waiting
-            (field_room options.now (length field.now)) }
-        ensures capacity { vec_capacity self.old.waiting ≤ vec_capacity self.new.waiting }
-    {
+        let Some(size) = accepted(options, field) else {
+            return self.add_rejected(options, number, field);
+        };
         // For the proof: no text has two sizes, or is both a size and rejected.
         texts_are_sizes_or_not();
         if self.progress.tally.add(options, size) {

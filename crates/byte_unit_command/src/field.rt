@@ -15,22 +15,9 @@ pub(crate) fn is_chosen(ranges: &[FieldRange], in_order: bool, number: u64) -> b
     ensures yes { IsTrue result → IsChosen ranges.now number }
     ensures no { IsFalse result → ¬ IsChosen ranges.now number }
 {
-    if in_order {
-        return has_begun(ranges, number);
+    if !in_order {
+        return is_in_one(ranges, number);
     }
-    is_in_one(ranges, number)
-}
-
-/// Returns `true` if the field with this number is in one of the ranges.
-///
-/// Precondition (proved at every call): the ranges are in order, and the first does not end before the field.
-#[inline(always)]
-fn has_begun(ranges: &[FieldRange], number: u64) -> bool
-    requires order { IsInOrder ranges.now }
-    requires goes { GoesTo ranges.now number }
-    ensures yes { IsTrue result → IsChosen ranges.now number }
-    ensures no { IsFalse result → ¬ IsChosen ranges.now number }
-{
     match ranges {
         [] => false,
         [range, ..] => range.first <= number,
@@ -38,13 +25,13 @@ fn has_begun(ranges: &[FieldRange], number: u64) -> bool
 }
 
 /// Returns `true` if the field with this number is in one of the ranges.
-fn is_in_one(ranges: &[FieldRange], number: u64) -> bool
+pub(crate) fn is_in_one(ranges: &[FieldRange], number: u64) -> bool
     ensures yes { IsTrue result → IsChosen ranges.now number }
     ensures no { IsFalse result → ¬ IsChosen ranges.now number }
 {
     match ranges {
         [] => false,
-        [range, others @ ..] => in_range(*range, number) || is_in_one(others, number),
+        [range, others @ ..] => in_range(range, number) || is_in_one(others, number),
     }
 }
 
@@ -119,12 +106,15 @@ fn ends_before(range: FieldRange, number: u64) -> bool
 }
 
 /// Returns `true` if the field with this number is in the range.
-fn in_range(range: FieldRange, number: u64) -> bool
-    ensures yes { IsTrue result → InRange range number }
-    ensures no { IsFalse result → ¬ InRange range number }
+fn in_range(range: &FieldRange, number: u64) -> bool
+    ensures yes { IsTrue result → InRange range.now number }
+    ensures no { IsFalse result → ¬ InRange range.now number }
 {
+    if number < range.first {
+        return false;
+    }
     match range.last {
-        None => range.first <= number,
-        Some(last) => range.first <= number && number <= last,
+        None => true,
+        Some(last) => number <= last,
     }
 }

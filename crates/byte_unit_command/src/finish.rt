@@ -15,7 +15,7 @@ use crate::converter::Converter;
 use crate::error::RunError;
 use crate::options::Options;
 use crate::tally::{TOTAL_LIMIT, Tally};
-use crate::text::add_size;
+use crate::text::add_in_width;
 use byte_unit_stream::{FusedWriter, write_whole};
 use std::alloc::Allocator;
 use std::io::Write;
@@ -130,7 +130,7 @@ fn write_with_total<A: Allocator, W: Write>(
         write_whole(writer, waiting, RunError::Write)?;
         return Err(RunError::Total);
     }
-    add_size(options, total, digits, waiting)?;
+    add_in_width(options, options.width as usize, total, digits, waiting)?;
     waiting.extend_from_slice(&[options.output_end])?;
     write_whole(writer, waiting, RunError::Write)
 }

@@ -4,8 +4,7 @@ ghost use Rattle.std.specs.Prelude.{◌≡◌, ℕ, Bool, [], MatchOption, Match
 ghost use Rattle.std.specs.Prelude.{unwrap_or, if◌then◌else◌};
 ghost use Rattle.byte_unit_command.specs.CallOptions.{AreOptions, IsFirstWrong, IsWrongOf, kind_of};
 ghost use Rattle.byte_unit_command.specs.CallOptions.{form_without, precision_of, IsWithinExact, IsWrongPrecision};
-ghost use Rattle.byte_unit_command.specs.CallOptions.{IsWrongNoUnit};
-ghost use Rattle.byte_unit_command.specs.CallOptions.{AreFieldsSeparated, IsWrongField};
+ghost use Rattle.byte_unit_command.specs.CallOptions.{IsWrongNoUnit, AreFieldsSeparated, IsWrongField};
 ghost use Rattle.byte_unit_command.specs.CallOptions.{separator_of as separator_in};
 ghost use Rattle.byte_unit_command.specs.Field.{ignores_case};
 ghost use Rattle.byte_unit_command.specs.Meaning.{IsFrom, IsNoFrom, IsForm, IsNoForm, IsShownForm};
@@ -17,6 +16,7 @@ ghost use Rattle.byte_unit_command.specs.Values.{text_of};
 
 use crate::options::{FieldRange, Form, Invalid, Kind, Options, Unit, UnitType};
 use crate::positive::positive_of;
+use crate::size::ignores_case;
 use crate::values::Values;
 use crate::wrong::{ValueError, Wrong};
 use byte_unit_base::{ParseError, binary, size};
@@ -159,7 +159,7 @@ fn precision_of(human_readable: bool, value: Option<u16>) -> Option<u16>
     }
 }
 
-/// Checks that the exact form has so many digits after the point.
+/// Checks that the exact form can have the number of digits after the point that is asked for.
 ///
 /// # Errors
 ///
@@ -388,16 +388,6 @@ fn size_of(text: &str, binary: bool, kind: Kind, ignore_case: bool) -> Result<u1
         binary::parse(text, ignore_case, kind)
     } else {
         size::parse(text, ignore_case, kind)
-    }
-}
-
-/// Returns `true` if case is ignored. It is always significant in sizes in bits.
-pub(crate) fn ignores_case(kind: Kind, ignore_case: bool) -> bool
-    ensures { result ≡ ignores_case kind ignore_case }
-{
-    match kind {
-        Kind::Byte => ignore_case,
-        Kind::Bit => false,
     }
 }
 

@@ -60,7 +60,7 @@ pub struct Options<'a> {
     pub align_left: bool,
     /// The byte between two fields; `None` if a record is one field.
     pub delimiter: Option<u8>,
-    /// Whether fields are between blanks, if there is a delimiter, which then stands for them.
+    /// Whether fields are between blanks, if there is a delimiter: its byte then has no meaning.
     pub blanks: bool,
     /// The fields that are converted.
     pub fields: &'a [FieldRange],

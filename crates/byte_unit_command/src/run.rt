@@ -34,6 +34,8 @@ pub(crate) const DIGITS: usize = 65600;
 ///
 /// On `Ok` the whole output has been written. Returns what was counted.
 ///
+/// It sets no limit on records: that `Memory` is returned only if an allocation fails is tested, not proved.
+///
 /// # Errors
 ///
 /// - `Read` if a read fails. All records that ended before have been written.
@@ -54,34 +56,20 @@ pub fn run<R: Read, W: Write, E: Write>(
 {
     let mut buffer = [0u8; CHUNK];
     let mut digits = [0u8; DIGITS];
-    run_in(&alloc, options, &mut buffer, &mut digits, streams)
+    // By reference, so that the functions for messages are others than those for wrong calls, and inlined.
+    let mut buffers = Buffers::new(&alloc);
+    run_with_buffers(
+        &mut buffers,
+        options,
+        usize::MAX,
+        &mut buffer,
+        &mut digits,
+        streams,
+    )
 }
 
-/// Does what [`run`] does, with any allocator, and with reads of at most the length of `buffer`.
-///
-/// It sets no limit on records: that `Memory` is returned only if an allocation fails is tested, not proved.
-///
-/// Preconditions (proved at every call): `buffer` is not empty, and `digits` has capacity for the text of any size.
-pub fn run_in<A: Allocator, R: Read, W: Write, E: Write>(
-    alloc: &A,
-    options: &Options,
-    buffer: &mut [u8],
-    digits: &mut [u8],
-    streams: &mut Streams<R, W, E>,
-) -> Result<Tally, RunError>
-    requires some { 0 < length buffer.old }
-    requires capacity { text_limit ≤ length digits.old }
-    ensures run { IsRunOf R.remaining W.contents E.contents options.now streams.old streams.new result }
-    ensures read_failed { IsErrOf result RunError.Read
-        → IsTrue (reading_failed streams.new.reader) }
-    ensures write_failed { IsErrOf result RunError.Write
-        → IsTrue (writing_failed streams.new.writer) }
-{
-    let mut buffers = Buffers::new(alloc);
-    run_with_buffers(&mut buffers, options, usize::MAX, buffer, digits, streams)
-}
-
-/// Does what [`run_in`] does, for records of at most `longest` bytes. Allocates only at the start, and for messages.
+/// Does what [`run`] does, with any allocator, for records of at most `longest` bytes, and with reads of at most the
+/// length of `buffer`. Allocates only at the start, and for messages.
 ///
 /// The allocations at the start are those of [`Buffers::with_capacity`].
 ///
@@ -122,10 +110,11 @@ pub fn run_with_capacity<A: Allocator, R: Read, W: Write, E: Write>(
     Ok(run_with_buffers(&mut buffers, options, longest, buffer, digits, streams))
 }
 
-/// Does what [`run_in`] does, for records of at most `longest` bytes, in the caller's buffers.
+/// Does what [`run`] does, for records of at most `longest` bytes, in the caller's buffers, and with reads of at most
+/// the length of `buffer`.
 ///
-/// Preconditions (proved at every call): `buffer` is not empty, `buffers` are, and `digits` has capacity for the text of
-/// any size.
+/// Preconditions (proved at every call): `buffer` is not empty, `buffers` are, and `digits` has capacity for the text
+/// of any size.
 ///
 /// # Errors
 ///

@@ -1,21 +1,13 @@
-//! Reads and writes one size of either kind.
+//! Reads one size of either kind.
 
-ghost use Rattle.std.specs.Prelude.{◌≡◌, ◌<◌, ◌≤◌, length, [], true, false, IfSome, IfNone};
-ghost use Rattle.byte_unit.specs.Bounds.{size_limit};
-ghost use Rattle.byte_unit.specs.Forms.{text_limit};
-ghost use Rattle.byte_unit_command.specs.CallOptions.{kind_of};
-ghost use Rattle.byte_unit_command.specs.Capacity.{form_max, unit_text_max};
+ghost use Rattle.std.specs.Prelude.{◌≡◌, ◌<◌, ◌≤◌, [], true, false, IfSome, IfNone};
 ghost use Rattle.byte_unit_command.specs.Field.{IsSize, IsNoSize, IsSizeText, IsNoSizeText, ignores_case};
 ghost use Rattle.byte_unit_command.specs.Field.{without_suffix};
 ghost use Rattle.byte_unit_command.specs.Prefixes.{IsBytesReadingBy};
-ghost use Rattle.byte_unit_command.specs.Shown.{BeginsWithForm, IsFormText};
 
-use crate::meaning::{ignores_case, kind_of};
-use crate::options::{Form, Kind, Options, Unit};
-use byte_unit::{FormatSpec, ParseError};
+use crate::options::{Kind, Options};
+use byte_unit::ParseError;
 use byte_unit_base::{binary, size};
-use byte_unit_choice::appropriate_unit;
-use byte_unit_format::{write_adjusted, write_text};
 
 /// Parses a field, without the suffix of the options, as a size of their kind. Returns `None` if it is not UTF-8.
 pub(crate) fn parse(options: &Options, field: &[u8]) -> Option<Result<u128, ParseError>>
@@ -31,6 +23,16 @@ pub(crate) fn parse(options: &Options, field: &[u8]) -> Option<Result<u128, Pars
     match options.kind {
         Kind::Byte => size::parse_bytes(text, options.ignore_case, Kind::Byte),
         Kind::Bit => size::parse_bytes(text, false, Kind::Bit),
+    }
+}
+
+/// Returns `true` if case is ignored. It is always significant in sizes in bits.
+pub(crate) fn ignores_case(kind: Kind, ignore_case: bool) -> bool
+    ensures { result ≡ ignores_case kind ignore_case }
+{
+    match kind {
+        Kind::Byte => ignore_case,
+        Kind::Bit => false,
     }
 }
 
@@ -128,79 +130,4 @@ fn special_size(options: &Options, field: &[u8]) -> u128
     } else {
         plain_size(options, text)
     }
-}
-
-/// Writes a size in the form of the options to the beginning of `out`, and returns its length.
-///
-/// Preconditions (proved at every call): `size` is less than 10^30, and `out` has capacity for any text.
-#[inline(always)]
-pub(crate) fn write_size(options: &Options, size: u128, out: &mut [u8]) -> usize
-    requires size { size < size_limit }
-    requires capacity { text_limit ≤ length out.old }
-    ensures written { BeginsWithForm
-        (IsFormText options.now.kind options.now.form options.now.precision size)
-        out.new result }
-    ensures bound { result < text_limit }
-    ensures narrow { result ≤ form_max options.now.form options.now.precision }
-{
-    match options.kind {
-        Kind::Byte => write_as::<false>(options, size, out),
-        Kind::Bit => write_as::<true>(options, size, out),
-    }
-}
-
-/// Writes a size in bits, or in bytes, as [`write_size`] does. A constant kind takes fewer instructions than a variable.
-#[tactic(auto, using(crate::proofs::Numbers::begins_with))]
-#[inline(always)]
-fn write_as<const BITS: bool>(options: &Options, size: u128, out: &mut [u8]) -> usize
-    requires size { size < size_limit }
-    requires capacity { text_limit ≤ length out.old }
-    ensures written { BeginsWithForm
-        (IsFormText (kind_of BITS) options.now.form options.now.precision size)
-        out.new result }
-    ensures small { result < text_limit }
-    ensures narrow { result ≤ form_max options.now.form options.now.precision }
-{
-    let kind = kind_of(BITS);
-    let precision = options.precision;
-    let rounded = FormatSpec {
-        precision,
-        ..FormatSpec::PLAIN
-    };
-    match options.form {
-        Form::Exact => {
-            let exact = FormatSpec {
-                precision,
-                ..FormatSpec::ALTERNATE
-            };
-            write_text(size, kind, exact, out)
-        }
-        Form::Plain => write_text(size, kind, FormatSpec::PLAIN, out),
-        Form::InUnit(unit) => write_adjusted(size, kind, unit, rounded, out),
-        Form::NumberOf(unit) => write_number(size, kind, unit, precision, out),
-        Form::Largest(unit_type) => {
-            let unit = appropriate_unit(size, kind, unit_type);
-            write_adjusted(size, kind, unit, rounded, out)
-        }
-    }
-}
-
-/// Writes the number of a unit that a size is, and returns its length.
-///
-/// The unit is written after it, and its length left out.
-#[cold]
-#[inline(never)]
-fn write_number(size: u128, kind: Kind, unit: Unit, precision: Option<u16>, out: &mut [u8]) -> usize
-    requires size { size < size_limit }
-    requires capacity { text_limit ≤ length out.old }
-    ensures written { BeginsWithForm (IsFormText kind (Form.NumberOf unit) precision size) out.new result }
-    ensures small { result < text_limit }
-    ensures narrow { result ≤ unit_text_max precision }
-{
-    let rounded = FormatSpec {
-        precision,
-        ..FormatSpec::PLAIN
-    };
-    let len = write_adjusted(size, kind, unit, rounded, out);
-    len - 1 - unit.as_str().len()
 }

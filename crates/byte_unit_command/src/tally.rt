@@ -38,7 +38,7 @@ impl Tally {
         ensures beyond { result ≡ has_beyond options.now size }
     {
         self.total = self.total.saturating_add(size).min(TOTAL_LIMIT);
-        let beyond = is_beyond(options, size);
+        let beyond = is_above(options, size) || is_below(options, size);
         if beyond {
             self.beyond = true;
         }
@@ -51,13 +51,6 @@ impl Tally {
     {
         self.rejected = true;
     }
-}
-
-/// Returns `true` if the size is above the maximum or below the minimum.
-pub fn is_beyond(options: &Options, size: u128) -> bool
-    ensures { result ≡ has_beyond options.now size }
-{
-    is_above(options, size) || is_below(options, size)
 }
 
 /// Returns `true` if the size is above the maximum.

@@ -1,49 +1,57 @@
-//! Appends the text of a size.
+//! Writes and appends the text of a size.
 
 ghost use Rattle.std.specs.Prelude.{◌≡◌, ◌+◌, ◌<◌, ◌≤◌, ◌++◌, ℕ, List, length, max, take, replicate, OnOk, IsOk};
 ghost use Rattle.std.specs.Prelude.{vec_len, vec_capacity};
 ghost use Rattle.byte_unit.specs.Bounds.{size_limit};
 ghost use Rattle.byte_unit.specs.Forms.{text_limit};
-ghost use Rattle.byte_unit_command.specs.Capacity.{short_room, text_room};
+ghost use Rattle.byte_unit_command.specs.CallOptions.{kind_of};
+ghost use Rattle.byte_unit_command.specs.Capacity.{form_max, short_room, text_room, unit_text_max};
 ghost use Rattle.byte_unit_stream.specs.Prefix.{IsPrefix};
-ghost use Rattle.byte_unit_command.specs.Shown.{IsShown, padded};
+ghost use Rattle.byte_unit_command.specs.Shown.{BeginsWithForm, IsFormText, IsShown, padded};
 
-use crate::options::Options;
-use crate::size::write_size;
+use crate::meaning::kind_of;
+use crate::options::{Form, Kind, Options, Unit};
+use byte_unit::FormatSpec;
+use byte_unit_choice::appropriate_unit;
+use byte_unit_format::{write_adjusted, write_text};
 use std::alloc::{AllocError, Allocator};
 
 /// The most bytes of a text that are copied in one piece of a constant length.
 pub(crate) const AT_ONCE: usize = 64;
 
-/// Appends the text of a size to `text`. `digits` is a buffer for it.
+/// Appends the text of a size in at least `width` columns to `text`. `digits` is a buffer for it.
+///
+/// The only call that writes a size, so that the ways to write it are inlined here.
 ///
 /// Preconditions (proved at every call): `size` is less than 10^30, and `digits` has capacity for any text.
 ///
 /// # Errors
 ///
 /// Returns `AllocError` if allocation fails.
-pub(crate) fn add_size<A: Allocator>(
+pub(crate) fn add_in_width<A: Allocator>(
     options: &Options,
+    width: usize,
     size: u128,
     digits: &mut [u8],
     text: &mut Vec<u8, A>,
 ) -> Result<(), AllocError>
     requires size { size < size_limit }
     requires capacity { text_limit ≤ length digits.old }
-    ensures ok { OnOk result ((shown : List ℕ) × IsShown options.now size shown
+    ensures ok { OnOk result ((shown : List ℕ)
+        × IsShown (record options.now { width = width }) size shown
         × (text.new.items ≡ text.old.items ++ shown)) }
     ensures kept { IsPrefix text.old.items text.new.items }
-    ensures succeeds { vec_len text.old + text_room options.now ≤ vec_capacity text.old
+    ensures succeeds { vec_len text.old + max width (text_room options.now) ≤ vec_capacity text.old
         → IsOk result }
-    ensures len { vec_len text.new ≤ vec_len text.old + text_room options.now }
+    ensures len { vec_len text.new ≤ vec_len text.old + max width (text_room options.now) }
     ensures capacity { vec_capacity text.old ≤ vec_capacity text.new }
 {
     let len = write_size(options, size, digits);
-    if options.width == 0 {
+    if width == 0 {
         return add_unpadded(options, digits, len, text);
     }
     add_padded(
-        options.width as usize,
+        width,
         options.align_left,
         options.suffix,
         &digits[..len],
@@ -137,7 +145,7 @@ fn add_first<A: Allocator>(
 /// # Errors
 ///
 /// Returns `AllocError` if allocation fails.
-pub(crate) fn add_padded<A: Allocator>(
+fn add_padded<A: Allocator>(
     width: usize,
     align_left: bool,
     suffix: &[u8],
@@ -180,4 +188,88 @@ fn add_spaces<A: Allocator>(count: usize, text: &mut Vec<u8, A>) -> Result<(), A
     ensures capacity { vec_capacity text.old ≤ vec_capacity text.new }
 {
     text.resize(text.len().saturating_add(count), b' ')
+}
+
+/// Writes a size in the form of the options to the beginning of `out`, and returns its length.
+///
+/// Preconditions (proved at every call): `size` is less than 10^30, and `out` has capacity for any text.
+#[inline(always)]
+fn write_size(options: &Options, size: u128, out: &mut [u8]) -> usize
+    requires size { size < size_limit }
+    requires capacity { text_limit ≤ length out.old }
+    ensures written { BeginsWithForm
+        (IsFormText options.now.kind options.now.form options.now.precision size)
+        out.new result }
+    ensures bound { result < text_limit }
+    ensures narrow { result ≤ form_max options.now.form options.now.precision }
+{
+    match options.kind {
+        Kind::Byte => write_as::<false>(options, size, out),
+        Kind::Bit => write_as::<true>(options, size, out),
+    }
+}
+
+/// Writes a size in bits, or in bytes, as [`write_size`] does. A constant kind takes fewer instructions than a
+/// variable.
+///
+/// Preconditions (proved at every call): `size` is less than 10^30, and `out` has capacity for any text.
+#[tactic(auto, using(crate::proofs::Numbers::begins_with))]
+#[inline(always)]
+fn write_as<const BITS: bool>(options: &Options, size: u128, out: &mut [u8]) -> usize
+    requires size { size < size_limit }
+    requires capacity { text_limit ≤ length out.old }
+    ensures written { BeginsWithForm
+        (IsFormText (kind_of BITS) options.now.form options.now.precision size)
+        out.new result }
+    ensures small { result < text_limit }
+    ensures narrow { result ≤ form_max options.now.form options.now.precision }
+{
+    let kind = kind_of(BITS);
+    // The precision is read where it counts: digits take fewer instructions then.
+    match options.form {
+        Form::Exact => {
+            let exact = FormatSpec {
+                precision: options.precision,
+                ..FormatSpec::ALTERNATE
+            };
+            write_text(size, kind, exact, out)
+        }
+        Form::Plain => write_text(size, kind, FormatSpec::PLAIN, out),
+        Form::InUnit(unit) => {
+            let rounded = FormatSpec {
+                precision: options.precision,
+                ..FormatSpec::PLAIN
+            };
+            write_adjusted(size, kind, unit, rounded, out)
+        }
+        Form::NumberOf(unit) => write_number(size, kind, unit, options.precision, out),
+        Form::Largest(unit_type) => {
+            let unit = appropriate_unit(size, kind, unit_type);
+            let rounded = FormatSpec {
+                precision: options.precision,
+                ..FormatSpec::PLAIN
+            };
+            write_adjusted(size, kind, unit, rounded, out)
+        }
+    }
+}
+
+/// Writes the number of a unit that a size is, and returns its length.
+///
+/// The unit is written after it, and its length left out.
+#[cold]
+#[inline(never)]
+fn write_number(size: u128, kind: Kind, unit: Unit, precision: Option<u16>, out: &mut [u8]) -> usize
+    requires size { size < size_limit }
+    requires capacity { text_limit ≤ length out.old }
+    ensures written { BeginsWithForm (IsFormText kind (Form.NumberOf unit) precision size) out.new result }
+    ensures small { result < text_limit }
+    ensures narrow { result ≤ unit_text_max precision }
+{
+    let rounded = FormatSpec {
+        precision,
+        ..FormatSpec::PLAIN
+    };
+    let len = write_adjusted(size, kind, unit, rounded, out);
+    len - 1 - unit.as_str().len()
 }

@@ -31,7 +31,7 @@ pub enum ValueError {
     From,
     /// The form has no one unit that could be left out.
     NoUnit,
-    /// The exact form never has so many digits after the point.
+    /// The exact form never has that number of digits after the point.
     Precision,
     /// It is not a delimiter.
     Delimiter,
@@ -142,8 +142,8 @@ fn with_mark(alloc: Global, word: &str) -> Result<String, AllocError> {
     Ok(marked)
 }
 
-/// Returns a text with its control characters escaped, but for the line feeds that end its lines. A zero byte is escaped
-/// as the line feed in whose place it is.
+/// Returns a text with its control characters escaped, but for the line feeds that end its lines. A zero byte is
+/// escaped as the line feed in whose place it is.
 ///
 /// # Errors
 ///

@@ -2,7 +2,8 @@
 use Rattle.std.proofs.Common.{◌≡◌, ◌+◌, ◌<◌, not, ◌&&◌, ℕ, List, get_or, length, ap, sym, ◌∙◌, arith}
 use Rattle.std.proofs.Math.Seq.{drop-cons}
 use Rattle.byte_unit_command.specs.Fields.{begins_blank, is_blank}
-use Rattle.byte_unit_command.proofs.BlankFields.{IsUncut-start, IsUncut-step, blank_fields-cut, blank_fields-whole, ends_there}
+use Rattle.byte_unit_command.proofs.BlankFields.{IsUncut-start, IsUncut-step, blank_fields-cut}
+use Rattle.byte_unit_command.proofs.BlankFields.{blank_fields-whole, ends_there}
 use Rattle.byte_unit_command.proofs.blanks.end_of_field.Goals as goal
 
 -- whether it ends there, by two bytes

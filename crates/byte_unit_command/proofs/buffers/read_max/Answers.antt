@@ -1,9 +1,8 @@
--- The texts of as many sizes as a read has bytes take no more than the bytes that are divided by the longest of them, or
--- than one text.
-use Rattle.std.proofs.Common.{◌≡◌, ℕ, zero, suc, ◌+◌, ◌*◌, ◌/◌, ◌≤◌, max, arith, subst}
+-- The texts of as many sizes as a read has bytes take no more than the bytes that are divided by the longest of them,
+-- or than one text.
+use Rattle.std.proofs.Common.{◌≡◌, ℕ, zero, suc, ◌*◌, ◌/◌, ◌≤◌, max, arith, subst}
 use Rattle.std.proofs.Math.Nat.{mul-le-mul_left, mul-le-mul_right, mul-div-le, mul-one}
-use Rattle.byte_unit_command.specs.Capacity.{texts_max, text_max}
-use Rattle.byte_unit_command.proofs.buffers.read_max.Goals as goal
+use Rattle.byte_unit_command.specs.Capacity.{texts_max}
 
 -- one text, or none
 one-fits : (text count : ℕ) → count ≤ 1 → text * count ≤ max texts_max text

@@ -8,5 +8,6 @@ pub returns-in-Ok : goal.returns-in-Ok
 returns-in-Ok c =
     let is = c.in-Ok.ensures.cases in
     let Of : List ℕ → Type 0 =
-    λ text. (position : Option ℕ) × IsSizePosition text position × (c.character_of.result ≡ character_at text position) in
+    λ text. (position : Option ℕ) × IsSizePosition text position
+    × (c.character_of.result ≡ character_at text position) in
     inr (is.1, subst Of is.0 c.character_of.ensures)

@@ -1,42 +1,37 @@
--- Each iteration adds one field with its delimiter; the last field follows the loop, or a rest without a chosen field. A
--- field that is rejected in the mode `abort` is one of the record.
-use Rattle.std.proofs.Common.{true≢false, ◌≡◌, ◌≤◌, ◌<◌, ◌+◌, ◌-◌, ◌∙◌, ◌++◌, ◌∷◌, [], List, ℕ, take, drop, length, ap, sym}
+-- Each iteration adds one field with the bytes after it; the last field follows the loop, or a rest without a chosen
+-- field. A field that is rejected in the mode `abort` is one of the record.
+use Rattle.std.proofs.Common.{true≢false, ◌≡◌, ◌≤◌, ◌+◌, ◌-◌, ◌∙◌, ◌++◌, [], List, ℕ, take, drop, length, ap, sym}
 use Rattle.std.proofs.Common.{subst, Err, arith, length-drop, vec_len}
 use Rattle.std.proofs.lemmas.List.{take_rest, length-take-le}
 use Rattle.byte_unit_command.specs.Capacity.{text_room}
-use Rattle.byte_unit_command.specs.Fields.{IsChosen}
+use Rattle.byte_unit_command.specs.Fields.{IsChosen, between_of, fields_of}
 use Rattle.byte_unit_command.specs.Messages.{AreMessagesOfFields}
 use Rattle.byte_unit_command.specs.RunState.{AddsFields, State, messages_of, state_of}
 use Rattle.byte_unit_command.specs.declared.error.RunError.TheVariants.{Rejected}
 use Rattle.std.proofs.lemmas.Result.{on_ok_weaker}
 use Rattle.byte_unit_command.proofs.Ranges.{no-ranges}
 use Rattle.byte_unit_command.proofs.Results.{error-passed}
-use Rattle.byte_unit_stream.specs.Records.{parts}
-use Rattle.byte_unit_stream.proofs.Ends.{parts-EndsAt, parts-IsUnbroken}
-use Rattle.byte_unit_command.proofs.Rooms.{IsSplitWithin-first, IsSplitWithin-fits, split_len-step, split_room-step}
+use Rattle.byte_unit_command.proofs.Rooms.{IsSplitWithin-first, IsSplitWithin-fits, split_len-step, split_room-cut}
 use Rattle.byte_unit_command.proofs.Rooms.{split_room-last}
 use Rattle.byte_unit_command.proofs.Untold.{others-untold}
-use Rattle.byte_unit_command.proofs.Splitting.{IsSplitting, IsSplitting-start, IsSplitting-step, Aborts-first}
-use Rattle.byte_unit_command.proofs.Splitting.{AddsFields-last, AddsFields-copied, AreFields-copied, FieldHasNoMessage-now}
-use Rattle.byte_unit_command.proofs.Splitting.{between_of-split, fields_of-split}
-use Rattle.byte_unit_stream.proofs.ChunkRecords.{parts_IsSplit}
+use Rattle.byte_unit_command.proofs.Splitting.{EndsFirst, IsSplitting, IsSplitting-at, IsSplitting-start, Aborts-first}
+use Rattle.byte_unit_command.proofs.Splitting.{AddsFields-last, AddsFields-copied, FieldHasNoMessage-now, fields_copied}
 use Rattle.byte_unit_command.proofs.converter.Converter.add_split.Goals as goal
 
 pub returns-in_err-add_field-clause-rejected : goal.returns-in_err-add_field-clause-rejected
 returns-in_err-add_field-clause-rejected g c = λ is.
     let error = c.in_err-add_field.field-0.0 in
     let same = error-passed c.from_residual.result error Rejected c.from_residual.ensures.1 is in
+    let options = c.args.options.now in
     let rest = c.loop-n.rest.now in
     let place = c.in-Some.n in
-    let fields_are = fields_of-split c.args.options.now c.args.bytes.now c.args.delimiter c.requires.delimiter
-    c.requires.blanks in
-    Aborts-first c.loop-n.invariant.0 fields_are (take place rest) (parts c.args.delimiter (drop (place + 1) rest))
-    (parts-EndsAt c.args.delimiter rest place c.in-Some.ensures.some) (messages_of c.add_field.new.self.notices)
-    (c.in_err-add_field.ensures.rejected (ap Err same))
+    Aborts-first c.loop-n.invariant.0 (take place rest)
+    (fields_of options (drop (place + length (between_of options)) rest)) c.in-Some.ensures.some.2
+    (messages_of c.add_field.new.self.notices) (c.in_err-add_field.ensures.rejected (ap Err same))
 
 pub loop-n-init : goal.loop-n-init
 loop-n-init g c = (
-  IsSplitting-start c.args.options.now (parts c.args.delimiter) c.args.bytes.now (state_of c.args.self.now),
+  IsSplitting-start c.args.options.now c.args.bytes.now (state_of c.args.self.now),
   record { len = omega arith; capacity = omega arith; untold = λ none. none },
   c.ranges_from-fields.ensures.same,
   λ yes. c.ranges_from-fields.ensures.in_order (c.is_in_order-in_order.ensures yes),
@@ -51,30 +46,26 @@ loop-n-preserved g c =
     let rest = c.loop-n.rest.now in
     let place = c.in-Some.n in
     let number = c.loop-n.number in
-    let behind = drop (place + 1) rest in
-    let ends = c.in-Some.ensures.some in
-    let shorter : length behind < length rest = omega (arith, ends.0, length-drop (place + 1) rest) in
-    let between = between_of-split options c.args.delimiter c.requires.delimiter c.requires.blanks in
-    let Behind : List ℕ → Type 0 = λ mark. IsSplitting options (parts c.args.delimiter) c.args.bytes.now old (number + 1)
-    behind (record next { out = next.out ++ mark }) in
-    let stepped = subst Behind between (IsSplitting-step c.loop-n.invariant.0 (take place rest) behind
-    (parts-EndsAt c.args.delimiter rest place ends) (parts_IsSplit c.args.delimiter behind) shorter next
-    c.in_ok-add_field.ensures.ok) in
-    let rest_is = take_rest rest (place + 1) in
+    let gap = length c.between-between.result.now in
+    let gap_is = ap length (sym c.between-between.ensures) in
+    let ends = subst (EndsFirst options rest place) gap_is c.in-Some.ensures.some in
+    let out_is = c.in_ok-extend_from_slice.ensures.items ∙ ap (λ mark. next.out ++ mark) c.between-between.ensures in
+    let stepped = IsSplitting-at c.loop-n.invariant.0 c.args.delimiter c.requires.delimiter place gap ends next
+    c.in_ok-add_field.ensures.ok c.extend_from_slice.new.self.items out_is in
+    let behind = drop (place + gap) rest in
+    let rest_is = take_rest rest (place + gap) in
     let within = c.loop-n.invariant.1 in
-    let taken : length (take place rest) ≡ place = length-take-le place rest (omega (arith, ends.0)) in
-    let left : length (take (length rest - (place + 1)) behind) ≡ length rest - (place + 1) =
-    ap length rest_is ∙ length-drop (place + 1) rest in
-    let Split : List ℕ → List ℕ → Type 0 = λ rest out.
-    IsSplitting options (parts c.args.delimiter) c.args.bytes.now old (number + 1) rest
-    (record next { out = out }) in (
-      subst (λ rest. Split rest c.extend_from_slice.new.self.items) (sym rest_is)
-          (subst (Split behind) (sym c.in_ok-extend_from_slice.ensures.items) stepped),
+    let taken : length (take place rest) ≡ place = length-take-le place rest (omega (arith, ends.1)) in
+    let left : length (take (length rest - (place + gap)) behind) ≡ length rest - (place + gap) =
+    ap length rest_is ∙ length-drop (place + gap) rest in
+    let Behind : List ℕ → Type 0 = λ rest. IsSplitting options c.args.bytes.now old (number + 1) rest
+    (record next { out = c.extend_from_slice.new.self.items }) in (
+      subst Behind (sym rest_is) stepped,
       record {
         len = split_len-step (text_room options) (vec_len c.args.self.now.waiting) (length c.args.bytes.now)
-            (vec_len c.loop-n.self.waiting) (length rest) place (vec_len c.add_field.new.self.waiting)
-            (vec_len c.extend_from_slice.new.self) (length (take (length rest - (place + 1)) behind)) ends.0 within.len
-            (omega (arith, c.in_ok-add_field.ensures.len, taken))
+            (vec_len c.loop-n.self.waiting) (length rest) place gap (vec_len c.add_field.new.self.waiting)
+            (vec_len c.extend_from_slice.new.self) (length (take (length rest - (place + gap)) behind)) ends.0 ends.1
+            within.len (omega (arith, c.in_ok-add_field.ensures.len, taken))
             (omega (arith, c.in_ok-extend_from_slice.ensures.len)) left;
         capacity =
             omega (
@@ -84,11 +75,11 @@ loop-n-preserved g c =
               c.in_ok-extend_from_slice.ensures.capacity,
             );
         untold = λ none.
-            let fields = subst (λ fields. AreMessagesOfFields options old.word old.place number fields [])
-            (parts-EndsAt c.args.delimiter rest place ends) (within.untold none) in
-            let others = others-untold options old.word old.place number (take place rest)
-            (parts c.args.delimiter behind) fields in
-            subst (λ rest. AreMessagesOfFields options old.word old.place (number + 1) (parts c.args.delimiter rest) [])
+            let fields = subst (λ fields. AreMessagesOfFields options old.word old.place number fields []) ends.2
+            (within.untold none) in
+            let others = others-untold options old.word old.place number (take place rest) (fields_of options behind)
+            fields in
+            subst (λ rest. AreMessagesOfFields options old.word old.place (number + 1) (fields_of options rest) [])
             (sym rest_is) others;
       },
       λ later high.
@@ -106,71 +97,78 @@ returns-then-is_empty-clause-ok g c =
     let rest = c.loop-n.rest.now in
     let place = c.in-Some.n in
     let number = c.loop-n.number in
-    let behind = drop (place + 1) rest in
-    let ends = c.in-Some.ensures.some in
-    let shorter : length behind < length rest = omega (arith, ends.0, length-drop (place + 1) rest) in
-    let between = between_of-split options c.args.delimiter c.requires.delimiter c.requires.blanks in
-    let fields_are = fields_of-split options c.args.bytes.now c.args.delimiter c.requires.delimiter c.requires.blanks in
-    let Behind : List ℕ → Type 0 = λ mark. IsSplitting options (parts c.args.delimiter) c.args.bytes.now
-    (state_of c.args.self.now) (number + 1) behind (record next { out = next.out ++ mark }) in
-    let stepped = subst Behind between (IsSplitting-step c.loop-n.invariant.0 (take place rest) behind
-    (parts-EndsAt c.args.delimiter rest place ends) (parts_IsSplit c.args.delimiter behind) shorter next
-    c.in_ok-add_field.ensures.ok) in
+    let gap = length c.between-between.result.now in
+    let gap_is = ap length (sym c.between-between.ensures) in
+    let ends = subst (EndsFirst options rest place) gap_is c.in-Some.ensures.some in
+    let behind = drop (place + gap) rest in
+    let before = c.extend_from_slice.new.self.items in
+    let out_is = c.in_ok-extend_from_slice.ensures.items ∙ ap (λ mark. next.out ++ mark) c.between-between.ensures in
+    let stepped = IsSplitting-at c.loop-n.invariant.0 c.args.delimiter c.requires.delimiter place gap ends next
+    c.in_ok-add_field.ensures.ok before out_is in
     let none = no-ranges c.ranges_from-ranges.result.now c.if-is_empty.ensures in
-    let past : (later : ℕ) → c.loop-n.number + 1 ≤ later → ¬ IsChosen c.args.options.now.fields.now later =
+    let past : (later : ℕ) → number + 1 ≤ later → ¬ IsChosen options.fields.now later =
     λ later high chosen.
     let left = (c.ranges_from-ranges.ensures.same later high).0
     ((c.loop-n.invariant.2 later (omega (arith, high))).0 chosen) in
     subst (λ ranges. IsChosen ranges later) none left in
-    let copied = AddsFields-copied stepped fields_are
-    (AreFields-copied options c.args.delimiter between behind (number + 1) past) past in
-    let out : c.extend_from_slice-then-is_empty.new.self.items ≡ (next.out ++ c.args.delimiter ∷ []) ++ behind =
-    c.in_ok-extend_from_slice-2.ensures.items
-    ∙ ap (λ text. text ++ take (length rest - (place + 1)) behind) c.in_ok-extend_from_slice.ensures.items
-    ∙ ap (λ more. (next.out ++ c.args.delimiter ∷ []) ++ more) (take_rest rest (place + 1)) in
-    subst (λ (out : List ℕ). AddsFields c.args.options.now c.args.bytes.now (state_of c.args.self.now)
+    let copied = AddsFields-copied stepped
+    (fields_copied options c.args.delimiter c.requires.delimiter behind (number + 1) past) past in
+    let out : c.extend_from_slice-then-is_empty.new.self.items ≡ before ++ behind =
+    c.in_ok-extend_from_slice-2.ensures.items ∙ ap (λ more. before ++ more) (take_rest rest (place + gap)) in
+    subst (λ (out : List ℕ). AddsFields options c.args.bytes.now (state_of c.args.self.now)
     (record next { out = out })) (sym out) copied
 
 pub returns-clause-ok : goal.returns-clause-ok
 returns-clause-ok g c =
-    let fields_are = fields_of-split c.args.options.now c.args.bytes.now c.args.delimiter c.requires.delimiter
-    c.requires.blanks in
-    on_ok_weaker c.add_field-2.result (AddsFields-last c.loop-n.invariant.0 fields_are
-    (parts-IsUnbroken c.args.delimiter c.loop-n.rest.now c.in_default.ensures.none) (state_of c.add_field-2.new.self))
-    c.add_field-2.ensures.ok
+    on_ok_weaker c.add_field-2.result (AddsFields-last c.loop-n.invariant.0 c.in_default.ensures.none
+    (state_of c.add_field-2.new.self)) c.add_field-2.ensures.ok
 
 pub returns-clause-rejected : goal.returns-clause-rejected
 returns-clause-rejected g c = λ is.
-    let fields_are = fields_of-split c.args.options.now c.args.bytes.now c.args.delimiter c.requires.delimiter
-    c.requires.blanks in
-    Aborts-first c.loop-n.invariant.0 fields_are c.loop-n.rest.now []
-    (parts-IsUnbroken c.args.delimiter c.loop-n.rest.now c.in_default.ensures.none)
+    Aborts-first c.loop-n.invariant.0 c.loop-n.rest.now [] c.in_default.ensures.none
     (messages_of c.add_field-2.new.self.notices) (c.add_field-2.ensures.rejected is)
 
 pub returns-in_err-add_field-clause-succeeds : goal.returns-in_err-add_field-clause-succeeds
 returns-in_err-add_field-clause-succeeds g c = λ room untold.
+    let options = c.args.options.now in
     let rest = c.loop-n.rest.now in
     let place = c.in-Some.n in
+    let gap = length (between_of options) in
     let field = take place rest in
     let ends = c.in-Some.ensures.some in
     let within = c.loop-n.invariant.1 in
-    let fields_are = fields_of-split c.args.options.now c.args.bytes.now c.args.delimiter c.requires.delimiter
-    c.requires.blanks in
-    let first = IsSplitWithin-first within fields_are field (parts c.args.delimiter (drop (place + 1) rest))
-    (parts-EndsAt c.args.delimiter rest place ends) untold in
+    let first = IsSplitWithin-first within field (fields_of options (drop (place + gap) rest)) ends.2 untold in
     let fits = IsSplitWithin-fits within c.args.delimiter c.requires.delimiter room in
-    let taken : length field ≡ place = length-take-le place rest (omega (arith, ends.0)) in
-    let step = split_room-step (text_room c.args.options.now) (length rest) place ends.0 in
+    let taken : length field ≡ place = length-take-le place rest (omega (arith, ends.1)) in
+    let step = split_room-cut (text_room options) (length rest) (place + gap) ends.0 ends.1 in
     let here = FieldHasNoMessage-now c.loop-n.invariant.0 field first in
     absurd (true≢false (sym (c.in_err-add_field.ensures.succeeds (omega (arith, fits, step, taken)) here)))
+
+pub returns-in_err-extend_from_slice-clause-succeeds : goal.returns-in_err-extend_from_slice-clause-succeeds
+returns-in_err-extend_from_slice-clause-succeeds g c = λ room untold.
+    let options = c.args.options.now in
+    let rest = c.loop-n.rest.now in
+    let place = c.in-Some.n in
+    let gap = length (between_of options) in
+    let ends = c.in-Some.ensures.some in
+    let fits = IsSplitWithin-fits c.loop-n.invariant.1 c.args.delimiter c.requires.delimiter room in
+    let taken : length (take place rest) ≡ place = length-take-le place rest (omega (arith, ends.1)) in
+    let step = split_room-cut (text_room options) (length rest) (place + gap) ends.0 ends.1 in
+    let gap_is = ap length c.between-between.ensures in
+    absurd (true≢false (sym (c.in_err-extend_from_slice.ensures.succeeds (omega (
+      arith,
+      fits,
+      step,
+      taken,
+      gap_is,
+      c.in_ok-add_field.ensures.len,
+      c.in_ok-add_field.ensures.capacity,
+    )))))
 
 pub returns-clause-succeeds : goal.returns-clause-succeeds
 returns-clause-succeeds g c = λ room untold.
     let rest = c.loop-n.rest.now in
-    let fields_are = fields_of-split c.args.options.now c.args.bytes.now c.args.delimiter c.requires.delimiter
-    c.requires.blanks in
-    let first = IsSplitWithin-first c.loop-n.invariant.1 fields_are rest []
-    (parts-IsUnbroken c.args.delimiter rest c.in_default.ensures.none) untold in
+    let first = IsSplitWithin-first c.loop-n.invariant.1 rest [] c.in_default.ensures.none untold in
     let fits = IsSplitWithin-fits c.loop-n.invariant.1 c.args.delimiter c.requires.delimiter room in
     c.add_field-2.ensures.succeeds (omega (arith, fits, split_room-last (text_room c.args.options.now) (length rest)))
     (FieldHasNoMessage-now c.loop-n.invariant.0 rest first)

@@ -3,7 +3,6 @@
 use Rattle.std.proofs.Common.{ℕ, ◌≤◌, ◌↔◌, length, IsTrue}
 use Rattle.byte_unit_command.specs.Fields.{GoesTo, IsChosen, IsInOrder}
 use Rattle.byte_unit_command.specs.RunState.{state_of}
-use Rattle.byte_unit_stream.specs.Records.{parts}
 use Rattle.byte_unit_command.proofs.Rooms.{IsSplitWithin}
 use Rattle.byte_unit_command.proofs.Splitting.{IsSplitting}
 use Rattle.byte_unit_command.proofs.converter.Converter.add_split.Given as goal
@@ -11,8 +10,8 @@ use Rattle.byte_unit_command.proofs.converter.Converter.add_split.Given as goal
 abbrev pub invariant-loop-n : goal.invariant-loop-n
 invariant-loop-n g l =
     let old = state_of l.initial.self in
-    IsSplitting l.options (parts l.delimiter) l.bytes old l.number l.rest (state_of l.self)
-    × IsSplitWithin l.options old (parts l.delimiter) l.bytes l.initial.self.waiting l.number l.rest l.self.waiting
+    IsSplitting l.options l.bytes old l.number l.rest (state_of l.self)
+    × IsSplitWithin l.options old l.bytes l.initial.self.waiting l.number l.rest l.self.waiting
     × ((later : ℕ) → l.number ≤ later → IsChosen l.options.fields.now later ↔ IsChosen l.ranges later)
     × (IsTrue l.in_order → IsInOrder l.ranges) × GoesTo l.ranges l.number
 

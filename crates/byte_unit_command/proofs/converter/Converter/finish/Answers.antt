@@ -24,7 +24,8 @@ returns-in_err-added-clause-written g c =
     × Aborts options part (at_next (record before { out = out; messages = told })) messages
     × (nonempty_record part ≡ part ∷ []) in
     let at = IsFinished-early options part (idle before) messages error failed.ensures.error
-    (λ is. failed.ensures.memory (ap Err is) ∙ c.requires.untold) (λ is. subst (λ out. EndedEarly out []) c.requires.empty
+    (λ is. failed.ensures.memory (ap Err is) ∙ c.requires.untold)
+    (λ is. subst (λ out. EndedEarly out []) c.requires.empty
     (subst (EndedEarly before.out) c.requires.untold (failed.ensures.rejected (ap Err is)))) in
     WritesAndTells-by [] (Appends-nil (g.W.Write.contents (writer_of c.args.writer.now))) c.tell.ensures.told
     (IsFinished-passed _ _ _ _ _ c.from_residual.result error c.from_residual.ensures.1 at)

@@ -2,14 +2,14 @@
 use Rattle.std.proofs.Common.{None, arith}
 use Rattle.std.proofs.lemmas.Bool.{leb-false, leb-true}
 use Rattle.byte_unit_command.proofs.Ranges.{chosen-by_first, none-before-first}
-use Rattle.byte_unit_command.proofs.field.has_begun.Goals as goal
+use Rattle.byte_unit_command.proofs.field.is_chosen.Goals as goal
 
 pub returns-in-len1-up-clause-yes : goal.returns-in-len1-up-clause-yes
 returns-in-len1-up-clause-yes c = λ begun.
     chosen-by_first c.args.ranges.now (record { first = 0; last = None }) c.args.number
-    (omega (arith, c.in-len1-up.len_at_least)) c.requires.goes (leb-true _ _ begun)
+    (omega (arith, c.in-len1-up.len_at_least)) (c.requires.goes c.if-not-in_order.false) (leb-true _ _ begun)
 
 pub returns-in-len1-up-clause-no : goal.returns-in-len1-up-clause-no
 returns-in-len1-up-clause-no c = λ late.
-    none-before-first c.args.ranges.now (record { first = 0; last = None }) c.args.number c.requires.order
-    (leb-false _ _ late)
+    none-before-first c.args.ranges.now (record { first = 0; last = None }) c.args.number
+    (c.requires.order c.if-not-in_order.false) (leb-false _ _ late)

@@ -4,7 +4,7 @@ use Rattle.byte_unit_command.specs.Shown.{BeginsWithForm, IsFormText}
 use Rattle.byte_unit_command.specs.declared.options.Form.TheVariants.{NumberOf}
 use Rattle.byte_unit_command.proofs.Lengths.{adjusted-narrow}
 use Rattle.byte_unit_command.proofs.Numbers.{begins_with_number, needed_is}
-use Rattle.byte_unit_command.proofs.size.write_number.Goals as goal
+use Rattle.byte_unit_command.proofs.text.write_number.Goals as goal
 
 pub overflow_sub-result : goal.overflow_sub-result
 overflow_sub-result c = omega (arith, needed_is _ _ _ _ _ _ _ c.write_adjusted-len.ensures.written)
@@ -18,8 +18,9 @@ pub returns-clause-written : goal.returns-clause-written
 returns-clause-written c =
     let len = c.write_adjusted-len.result in
     let room : len ≤ length c.args.out.now = omega (arith, c.write_adjusted-len.ensures.bound, c.requires.capacity) in
-    subst (λ (name : List ℕ). BeginsWithForm (IsFormText c.args.kind (NumberOf c.args.unit) c.args.precision c.args.size)
-    c.write_adjusted-len.new.out (len - 1 - length name)) (sym c.as_str.ensures)
+    let IsText : List ℕ → Type 0 = IsFormText c.args.kind (NumberOf c.args.unit) c.args.precision c.args.size in
+    subst (λ (name : List ℕ). BeginsWithForm IsText c.write_adjusted-len.new.out (len - 1 - length name))
+    (sym c.as_str.ensures)
     (begins_with_number _ _ _ _ _ _ _ c.write_adjusted-len.ensures.written room)
 
 pub returns-clause-narrow : goal.returns-clause-narrow
