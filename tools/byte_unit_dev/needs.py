@@ -36,7 +36,7 @@ PACKAGES = {
     "/usr/aarch64-linux-gnu/include/stdio.h": "libc6-dev-arm64-cross",
     f"{POSTGRESQL_15}/bin/psql": "postgresql-client-15", "make": "make", "setpriv": "util-linux", "lsblk": "util-linux",
     **dict.fromkeys(["du", "df", "ls", "numfmt"], "coreutils"), **dict.fromkeys(["free", "ps"], "procps"),
-    "valgrind": "valgrind", "lintian": "lintian", "dpkg-deb": "dpkg", "unshare": "util-linux", "strip": "binutils",
+    "valgrind": "valgrind", "lintian": "lintian", "dpkg-deb": "dpkg", "apt-get": "apt", "unshare": "util-linux", "strip": "binutils",
     f"{POSTGRESQL_15}/lib/pgxs/src/makefiles/pgxs.mk": "postgresql-server-dev-15",
 }
 POSTGRESQL = ["gcc", "make", "setpriv", *(need for need in PACKAGES if need.startswith(POSTGRESQL_15))]

@@ -157,7 +157,7 @@ def test_older_processor(unpacked):
     assert got.stdout == "1536\n" or got.returncode == 127 and "x86-64-v2" in got.stdout
 
 
-@pytest.mark.parametrize("pattern", ["*.whl", "byte_unit-*.tar.gz"])
+@pytest.mark.parametrize("pattern", ["*x86_64.whl", "byte_unit-*.tar.gz"])
 def test_pip(file, tmp_path, pattern):
     need(*PYTHON_PACKAGE)
     archive, here = file(pattern), environment(PKG_CONFIG_LIBDIR="/nowhere")

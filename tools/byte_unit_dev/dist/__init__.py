@@ -8,7 +8,7 @@ byte_unit.wasm and aarch64/libbyte_unit.a from a folder; what needs a file that 
 must be empty or missing, then has:
 
     byte-unit-VERSION-linux-x86_64.tar.gz, -linux-aarch64.tar.gz    a prefix, for any place, and install.sh
-    byte_unit-VERSION-cp311-abi3-..whl, byte_unit-VERSION.tar.gz    for pip, which then needs no network
+    byte_unit-VERSION-cp311-abi3-..whl, byte_unit-VERSION.tar.gz    for pip, which then needs no network; a wheel a processor
     byte-unit-5.2.6-cargo.tar.gz                   a package for a folder of cargo's vendored sources
     byte-unit-VERSION-js.tar.gz, how-a-size-is-read.html             the package for JavaScript, and the page
     lib*.deb, byte-unit_*.deb, python3-*.deb, postgresql-*.deb       the packages for Debian 12
@@ -26,8 +26,8 @@ import shutil
 import tempfile
 from pathlib import Path
 
-from .. import libraries
-from ..builds import copied, environment
+from .. import foreign, libraries
+from ..builds import copied, environment, wheel
 from ..common import Failure, call, output, path, read
 from ..install import COMMAND, files_of
 from ..libraries import ARCHIVE, EXTENSION, HEADER, MODULE
@@ -141,16 +141,23 @@ def python(parts):
     missing = [need for need in PYTHON_PACKAGE if not is_there(need)]
     if missing:
         raise Failure(f"{missing[0]} is missing")
-    copy = copied("python", parts.work)
-    here = environment(BYTE_UNIT_LIBRARY_DIR=parts.x86, SOURCE_DATE_EPOCH=parts.seconds, CFLAGS="-g0", LDFLAGS="-s")
-    output(DEBIAN_PYTHON, "setup.py", "bdist_wheel", "-d", parts.work, cwd=copy, env=here)
+    made = wheel(parts.x86, parts.work / "wheel", parts.seconds, CFLAGS="-g0")
+    parts.wheel = archives.files_of_zip(made)
+    here = environment(BYTE_UNIT_LIBRARY_DIR=parts.x86, SOURCE_DATE_EPOCH=parts.seconds)
     output(DEBIAN_PYTHON, "setup.py", "sdist", "-d", parts.work, cwd=copied("python", parts.work / "sdist"), env=here)
-    (wheel,), (source,) = parts.work.glob("*.whl"), parts.work.glob("byte_unit-*.tar.gz")
-    parts.wheel = archives.files_of_zip(wheel)
+    (source,) = parts.work.glob("byte_unit-*.tar.gz")
     files = {**archives.files_of_tar(source), "CHANGELOG.md": read("CHANGELOG.md").encode()}
     top = source.name.removesuffix(".tar.gz")
-    return {wheel.name: archives.zipped(parts.wheel, parts.seconds),
+    return {made.name: archives.zipped(parts.wheel, parts.seconds),
             source.name: archives.tarball(top, files, parts.seconds)}  # fmt: skip
+
+
+def python_aarch64(parts):
+    """Returns the wheel for aarch64, which Debian's compiler and Python build here."""
+    needed(parts.arm / ARCHIVE, "the library for aarch64")
+    root = foreign.unpacked(parts.work / "foreign")
+    made = wheel(parts.arm, parts.work / "wheel-aarch64", parts.seconds, **foreign.variables(root))
+    return {made.name: archives.zipped(archives.files_of_zip(made), parts.seconds)}
 
 
 def cargo(parts):
@@ -187,6 +194,7 @@ def sources(parts):
 
 
 KINDS = {"the archive for x86-64": x86_64, "the archive for aarch64": aarch64, "the packages for pip": python,
+         "the wheel for aarch64": python_aarch64,
          "the package for cargo": cargo, "the package for JavaScript": javascript, "the sources": sources,
          **debian.KINDS}  # fmt: skip
 
