@@ -8,7 +8,7 @@ from .needs import is_there
 
 MIRROR = "http://deb.debian.org/debian"
 ARCHIVES = "/var/cache/apt/archives"
-HERE = {"PATH": "/usr/sbin:/usr/bin:/sbin:/bin", "HOME": "/root", "LC_ALL": "C.UTF-8",
+HERE = {"PATH": "/usr/local/sbin:/usr/local/bin:/usr/sbin:/usr/bin:/sbin:/bin", "HOME": "/root", "LC_ALL": "C.UTF-8",
         "DEBIAN_FRONTEND": "noninteractive"}  # fmt: skip
 ALONE = ["unshare", "--mount", "--pid", "--fork", "--kill-child"]
 # The status of a script whose packages could not be installed.
@@ -50,7 +50,7 @@ def run(base, work, dist, needs, script, variables):
 
     Returns its status and what it printed, and then a line `left: ` for each file in the system that was not before."""
     installs = ["chroot root apt-get install --yes --quiet=2 --no-install-recommends -o Dpkg::Use-Pty=0",
-                "-o Dpkg::Options::=--force-unsafe-io", *needs, f"> log 2>&1 || {{ cat log; exit {MISSING}; }}"]  # fmt: skip
+                "-o Dpkg::Options::=--force-unsafe-io", *needs, f"> log 2>&1 || {{ cat log; exit {MISSING}; }}"]
     words = [BEGIN, " ".join(installs), f"{LISTED} > before", script, f"{LISTED} > after",
              "LC_ALL=C comm -13 before after | sed 's/^/left: /'"]  # fmt: skip
     env = {**HERE, **variables, "WORK": str(work), "BASE": str(base), "DIST": str(dist)}

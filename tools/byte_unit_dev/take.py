@@ -7,8 +7,9 @@ line. With --update, replaces that copy by the current one, but for each crate's
 any was edited, added or removed. Either form changes everything or nothing.
 
 With --with serde, copies byte_unit_serde too, which uses the crates serde and toml; a later --update updates it too.
-With --with proofs, proves the crates here by `rt lib`, unless they are proved, and copies what it built, out/rlib, so
-that the first `rt run` there need not prove them; `rt ci` there proves them all the same. Both: --with serde,proofs.
+With --with proofs, proves the crates here by `rt lib`, unless they are proved, and copies what it built, out/rlib, some
+750 MB, so that the first `rt run` there need not prove them; `rt ci` there proves them all the same. Both: --with
+serde,proofs.
 """
 
 import contextlib

@@ -47,8 +47,9 @@ what is in them was compiled of what was proved where they were made.
 
 ## Without the toolchain
 
-- The README.md in an archive (of the wheel: METADATA) has the commands that install it. `apt-get install ./NAME.deb`
-  installs a package for Debian; `autopkgtest *.deb byte-unit-{version}-autopkgtest/ -- null` tries them all.
+- The README.md in an archive (of the wheel: METADATA) has the commands that install it.
+- `apt-get install ./NAME.deb` installs a package for Debian; libbyte-unit-dev needs libbyte-unit3 in the same call.
+  `autopkgtest *.deb byte-unit-{version}-autopkgtest/ -- null`, with that archive unpacked, installs and tries them all.
 - `sha256sum -c SHA256SUMS`: the files are those that were made.
 - `vectors/byte-unit.txt` in the sources has sizes, errors and texts: compare them with any of the packages;
   `vectors/run_python.py` does so with the wheel.

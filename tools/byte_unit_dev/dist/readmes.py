@@ -27,8 +27,8 @@ venv/bin/pip install --no-index --find-links . byte_unit
 of Python (Debian: gcc, python3-dev, python3-setuptools, python3-wheel). The library is inside of both. `venv/bin/pip
 uninstall byte_unit` removes it.
 """,
-    "rust": """For Linux and x86-64, without a network. In the folder of a program whose `Cargo.toml` has `byte-unit = "5"` among
-its `[dependencies]`:
+    "rust": """For Linux and x86-64, without a network. In the folder of a program whose `Cargo.toml` has
+`byte-unit = "5"` among its `[dependencies]`:
 
 ```sh
 mkdir -p vendor .cargo
@@ -52,8 +52,8 @@ byte-unit = { path = "vendor/byte-unit-5.2.6" }
 
 The library is inside.
 """,
-    "js": """This folder is the package. It needs an engine with 64-bit memory (memory64), as Chromium 156 has, and Node 20 with
-`--experimental-wasm-memory64`; others were not tried.
+    "js": """This folder is the package. It needs an engine with 64-bit memory (memory64), as Chromium 156 has, and
+Node 18 and 20 with `--experimental-wasm-memory64`; others were not tried.
 
 ```sh
 tar -xzf @PACKAGE@.tar.gz

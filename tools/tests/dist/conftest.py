@@ -1,4 +1,4 @@
-"""What the tests of `tools/dev make-dist` share: what it makes from what is built, and a clean Debian 12 to try it in."""
+"""What the tests of `tools/dev make-dist` share: what it makes from what is built, and a clean Debian 12 for trials."""
 
 import os
 import shutil

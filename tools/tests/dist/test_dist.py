@@ -82,7 +82,8 @@ def test_older_libraries(unpacked, tmp_path):
     need(*OLDER[:1], "gcc", "sqlite3")
     top, (words, text) = unpacked("*-linux-x86_64.tar.gz"), example()
     for library in ("libbyte_unit.a", "libbyte_unit.so"):
-        made = fixtures.compiled("gcc", tmp_path / library, "-I", top / "include", *words, top / "lib" / library, input=text)
+        words_of = ["-I", top / "include", *words, top / "lib" / library]
+        made = fixtures.compiled("gcc", tmp_path / library, *words_of, input=text)
         assert output(*OLDER, "-E", f"LD_LIBRARY_PATH={top}/lib", made) == "1.5 KiB\n"
     words = ["-cmd", f".load {top}/lib/sqlite3/byte_unit", ":memory:", "SELECT size_text(size_parse('1.5 KiB'))"]
     assert output(*OLDER, shutil.which("sqlite3"), *words) == "1.5 KiB\n"
@@ -99,8 +100,8 @@ def test_older_postgresql(file, tmp_path):
     need(*OLDER[:1], *POSTGRESQL, "dpkg-deb")
     output("dpkg-deb", "--extract", file("postgresql-*.deb"), tmp_path / "root")
     (module,), (script,) = (list(tmp_path.glob(f"root/usr/**/byte_unit{end}")) for end in (".so", "--*.sql"))
-    found = re.search(r"CREATE TYPE bytesize;.*?STORAGE = plain\);", read(script).replace("MODULE_PATHNAME", str(module)), re.S)
-    statements = [*found[0].split(";\n"), "SELECT '1.5 KiB'::bytesize"]
+    found = re.search(r"CREATE TYPE bytesize;.*?STORAGE = plain\);", read(script), re.S)[0]
+    statements = [*found.replace("MODULE_PATHNAME", str(module)).split(";\n"), "SELECT '1.5 KiB'::bytesize"]
     for folder in (tmp_path, *tmp_path.parents[:2]):
         folder.chmod(0o755)
     (tmp_path / "data").mkdir()

@@ -1,4 +1,4 @@
-"""Tries what `tools/dev make-dist` makes in a clean Debian 12: as its users do, with nothing else, and until it is gone."""
+"""Tries what `tools/dev make-dist` makes in a clean Debian 12: as its users do, without anything else."""
 
 import pytest
 from byte_unit_dev import clean

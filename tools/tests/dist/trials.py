@@ -1,4 +1,4 @@
-"""What `tools/dev make-dist` makes is tried by: scripts that do as its users do, and autopkgtest for Debian's packages."""
+"""How what `tools/dev make-dist` makes is tried: by scripts that do as its users do, and by apt-get and autopkgtest."""
 
 import re
 from pathlib import Path
@@ -11,10 +11,14 @@ ARTEFACTS = sorted(file.stem for file in SCRIPTS.iterdir() if file.stem != "begi
 PACKAGES = re.findall(r"^Tests: (.*)\nDepends: (.*)$", read(TESTS / "control"), re.M)
 # Without a network.
 TRY = 'unshare --net chroot root sh -c "$SCRIPT"'
-AUTOPKGTEST = """mkdir tree
+# As RELEASE.md says, by apt-get, and then by autopkgtest.
+PACKAGE = """in_root() { chroot root sh -euc "cd /dist; $1"; }
+in_root "apt-get install --yes --quiet=2 -o Dpkg::Use-Pty=0 $FILES; sh /usr/share/doc/$TEST/examples/try"
+in_root "apt-get purge --yes --quiet=2 -o Dpkg::Use-Pty=0 $NAMES"
+mkdir tree
 tar -xzf "$DIST"/*-autopkgtest.tar.gz -C tree --strip-components=1
 autopkgtest --quiet --test-name="$TEST" "$DIST"/*.deb tree/ -- chroot "$PWD/root"
-dpkg --root=root --purge $OURS
+in_root "apt-get purge --yes --quiet=2 -o Dpkg::Use-Pty=0 $NAMES"
 """
 
 
@@ -29,19 +33,21 @@ def scripts(dist):
     for name in ARTEFACTS:
         made[name] = header(name, "Needs").split(), TRY, {"SCRIPT": begin + read(SCRIPTS / f"{name}.sh")}
     for package, depends in PACKAGES:
-        needs, ours = needed(dist, package, depends.split(", "))
-        made[package] = ["apt-utils", *needs], AUTOPKGTEST, {"TEST": package, "OURS": " ".join(ours)}
+        needs, ours = needed(dist, {package, *depends.split(", ")})
+        files = " ".join(f"./{file.name}" for file in ours.values())
+        made[package] = ["apt-utils", *needs], PACKAGE, {"TEST": package, "NAMES": " ".join(ours), "FILES": files}
     return made
 
 
-def needed(dist, package, also):
-    """Returns the packages of Debian that a package needs, and its test."""
-    ours, needs, waiting = {file.name.partition("_")[0]: file for file in dist.glob("*.deb")}, set(), {package, *also}
-    while waiting:
-        name = waiting.pop()
-        if name in ours:
-            depends = output("dpkg-deb", "--field", ours[name], "Depends")
-            waiting |= set(re.findall(r"[a-z0-9][a-z0-9+.-]+(?=$| \(|,)", depends))
+def needed(dist, names):
+    """Returns the packages of Debian that these packages need, and those of ours, with their files."""
+    files, needs, ours = {file.name.partition("_")[0]: file for file in dist.glob("*.deb")}, set(), {}
+    while names:
+        name = names.pop()
+        if name in files:
+            ours[name] = files[name]
+            depends = output("dpkg-deb", "--field", files[name], "Depends")
+            names |= set(re.findall(r"[a-z0-9][a-z0-9+.-]+(?=$| \(|,)", depends))
         else:
             needs.add(name)
-    return sorted(needs), sorted(ours)
+    return sorted(needs), ours
