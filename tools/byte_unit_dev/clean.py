@@ -33,15 +33,17 @@ LISTED = f"find root -regextype posix-extended -regex 'root/({KEPT})(/.*)?' -pru
 
 def make(folder):
     """Makes a Debian 12 that has apt and the essential packages alone, and returns its folder, in another."""
+    if not is_there("mmdebstrap"):
+        raise Failure("a clean Debian 12 could not be made: mmdebstrap is missing")
     made, work = folder / "base", folder / "work"
+    work.mkdir()
     words = ["mmdebstrap", "--quiet", "--variant=minbase", "--skip=cleanup/apt", "--dpkgopt=force-unsafe-io",
              '--aptopt=Acquire::Languages "none"', "bookworm", made, MIRROR]  # fmt: skip
-    work.mkdir()
-    steps = [[*ALONE, *words], [*ALONE, "sh", "-euc", BEGIN]] if is_there(words[0]) else [["sh", "-c", words[0]]]
-    for step in steps:
-        got = call(*step, env={**os.environ, **HERE, "WORK": str(work), "BASE": str(made), "DIST": str(work)})
+    env = {**os.environ, **HERE, "WORK": str(work), "BASE": str(made), "DIST": str(work)}
+    for step in (words, ["sh", "-euc", BEGIN]):
+        got = call(*ALONE, *step, env=env)
         if got.returncode:
-            raise Failure(f"a clean Debian 12 could not be made: {got.stdout.strip().rpartition(chr(10))[2]}")
+            raise Failure(f"a clean Debian 12 could not be made: {'; '.join(got.stdout.strip().splitlines()[-2:])}")
     return made
 
 

@@ -72,17 +72,22 @@ def unpacked(file, tmp_path):
 
 
 @pytest.fixture(scope="session")
-def trials(dist, base, workers, tmp_path_factory):
-    """All trials by name, some at a time, while they run."""
+def trials(request, dist, base, workers, tmp_path_factory):
+    """The trials of the tests that are to run, by name: some at a time, while they run."""
     def begin(script):
         work = tmp_path_factory.mktemp("system")
         return workers.submit(lambda: clean.run(base.result(), work, dist, *script))
 
-    return {name: begin(script) for name, script in scripts(dist).items()}
+    return {name: begin(script) for name, script in scripts(dist).items() if name in wanted(request)}
+
+
+def wanted(request):
+    """Returns the names of the trials that the tests which are to run wait for."""
+    return {item.callspec.params["name"] for item in request.session.items if "trials" in item.fixturenames}
 
 
 @pytest.fixture(scope="session", autouse=True)
 def begun(request):
     """Starts the trials before the first test, if any is to run: they take longest."""
-    if any("trials" in item.fixturenames for item in request.session.items):
+    if wanted(request):
         request.getfixturevalue("trials")
