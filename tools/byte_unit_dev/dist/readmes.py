@@ -52,8 +52,8 @@ byte-unit = { path = "vendor/byte-unit-5.2.6" }
 
 The library is inside.
 """,
-    "js": """This folder is the package. It needs an engine with 64-bit memory (memory64), as Chromium 156 has, and
-Node 18 and 20 with `--experimental-wasm-memory64`; others were not tried.
+    "js": """The folder in the archive is the package. It needs an engine with 64-bit memory (memory64), as Chromium 156
+has, and Node 18 and 20 with `--experimental-wasm-memory64`; others were not tried.
 
 ```sh
 tar -xzf @PACKAGE@.tar.gz
