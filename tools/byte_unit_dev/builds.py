@@ -38,10 +38,10 @@ def copied(binding, folder):
     return str(shutil.copytree(path("bindings", binding), Path(folder).resolve() / "bindings" / binding, ignore=built))
 
 
-def wheel(library, folder, seconds=0, **variables):
-    """Builds the wheel with a library inside, in a copy of the binding below a folder, and returns its path."""
+def wheel(package, library, folder, seconds=0, **variables):
+    """Builds the wheel of a copy of the binding for Python, with a library inside, in a folder. Returns its path."""
     here = environment(BYTE_UNIT_LIBRARY_DIR=library, SOURCE_DATE_EPOCH=seconds, LDFLAGS="-s", **variables)
-    output(DEBIAN_PYTHON, "setup.py", "bdist_wheel", "-d", folder, cwd=copied("python", folder), env=here)
+    output(DEBIAN_PYTHON, "setup.py", "bdist_wheel", "-d", folder, cwd=package, env=here)
     (made,) = Path(folder).glob("*.whl")
     return made
 

@@ -220,7 +220,7 @@ def python_aarch64(aarch64, tmp_path_factory):
         root = foreign.unpacked(folder)
     except Failure as why:
         pytest.skip(str(why))
-    made = wheel(aarch64.folder, folder / "wheel", **foreign.variables(root))
+    made = wheel(copied("python", folder), aarch64.folder, folder / "wheel", **foreign.variables(root))
     check_needs(made, folder / "package")
     words = ["env", f"PYTHONPATH={folder}/package", *foreign.program(root)]
     return types.SimpleNamespace(words=words, wheel=made, root=root)
