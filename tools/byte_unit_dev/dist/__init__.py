@@ -98,8 +98,9 @@ class Parts:
 
     def build(self, after_ci):
         libraries.run(self.x86, after_ci=after_ci)
-        libraries.build_for(libraries.AARCH64, self.arm, after_ci)
-        libraries.build_for(libraries.WASM, self.wasm, after_ci)
+        # What byte_unit_c needs has been built by now.
+        libraries.build_for(libraries.AARCH64, self.arm, True)
+        libraries.build_for(libraries.WASM, self.wasm, True)
         libraries.build_command(self.x86 / COMMAND, after_ci)
 
 
