@@ -82,5 +82,9 @@ def test_aarch64(rows, aarch64):
     compare_program(rows, aarch64("checks/vectors.c", standard="gnu11"))
 
 
+def test_python_aarch64(rows, python_aarch64):
+    compare_program(rows, [*python_aarch64.words, path("vectors/run_python.py")], env=environment())
+
+
 def test_javascript(rows, javascript):
     compare_program(rows, [*NODE, javascript / "checks/vectors.js"], BY_JAVASCRIPT)

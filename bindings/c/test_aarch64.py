@@ -1,7 +1,7 @@
 """Runs the C library for aarch64 under qemu-user."""
 
 import pytest
-from byte_unit_dev.fixtures import output
+from byte_unit_dev.fixtures import environment, output, path
 
 
 @pytest.mark.parametrize("library", ["libbyte_unit.a", "libbyte_unit.so"])
@@ -13,3 +13,11 @@ def test_program(aarch64, source, library):
 @pytest.mark.parametrize("kind", ["byte", "bit"])
 def test_lines(aarch64, check_lines, kind):
     check_lines(aarch64("checks/lines.c"), kind)
+
+
+def test_python(python_aarch64):
+    """Debian's Python for aarch64 runs the tests of the package, but those that start it again, by its own path."""
+    assert python_aarch64.wheel.name.endswith("-cp311-abi3-manylinux_2_17_aarch64.whl")
+    names = [f"test_{name}" for name in ("parse", "format", "fractions", "columns", "results", "settings", "package")]
+    words = [*python_aarch64.words, "-m", "unittest", *names, "test_errors.Errors"]
+    output(*words, cwd=path("bindings/python/tests"), env=environment())

@@ -14,6 +14,7 @@ import re
 import shutil
 import subprocess
 import sys
+import sysconfig
 
 from setuptools import Extension, setup
 from setuptools.command.sdist import sdist
@@ -99,7 +100,8 @@ found = from_variable() or from_distribution() or from_pkg_config() or from_repo
 if not found:
     sys.exit(NOT_FOUND)
 # The functions of glibc that the module needs are older than 2.17: tests/test_package.py.
-tag = {"plat_name": "manylinux_2_17_x86_64"} if platform.libc_ver()[0] == "glibc" else {}
+machine = sysconfig.get_platform().removeprefix("linux-")
+tag = {"plat_name": f"manylinux_2_17_{machine}"} if platform.libc_ver()[0] == "glibc" else {}
 setup(
     version=version_of(found[0]),
     ext_modules=[extension(*map(os.path.abspath, found))],

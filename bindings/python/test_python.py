@@ -5,7 +5,7 @@ import re
 import shutil
 
 import pytest
-from byte_unit_dev.fixtures import DEBIAN_PYTHON, call, environment, is_there, need, output, path, write
+from byte_unit_dev.fixtures import DEBIAN_PYTHON, call, check_needs, environment, is_there, need, output, path, write
 
 PACKAGE_CONFIG = "Name: byte_unit\nDescription: -\nVersion: 0\nincludedir={0}\nlibdir={0}\n"
 EXAMPLE = path("bindings/python/examples/example.py")
@@ -51,11 +51,7 @@ def test_source_distribution(python_package, library, tmp_path):
     output(*words, cwd=tmp_path, env=environment(PKG_CONFIG_LIBDIR="/nowhere"))
     (wheel,) = tmp_path.glob("*.whl")
     assert wheel.name.endswith("-cp311-abi3-manylinux_2_17_x86_64.whl")
-    shutil.unpack_archive(wheel, tmp_path, "zip")
-    said = output("readelf", "-dVW", tmp_path / "byte_unit/_native.abi3.so")
-    assert set(re.findall(r"\(NEEDED\).*\[(.+)\]", said)) == {"libc.so.6"}
-    versions = re.findall(r"Name: (\w+?)_([0-9.]+) ", said)
-    assert versions and all(name == "GLIBC" and [*map(int, number.split("."))] <= [2, 17] for name, number in versions)
+    check_needs(wheel, tmp_path)
 
 
 def test_its_c_has_no_warning(python):

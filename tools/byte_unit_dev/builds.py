@@ -7,7 +7,7 @@ import shutil
 from pathlib import Path
 
 from .common import Failure, output, path, write
-from .needs import DEBIAN_RUST, is_there
+from .needs import DEBIAN_PYTHON, DEBIAN_RUST, is_there
 
 CRATES = ("rust_decimal", "utf8-width", "serde", "serde_json", "toml")
 NEEDS = ["cargo", *(f"{DEBIAN_RUST}/{name}-*" for name in CRATES)]
@@ -36,6 +36,14 @@ def copied(binding, folder):
     """Copies a binding, without what was built in it, and returns the copy's path."""
     built = shutil.ignore_patterns("build", "*.egg-info", "__pycache__", "target", "Cargo.lock")
     return str(shutil.copytree(path("bindings", binding), Path(folder).resolve() / "bindings" / binding, ignore=built))
+
+
+def wheel(package, library, folder, seconds=0, **variables):
+    """Builds the wheel of a copy of the binding for Python, with a library inside, in a folder. Returns its path."""
+    here = environment(BYTE_UNIT_LIBRARY_DIR=library, SOURCE_DATE_EPOCH=seconds, LDFLAGS="-s", **variables)
+    output(DEBIAN_PYTHON, "setup.py", "bdist_wheel", "-d", folder, cwd=package, env=here)
+    (made,) = Path(folder).glob("*.whl")
+    return made
 
 
 def library(given, work):

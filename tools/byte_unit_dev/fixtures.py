@@ -14,8 +14,9 @@ import hypothesis
 import pytest
 from hypothesis import strategies
 
-from .builds import CONFIG, copied, environment
-from .common import ROOT, call, copy_to, output, path, read, write
+from . import foreign
+from .builds import CONFIG, copied, environment, wheel
+from .common import ROOT, Failure, call, copy_to, output, path, read, write
 from .libraries import AARCH64, WASM
 from .model.exact import output_for, some_line
 from .needs import DEBIAN_PYTHON, DEBIAN_RUST, PACKAGES, PYTHON_PACKAGE, is_there
@@ -174,6 +175,15 @@ def python(library, python_package, tmp_path_factory):
     return types.SimpleNamespace(program=words[0], said=output(*words, env=environment(BYTE_UNIT_LIBRARY_DIR=library)))
 
 
+def check_needs(wheel, folder):
+    """Unpacks a wheel in a folder, and checks that it needs no more than its tag says."""
+    shutil.unpack_archive(wheel, folder, "zip")
+    said = output("readelf", "-dVW", Path(folder) / "byte_unit/_native.abi3.so")
+    assert set(re.findall(r"\(NEEDED\).*\[(.+)\]", said)) <= {"libc.so.6", "ld-linux-aarch64.so.1"}
+    versions = re.findall(r"Name: (\w+?)_([0-9.]+) ", said)
+    assert versions and all(name == "GLIBC" and [*map(int, number.split("."))] <= [2, 17] for name, number in versions)
+
+
 @pytest.fixture(scope="session")
 def javascript(request, tmp_path_factory):
     """A copy of the package for JavaScript, with the module of WebAssembly."""
@@ -199,6 +209,21 @@ def aarch64(request, tmp_path_factory):
 
     program.folder = folder
     return program
+
+
+@pytest.fixture(scope="session")
+def python_aarch64(aarch64, tmp_path_factory):
+    """The words that run Debian's Python for aarch64 with the package's wheel, and the path of the wheel."""
+    need(*PYTHON_PACKAGE, "apt-get", "dpkg-deb", "readelf")
+    folder = tmp_path_factory.mktemp("python-aarch64")
+    try:
+        root = foreign.unpacked(folder)
+    except Failure as why:
+        pytest.skip(str(why))
+    made = wheel(copied("python", folder), aarch64.folder, folder / "wheel", **foreign.variables(root))
+    check_needs(made, folder / "package")
+    words = ["env", f"PYTHONPATH={folder}/package", *foreign.program(root)]
+    return types.SimpleNamespace(words=words, wheel=made, root=root)
 
 
 class Cargo:

@@ -15,6 +15,7 @@ from .common import call
 
 DEBIAN_RUST = "/usr/share/cargo/registry"
 POSTGRESQL_15 = "/usr/lib/postgresql/15"
+POSTGRES_H = "/usr/include/postgresql/15/server/postgres.h"
 DEBIAN_PYTHON, PYTHON_H = "/usr/bin/python3", "/usr/include/python3.*/Python.h"
 # What tests need, and the package that has it. A need is a program; a file, if it begins with a slash; a C header; or a
 # module of Debian's Python.
@@ -37,9 +38,10 @@ PACKAGES = {
     f"{POSTGRESQL_15}/bin/psql": "postgresql-client-15", "make": "make", "setpriv": "util-linux", "lsblk": "util-linux",
     **dict.fromkeys(["du", "df", "ls", "numfmt"], "coreutils"), **dict.fromkeys(["free", "ps"], "procps"),
     "valgrind": "valgrind", "lintian": "lintian", "dpkg-deb": "dpkg", "unshare": "util-linux", "strip": "binutils",
-    f"{POSTGRESQL_15}/lib/pgxs/src/makefiles/pgxs.mk": "postgresql-server-dev-15",
+    POSTGRES_H: "postgresql-server-dev-15", "mmdebstrap": "mmdebstrap",
+    "autopkgtest": "autopkgtest", "apt-get": "apt",
 }
-POSTGRESQL = ["gcc", "make", "setpriv", *(need for need in PACKAGES if need.startswith(POSTGRESQL_15))]
+POSTGRESQL = ["gcc", "make", "setpriv", POSTGRES_H, *(need for need in PACKAGES if need.startswith(POSTGRESQL_15))]
 # What only measurements need.
 POSTGRESQL_UNIT = "/usr/share/postgresql/15/extension/unit.control"
 COMPARED = {

@@ -4,41 +4,50 @@ Copies the crates, without tests and mutants, into FOLDER/crates, adds their lin
 `out/` to FOLDER/.gitignore, and records in crates/byte_unit/VERSION what was copied: version, commit, toolchain, and
 the checksum of each file, as `sha256sum` writes it. Fails if one of the crates is already there, as a folder or as a
 line. With --update, replaces that copy by the current one, but for each crate's out/. Fails, and names the files, if
-any was edited, added or removed. Either form changes everything or nothing. With --with serde, copies byte_unit_serde
-too, which uses the crates serde and toml; a later --update updates it too.
+any was edited, added or removed. Either form changes everything or nothing.
+
+With --with serde, copies byte_unit_serde too, which uses the crates serde and toml; a later --update updates it too.
+With --with proofs, proves the crates here by `rt lib`, unless they are proved, and copies what it built, out/rlib, some
+750 MB, so that the first `rt run` there need not prove them; `rt ci` there proves them all the same. Both: --with
+serde,proofs.
 """
 
+import contextlib
 import hashlib
 import os
 import re
 import shutil
 import subprocess
+import tempfile
 from pathlib import Path
 
-from .common import ROOT, Failure, call, reason
+from .common import ROOT, Failure, call, reason, shown
 from .replace import remove_folders, replace
 from .source import library
 
 HERE = Path(ROOT)
 CRATES, MORE = library(), {"serde": "byte_unit_serde"}
 PARTS = ["src", "specs", "proofs"]
+# What `rt` built of a crate that it proved, in its folder. It is used only where the crate's text is the same.
+BUILT = "out/rlib"
 RECORD = "crates/byte_unit/VERSION"
 
 
 def run(folder, *, update=False, with_=""):
-    if with_ not in ("", *MORE):
-        raise Failure(f"--with {with_} is none of: {' '.join(MORE)}; nothing was changed")
+    words = with_.split(",") if with_ else []
+    if not {*words} <= {*MORE, "proofs"}:
+        raise Failure(f"--with {with_} is none of: {' '.join(MORE)} proofs; nothing was changed")
     try:
-        lines = take(folder, update, [MORE[with_]] if with_ else [])
+        lines = take(folder, update, [MORE[word] for word in words if word in MORE], "proofs" in words)
     except (Failure, OSError, KeyboardInterrupt) as error:
         raise Failure(f"{folder}: {reason(error)}; nothing was changed") from error
     print("\n".join(f"take: {folder}{line}" for line in lines))
 
 
-def take(shown, is_update, more=()):
+def take(named, is_update, more=(), with_proofs=False):
     """Takes the crates into the folder that the user names, or updates them there. Returns what to print."""
-    there = Path(shown).resolve()
-    if not shown or not there.is_dir():
+    there = Path(named).resolve()
+    if not named or not there.is_dir():
         raise Failure("there is no such folder")
     if there.is_relative_to(HERE):
         raise Failure("it is this repository, or in it")
@@ -55,14 +64,37 @@ def take(shown, is_update, more=()):
     places = {(there / name).resolve(): content for name, content in files.items()}
     written = {place: content for place, content in places.items()
                if not place.is_file() or place.read_bytes() != content}
-    if not written:
-        return [f" is up to date: {now}"]
     gone = dict.fromkeys(there / name for name in old if name not in files)
     modes = {place: place.stat().st_mode & 0o777 for place in written if place.exists()}
-    replace({**written, **gone}, modes)
-    remove_folders({folder for file in gone for folder in file.parents})
+    with tempfile.TemporaryDirectory(dir=there, prefix=".take-") if with_proofs else contextlib.nullcontext() as room:
+        built = copied_proofs(Path(room), crates) if with_proofs else {}
+        if written:
+            replace({**written, **gone}, modes)
+            remove_folders({folder for file in gone for folder in file.parents})
+        said = put_proofs(there, built)
+    if not written:
+        return [f" is up to date: {now}", *said]
     how = f"updated from {recorded(before)[0]} to" if is_update else f"copied {', '.join(crates)}:"
-    return [f": {how} {now}", *(f": {it}" for it in changes if is_update or not it.startswith("crates.txt"))]
+    return [f": {how} {now}", *(f": {it}" for it in changes if is_update or not it.startswith("crates.txt")), *said]
+
+
+def copied_proofs(room, crates):
+    """Proves the crates, unless they are proved, and copies what was built of each into a folder."""
+    for crate in (crate for crate in crates if crate in ("byte_unit", *MORE.values())):
+        if shown("rt", "lib", cwd=HERE / "crates" / crate)[0]:
+            raise Failure(f"`rt lib` failed in crates/{crate}: see above")
+    return {crate: shutil.copytree(HERE / "crates" / crate / BUILT, room / crate) for crate in crates}
+
+
+def put_proofs(there, built):
+    """Moves the copies of what was built to their places, and returns what to print."""
+    for crate, copy in built.items():
+        place = there / "crates" / crate / BUILT
+        shutil.rmtree(place, ignore_errors=True)
+        place.parent.mkdir(exist_ok=True)
+        copy.rename(place)
+    size = sum(file.stat().st_size for crate in built for file in (there / "crates" / crate / BUILT).rglob("*"))
+    return [f": copied {BUILT} of {len(built)} crates, {size // 10**6} MB"] if built else []
 
 
 def is_taken(there, crate):

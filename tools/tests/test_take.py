@@ -144,7 +144,7 @@ def test_update(here, copied):
 
 def test_serde(here, there, copied):
     """--with serde copies one crate more, at first or by an update; a later update keeps it."""
-    assert "--with toml is none of: serde" in run(here, "--with", "toml", there, status=1)
+    assert "--with toml is none of: serde proofs" in run(here, "--with", "toml", there, status=1)
     assert "byte_unit_serde: byte_unit serde toml\n" not in (copied / "crates.txt").read_text()
     run(here, "--update", "--with", "serde", copied)
     assert "byte_unit_serde: byte_unit serde toml\n" in (copied / "crates.txt").read_text()
@@ -157,6 +157,26 @@ def test_serde(here, there, copied):
     run(here, "--with", "serde", anew)
     row = (copied / RECORD).read_text()
     assert row == (anew / RECORD).read_text() and "crates/byte_unit_serde/src/lib.rt" in row
+
+
+def test_proofs(here, there, copied, monkeypatch):
+    """--with proofs copies what `rt lib` built, at first or by an update; if it fails, nothing changes."""
+    rt = here.with_name("rt")
+    rt.write_text('#!/bin/sh\nif [ "$1" = lib ]; then [ -n "$PROVES" ] && basename "$PWD" >> ../../proved; fi\n')
+    rt.chmod(0o755)
+    monkeypatch.setenv("PATH", f"{here.parent}:{os.environ['PATH']}")
+    monkeypatch.setenv("PROVES", "")
+    assert "`rt lib` failed in crates/byte_unit: see above" in run(here, "--update", "--with", "proofs", copied, status=1)
+    monkeypatch.setenv("PROVES", "yes")
+    assert "copied out/rlib of 7 crates" in run(here, "--update", "--with", "proofs", copied)
+    assert contents(copied / MATH / "out") == contents(here / MATH / "out")
+    assert "byte_unit_serde" not in (here / "proved").read_text()
+    anew = here.with_name("anew")
+    anew.mkdir()
+    run(here, "--with", "serde,proofs", anew)
+    assert (anew / "crates/byte_unit_serde/out/rlib/a").read_text() == "out/rlib/a of byte_unit_serde\n"
+    assert (here / "proved").read_text().split()[-2:] == ["byte_unit", "byte_unit_serde"]
+    assert {name for name in os.listdir(anew)} == {"crates", "crates.txt", ".gitignore"}
 
 
 @pytest.mark.parametrize("error", [OSError(28, "No space left on device"), KeyboardInterrupt()])

@@ -8,10 +8,11 @@ byte_unit.wasm and aarch64/libbyte_unit.a from a folder; what needs a file that 
 must be empty or missing, then has:
 
     byte-unit-VERSION-linux-x86_64.tar.gz, -linux-aarch64.tar.gz    a prefix, for any place, and install.sh
-    byte_unit-VERSION-cp311-abi3-..whl, byte_unit-VERSION.tar.gz    for pip, which then needs no network
+    byte_unit-VERSION-cp311-abi3-..whl, byte_unit-VERSION.tar.gz    for pip, which then needs no network; a wheel a processor
     byte-unit-5.2.6-cargo.tar.gz                   a package for a folder of cargo's vendored sources
     byte-unit-VERSION-js.tar.gz, how-a-size-is-read.html             the package for JavaScript, and the page
     lib*.deb, byte-unit_*.deb, python3-*.deb, postgresql-*.deb       the packages for Debian 12
+    byte-unit-VERSION-autopkgtest.tar.gz           their tests, for the program autopkgtest
     byte-unit-VERSION-rattle.tar.gz                the sources: this repository at its commit
     RELEASE.md, SHA256SUMS                         what a receiver can check, and checksums
 
@@ -26,14 +27,15 @@ import shutil
 import tempfile
 from pathlib import Path
 
-from .. import libraries
-from ..builds import copied, environment
+from .. import foreign, libraries
+from ..builds import copied, environment, wheel
 from ..common import Failure, call, output, path, read
 from ..install import COMMAND, files_of
 from ..libraries import ARCHIVE, EXTENSION, HEADER, MODULE
 from ..needs import DEBIAN_PYTHON, PYTHON_PACKAGE, is_there
 from ..page import page
 from . import archives, debian
+from .readmes import readme
 
 RELOCATABLE = "${pcfiledir}/../.."
 RELEASE = """# byte-unit {version}
@@ -45,6 +47,9 @@ what is in them was compiled of what was proved where they were made.
 
 ## Without the toolchain
 
+- The README.md in an archive (of the wheel: METADATA) has the commands that install it.
+- `apt-get install ./NAME.deb` installs a package for Debian; libbyte-unit-dev needs libbyte-unit3 in the same call.
+  `autopkgtest *.deb byte-unit-{version}-autopkgtest/ -- null`, with that archive unpacked, installs and tries them all.
 - `sha256sum -c SHA256SUMS`: the files are those that were made.
 - `vectors/byte-unit.txt` in the sources has sizes, errors and texts: compare them with any of the packages;
   `vectors/run_python.py` does so with the wheel.
@@ -57,7 +62,7 @@ In the unpacked sources, with the toolchain above (`rt version`):
 - `rt ci` proves each function again; its last line is `N passed, 0 failed`.
 - `tools/dev make-dist FOLDER` makes the other files again. With the same compilers (Debian 12) each has the checksum of
   SHA256SUMS; libbyte_unit.a and the command depend on the toolchain alone.
-- `tools/dev take` copies the library for Rattle into your repository.
+- `tools/dev take` copies the library for Rattle into your repository; with `--with proofs` what was proved, too.
 
 ## What is trusted
 
@@ -93,8 +98,9 @@ class Parts:
 
     def build(self, after_ci):
         libraries.run(self.x86, after_ci=after_ci)
-        libraries.build_for(libraries.AARCH64, self.arm, after_ci)
-        libraries.build_for(libraries.WASM, self.wasm, after_ci)
+        # What byte_unit_c needs has been built by now.
+        libraries.build_for(libraries.AARCH64, self.arm, True)
+        libraries.build_for(libraries.WASM, self.wasm, True)
         libraries.build_command(self.x86 / COMMAND, after_ci)
 
 
@@ -113,11 +119,11 @@ def prefix(parts, folder, machine):
     files = files_of(folder, RELOCATABLE, [])
     config = "lib/pkgconfig/byte_unit.pc"
     files[config] = files[config].replace(b'"', b"")  # pkgconf escapes the spaces of pcfiledir itself
-    files["share/byte_unit/README.md"] = Path(path("bindings/c/README.md")).read_bytes()
+    files["share/byte_unit/README.md"] = readme("c", machine=machine)
     names = sorted([*files, "share/byte_unit/installed"])
     files["share/byte_unit/installed"] = "".join(f"{name}\n" for name in names).encode()
     files["install.sh"] = (Path(__file__).parent / "install.sh").read_bytes()
-    files["LICENSE"] = files["share/byte_unit/LICENSE"]
+    files.update({name: files[f"share/byte_unit/{name}"] for name in ("README.md", "LICENSE")})
     top = f"byte-unit-{parts.version}-linux-{machine}"
     return {f"{top}.tar.gz": archives.tarball(top, files, parts.seconds)}
 
@@ -136,27 +142,43 @@ def needed(place, what):
         raise Failure(f"{what} is missing")
 
 
+def package(parts, name):
+    """Copies the binding for Python, with the README of what is made, to a folder for work. Returns its path."""
+    copy = Path(copied("python", parts.work / name))
+    (copy / "README.md").write_bytes(readme("python"))
+    return copy
+
+
 def python(parts):
     """Returns the wheel and the source distribution."""
     missing = [need for need in PYTHON_PACKAGE if not is_there(need)]
     if missing:
         raise Failure(f"{missing[0]} is missing")
-    copy = copied("python", parts.work)
-    here = environment(BYTE_UNIT_LIBRARY_DIR=parts.x86, SOURCE_DATE_EPOCH=parts.seconds, CFLAGS="-g0", LDFLAGS="-s")
-    output(DEBIAN_PYTHON, "setup.py", "bdist_wheel", "-d", parts.work, cwd=copy, env=here)
-    output(DEBIAN_PYTHON, "setup.py", "sdist", "-d", parts.work, cwd=copied("python", parts.work / "sdist"), env=here)
-    (wheel,), (source,) = parts.work.glob("*.whl"), parts.work.glob("byte_unit-*.tar.gz")
-    parts.wheel = archives.files_of_zip(wheel)
+    made = wheel(package(parts, "wheel"), parts.x86, parts.work / "wheel", parts.seconds, CFLAGS="-g0")
+    parts.wheel, copy = archives.files_of_zip(made), package(parts, "sdist")
+    here = environment(BYTE_UNIT_LIBRARY_DIR=parts.x86, SOURCE_DATE_EPOCH=parts.seconds)
+    output(DEBIAN_PYTHON, "setup.py", "sdist", "-d", parts.work, cwd=copy, env=here)
+    (source,) = parts.work.glob("byte_unit-*.tar.gz")
     files = {**archives.files_of_tar(source), "CHANGELOG.md": read("CHANGELOG.md").encode()}
     top = source.name.removesuffix(".tar.gz")
-    return {wheel.name: archives.zipped(parts.wheel, parts.seconds),
+    return {made.name: archives.zipped(parts.wheel, parts.seconds),
             source.name: archives.tarball(top, files, parts.seconds)}  # fmt: skip
+
+
+def python_aarch64(parts):
+    """Returns the wheel for aarch64, which Debian's compiler and Python build here."""
+    needed(parts.arm / ARCHIVE, "the library for aarch64")
+    root = foreign.unpacked(parts.work / "foreign")
+    copy, name = package(parts, "aarch64-wheel"), parts.work / "aarch64-made"
+    made = wheel(copy, parts.arm, name, parts.seconds, **foreign.variables(root))
+    return {made.name: archives.zipped(archives.files_of_zip(made), parts.seconds)}
 
 
 def cargo(parts):
     """Returns the Rust package, as cargo reads it in a folder of vendored sources, with the archive inside."""
     files = archives.files_in(copied("rust", parts.work))
     files = {name: data for name, data in files.items() if not name.startswith(("checks/", "test_", "."))}
+    files["README.md"] = readme("rust")
     files[f"library/{ARCHIVE}"] = (parts.x86 / ARCHIVE).read_bytes()
     sums = {name: hashlib.sha256(data).hexdigest() for name, data in sorted(files.items())}
     files[".cargo-checksum.json"] = json.dumps({"files": sums, "package": None}).encode()
@@ -168,9 +190,10 @@ def javascript(parts):
     needed(parts.wasm / MODULE, MODULE)
     module = (parts.wasm / MODULE).read_bytes()
     names = [name for name in json.loads(read("bindings/js/package.json"))["files"] if name != MODULE]
-    files = {name: Path(path("bindings/js", name)).read_bytes() for name in [*names, "package.json", "README.md"]}
+    files = {name: Path(path("bindings/js", name)).read_bytes() for name in [*names, "package.json"]}
     top = f"byte-unit-{parts.version}-js"
-    return {f"{top}.tar.gz": archives.tarball(top, {**files, MODULE: module}, parts.seconds),
+    files.update({MODULE: module, "README.md": readme("js", package=top)})
+    return {f"{top}.tar.gz": archives.tarball(top, files, parts.seconds),
             "how-a-size-is-read.html": page(module).encode()}  # fmt: skip
 
 
@@ -187,6 +210,7 @@ def sources(parts):
 
 
 KINDS = {"the archive for x86-64": x86_64, "the archive for aarch64": aarch64, "the packages for pip": python,
+         "the wheel for aarch64": python_aarch64,
          "the package for cargo": cargo, "the package for JavaScript": javascript, "the sources": sources,
          **debian.KINDS}  # fmt: skip
 

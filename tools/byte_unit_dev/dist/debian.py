@@ -11,7 +11,7 @@ from pathlib import Path
 from ..common import Failure, output, path, read
 from ..install import COMMAND, files_of
 from ..libraries import ARCHIVE, EXTENSION, shared_names
-from ..needs import POSTGRESQL_15, is_there
+from ..needs import POSTGRES_H, POSTGRESQL_15, is_there
 from . import archives
 
 MAINTAINER = "Nedlufa maintainers <maintainers@users.noreply.nedlufa.example>"
@@ -33,6 +33,7 @@ FIELDS = {"libbyte-unit3": {"Section": "libs", "Multi-Arch": "same"},
           "postgresql-15-byte-unit": {"Section": "database", "Depends": ["postgresql-15"]}}  # fmt: skip
 COMPILED = {"postinst": ("configure", "py3compile -p python3-byte-unit"),
             "prerm": ("remove|upgrade|deconfigure", "py3clean -p python3-byte-unit")}  # fmt: skip
+TESTS = Path(__file__).parent / "autopkgtest"
 SCRIPT = """#!/bin/sh
 set -e
 case "$1" in
@@ -106,8 +107,7 @@ def python(parts):
 
 
 def postgresql(parts):
-    needs = (f"{POSTGRESQL_15}/lib/pgxs/src/makefiles/pgxs.mk", "gcc", "make")
-    missing = [need for need in needs if not is_there(need)]
+    missing = [need for need in (POSTGRES_H, "gcc", "make") if not is_there(need)]
     if missing:
         raise Failure(f"{missing[0]} is missing")
     copy = shutil.copytree(path("bindings/postgresql"), parts.work / "postgresql")
@@ -137,7 +137,7 @@ def package(parts, name, contents):
     files = {**files, f"{doc}/copyright": Path(path("LICENSE")).read_bytes(),
              f"{doc}/changelog.gz": archives.gzipped(read("CHANGELOG.md").encode()),
              f"{doc}/changelog.Debian.gz": archives.gzipped(f"{entry}\n -- {MAINTAINER}  {when}\n".encode()),
-             f"{doc}/examples/try": (Path(__file__).parent / "try" / name).read_bytes()}  # fmt: skip
+             f"{doc}/examples/try": (TESTS / name).read_bytes()}  # fmt: skip
     own = dict(FIELDS[name])
     depends = ", ".join([*needed_libc(files), *own.pop("Depends", [])]).format(version=version)
     size = sum(len(content) // 1024 + 1 for content in files.values())
@@ -154,6 +154,13 @@ def package(parts, name, contents):
     return {made.name: made.read_bytes()}
 
 
+def tests(parts):
+    """Returns the tests of the packages, as autopkgtest reads them."""
+    top = f"byte-unit-{parts.version}-autopkgtest"
+    files = {f"debian/tests/{file.name}": file.read_bytes() for file in TESTS.iterdir()}
+    return {f"{top}.tar.gz": archives.tarball(top, files, parts.seconds)}
+
+
 def kind(name, contents):
     def made(parts):
         if not is_there("dpkg-deb"):
@@ -166,3 +173,4 @@ def kind(name, contents):
 KINDS = {name: kind(name, contents) for name, contents in (
     ("libbyte-unit3", library), ("libbyte-unit-dev", development), ("byte-unit", command),
     ("libsqlite3-mod-byte-unit", sqlite), ("python3-byte-unit", python), ("postgresql-15-byte-unit", postgresql))}
+KINDS["the tests of the packages for Debian"] = tests

@@ -1,0 +1,53 @@
+"""Debian's Python for aarch64, unpacked in a folder: the headers, and the program, which qemu-aarch64 runs."""
+
+import shutil
+from pathlib import Path
+
+from .builds import environment
+from .common import Failure, call, output
+from .needs import DEBIAN_PYTHON
+
+CC = "aarch64-linux-gnu-gcc"
+CONF = """APT::Architecture "arm64";
+APT::Architectures {{ "arm64"; }};
+APT::Sandbox::User "root";
+Dir::State "{0}";
+Dir::State::status "{0}/status";
+Dir::Cache "{0}";
+"""
+
+
+def name():
+    """Returns the name of Debian's Python with its version, as packages and programs have it."""
+    return output(DEBIAN_PYTHON, "-c", "import sys; print('python%d.%d' % sys.version_info[:2])").strip()
+
+
+def unpacked(folder):
+    """Downloads Debian's Python for aarch64, with what it depends on, and unpacks it in a folder, which is returned."""
+    if not shutil.which("apt-get") or not shutil.which("dpkg-deb"):
+        raise Failure("apt-get or dpkg-deb is missing")
+    root, state = Path(folder).resolve() / "root", Path(folder).resolve() / "apt"
+    for made in (root, state / "lists/partial", state / "archives/partial"):
+        made.mkdir(parents=True)
+    (state / "status").touch()
+    (state / "conf").write_text(CONF.format(state))
+    packages = [f"{name()}-minimal", f"lib{name()}-dev"]
+    for words in (["update"], ["install", "--yes", "--download-only", "--no-install-recommends", *packages]):
+        if call("apt-get", "--quiet", *words, env=environment(APT_CONFIG=state / "conf")).returncode:
+            raise Failure(f"these packages for arm64 could not be downloaded: {' '.join(packages)}")
+    for package in sorted(state.glob("archives/*.deb")):
+        output("dpkg-deb", "--extract", package, root)
+    return root
+
+
+def variables(root):
+    """Returns the variables by which Debian's Python here builds an extension module for aarch64."""
+    if not shutil.which(CC):
+        raise Failure(f"{CC} is missing")
+    return {"CC": CC, "LDSHARED": f"{CC} -shared", "CFLAGS": f"-g0 -I{root}/usr/include",
+            "_PYTHON_HOST_PLATFORM": "linux-aarch64"}  # fmt: skip
+
+
+def program(root):
+    """Returns the words that run the Python for aarch64 here."""
+    return ["qemu-aarch64", "-L", root, f"{root}/usr/bin/{name()}"]

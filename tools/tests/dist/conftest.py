@@ -1,0 +1,93 @@
+"""What the tests of `tools/dev make-dist` share: what it makes from what is built, and a clean Debian 12 for trials."""
+
+import os
+import shutil
+from concurrent.futures import ThreadPoolExecutor
+from pathlib import Path
+
+import pytest
+from byte_unit_dev import clean
+from byte_unit_dev.fixtures import AARCH64_CC, AARCH64_RUN, is_there, need, output, path
+from byte_unit_dev.libraries import MODULE
+from trials import scripts
+
+
+@pytest.fixture(scope="session")
+def source(request, library, tmp_path_factory):
+    """A folder with what is built: the library, the command, the module, and the library for aarch64."""
+    made = Path(shutil.copytree(library, tmp_path_factory.mktemp("source") / "source"))
+    command = path("crates/byte_unit_cli/out/byte_unit_cli")
+    if os.access(command, os.X_OK):
+        shutil.copy(command, made / "byte-unit")
+    if is_there("node"):
+        shutil.copy(request.getfixturevalue("javascript") / MODULE, made)
+    if all(map(is_there, [AARCH64_CC, AARCH64_RUN[0], f"{AARCH64_RUN[-1]}/include/stdio.h"])):
+        (made / "aarch64").mkdir()
+        shutil.copy(request.getfixturevalue("aarch64").folder / "libbyte_unit.a", made / "aarch64")
+    return made
+
+
+@pytest.fixture(scope="session")
+def workers():
+    with ThreadPoolExecutor(3) as pool:
+        yield pool
+        pool.shutdown(cancel_futures=True)
+
+
+@pytest.fixture(scope="session")
+def base(workers, tmp_path_factory):
+    """The folder of a clean Debian 12, while it is made."""
+    folder = tmp_path_factory.mktemp("clean")
+    yield workers.submit(clean.make, folder)
+    shutil.rmtree(folder, ignore_errors=True)
+
+
+@pytest.fixture(scope="session")
+def dist(base, source, tmp_path_factory):
+    need("git", "cc", "strip")
+    made = tmp_path_factory.mktemp("made") / "dist"
+    output(path("tools/dev"), "make-dist", made, "--from", source)
+    return made
+
+
+@pytest.fixture
+def file(dist):
+    """Returns the path of the file that matches a pattern; if it could not be made, the test is skipped."""
+    def found(pattern):
+        names = list(dist.glob(pattern))
+        if not names:
+            pytest.skip(f"{pattern} could not be made: something that it needs is missing")
+        return names[0]
+    return found
+
+
+@pytest.fixture
+def unpacked(file, tmp_path):
+    """Returns the folder of an archive, which is unpacked in another."""
+    def unpack(pattern, to=tmp_path):
+        shutil.unpack_archive(file(pattern), to, "gztar")
+        (made,) = Path(to).iterdir()
+        return made
+    return unpack
+
+
+@pytest.fixture(scope="session")
+def trials(request, dist, base, workers, tmp_path_factory):
+    """The trials of the tests that are to run, by name: some at a time, while they run."""
+    def begin(script):
+        work = tmp_path_factory.mktemp("system")
+        return workers.submit(lambda: clean.run(base.result(), work, dist, *script))
+
+    return {name: begin(script) for name, script in scripts(dist).items() if name in wanted(request)}
+
+
+def wanted(request):
+    """Returns the names of the trials that the tests which are to run wait for."""
+    return {item.callspec.params["name"] for item in request.session.items if "trials" in item.fixturenames}
+
+
+@pytest.fixture(scope="session", autouse=True)
+def begun(request):
+    """Starts the trials before the first test, if any is to run: they take longest."""
+    if wanted(request):
+        request.getfixturevalue("trials")

@@ -1,0 +1,142 @@
+"""Tests what `tools/dev make-dist` makes, as its users have it: without a toolchain, a network, a variable."""
+
+import hashlib
+import os
+import re
+import shutil
+
+import pytest
+from byte_unit_dev import fixtures
+from byte_unit_dev.fixtures import AARCH64_CC, AARCH64_RUN, call, environment, need, output, path, read
+from byte_unit_dev.needs import DEBIAN_PYTHON, POSTGRESQL, POSTGRESQL_15, PYTHON_PACKAGE
+
+VERSION = read("VERSION").strip()
+MAKE = [path("tools/dev"), "make-dist"]
+
+
+def test_same_bytes(dist, source, tmp_path):
+    """Made in another folder, of another one, with another mask and time zone, the files are the same."""
+    shutil.copytree(source, tmp_path / "source")
+    script = 'umask 077; exec "$@"'
+    output("sh", "-c", script, "", *MAKE, "dist", "--from", "source", cwd=tmp_path, env=environment(TZ="Asia/Tokyo"))
+    assert read(tmp_path / "dist/SHA256SUMS") == read(dist / "SHA256SUMS")
+    lines = [line.split("  ") for line in read(dist / "SHA256SUMS").splitlines()]
+    made = {file.name: hashlib.sha256(file.read_bytes()).hexdigest() for file in dist.iterdir()}
+    assert {name: value for value, name in lines} == {name: made[name] for name in made if name != "SHA256SUMS"}
+
+
+def test_release(dist):
+    page = read(dist / "RELEASE.md")
+    assert len(page.split()) <= 300 and output("git", "rev-parse", "--short=12", "HEAD", cwd=path()).strip() in page
+
+
+def test_wrong_calls(dist, tmp_path):
+    assert "is there already" in call(*MAKE, dist).stdout
+    got = call(*MAKE, tmp_path / "new", "--from", tmp_path)
+    assert (got.returncode, got.stdout.count("\n")) == (1, 1) and not (tmp_path / "new").exists()
+
+
+def example():
+    text = re.search(r"```c\n(#include.*?)```", read("bindings/c/README.md"), re.S)[1]
+    return ["-x", "c", "-Wall", "-Werror", "-", "-x", "none"], text
+
+
+@pytest.mark.parametrize("machine, cc, runs", [("x86_64", "gcc", []), ("aarch64", AARCH64_CC, AARCH64_RUN)])
+def test_prefix(unpacked, tmp_path, machine, cc, runs):
+    """install.sh copies a prefix, pkg-config finds it there, and --uninstall leaves what was there before."""
+    need(cc, "pkg-config", *runs[:1])
+    top, prefix = unpacked(f"*-linux-{machine}.tar.gz"), tmp_path / "a prefix"
+    (prefix / "share").mkdir(parents=True)
+    before = set(tmp_path.glob("a*/**/*"))
+    for _ in range(2):
+        output("sh", top / "install.sh", prefix)
+    here = environment(PKG_CONFIG_PATH=f"{prefix}/lib/pkgconfig", LD_LIBRARY_PATH=f"{prefix}/lib")
+    words, text = example()
+    flags = output("pkg-config", "--cflags", "--libs", "byte_unit", env=here).replace("\\ ", "\0").split()
+    fixtures.compiled(cc, tmp_path / "program", *words, *(word.replace("\0", " ") for word in flags), input=text)
+    run = [*runs, *["-E", f"LD_LIBRARY_PATH={prefix}/lib"] * bool(runs), tmp_path / "program"]
+    assert output(*run, env=here) == "1.5 KiB\n" and "the character 'x'" in call(*run, "1 x", env=here).stdout
+    if (prefix / "bin/byte-unit").exists():
+        assert output(prefix / "bin/byte-unit", "--to=plain", "1.5 KiB") == "1536\n"
+    output("sh", top / "install.sh", "--uninstall", prefix)
+    assert set(tmp_path.glob("a*/**/*")) == before
+    assert [call("sh", top / "install.sh", *words, cwd=tmp_path).returncode for words in (["-x"], ["a", "b"])] == [2, 2]
+
+
+OLDER = ["qemu-x86_64", "-cpu", "qemu64"]
+PROBE = "import byte_unit; print(byte_unit.parse('1.5 KiB'), byte_unit.text(1536))"
+
+
+def test_older_command(unpacked):
+    """The command runs on every x86-64 processor, as make-dist builds it, or says what it needs, as `rt run` does."""
+    need(*OLDER[:1])
+    program = unpacked("*-linux-x86_64.tar.gz") / "bin/byte-unit"
+    if not program.exists():
+        pytest.skip("the command is missing (`rt run` in crates/byte_unit_cli builds it)")
+    got = call(*OLDER, program, "--to=plain", "1.5 KiB")
+    assert got.stdout == "1536\n" or got.returncode == 127 and "x86-64-v2" in got.stdout
+
+
+def test_older_libraries(unpacked, tmp_path):
+    """Archive, shared library and the extension for SQLite run on every x86-64 processor."""
+    need(*OLDER[:1], "gcc", "sqlite3")
+    top, (words, text) = unpacked("*-linux-x86_64.tar.gz"), example()
+    for library in ("libbyte_unit.a", "libbyte_unit.so"):
+        words_of = ["-I", top / "include", *words, top / "lib" / library]
+        made = fixtures.compiled("gcc", tmp_path / library, *words_of, input=text)
+        assert output(*OLDER, "-E", f"LD_LIBRARY_PATH={top}/lib", made) == "1.5 KiB\n"
+    words = ["-cmd", f".load {top}/lib/sqlite3/byte_unit", ":memory:", "SELECT size_text(size_parse('1.5 KiB'))"]
+    assert output(*OLDER, shutil.which("sqlite3"), *words) == "1.5 KiB\n"
+
+
+def test_older_python(file, tmp_path):
+    need(*OLDER[:1], *PYTHON_PACKAGE)
+    shutil.unpack_archive(file("*x86_64.whl"), tmp_path, "zip")
+    assert output(*OLDER, DEBIAN_PYTHON, "-c", PROBE, cwd=tmp_path, env=environment()) == "1536 1.5 KiB\n"
+
+
+def test_older_postgresql(file, tmp_path):
+    """A server of PostgreSQL by itself, in a cluster that the same user has made."""
+    need(*OLDER[:1], *POSTGRESQL, "dpkg-deb")
+    output("dpkg-deb", "--extract", file("postgresql-*.deb"), tmp_path / "root")
+    (module,), (script,) = (list(tmp_path.glob(f"root/usr/**/byte_unit{end}")) for end in (".so", "--*.sql"))
+    found = re.search(r"CREATE TYPE bytesize;.*?STORAGE = plain\);", read(script), re.S)[0]
+    statements = [*found.replace("MODULE_PATHNAME", str(module)).split(";\n"), "SELECT '1.5 KiB'::bytesize"]
+    for folder in (tmp_path, *tmp_path.parents[:2]):
+        folder.chmod(0o755)
+    (tmp_path / "data").mkdir()
+    shutil.chown(tmp_path / "data", *["nobody", "nogroup"] * (os.geteuid() == 0) or [os.geteuid()])
+    user = ["setpriv", "--reuid=nobody", "--regid=nogroup", "--clear-groups"] * (os.geteuid() == 0)
+    where = {"cwd": tmp_path, "env": environment(LC_ALL="C")}
+    output(*user, f"{POSTGRESQL_15}/bin/initdb", "-A", "trust", "--no-sync", "-D", "data", **where)
+    words = [*user, *OLDER, f"{POSTGRESQL_15}/bin/postgres", "--single", "-j", "-D", "data", "postgres"]
+    assert '= "1.5 KiB"' in output(*words, input=";\n\n".join(statements) + ";\n\n", **where)
+
+
+def test_sources(dist, source, unpacked, tmp_path):
+    """Without .git they say their commit, `tools/dev take` works, and they make the same files again."""
+    top, there = unpacked("*-rattle.tar.gz"), tmp_path / "there"
+    there.mkdir()
+    output(top / "tools/dev", "take", there)
+    head = output("git", "rev-parse", "--short=12", "HEAD", cwd=path()).strip()
+    assert f"commit: {head}" in read(there / "crates/byte_unit/VERSION")
+    if not output("git", "status", "--porcelain", "--untracked-files=no", cwd=path()):
+        output(top / "tools/dev", "make-dist", tmp_path / "again", "--from", source)
+        again, sums = (set(read(folder / "SHA256SUMS").splitlines()) for folder in (tmp_path / "again", dist))
+        assert again < sums and len(again) == len(sums) - 1
+
+
+@pytest.mark.parametrize("name, depends", [
+    ("libbyte-unit3", r"libc6 \(>= 2\.\d+\)"), ("libbyte-unit-dev", rf"libbyte-unit3 \(= {VERSION}-1\)"),
+    ("python3-byte-unit", r"libc6 \(>= 2\.\d+\), python3 \(>= 3\.11\)"),
+    ("postgresql-15-byte-unit", r"libc6 \(>= 2\.\d+\), postgresql-15"),
+])  # fmt: skip
+def test_depends(file, name, depends):
+    need("dpkg-deb")
+    assert re.fullmatch(depends, output("dpkg-deb", "--field", file(f"{name}_*.deb"), "Depends").strip())
+
+
+def test_lintian(dist):
+    need("dpkg-deb", "lintian")
+    words = ["lintian", "--fail-on", "error", "--allow-root", *sorted(dist.glob("*.deb"))]
+    output(*words, env=environment(PATH="/usr/sbin:/usr/bin:/sbin:/bin"))

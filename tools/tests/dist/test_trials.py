@@ -1,0 +1,33 @@
+"""Tries what `tools/dev make-dist` makes in a clean Debian 12: as its users do, without anything else."""
+
+import pytest
+from byte_unit_dev import clean
+from byte_unit_dev.common import Failure
+from byte_unit_dev.fixtures import need
+from trials import ARTEFACTS, PACKAGES, header
+
+
+def passed(trial):
+    """It passed, and left nothing in the system."""
+    try:
+        got = trial.result()
+    except Failure as why:
+        pytest.skip(str(why))
+    if got.returncode == clean.MISSING:
+        pytest.skip(f"packages could not be installed in a clean Debian 12: {got.stdout.strip().splitlines()[-1]}")
+    assert got.returncode == 0 and "left: " not in got.stdout, got.stdout
+
+
+@pytest.mark.parametrize("name", ARTEFACTS)
+def test_artefact(file, trials, name):
+    need("mmdebstrap", "unshare")
+    file(header(name, "Tries"))
+    passed(trials[name])
+
+
+@pytest.mark.parametrize("name", [name for name, _ in PACKAGES])
+def test_package(file, trials, name):
+    """By autopkgtest, which installs it with what it depends on."""
+    need("mmdebstrap", "unshare", "autopkgtest", "dpkg-deb")
+    file(f"{name}_*.deb")
+    passed(trials[name])
