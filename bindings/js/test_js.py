@@ -192,7 +192,7 @@ def unescaped(text):
 
 
 def typed(browser, text, reading="bytes"):
-    """Types a text in the field by keys. Returns what the page answers, and what it marks."""
+    """Types a text in the field by keys. Returns the result that the page shows, and what it marks."""
     browser.script(
         "document.querySelector(`[value=${arguments[0]}]`).click(); document.getElementById('text').select()", reading
     )

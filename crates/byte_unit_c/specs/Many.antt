@@ -1,6 +1,7 @@
 -- Many texts in one call: text i is from offset i up to offset i + 1.
 use Rattle.std.specs.Prelude.{◌≡◌, ℕ, ◌+◌, ◌-◌, ◌<◌, ℤ, pos, negsuc, ◌≤ℤ◌, Bool, List, [], ◌∷◌, length}
 use Rattle.std.specs.Prelude.{slice_index, slice_index_or, slice_range, Option, Some, None, Result, Ok, Err}
+use Rattle.std.specs.Prelude.{IfSome, IfNone}
 use Rattle.byte_unit_base.specs.Errors.{size_fault}
 use Rattle.byte_unit_base.specs.SizeReading.{IsBytesReading}
 use Rattle.byte_unit_base.specs.BinaryReading.{IsBinaryBytesReading}
@@ -9,6 +10,7 @@ use Rattle.byte_unit_base.specs.declared.kind.Kind.{Kind}
 use Rattle.byte_unit_c.specs.declared.offsets.Offsets.{Offsets}
 use Rattle.byte_unit_c.specs.declared.offsets.Offsets.TheVariants.{Long, Short}
 use Rattle.byte_unit_c.specs.declared.values.Number.{Number}
+use Rattle.byte_unit_c.specs.Flags.{parse_flags_at, binary_flags_at}
 use Rattle.byte_unit_c.specs.Values.{number_of}
 use Rattle.byte_unit_c.specs.Error.{ok, invalid_argument, code_of, not_utf8}
 
@@ -71,8 +73,24 @@ AreParsed kind ignore_case bytes offsets n codes sizes =
 abbrev pub AreBinaryParsed : Kind → Bool → List ℕ → List ℤ → ℕ → List ℕ → List Number → Type 0
 AreBinaryParsed kind ignore_case bytes offsets n codes sizes =
     (i : ℕ) → i < n
-    → IsBinaryParsed kind ignore_case (text_of bytes offsets i) (slice_index codes i) (slice_index_or sizes i zero_number)
+    → IsBinaryParsed kind ignore_case (text_of bytes offsets i) (slice_index codes i)
+    (slice_index_or sizes i zero_number)
 
 -- the call is rejected: an argument is invalid, and nothing is written
 abbrev pub IsRejectedCall : ℕ → List Number → List Number → List ℕ → List ℕ → Type 0
 IsRejectedCall code sizes sizes' codes codes' = (code ≡ invalid_argument) × (sizes' ≡ sizes) × (codes' ≡ codes)
+
+-- what a call with these flags and offsets returns and writes, for texts in these bytes
+pub record AreManyReturned
+    (flags : ℕ) (bytes : List ℕ) (offsets : List ℤ) (code : ℕ) (sizes sizes' : List Number) (codes codes' : List ℕ)
+    : Type 0 where
+  pub parsed : IfSome (parse_flags_at flags) (λ asked.
+      IsLayout (length bytes) offsets (length sizes) (length codes)
+      → (code ≡ ok) × AreParsed asked.kind asked.ignore_case bytes offsets (length codes) codes' sizes')
+  pub binary : IfSome (binary_flags_at flags) (λ asked.
+      IsLayout (length bytes) offsets (length sizes) (length codes)
+      → (code ≡ ok) × AreBinaryParsed asked.kind asked.ignore_case bytes offsets (length codes) codes' sizes')
+  pub unknown_flag : IfNone (parse_flags_at flags) (IfNone (binary_flags_at flags)
+      (IsRejectedCall code sizes sizes' codes codes'))
+  pub no_layout : ¬ IsLayout (length bytes) offsets (length sizes) (length codes)
+      → IsRejectedCall code sizes sizes' codes codes'

@@ -1,10 +1,9 @@
 //! Parsing of many texts in one call.
 
-ghost use Rattle.std.specs.Prelude.{◌≡◌, ◌↔◌, IsTrue, length, IfSome, IfNone};
+ghost use Rattle.std.specs.Prelude.{◌≡◌, ◌↔◌, IsTrue, length};
 ghost use Rattle.byte_unit_base.specs.Errors.{size_fault};
-ghost use Rattle.byte_unit_c.specs.Error.{ok, code_of};
-ghost use Rattle.byte_unit_c.specs.Flags.{parse_flags_at, binary_flags_at};
-ghost use Rattle.byte_unit_c.specs.Many.{offsets_of, IsLayout, IsParsed, AreParsed, AreBinaryParsed, IsRejectedCall};
+ghost use Rattle.byte_unit_c.specs.Error.{code_of};
+ghost use Rattle.byte_unit_c.specs.Many.{offsets_of, IsLayout, IsParsed, AreParsed, AreManyReturned};
 
 use crate::binary::parse_many_flagged;
 use crate::error::{Error, INVALID_ARGUMENT, NOT_UTF8, OK, UNIT};
@@ -29,21 +28,8 @@ pub extern "C" fn byte_unit_parse_many_to(
     sizes: &mut [Number],
     codes: &mut [u8],
 ) -> u32
-    ensures parsed { IfSome (parse_flags_at flags) (λ asked.
-        IsLayout (length «data».now) offsets.now (length sizes.old) (length codes.old)
-        → (result ≡ ok)
-        × AreParsed asked.kind asked.ignore_case «data».now offsets.now
-        (length codes.old) codes.new sizes.new) }
-    ensures binary { IfSome (binary_flags_at flags) (λ asked.
-        IsLayout (length «data».now) offsets.now (length sizes.old) (length codes.old)
-        → (result ≡ ok)
-        × AreBinaryParsed asked.kind asked.ignore_case «data».now offsets.now
-        (length codes.old) codes.new sizes.new) }
-    ensures unknown_flag { IfNone (parse_flags_at flags) (IfNone (binary_flags_at flags)
-        (IsRejectedCall result sizes.old sizes.new codes.old codes.new)) }
-    ensures no_layout { ¬ IsLayout (length «data».now) offsets.now (length sizes.old)
-        (length codes.old)
-        → IsRejectedCall result sizes.old sizes.new codes.old codes.new }
+    ensures { AreManyReturned flags «data».now offsets.now result sizes.old sizes.new
+        codes.old codes.new }
 {
     parse_many(data, Offsets::Long(offsets), flags, sizes, codes)
 }
@@ -57,21 +43,8 @@ pub extern "C" fn byte_unit_parse_many_32_to(
     sizes: &mut [Number],
     codes: &mut [u8],
 ) -> u32
-    ensures parsed { IfSome (parse_flags_at flags) (λ asked.
-        IsLayout (length «data».now) offsets.now (length sizes.old) (length codes.old)
-        → (result ≡ ok)
-        × AreParsed asked.kind asked.ignore_case «data».now offsets.now
-        (length codes.old) codes.new sizes.new) }
-    ensures binary { IfSome (binary_flags_at flags) (λ asked.
-        IsLayout (length «data».now) offsets.now (length sizes.old) (length codes.old)
-        → (result ≡ ok)
-        × AreBinaryParsed asked.kind asked.ignore_case «data».now offsets.now
-        (length codes.old) codes.new sizes.new) }
-    ensures unknown_flag { IfNone (parse_flags_at flags) (IfNone (binary_flags_at flags)
-        (IsRejectedCall result sizes.old sizes.new codes.old codes.new)) }
-    ensures no_layout { ¬ IsLayout (length «data».now) offsets.now (length sizes.old)
-        (length codes.old)
-        → IsRejectedCall result sizes.old sizes.new codes.old codes.new }
+    ensures { AreManyReturned flags «data».now offsets.now result sizes.old sizes.new
+        codes.old codes.new }
 {
     parse_many(data, Offsets::Short(offsets), flags, sizes, codes)
 }
@@ -84,25 +57,8 @@ fn parse_many(
     sizes: &mut [Number],
     codes: &mut [u8],
 ) -> u32
-    ensures parsed { IfSome (parse_flags_at flags) (λ asked.
-        IsLayout (length «data».now) (offsets_of offsets.entry) (length sizes.old)
-        (length codes.old)
-        → (result ≡ ok)
-        × AreParsed asked.kind asked.ignore_case «data».now (offsets_of offsets.entry)
-        (length codes.old) codes.new
-        sizes.new) }
-    ensures binary { IfSome (binary_flags_at flags) (λ asked.
-        IsLayout (length «data».now) (offsets_of offsets.entry) (length sizes.old)
-        (length codes.old)
-        → (result ≡ ok)
-        × AreBinaryParsed asked.kind asked.ignore_case «data».now (offsets_of offsets.entry)
-        (length codes.old)
-        codes.new sizes.new) }
-    ensures unknown_flag { IfNone (parse_flags_at flags) (IfNone (binary_flags_at flags)
-        (IsRejectedCall result sizes.old sizes.new codes.old codes.new)) }
-    ensures no_layout { ¬ IsLayout (length «data».now) (offsets_of offsets.entry) (length sizes.old)
-        (length codes.old)
-        → IsRejectedCall result sizes.old sizes.new codes.old codes.new }
+    ensures { AreManyReturned flags «data».now (offsets_of offsets.entry) result sizes.old sizes.new
+        codes.old codes.new }
 {
     if flags > MOST_PLAIN {
         return parse_many_flagged(data, offsets, flags, sizes, codes);
