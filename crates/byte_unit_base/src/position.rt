@@ -93,7 +93,8 @@ fn size_place(bytes: &[u8]) -> Option<usize>
 /// Returns the length of the number at the beginning of bytes.
 ///
 /// # Errors
-/// Returns where the bytes stop being the beginning of a number.
+/// Returns the index of the first byte with which the bytes begin no number: a digit is missing there, or the number
+/// has a digit too many.
 fn number_end(bytes: &[u8]) -> Result<usize, usize>
     requires { IsUtf8 bytes.now }
     ensures { IsNumberPlace bytes.now result }
@@ -154,12 +155,13 @@ fn places_len(bytes: &[u8]) -> usize
     count
 }
 
-/// Returns where bytes, from an index on, stop being the beginning of a unit, counted from that index. Returns `None`
-/// if they are a unit.
+/// Returns the index of the first byte, counted from `from`, with which the bytes from there on begin no unit. Returns
+/// `None` if they are a unit.
 fn unit_place(bytes: &[u8], from: usize) -> Option<usize>
     requires { from ≤ length bytes.now }
     ensures { IsUnitPlace (drop from bytes.now) result }
 {
+    // Any flags do: they decide which unit is read, and not where the bytes are wrong.
     let flags = Flags {
         ignore_case: false,
         prefer_byte: true,

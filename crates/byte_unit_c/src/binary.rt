@@ -47,7 +47,8 @@ pub extern "C" fn byte_unit_parse_binary_to(
     }
 }
 
-/// Explains as `byte_unit_explain` does, if decimal prefixes mean binary ones.
+/// Writes the message of the error as `byte_unit_explain` does, where decimal prefixes mean binary ones. Returns its
+/// length, at most 256, or 0 if the string represents a size.
 #[cold]
 #[inline(never)]
 pub fn explain_binary(text: &[u8], asked: ParseFlags, out: &mut [u8]) -> usize
@@ -61,8 +62,8 @@ pub fn explain_binary(text: &[u8], asked: ParseFlags, out: &mut [u8]) -> usize
 }
 
 /// Parses many texts as `byte_unit_parse_many_to` does with the flag `BINARY_PREFIXES`, with offsets of either width.
-/// Returns `INVALID_ARGUMENT` and writes nothing without it, if another flag is set, or if the offsets and lengths do
-/// not fit.
+/// Returns `INVALID_ARGUMENT` and writes nothing if that flag is not set, if an unknown flag is, or if the offsets and
+/// lengths do not fit.
 #[cold]
 #[inline(never)]
 pub fn parse_many_flagged(
@@ -97,7 +98,7 @@ pub fn parse_many_flagged(
 
 /// Parses each text, and writes its code and its size.
 ///
-/// Precondition: the offsets and lengths are a layout.
+/// Precondition (proved at every call): the offsets and lengths are a layout.
 fn parse_each(
     data: &[u8],
     offsets: Offsets<'_>,
@@ -118,7 +119,7 @@ fn parse_each(
     }
 }
 
-/// Parses one text to its code and its size, which is 0 if there is none.
+/// Parses one text, whose decimal prefixes mean binary ones, to its code and its size, which is 0 if there is none.
 fn parse_one(text: &[u8], asked: ParseFlags) -> (u8, Number)
     ensures { IsBinaryParsed asked.kind asked.ignore_case text.now result.0 result.1 }
 {

@@ -109,6 +109,7 @@ pub fn largest_unit(size: u128, family: Family, unit_type: UnitType, divisor: u1
 {
     // Every unit is far below `u128::MAX`, so saturation changes nothing.
     let in_bits = size.saturating_mul(divisor);
+    // The largest unit is first. Prefixes that are surely too large are left out, and others may be too large.
     for row in family.multiples_within(in_bits, PREFIXES as u32) {
         if row.bits <= in_bits && unit_type.takes(row.unit.is_binary_multiples()) {
             return Some(row.unit);

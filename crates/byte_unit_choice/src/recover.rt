@@ -85,7 +85,7 @@ pub fn appropriate_unit(size: u128, kind: Kind, unit_type: UnitType) -> Unit
     largest_unit(size, family, unit_type, kind.bits()).unwrap_or(kind.unit())
 }
 
-/// Returns the unit set for sizes of the kind: its own units, or all if `allow` is set.
+/// Returns the unit set for sizes of the kind: its own units, or those of both kinds if `allow` is set.
 #[inline(always)]
 fn family_for(kind: Kind, allow: bool) -> Family
     ensures { result ≡ family_for kind allow }

@@ -155,7 +155,7 @@ fn error_text(
 ///
 /// # Errors
 ///
-/// Returns `AllocError` if allocation fails, or that is the error.
+/// Returns `AllocError` if allocation fails, or if it failed in clap.
 fn text_of(rt: &HostRuntime, error: &clap::Error) -> Result<String, AllocError> {
     if error.kind() == ErrorKind::OutOfMemory {
         return Err(AllocError);

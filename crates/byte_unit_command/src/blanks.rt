@@ -61,8 +61,9 @@ pub(crate) fn end_of_first<const BLANKS: bool>(
     end_of(bytes, delimiter)
 }
 
-/// Appends the text of a size that replaces the field with this number: between blanks, the blank that separates the
-/// field, and the size in at least the width of the options, or in the columns that the field has.
+/// Appends the text of a size that replaces a field, by the number of the field in its record, from 1. If blanks
+/// separate the fields, the blank before the field is first, unless it is the first field, and the size takes at least
+/// the width of the options or the columns that the field has.
 ///
 /// Preconditions (proved at every call): `BLANKS` says whether fields are between blanks, `size` is less than 10^30,
 /// and `digits` has capacity for any text.
@@ -98,7 +99,7 @@ pub(crate) fn add_placed<const BLANKS: bool, A: Allocator>(
     add_in_width(options, options.width as usize, size, digits, text)
 }
 
-/// Returns a constant as a value, of whose branches a proof can speak.
+/// Returns a constant as a value, so that proofs tell the two branches on it apart.
 #[inline(always)]
 fn value_of(constant: bool) -> bool
     ensures { result ≡ constant }

@@ -350,7 +350,7 @@ fn invalid_of(value: Option<&str>) -> Result<Invalid, Wrong<'_>>
     }
 }
 
-/// Returns a limit of the sizes.
+/// Returns a limit of the sizes, which is parsed as they are. Returns `None` if there is no value.
 ///
 /// # Errors
 ///
@@ -379,7 +379,7 @@ fn limit_of<'a>(
     }
 }
 
-/// Parses a size of a kind.
+/// Parses a size of a kind. Decimal prefixes mean binary ones if `binary` is set.
 fn size_of(text: &str, binary: bool, kind: Kind, ignore_case: bool) -> Result<u128, ParseError>
     ensures { IsReadingBy binary kind (ignores_case kind ignore_case) text.now result }
 {

@@ -61,7 +61,7 @@ pub(crate) fn add_in_width<A: Allocator>(
 
 /// Appends the first `len` of `bytes` and the suffix.
 ///
-/// Preconditions (proved at every call): `bytes` has at least `len` bytes, and at least [`AT_ONCE`].
+/// Preconditions (proved at every call): `bytes` has at least `len` bytes, and at least [`AT_ONCE`], for `add_first`.
 ///
 /// # Errors
 ///

@@ -105,7 +105,7 @@ pub fn old_meanings_stay()
     ensures adjusted_forms { AdjustedFormsStay }
 {}
 
-/// States that `FormatSpec::PLAIN` sets no option, `FormatSpec::ALTERNATE` only the alternate form.
+/// States that `FormatSpec::PLAIN` sets no option, and `FormatSpec::ALTERNATE` only the alternate form.
 pub fn named_specs_set_no_other_option()
     ensures plain { FormatSpec.PLAIN ≡ plain_spec }
     ensures alternate { FormatSpec.ALTERNATE ≡ alternate_spec }

@@ -19,7 +19,7 @@ use byte_unit::{Byte, FormatSpec, Unit};
 use serde::Deserializer;
 use std::alloc::Global;
 
-/// Writes a string of the size without a decimal prefix, since [`deserialize`] takes that for the binary one: the text
+/// Writes a string of the size without a decimal prefix, which [`deserialize`] would read as the binary one: the text
 /// of [`crate::byte::serialize`] if its unit has a binary prefix, and else the number of bytes. Does not allocate.
 ///
 /// So what is written is read as the same size, also by the other modules: see the law `binary_string_reads_back`.
@@ -35,7 +35,7 @@ pub fn serialize<S: Sink>(size: &Byte, out: &mut S) -> Result<(), S::Error>
     write_as(size, spec_of(*size), out)
 }
 
-/// Returns how the string of the size is formatted.
+/// Returns how the string of the size is formatted: without a width, as `write_as` requires.
 fn spec_of(size: Byte) -> FormatSpec
     ensures string { (text : List ℕ) → IsText InBytes size result text → IsBinaryString InBytes size text }
     ensures narrow { result.width ≡ None }

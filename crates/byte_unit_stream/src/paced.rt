@@ -31,7 +31,10 @@ pub enum Then {
 pub struct Pace(pub usize, pub usize, pub Then);
 
 impl Pace {
-    /// Returns the number of bytes that the next call transfers, of those that are asked for.
+    /// Returns the most bytes that the next call transfers, if it asks for `asked`, and counts the call.
+    ///
+    /// # Errors
+    /// Returns an error if the call fails.
     fn next(&mut self, asked: usize) -> io::Result<usize> {
         let Pace(step, calls, then) = *self;
         if calls > 0 {

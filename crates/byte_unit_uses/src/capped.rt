@@ -55,7 +55,7 @@ pub fn cap(read: Result<Byte, LimitError>) -> Result<Byte, ParseError>
 /// Returns the maximum that a limit exceeds, for an error message. Returns `None` if the limit is at most the maximum,
 /// or the string represents no size.
 ///
-/// In a match on a reference, the pattern that `cap` avoids is accepted.
+/// In a match on a reference, `rt check` accepts the pattern `Err(LimitError::Above(max))`.
 pub fn max_exceeded(read: &Result<Byte, LimitError>) -> Option<Byte>
     ensures { result ≡ exceeded_max read.now }
 {

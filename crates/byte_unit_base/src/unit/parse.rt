@@ -141,7 +141,7 @@ fn counts_bits(length: usize, upper: bool, flags: Flags) -> bool
         | ((length == 0) & !flags.prefer_byte)
 }
 
-/// Returns the first `length` letters of `bits`.
+/// Returns the first `length` letters of `bits`, for the error of a unit in which the parser stops after them.
 #[inline(always)]
 fn letters(length: usize) -> Word
     requires few { length ≤ 4 }

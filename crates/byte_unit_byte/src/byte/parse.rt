@@ -44,8 +44,7 @@ impl Byte {
         Ok(Byte { size })
     }
 
-    /// Parses a size from a string of UTF-8, as [`Byte::parse_str`] does. Returns `None` if the string is not
-    /// UTF-8.
+    /// Parses a size from a string in UTF-8, as [`Byte::parse_str`] does. Returns `None` if what is given is not UTF-8.
     ///
     /// If it represents a size, this is faster than making a `str` of it first.
     ///
