@@ -217,7 +217,7 @@ def python_aarch64(aarch64, tmp_path_factory):
     need(*PYTHON_PACKAGE, "apt-get", "dpkg-deb", "readelf")
     folder = tmp_path_factory.mktemp("python-aarch64")
     try:
-        root = foreign.unpacked(folder)
+        root = foreign.unpacked(folder, program=True)
     except Failure as why:
         pytest.skip(str(why))
     made = wheel(copied("python", folder), aarch64.folder, folder / "wheel", **foreign.variables(root))

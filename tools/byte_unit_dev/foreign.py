@@ -22,20 +22,25 @@ def name():
     return output(DEBIAN_PYTHON, "-c", "import sys; print('python%d.%d' % sys.version_info[:2])").strip()
 
 
-def unpacked(folder):
-    """Downloads Debian's Python for aarch64, with what it depends on, and unpacks it in a folder, which is returned."""
+def unpacked(folder, *, program=False):
+    """Unpacks the headers of Debian's Python for aarch64 in a folder, which is returned. With `program`, also the
+    program, with all that it depends on."""
     if not shutil.which("apt-get") or not shutil.which("dpkg-deb"):
         raise Failure("apt-get or dpkg-deb is missing")
     root, state = Path(folder).resolve() / "root", Path(folder).resolve() / "apt"
-    for made in (root, state / "lists/partial", state / "archives/partial"):
+    archives, packages = state / "archives", [f"lib{name()}-dev"]
+    for made in (root, state / "lists/partial", archives / "partial"):
         made.mkdir(parents=True)
     (state / "status").touch()
     (state / "conf").write_text(CONF.format(state))
-    packages = [f"{name()}-minimal", f"lib{name()}-dev"]
-    for words in (["update"], ["install", "--yes", "--download-only", "--no-install-recommends", *packages]):
-        if call("apt-get", "--quiet", *words, env=environment(APT_CONFIG=state / "conf")).returncode:
+    ways = ["download"]
+    if program:
+        packages.append(f"{name()}-minimal")
+        ways = ["install", "--yes", "--download-only", "--no-install-recommends"]
+    for words in (["update"], [*ways, *packages]):
+        if call("apt-get", "--quiet", *words, cwd=archives, env=environment(APT_CONFIG=state / "conf")).returncode:
             raise Failure(f"these packages for arm64 could not be downloaded: {' '.join(packages)}")
-    for package in sorted(state.glob("archives/*.deb")):
+    for package in sorted(archives.glob("*.deb")):
         output("dpkg-deb", "--extract", package, root)
     return root
 
