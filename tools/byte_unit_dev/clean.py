@@ -3,10 +3,10 @@
 import os
 import subprocess
 
-from .common import Failure, call
+from .common import Failure, call, output
 from .needs import is_there
 
-MIRROR = "http://deb.debian.org/debian"
+SOURCE = ["indextargets", "--format", "$(REPO_URI)", "Codename: bookworm", "Created-By: Packages"]
 ARCHIVES = "/var/cache/apt/archives"
 HERE = {"PATH": "/usr/local/sbin:/usr/local/bin:/usr/sbin:/usr/bin:/sbin:/bin", "HOME": "/root", "LC_ALL": "C.UTF-8",
         "DEBIAN_FRONTEND": "noninteractive"}  # fmt: skip
@@ -35,10 +35,13 @@ def make(folder):
     """Makes a Debian 12 that has apt and the essential packages alone, and returns its folder, in another."""
     if not is_there("mmdebstrap"):
         raise Failure("a clean Debian 12 could not be made: mmdebstrap is missing")
+    found = output("apt-get", *SOURCE).split()
+    if not found:
+        raise Failure("a clean Debian 12 could not be made: apt has no source of it here")
     made, work = folder / "base", folder / "work"
     work.mkdir()
     words = ["mmdebstrap", "--quiet", "--variant=minbase", "--skip=cleanup/apt", "--dpkgopt=force-unsafe-io",
-             '--aptopt=Acquire::Languages "none"', "bookworm", made, MIRROR]  # fmt: skip
+             '--aptopt=Acquire::Languages "none"', "bookworm", made, found[0]]  # fmt: skip
     env = {**os.environ, **HERE, "WORK": str(work), "BASE": str(made), "DIST": str(work)}
     for step in (words, ["sh", "-euc", BEGIN]):
         got = call(*ALONE, *step, env=env)
