@@ -49,10 +49,11 @@ fn main() {
     });
     for n in [12, 1536, 123_456_789] {
         let size = Byte::from_u64(n);
-        let in_kib = size.get_adjusted_unit(Unit::KiB);
+        let (in_kib, in_gib) = (size.get_adjusted_unit(Unit::KiB), size.get_adjusted_unit(Unit::GiB));
         written!(format!("`text`, digits, of {n}"), out, "{}", size);
         written!(format!("`text` with a unit of {n}"), out, "{:#}", size);
         written!(format!("`adjusted_text` in KiB of {n}"), out, "{}", in_kib);
+        written!(format!("`adjusted_text` in GiB of {n}"), out, "{}", in_gib);
         written!(format!("`adjusted_text`, two places, of {n}"), out, "{:.2}", in_kib);
         timed(&format!("`appropriate_unit` of {n}"), || {
             black_box(black_box(size).get_appropriate_unit(UnitType::Both));
