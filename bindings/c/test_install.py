@@ -101,6 +101,7 @@ def test_manual_page(prefix):
 
 
 def test_extension(prefix):
+    """It exports its entry point alone, and SQLite loads it by its name without `.so`."""
     need("sqlite3", "sqlite3ext.h")
     file = prefix / "lib/sqlite3/byte_unit"
     assert output("nm", "-D", "--defined-only", f"{file}.so").split()[2::3] == ["sqlite3_byteunit_init"]
@@ -143,6 +144,7 @@ def test_full_disk(library, tmp_path):
 
 
 def test_signal(library, tmp_path):
+    """A signal while the compiler runs leaves nothing behind."""
     (tmp_path / "cc").write_text("#!/bin/sh\nkill -TERM $PPID\nexec sleep 9 > /dev/null 2>&1\n")
     (tmp_path / "cc").chmod(0o755)
     env = {**os.environ, "CC": str(tmp_path / "cc")}
@@ -190,12 +192,14 @@ def test_make_libraries(library, tmp_path):
 
 
 def test_without_compiler(library, tmp_path):
+    """Without a compiler the archive is installed, and what needs one is named as skipped."""
     said = output(*INSTALL, "--from", library, tmp_path, env={**os.environ, "CC": "none"})
     assert "skipped: libbyte_unit.so and sqlite3/byte_unit.so: there is no C compiler none\n" in said
     assert not [name for name in files_in(tmp_path) if ".so" in name]
 
 
 def test_command(library, tmp_path, program_of):
+    """The command is installed with its pages; without it, those are removed."""
     source, prefix = shutil.copytree(library, tmp_path / "with-command"), tmp_path / "prefix"
     shutil.copy(program_of("byte_unit_cli"), source / "byte-unit")
     output(*INSTALL, "--from", source, prefix)

@@ -31,6 +31,7 @@ static inline bool is_size(uint128_value value)
     return value < value_of((ByteSize)BYTE_UNIT_SIZE_LIMIT_INIT);
 }
 
+/* Returns the n-th argument. */
 static inline ByteSize argument(FunctionCallInfo fcinfo, int n)
 {
     return *(const ByteSize *)PG_GETARG_POINTER(n);
@@ -43,6 +44,7 @@ static inline int compare(ByteSize a, ByteSize b)
     return (a.low > b.low) - (a.low < b.low);
 }
 
+/* Returns a copy of the size as a result. */
 static inline Datum result_of(ByteSize size)
 {
     ByteSize *result = palloc(sizeof *result);
@@ -58,6 +60,7 @@ static inline void reject_range(void)
                     errdetail("A size is not negative and less than 10^30 bytes.")));
 }
 
+/* The same, or an error if the value is no size. */
 static inline Datum result_in_range(uint128_value value)
 {
     if (!is_size(value))

@@ -9,6 +9,7 @@ typedef struct Mean {
     uint64 count;
 } Mean;
 
+/* Adds the sum and the count of another mean. */
 static void add_to_mean(Mean *mean, Mean other)
 {
     uint128_value before = value_of(mean->sum), sum = before + value_of(other.sum);
@@ -18,6 +19,7 @@ static void add_to_mean(Mean *mean, Mean other)
     mean->count += other.count;
 }
 
+/* Returns the state of the aggregate, all zero before the first row. */
 static Mean *state_of(FunctionCallInfo fcinfo)
 {
     MemoryContext context;

@@ -60,6 +60,7 @@ static int compare_datums(Datum a, Datum b, SortSupport unused)
     return compare(*(const ByteSize *)DatumGetPointer(a), *(const ByteSize *)DatumGetPointer(b));
 }
 
+/* Compares two results of `abbreviated`, as unsigned numbers. */
 static int compare_abbreviated(Datum a, Datum b, SortSupport unused)
 {
     (void)unused;
@@ -75,6 +76,7 @@ static Datum abbreviated(Datum original, SortSupport unused)
     return UInt64GetDatum(size.high == 0 ? size.low : PG_UINT64_MAX);
 }
 
+/* Abbreviations cost nothing to make, so sorting never gives them up. */
 static bool never_abort(int count, SortSupport unused)
 {
     (void)count, (void)unused;

@@ -74,6 +74,7 @@ static char *sentence_of(const char *message)
     return sentence;
 }
 
+/* Returns the text as it was given, cut after SHOWN bytes, in whole characters. */
 static char *shortened(Text text)
 {
     if (text.shown_len <= SHOWN)
@@ -81,6 +82,7 @@ static char *shortened(Text text)
     return psprintf("%.*s..", pg_mbcliplen(text.shown, text.shown_len, SHOWN), text.shown);
 }
 
+/* Returns the SQLSTATE of an error of parsing. */
 static int sqlstate_of(uint32 code)
 {
     return code == BYTE_UNIT_EXCEEDED_BOUNDS ? ERRCODE_NUMERIC_VALUE_OUT_OF_RANGE : ERRCODE_INVALID_TEXT_REPRESENTATION;
@@ -121,6 +123,7 @@ typedef struct Form {
     uint32 unit, unit_type;
 } Form;
 
+/* Writes a size as the form says, and returns the length of the text. */
 static size_t write_form(const Form *form, char *out, size_t out_len)
 {
     if (form->unit_type != BYTE_UNIT_NO_UNIT)

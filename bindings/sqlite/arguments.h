@@ -139,12 +139,14 @@ static void return_reason(sqlite3_context *context, sqlite3_value *value, const 
     return_message(context, message, is_error);
 }
 
+/* Makes the call fail for this reason, and returns false. */
 static bool reject(sqlite3_context *context, sqlite3_value *value, const char *reason)
 {
     return_reason(context, value, reason, true);
     return false;
 }
 
+/* Gives the message about a value of a wrong type, as an error or as the result. */
 static void reject_type(sqlite3_context *context, sqlite3_value *value, bool is_error)
 {
     return_reason(context, value, " is not a size: TEXT or an INTEGER is expected", is_error);

@@ -77,6 +77,7 @@ static bool get_reading(sqlite3_context *context, int argc, sqlite3_value **argv
     return reading->code == BYTE_UNIT_OK;
 }
 
+/* Makes the call fail: the size is above the greatest INTEGER. */
 static void reject_above_integers(sqlite3_context *context, const struct reading *reading)
 {
     sqlite3_str *message = sqlite3_str_new(sqlite3_context_db_handle(context));
@@ -136,6 +137,7 @@ struct total {
 
 static const byte_unit_number limit = BYTE_UNIT_SIZE_LIMIT_INIT;
 
+/* Returns the sum modulo 2^128. */
 static byte_unit_number plus(byte_unit_number a, byte_unit_number b)
 {
     uint64_t low = a.low + b.low;
@@ -144,6 +146,7 @@ static byte_unit_number plus(byte_unit_number a, byte_unit_number b)
     return sum;
 }
 
+/* Returns the difference modulo 2^128. */
 static byte_unit_number minus(byte_unit_number a, byte_unit_number b)
 {
     byte_unit_number difference = { a.low - b.low, a.high - b.high - (a.low < b.low) };
@@ -161,6 +164,7 @@ static void add(struct total *total, byte_unit_number size)
     }
 }
 
+/* Takes away a size that was added before. */
 static void subtract(struct total *total, byte_unit_number size)
 {
     total->count--;

@@ -58,6 +58,7 @@ def public_functions(crate):
 
 
 def listed(crates):
+    """Reports titles of a wrong form, and public functions without a mutant."""
     wrong, total = [], 0
     for crate in crates:
         edits = [Path(name).stem for name in glob.glob(path("crates", crate, "must-fail/*.edit"))]
@@ -83,6 +84,7 @@ def put(crate, part, folder, prefix=""):
 
 
 def tried(crates, part):
+    """Runs a part of the mutants, and reports those that the prover accepts."""
     with tempfile.TemporaryDirectory() as copy:
         copy_to(copy, "crates", "HANDLES", "crates.txt", without=["must-fail"])
         names = [f"{crate}/{name}" for crate in crates for name in put(crate, part, f"{copy}/crates/{crate}/must-fail")]

@@ -31,7 +31,7 @@ import dask_job
 
 PARTS = 40
 UNITS = {"B": 1, "KB": 10**3, "KiB": 2**10, "MB": 10**6, "GiB": 2**30, "EB": 10**18, "RB": 10**27, "Kx": None}
-Found = tuple[dict[str, tuple[int, int]], str]  # sums by owner, and a digest of the rejected rows
+Found = tuple[dict[str, tuple[int, int]], str]  # by owner the number of sizes and their sum; a digest of rejected rows
 MESSAGE = "the character 'x' is incorrect ('B' or 'b' or no character is expected)"
 
 

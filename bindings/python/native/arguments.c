@@ -3,6 +3,7 @@
 
 #include <string.h>
 
+/* Raises a TypeError, and returns false. */
 static bool too_many(const signature *signature, Py_ssize_t count)
 {
     PyErr_Format(PyExc_TypeError, "%s() takes %d positional argument%s but %zd were given", signature->name,
@@ -164,6 +165,7 @@ typedef struct range {
     const char *most_shown;
 } range;
 
+/* Raises the error of a number out of range, and returns false. */
 static bool out_of_range(PyObject *module, const range *range, PyObject *integer)
 {
     PyObject *number = shown(integer);
@@ -180,6 +182,7 @@ static bool is_at_most(byte_unit_number number, byte_unit_number most)
     return number.high < most.high || (number.high == most.high && number.low <= most.low);
 }
 
+/* Reads an int. Raises an error if it is out of range. */
 static bool integer_to_range(PyObject *module, const range *range, PyObject *integer, byte_unit_number *number)
 {
     bool is_in_range = to_number(integer, number) && is_at_most(*number, range->most);

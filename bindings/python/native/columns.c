@@ -70,6 +70,7 @@ typedef struct piece {
  * the GIL back may wait some milliseconds; one with few texts and bytes is parsed without releasing it. */
 enum { PIECE = 65536, PIECE_BYTES = 4194304, FEW = 4096, FEW_BYTES = 65536 };
 
+/* Allocates a piece of at most `count` texts. Returns false, with an error set, if there is no memory. */
 static bool new_piece(size_t count, piece *piece)
 {
     size_t most = count < PIECE ? count : PIECE;

@@ -29,12 +29,15 @@ unit_known Bit = record { known = omega arith; alone = λ h. refl }
 unit_known B = record { known = omega arith; alone = λ h. refl }
 unit_known _ = record { known = omega arith; alone = λ h. absurd (omega (arith, h)) }
 
+-- the letter of the prefix with this power, from 1 on
 abbrev letter_at : ℕ → ℕ
 letter_at power = slice_index current.letters (power - 1)
 
+-- what follows the letter of a prefix: `i`, or nothing
 abbrev infix_of : Bool → List ℕ
 infix_of binary = if binary then codes "i" else []
 
+-- the letter of the kind
 abbrev count_of : Bool → List ℕ
 count_of bit = if bit then codes "b" else codes "B"
 
@@ -42,6 +45,7 @@ count_of bit = if bit then codes "b" else codes "B"
 abbrev is_letter : ℕ → Bool
 is_letter c = eqb (to_ascii_uppercase c) c && ltb c 128
 
+-- each letter of a prefix is a capital letter of ASCII
 known_letters : agree_below (λ n. is_letter (letter_at n)) (λ n. true) (length current.letters + 1) ≡ true
 known_letters = refl
 
@@ -54,6 +58,7 @@ letter_found power known =
     let parts = and_parts (eqb (to_ascii_uppercase c) c) (ltb c 128) is in
     (eqb-true _ _ parts.0, ltb-true _ _ parts.1)
 
+-- what follows the letter says whether the prefix is binary
 infix_spells : (binary : Bool) → SpellsBinary (infix_of binary) binary
 infix_spells true = inr (refl, refl)
 infix_spells false = inl (refl, refl)
@@ -62,6 +67,7 @@ infix_spells false = inl (refl, refl)
 abbrev pub SaysKind : Flags → Bool → Type 0
 SaysKind flags bit = bit ≡ true → flags.ignore_case ≡ false
 
+-- the letter of the kind spells the kind
 count_spells : (flags : Flags) (bit : Bool) → SaysKind flags bit → SpellsCount flags (count_of bit) bit
 count_spells flags false h = inr (inl (refl, refl))
 count_spells flags true h = inr (inr (inl (refl, ap not (sym (h refl)))))
@@ -72,6 +78,7 @@ rest_ascii true true = visible_ascii (codes "ib") refl
 rest_ascii false true = visible_ascii (codes "b") refl
 rest_ascii binary bit = visible_ascii (infix_of binary ++ count_of bit) refl
 
+-- the letter of the kind is one character, and no white space
 count_end : (bit : Bool) → (last : ℕ) × (count_of bit ≡ last ∷ []) × (is_whitespace last ≡ false)
 count_end true = (98, refl, refl)
 count_end false = (66, refl, refl)
@@ -80,6 +87,7 @@ count_end false = (66, refl, refl)
 pub with_prefix : (s : Shape) → 0 < s.power → unit_name_in current s ≡ letter_at s.power ∷ (infix_of s.binary ++ count_of s.bit)
 with_prefix s h = let some : nat_lt 0 s.power ≡ true = grind (arith, nat_tests) in rw some refl
 
+-- the name of a unit without a prefix is the letter of its kind
 without_prefix : (s : Shape) → s.power ≤ 0 → unit_name_in current s ≡ count_of s.bit
 without_prefix s h = let none : nat_lt 0 s.power ≡ false = grind (arith, nat_tests) in rw none refl
 

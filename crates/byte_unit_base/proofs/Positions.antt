@@ -66,6 +66,7 @@ stop_place flags bytes kept place stop =
 
 -- the first error after a beginning of ASCII
 
+-- if the first character has no step, the machine cannot step
 cannot_step : {S : Type 0} (step : S → ℕ → Option S) (s : S) (rest : List ℕ) → IsFirst (λ c. step s c ≡ None) rest
     → CannotStep step s rest
 cannot_step step s [] none = tt

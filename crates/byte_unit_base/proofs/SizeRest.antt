@@ -110,6 +110,7 @@ too_large flags (c ∷ cs) rest w digits below above =
     ∙ rw (digit_is c digits.0) refl)
     (cases_lt next whole_limit)
 
+-- the error of a fraction that gets more digits than fit
 too_many_more : (flags : Flags) (ds rest : List ℕ) (w f j : ℕ) → AllDigits 10 ds → j ≤ places_of_decimal
     → places_of_decimal < j + length ds → read (size_scan flags) (Fraction w f j) (ds ++ rest) ≡ Err too_long
 unfolding size_step
@@ -178,6 +179,7 @@ first_of_unit flags n c s u cs step fault more (Some t) e =
     read_some (size_scan flags) s (UnitAt n t) c cs (step ∙ ap (option_map (UnitAt n)) e)
     ∙ (more t ∙ sym (ap (with_number n) (read_some (unit_scan flags) u t c cs e)))
 
+-- within a unit, the rest is read as by the parser of a unit
 read_in_unit : (flags : Flags) (n : ℕ) (u : UnitScan) (text : List ℕ)
     → read (size_scan flags) (UnitAt n u) text ≡ with_number n (read (unit_scan flags) u text)
 unfolding size_step
@@ -185,6 +187,7 @@ read_in_unit flags n u [] = end_with_number n (unit_of flags u)
 read_in_unit flags n u (c ∷ cs) =
     first_of_unit flags n c (UnitAt n u) u cs refl refl (λ t. read_in_unit flags n t cs) (unit_step u c) refl
 
+-- and so is a unit that begins after a number
 read_first_of_unit : (flags : Flags) (n : ℕ) (s : SizeScan) (unit : List ℕ)
     → size_at_end flags s ≡ size_or_fault n (unit_of flags start)
     → IsFirst (EndsNumber s n) unit → IsFirst IsNoSpace unit

@@ -25,12 +25,12 @@ use Rattle.byte_unit_base.proofs.UnitRuns.{spelling_runs, unit_front_runs}
 
 -- digits
 
--- the first digit
+-- the first digit begins the whole part
 pub step_first : (c : ℕ) → digit_value c < 10 → size_step Beginning c ≡ Some (Whole (digit_value c))
 unfolding size_step
 step_first c h = grind (arith, nat_tests)
 
--- one more digit
+-- one more digit of a whole part, below its limit
 pub step_whole : (w c : ℕ) → digit_value c < 10 → w * 10 + digit_value c < whole_limit
     → size_step (Whole w) c ≡ Some (Whole (w * 10 + digit_value c))
 unfolding size_step
@@ -41,12 +41,12 @@ pub step_point : (w : ℕ) → size_step (Whole w) 46 ≡ Some (Point w)
 unfolding size_step
 step_point w = refl
 
--- one more digit
+-- the first digit after the point
 pub step_pointed : (w c : ℕ) → digit_value c < 10 → size_step (Point w) c ≡ Some (Fraction w (digit_value c) 1)
 unfolding size_step
 step_pointed w c h = grind (arith, nat_tests)
 
--- one more digit
+-- one more digit of a fraction of fewer than 28
 pub step_fraction : (w f j c : ℕ) → digit_value c < 10 → j < places_of_decimal
     → size_step (Fraction w f j) c ≡ Some (Fraction w (f * 10 + digit_value c) (j + 1))
 unfolding size_step
@@ -57,6 +57,7 @@ pub value_rises : (ds : List ℕ) (v : ℕ) → v ≤ digits_value_after 10 v ds
 value_rises [] v = omega arith
 value_rises (c ∷ cs) v = omega (arith, value_rises cs (v * 10 + digit_value c))
 
+-- more digits of a whole part lead to the whole part with them
 run_digits : (ds : List ℕ) (v : ℕ) → AllDigits 10 ds → digits_value_after 10 v ds < whole_limit
     → run size_step (Whole v) ds ≡ Some (Whole (digits_value_after 10 v ds))
 run_digits [] v h k = refl
@@ -74,6 +75,7 @@ run_whole (c ∷ cs) w h =
     run_step size_step Beginning (Whole (digit_value c)) c cs (step_first c h.0.1.0)
     ∙ (run_digits cs (digit_value c) h.0.1.1 (omega (arith, value, h.2)) ∙ ap (λ v. Some (Whole v)) value)
 
+-- more digits of a fraction lead to the fraction with them
 run_more_places : (ds : List ℕ) (w f j : ℕ) → AllDigits 10 ds → j + length ds ≤ places_of_decimal
     → run size_step (Fraction w f j) ds ≡ Some (Fraction w (digits_value_after 10 f ds) (j + length ds))
 run_more_places [] w f j h k = ap (λ n. Some (Fraction w f n)) (omega arith)
@@ -84,6 +86,7 @@ run_more_places (c ∷ cs) w f j h k =
     ∙ (run_more_places cs w value (j + 1) h.1 (omega arith)
     ∙ ap (λ n. Some (Fraction w (digits_value_after 10 value cs) n)) count)
 
+-- a whole part and a point lead to the state after the point
 pub run_pointed : (text : List ℕ) (w : ℕ) → IsPointed current text w → run size_step Beginning text ≡ Some (Point w)
 run_pointed text w h = ap (run size_step Beginning) h.text_is
     ∙ (run_through size_step Beginning (Whole w) h.whole (46 ∷ []) (run_whole h.whole w h.whole_is)
@@ -127,6 +130,7 @@ run_precise text n h =
       holds = (ap (λ x. h.value * scale + x) (sym h.fraction_is.2) ∙ sym h.number_is, refl);
     }
 
+-- a number leads to a state after that number
 run_number : (text : List ℕ) (n : ℕ) → IsNumberText current text n → RunsTo (AtNumber n) Beginning text
 run_number text n (inl h) = record { state = Whole h.0; run = run_whole text h.0 h.1; holds = sym h.2 }
 run_number text n (inr h) = let r = run_precise text n h in record { state = r.state; run = r.run; holds = r.holds.0 }

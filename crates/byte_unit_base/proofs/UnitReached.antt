@@ -56,11 +56,12 @@ prefix_found c p e =
     let found = position_found current.letters 1 (to_ascii_uppercase c) p e in
     (omega (arith, found.0), omega (arith, found.1), found.2)
 
--- one character more of the prefix
+-- an infix that is not binary is empty
 no_infix : (text : List ℕ) → SpellsBinary text false → text ≡ []
 no_infix text (inl h) = h.0
 no_infix text (inr h) = absurd (let k : ⊥ = cc (h.1) in k)
 
+-- one character more of the prefix: the text with it is that of the next state
 multiple_grows : (m n : Multiple) (c : ℕ) (text : List ℕ) → multiple_step m c ≡ Some n → IsMultipleText m text
     → IsMultipleText n (text ++ c ∷ [])
 multiple_grows One (Decimal p) c text e h =
@@ -86,12 +87,13 @@ multiple_grows (Decimal p) (Binary q) c text e h =
     }
 multiple_grows _ _ c text e h = grind (arith, nat_tests)
 
--- one character more of the suffix
+-- lower case is taken letter by letter
 lower_push : (text : List ℕ) (c : ℕ) → str_to_ascii_lowercase (text ++ c ∷ [])
     ≡ str_to_ascii_lowercase text ++ to_ascii_lowercase c ∷ []
 lower_push [] c = refl
 lower_push (x ∷ xs) c = ap (λ t. to_ascii_lowercase x ∷ t) (lower_push xs c)
 
+-- one character more of the suffix: the text with it is that of the next state
 word_grows : (w v : Word) (c : ℕ) (text : List ℕ) → word_step w c ≡ Some v → IsWordText w text
     → IsWordText v (text ++ c ∷ [])
 word_grows Empty UpperB c text e h = rw h (grind (arith, nat_tests, e))
@@ -142,6 +144,7 @@ Reached-start = record { front = []; word = []; text_is = refl; front_is = refl;
 
 -- the unit at the end of an input
 
+-- a suffix whose kind is known spells that kind
 count_spelled : (flags : Flags) (w : Word) (text : List ℕ) (bit : Bool) → count_of flags w ≡ Some bit
     → IsWordText w text → SpellsCount flags text bit
 count_spelled flags Empty text bit e h = inl (h, cc)
@@ -151,6 +154,7 @@ count_spelled flags Bi text bit e h = absurd (let k : ⊥ = cc in k)
 count_spelled flags Bit text bit e h = inr (inr (inr (inl (h, cc))))
 count_spelled flags Bits text bit e h = inr (inr (inr (inr (h, cc))))
 
+-- a prefix and a suffix spell their unit
 parts_spell_unit : (flags : Flags) (m : Multiple) (front word : List ℕ) (bit : Bool) → IsMultipleText m front
     → SpellsCount flags word bit → Spells current flags (front ++ word) (multiple_shape m bit)
 parts_spell_unit flags One front word bit h k = rw h (inl (record { count_is = k; power_is = refl; binary_is = refl }))

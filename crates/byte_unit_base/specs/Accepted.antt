@@ -23,7 +23,8 @@ pub record IsReadAs
   pub is_size : IsSizeText version (flags_for kind ignore_case) (trim_of text) number unit
   pub is_least : IsLeastOf kind number (meant unit) n
 
--- the input is accepted as a size of `n` bytes or bits, which is below the limit of the version
+-- the input is accepted as a size of `n` bytes or bits, which is below the limit of the version; `number`
+-- is the number in it, scaled by 10^28
 pub record IsAcceptedAs
     (meant : Shape → Shape) (version : Version) (kind : Kind) (ignore_case : Bool) (text : List ℕ) (n : ℕ)
     : Type 0 where

@@ -72,7 +72,8 @@ abbrev pub IsFaultAfter : Version → Flags → ParserState → List ℕ → Fau
 IsFaultAfter version flags place [] fault = fault_at_end place ≡ Some fault
 IsFaultAfter version flags place (c ∷ rest) fault = fault ≡ fault_at version flags place c
 
--- the error of an input is that after its longest viable prefix; `IsViable` says what a viable prefix is
+-- the error of an input is that after its longest viable prefix; `IsViable` says what a viable prefix is; `front`
+-- is that prefix, and `place` the parser state after it
 pub record IsFirstFault
     (IsViable : ParserState → List ℕ → Type 0) (version : Version) (flags : Flags) (text : List ℕ) (fault : Fault)
     : Type 0 where

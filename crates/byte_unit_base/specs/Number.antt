@@ -26,7 +26,8 @@ pub record IsPointed (version : Version) (text : List ℕ) (value : ℕ) : Type 
   pub text_is : text ≡ whole ++ point ∷ []
   pub whole_is : IsWholePart version whole value
 
--- the text is a whole part, a point and a fraction; `n` is the number, scaled by 10^28
+-- the text is a whole part, a point and a fraction; `value` is that of the whole part; `n`, the number, and `part`,
+-- that of the fraction, are scaled by 10^28
 pub record IsPrecise (version : Version) (text : List ℕ) (n : ℕ) : Type 0 where
   pub whole : List ℕ
   pub fraction : List ℕ

@@ -28,12 +28,12 @@ pub record HasVisibleEnds (bytes : List ℕ) : Type 0 where
   pub start : is_ascii_graphic (slice_index bytes 0) ≡ true
   pub end : is_ascii_graphic (slice_index bytes (length bytes - 1)) ≡ true
 
--- what follows a line: a line feed, or nothing
+-- what follows a line: a line feed (10), or nothing
 abbrev pub IsAfterLine : List ℕ → Type 0
 IsAfterLine [] = ⊤
 IsAfterLine (byte ∷ rest) = byte ≡ 10
 
--- the bytes begin with the line
+-- the bytes begin with the line; `after` is what follows it
 pub record IsLineOf (line bytes : List ℕ) : Type 0 where
   pub after : List ℕ
   pub parts_are : bytes ≡ line ++ after

@@ -16,7 +16,8 @@ use Rattle.byte_unit_base.specs.UnitScan.{UnitScan, unit_parser_state}
 use Rattle.byte_unit_base.specs.SizeScan.{SizeScan, Beginning, size_step, size_parser_state}
 use Rattle.byte_unit_base.specs.PartsReading.{IsFirst, IsLeadingNumber, IsLeadingUnit}
 
--- the bytes begin with this many digits of a whole part, and one more would reach its limit
+-- the bytes begin with this many digits of a whole part, and one more would reach its limit; `value` is
+-- their value
 pub record IsWholeLen (bytes : List ℕ) (end : ℕ) : Type 0 where
   pub within : end ≤ length bytes
   pub value : ℕ

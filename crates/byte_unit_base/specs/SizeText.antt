@@ -14,7 +14,8 @@ trim_of bytes = drop_trailing_whitespace (skip_leading_whitespace (chars bytes))
 abbrev pub space : ℕ
 space = 32
 
--- the text is this number (scaled by 10^28), any number of spaces, and a spelling of this unit
+-- the text is this number (scaled by 10^28), any number of spaces, and a spelling of this unit;
+-- `number_part` and `unit_part` are their texts
 pub record IsSizeText (version : Version) (flags : Flags) (text : List ℕ) (number : ℕ) (unit : Shape) : Type 0 where
   pub number_part : List ℕ
   pub spaces : ℕ

@@ -55,7 +55,8 @@ multiple_step One c = option_map Decimal (prefix_at c)
 multiple_step (Decimal p) c = if is_i c then Some (Binary p) else None
 multiple_step (Binary p) c = None
 
--- the suffix after one character more: `B`, or a beginning of `bits`; `None` if the character does not continue it
+-- the suffix after one character more: `B` (66), or a beginning of `bits` (98, 105, 116, 115); `None` if the character
+-- does not continue it
 abbrev pub word_step : Word → ℕ → Option Word
 word_step Empty c = if c == 66 then Some UpperB else (if c == 98 then Some LowerB else None)
 word_step UpperB c = if is_i c then Some Bi else None

@@ -83,7 +83,8 @@ abbrev pub IsRecovered : Kind → Bool → ℕ → ℕ → UnitName → Type 0
 IsRecovered kind both size precision unit = IsRecoveredIn current kind both size precision (shape_of unit)
 
 -- the step count of choosing a unit for a size that is not zero, as a number of bytes or of bits by its kind. `number`
--- is the chosen number, scaled by 10^28, or 0 if no unit is chosen
+-- is the chosen number, scaled by 10^28, or 0 if no unit is chosen; `twos` and `fives` are the exponents of 2 and 5 in
+-- the size, and `places` is the number of places of the chosen number
 pub record TakesSteps (size number steps : ℕ) : Type 0 where
   pub twos : ℕ
   pub fives : ℕ

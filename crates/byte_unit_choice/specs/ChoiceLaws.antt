@@ -66,7 +66,7 @@ EachSizeHasAChoiceOrNone =
     ⊎ NoneHas (IsExactUnitIn version family in_bits precision)
 
 -- the size is exact in the unit at this many digits after the point if and only if the exponents of 2 and 5 in the unit
--- are at most those in the size plus that number of digits
+-- are at most those in the size, `size_twos` and `size_fives`, plus that number of digits
 pub record IsExactByPowers (in_bits : ℕ) (unit : Shape) : Type 0 where
   pub size_twos : ℕ
   pub size_fives : ℕ

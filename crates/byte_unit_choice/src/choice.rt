@@ -75,6 +75,7 @@ pub fn choose_unit(
         // Non-short-circuiting `&`: one branch instead of three that are hard to predict.
         if (row.bits <= in_bits) & (row.twos <= most_twos) & (row.fives <= most_fives) {
             let lacking = row.twos.saturating_sub(twos);
+            // Each place supplies one factor 2 and one factor 5, so there are as many as the size lacks of either.
             let places = lacking.max(row.fives.saturating_sub(fives));
             let number = if places > FEW_PLACES {
                 exact_number(in_bits, row.twos, row.fives, most, steps)

@@ -83,7 +83,7 @@ after-then options old between new text own messages own_messages found own_foun
     ∙ ap (λ out. With all out told) (append_assoc old.out text own)
     ∙ ap (λ told. With all (old.out ++ (text ++ own)) told) (append_assoc old.messages messages own_messages)
 
--- more bytes after the text
+-- if more bytes are appended, the state is that after the text followed by these bytes
 pub after-more : (options : Options) (old new : State) (text messages more : List ℕ) (found : List Found)
     → new ≡ after options old text messages found
     → record new { out = new.out ++ more } ≡ after options old (text ++ more) messages found
@@ -243,7 +243,7 @@ module _ (options : Options) (bytes : List ℕ) (old new : State) where
       (ap (λ state. state.out) all ∙ sym (append_assoc old.out adds.text (options.output_end ∷ [])))
       (ap (λ state. state.messages) all) (ap (λ state. state.tally) all)
 
--- two lists of records, one after the other
+-- the texts of two lists of records, one after the other, are those of the lists joined
 AreRecords-append : (options : Options) (header : ℕ) (before records : List (List ℕ)) (front back : List ℕ)
     (front_found back_found : List Found) → AreRecords options header before front front_found
     → AreRecords options (header - length before) records back back_found
@@ -267,7 +267,7 @@ AreRecords-append options header (bytes ∷ before) records front back front_fou
       ap (λ found. found ++ back_found) found_is ∙ append_assoc own_found rest_found back_found,
     )
 
--- the messages about two lists of records, one after the other
+-- the messages about two lists of records, one after the other, are those about the lists joined
 AreMessages-append : (options : Options) (word : List ℕ) (place header : ℕ) (before records : List (List ℕ))
     (front back : List ℕ) → AreMessages options word place header before front
     → AreMessages options word (last_place place before) (header - length before) records back
@@ -288,13 +288,13 @@ AreMessages-append options word place header (bytes ∷ before) records front ba
       ap (λ text. text ++ back) front_is ∙ append_assoc own rest back,
     )
 
--- the number of the last of two lists of records
+-- the number of the last record of two joined lists is counted on from the last of the first list
 last_place-append : (place : ℕ) (before records : List (List ℕ))
     → last_place place (before ++ records) ≡ last_place (last_place place before) records
 last_place-append place [] records = refl
 last_place-append place (bytes ∷ before) records = last_place-append (next_place place) before records
 
--- records appended after others
+-- converting records and then others converts both lists, one after the other
 pub AddsRecords-append : (options : Options) (before records : List (List ℕ)) (old between new : State)
     → AddsRecords options before old between → AddsRecords options records between new
     → AddsRecords options (before ++ records) old new
@@ -333,7 +333,7 @@ AddsRecords-append options before records old between new first second =
           second.tally_is;
     }
 
--- no records
+-- converting no records leaves the state as it is: no text, no messages and nothing found
 pub AddsRecords-none : (options : Options) (state : State) → AddsRecords options [] state state
 AddsRecords-none options state = record {
   text = [];
@@ -354,7 +354,7 @@ AddsRecords-none options state = record {
 abbrev pub behind : List ℕ → List ℕ → State → State
 behind front told state = record state { out = front ++ state.out; messages = told ++ state.messages }
 
--- the same records, after other bytes and other messages
+-- records add the same, whatever bytes and messages wait before them
 pub AddsRecords-after : (options : Options) (records : List (List ℕ)) (front told : List ℕ) (old new : State)
     → AddsRecords options records old new → AddsRecords options records (behind front told old) (behind front told new)
 AddsRecords-after options records front told old new adds = record {

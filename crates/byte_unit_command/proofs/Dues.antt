@@ -23,14 +23,14 @@ module _ {options : Options} {word read written messages part : List ℕ} {state
       (with_output state written messages) served.added
       (subst (λ records. AreMessages options word 0 options.header records []) (sym all_is) none)
 
-  -- those of the next piece
+  -- there is no message about the records that end in the next piece
   pub piece-untold : (piece : List ℕ)
       → AreMessages options word 0 options.header (finished_of options (read ++ piece)) []
       → RecordsHaveNoMessage options (ended_records options.record_end part piece) state
   piece-untold piece = others-untold (ended_records options.record_end part piece) (finished_of options (read ++ piece))
       (finished-piece served piece)
 
-  -- the last one
+  -- nor about the last record
   pub last-untold : AreMessages options word 0 options.header (all_of options read) []
       → RecordsHaveNoMessage options (nonempty_record part) state
   last-untold = others-untold (nonempty_record part) (all_of options read) (records-last served)

@@ -51,7 +51,7 @@ pub record IsFed (options : Options) (start now : Feed) : Type 0 where
       ≡ converted ++ ended_records options.record_end now.part now.rest
   pub begun : begun_record options.record_end start.part start.rest ≡ begun_record options.record_end now.part now.rest
 
--- before the first record
+-- before the first record nothing is converted, and all bytes are left
 pub IsFed-start : (options : Options) (start : Feed) → IsFed options start start
 IsFed-start options start = record {
   converted = [];
@@ -115,14 +115,14 @@ pub begun_record-all : (options : Options) (start now : Feed) → IsFed options 
     → now.part ++ now.rest ≡ begun_record options.record_end start.part start.rest
 begun_record-all options start now fed unbroken = sym (unbroken now.part).1 ∙ sym fed.begun
 
--- out of memory, with nothing more appended
+-- out of memory with nothing more appended, the loop ends with the records converted so far
 pub EndsEarly-memory : (options : Options) (start now : Feed) → IsFed options start now → (out messages : List ℕ)
     → now.state.out ≡ out → now.state.messages ≡ messages
     → EndsEarly options (ended_records options.record_end start.part start.rest) start.state Memory out messages
 EndsEarly-memory options start now fed out messages same told =
     (fed.converted, now.state, (ended_records options.record_end now.part now.rest, fed.ended), fed.added, same, told)
 
--- a rejected field in the next record
+-- if a field of the next record is rejected, the loop ends there, with the records before it converted
 pub EndsEarly-rejected : (options : Options) (start now : Feed) (place : ℕ) (bytes : List ℕ) → IsFed options start now
     → IsNext options now place bytes → (out messages : List ℕ) → now.state.out ≡ out → now.state.header ≡ 0
     → Aborts options bytes (at_next now.state) messages
@@ -139,7 +139,8 @@ EndsEarly-rejected options start now place bytes fed next out messages same head
   aborts,
 )
 
--- a call that converts the next record stopped
+-- if the call that converts the next record stops with an error, the loop ends early with that error; a field is
+-- rejected only if no header records are left (`header` is their number)
 pub EndsEarly-record : {options : Options} {start now : Feed} {place : ℕ} {bytes : List ℕ} → IsFed options start now
     → IsNext options now place bytes → (out messages : List ℕ) → now.state.out ≡ out → (error : RunError)
     → (error ≡ Memory) ⊎ (error ≡ Rejected) → (error ≡ Memory → messages ≡ now.state.messages)

@@ -23,11 +23,13 @@ use Rattle.byte_unit_command.proofs.Tallies.{Passes-append}
 
 -- with a delimiter, and not between blanks
 module _ (options : Options) where
+  -- the fields are the parts between the delimiters
   pub fields_of-split : (bytes : List ℕ) (delimiter : ℕ) → options.delimiter ≡ Some delimiter
       → at_blanks options ≡ false → fields_of options bytes ≡ parts delimiter bytes
   fields_of-split bytes delimiter is none =
       ap (λ blanks. fields_by blanks options.delimiter bytes) none ∙ ap (λ mark. fields_by false mark bytes) is
 
+  -- between two fields is the delimiter
   pub between_of-split : (delimiter : ℕ) → options.delimiter ≡ Some delimiter → at_blanks options ≡ false
       → between_of options ≡ delimiter ∷ []
   between_of-split delimiter is none =
@@ -190,7 +192,7 @@ pub record IsSplitting (options : Options) (bytes : List ℕ) (old : State) (num
       → AreMessagesToRejected options old.word old.place 1 (fields_of options bytes) (messages ++ more)
   pub few : number + length rest ≤ 1 + length bytes
 
--- before the first field
+-- before the first field nothing is appended, and the whole record is left
 pub IsSplitting-start : (options : Options) (bytes : List ℕ) (old : State) → IsSplitting options bytes old 1 bytes old
 IsSplitting-start options bytes old =
     let With : List ℕ → List ℕ → State = λ out messages. record old { out = out; messages = messages } in record {
@@ -299,7 +301,7 @@ module _ {options : Options} {bytes : List ℕ} {old : State} {number : ℕ} {re
             ∙ append_assoc old.messages so_far.messages is.messages;
       }
 
-  -- the last field
+  -- if the rest is the last field, adding it adds the fields of the whole record
   pub AddsFields-last : fields_of options rest ≡ rest ∷ [] → (next : State)
       → AddsField options number rest new next → AddsFields options bytes old next
   AddsFields-last last next adds =

@@ -14,7 +14,8 @@ Tells-nothing failed = record { stays = λ is. (refl, is); begins = ([], refl); 
 pub IsTold-nothing : (failed : Bool) → IsTold failed [] []
 IsTold-nothing failed = record { begins = ([], refl); all = λ is. refl }
 
--- more messages, after those that were told
+-- what is told of some messages and then of more is what is told of both lists joined; `before` and `after` say
+-- whether a write had failed by then
 pub IsTold-more : (before after : Bool) (messages more told rest : List ℕ) → IsTold before messages told
     → Tells before after more rest → IsTold after (messages ++ more) (told ++ rest)
 IsTold-more true after messages more told rest so_far tells =

@@ -13,7 +13,7 @@ use Rattle.byte_unit_command.specs.declared.notice.FieldError.{FieldError}
 use Rattle.byte_unit_command.specs.declared.notice.FieldError.TheVariants.{Above, Below}
 use Rattle.byte_unit_command.specs.declared.options.Options.{Options}
 
--- two lists without an element
+-- two lists that are empty when joined are both empty
 append-empty : (front back : List ℕ) → [] ≡ front ++ back → (front ≡ []) × (back ≡ [])
 append-empty [] back none = (refl, sym none)
 append-empty (byte ∷ front) back none = cc
@@ -44,6 +44,7 @@ module _ (options : Options) (word : List ℕ) (place number : ℕ) (field : Lis
       ap (λ yes. yes || is_below options.min n) (IsMessageIf-none (is_above options.max n) Above above empty.0
       above_told) ∙ IsMessageIf-none (is_below options.min n) Below below empty.1 below_told
 
+  -- a chosen size about which there is no message is beyond no limit
   pub within-untold : TextsAreSizesOrNot → (n : ℕ) (is_rejected : Bool) → IsChosen options.fields.now number
       → IsSize options field n → AreFieldMessages options word place number field is_rejected [] → is_beyond options n
       ≡ false

@@ -23,10 +23,11 @@ use Rattle.byte_unit_command.specs.declared.wrong.Wrong.{Wrong}
 abbrev pub kind_of : Bool → Kind
 kind_of bits = if bits then Bit else Byte
 
--- the form without `--to`, and the precision: `-H` means `--to=auto -p 1`, but for what `--to` and `-p` say
+-- the form without `--to`: `-H` means `--to=auto -p 1`, but for what `--to` and `-p` say
 abbrev pub form_without : Bool → Form
 form_without human_readable = if human_readable then Largest Both else Exact
 
+-- the precision: that of `-p`, or else 1 with `-H`
 abbrev pub precision_of : Bool → Option ℕ → Option ℕ
 precision_of human_readable None = if human_readable then Some 1 else None
 precision_of human_readable (Some precision) = Some precision
@@ -99,21 +100,24 @@ pub record IsWrongField (values : Values) (wrong : Wrong) : Type 0 where
   pub value : text_of values.field ≡ text_of wrong.value
   pub reason : wrong.reason ≡ NoDelimiter
 
--- what is right before an option, in the order in which they are looked at
+-- all options are right that are looked at before `--delimiter`
 abbrev pub FormIsRight : Values → Type 0
 FormIsRight values =
     (given : Form) × IsFormOf values given × IsWithinExact given values.precision
     × ((form : Form) × IsShownForm values.no_unit given form)
 
+-- all options are right that are looked at before `--padding`
 abbrev pub FieldsAreRight : Values → Type 0
 FieldsAreRight values =
     FormIsRight values × ((delimiter : Option ℕ) × IsDelimiter (text_of values.delimiter) delimiter)
     × AreFieldsSeparated values
 
+-- all options are right that are looked at before `--invalid`
 abbrev pub PaddingIsRight : Values → Type 0
 PaddingIsRight values =
     FieldsAreRight values × ((width : ℕ) × (align_left : Bool) × IsPadding (text_of values.padding) width align_left)
 
+-- all options are right that are looked at before `--max` and `--min`
 abbrev pub ModeIsRight : Values → Type 0
 ModeIsRight values = PaddingIsRight values × ((invalid : Invalid) × IsMode (text_of values.invalid) invalid)
 

@@ -20,15 +20,20 @@ value name = record (new_rule name) { long = Some name; value_names = 1 }
 
 -- the options with a letter or a rule of their own; `is_free` is false for one that excludes or needs another, and
 -- `is_simple` for one whose value is read in its own way
+
+-- `-i`
 abbrev pub ignore_case : Rule
 ignore_case = record (flag (codes "ignore-case")) { short = Some 105; is_free = false }
 
+-- `-H`
 abbrev pub human_readable : Rule
 human_readable = record (flag (codes "human-readable")) { short = Some 72 }
 
+-- `-p`, a number up to 65535
 abbrev pub precision : Rule
 precision = record (value (codes "precision")) { short = Some 112; parser = Some (Signed (pos 0) (pos 65535)) }
 
+-- `-d`
 abbrev pub delimiter : Rule
 delimiter = record (value (codes "delimiter")) { short = Some 100 }
 
@@ -41,6 +46,7 @@ fields = record (value (codes "field")) { is_simple = false }
 abbrev pub suffix : Rule
 suffix = record (value (codes "suffix")) { is_simple = false }
 
+-- `--header`, whose value, a number below 2^64, may be missing: then it is 1
 abbrev pub header : Rule
 header = record (value (codes "header")) {
   range = Some (record { start_inclusive = 0; end_inclusive = 1 });
@@ -52,6 +58,7 @@ header = record (value (codes "header")) {
 abbrev pub padding : Rule
 padding = record (value (codes "padding")) { is_simple = false }
 
+-- `-z`
 abbrev pub zero_terminated : Rule
 zero_terminated = record (flag (codes "zero-terminated")) { short = Some 122 }
 

@@ -43,6 +43,7 @@ IsNoSizeText options text =
     × ((fault : Fault)
     × IsRejectedBy options.binary options.kind (ignores_case options.kind options.ignore_case) text fault)
 
+-- the field, without the suffix of the options, is not a size
 abbrev pub IsNoSize : Options → List ℕ → Type 0
 IsNoSize options field = IsNoSizeText options (without_suffix options.suffix.now field)
 

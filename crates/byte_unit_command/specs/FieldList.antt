@@ -28,7 +28,7 @@ AreRanges [] (range ∷ ranges) = ⊥
 AreRanges (text ∷ texts) [] = ⊥
 AreRanges (text ∷ texts) (range ∷ ranges) = IsRange text range × AreRanges texts ranges
 
--- the text is a list of these ranges: they are between its commas, in their order
+-- the text is a list of these ranges: they are between its commas (44), in their order
 abbrev pub IsFieldList : List ℕ → List FieldRange → Type 0
 IsFieldList text ranges = AreRanges (slice_split (λ c. c == 44) text) ranges
 

@@ -34,9 +34,11 @@ abbrev pub splits_at_blanks : Option ℕ → Bool → Bool
 splits_at_blanks None blanks = false
 splits_at_blanks (Some delimiter) blanks = blanks
 
+-- whether the options separate fields at blanks
 abbrev pub at_blanks : Options → Bool
 at_blanks options = splits_at_blanks options.delimiter options.blanks
 
+-- the fields of a record by the options
 abbrev pub fields_of : Options → List ℕ → List (List ℕ)
 fields_of options record_bytes = fields_by (at_blanks options) options.delimiter record_bytes
 
@@ -46,6 +48,7 @@ bytes_between true delimiter = []
 bytes_between false None = []
 bytes_between false (Some delimiter) = delimiter ∷ []
 
+-- the bytes between two fields by the options
 abbrev pub between_of : Options → List ℕ
 between_of options = bytes_between (at_blanks options) options.delimiter
 
@@ -54,6 +57,7 @@ abbrev pub gap_by : Bool → ℕ → List ℕ → List ℕ
 gap_by true number field = cond (nat_lt 1 number) (take 1 field) []
 gap_by false number field = []
 
+-- the blank that separates a field from the field before it, by the options
 abbrev pub gap_of : Options → ℕ → List ℕ → List ℕ
 gap_of options number field = gap_by (at_blanks options) number field
 
@@ -69,6 +73,7 @@ width_by true zero number field = columns_of number field
 width_by true (suc width) number field = suc width
 width_by false width number field = width
 
+-- the least number of columns of a size in place of this field, by the options
 abbrev pub width_of : Options → ℕ → List ℕ → ℕ
 width_of options number field = width_by (at_blanks options) options.width number field
 

@@ -30,6 +30,7 @@ IsFrom (Some text) binary =
     (text ≡ codes "iec") × (binary ≡ true) ⊎ ((text ≡ codes "auto") × (binary ≡ false)
     ⊎ ((text ≡ codes "si") × (binary ≡ false) ⊎ (text ≡ codes "iec-i") × (binary ≡ false)))
 
+-- the text is no value of `--from`, for this reason
 abbrev pub IsNoFrom : List ℕ → ValueError → Type 0
 IsNoFrom text reason = ((binary : Bool) → ¬ IsFrom (Some text) binary) × (reason ≡ From)
 
@@ -58,6 +59,7 @@ IsNoUnitName kind ignore_case text (UnitFault error) =
     (trim text ≢ []) × IsUnitFault current (flags_for kind ignore_case) (trim_of text) (unit_fault error)
 IsNoUnitName kind ignore_case text _ = ⊥
 
+-- the text is no value of `--to`, for this reason
 abbrev pub IsNoForm : Kind → Bool → List ℕ → ValueError → Type 0
 IsNoForm kind ignore_case text reason =
     ((form : Form) → ¬ IsFormWord text form) × IsNoUnitName kind ignore_case text reason
@@ -69,13 +71,14 @@ IsShownForm true (InUnit unit) form = form ≡ NumberOf unit
 IsShownForm true Plain form = form ≡ Plain
 IsShownForm true given form = ⊥
 
--- `--delimiter`: one byte, or `\t` for a tab; nothing for none
+-- `--delimiter`: one byte, or `\t` (92, 116) for a tab (9); nothing for none
 abbrev pub IsDelimiter : Option (List ℕ) → Option ℕ → Type 0
 IsDelimiter None delimiter = delimiter ≡ None
 IsDelimiter (Some text) delimiter =
     (text ≡ []) × (delimiter ≡ None)
     ⊎ (((byte : ℕ) × (text ≡ byte ∷ []) × (delimiter ≡ Some byte)) ⊎ (text ≡ 92 ∷ 116 ∷ []) × (delimiter ≡ Some 9))
 
+-- the text is no value of `--delimiter`, for this reason
 abbrev pub IsNoDelimiter : List ℕ → ValueError → Type 0
 IsNoDelimiter text reason = ((delimiter : Option ℕ) → ¬ IsDelimiter (Some text) delimiter) × (reason ≡ Delimiter)
 
@@ -83,24 +86,26 @@ IsNoDelimiter text reason = ((delimiter : Option ℕ) → ¬ IsDelimiter (Some t
 abbrev pub IsWidth : List ℕ → ℕ → Type 0
 IsWidth text width = IsPositive text width × (width < 2 ^ 16)
 
--- `--padding`: a width, and whether sizes are aligned to the left
+-- `--padding`: a width, after a hyphen (45) if sizes are aligned to the left
 abbrev pub IsPadding : Option (List ℕ) → ℕ → Bool → Type 0
 IsPadding None width align_left = (width ≡ 0) × (align_left ≡ false)
 IsPadding (Some text) width align_left =
     IsWidth text width × (align_left ≡ false)
     ⊎ (digits : List ℕ) × (text ≡ 45 ∷ digits) × IsWidth digits width × (align_left ≡ true)
 
+-- the text is no value of `--padding`, for this reason
 abbrev pub IsNoPadding : List ℕ → ValueError → Type 0
 IsNoPadding text reason =
     ((width : ℕ) (align_left : Bool) → ¬ IsPadding (Some text) width align_left) × (reason ≡ Padding)
 
--- `--invalid`
+-- `--invalid`: a word for this mode
 abbrev pub IsMode : Option (List ℕ) → Invalid → Type 0
 IsMode None invalid = invalid ≡ Abort
 IsMode (Some text) invalid =
     (text ≡ codes "abort") × (invalid ≡ Abort) ⊎ ((text ≡ codes "fail") × (invalid ≡ Fail)
     ⊎ ((text ≡ codes "warn") × (invalid ≡ Warn) ⊎ (text ≡ codes "ignore") × (invalid ≡ Ignore)))
 
+-- the text is no value of `--invalid`, for this reason
 abbrev pub IsNoMode : List ℕ → ValueError → Type 0
 IsNoMode text reason = ((invalid : Invalid) → ¬ IsMode (Some text) invalid) × (reason ≡ Mode)
 
@@ -110,6 +115,7 @@ IsLimit binary kind ignore_case None limit = limit ≡ None
 IsLimit binary kind ignore_case (Some text) limit =
     (size : ℕ) × IsAcceptedBy binary kind (ignores_case kind ignore_case) text size × (limit ≡ Some size)
 
+-- the text is no value of `--max` and `--min`, for this reason
 abbrev pub IsNoLimit : Bool → Kind → Bool → List ℕ → ValueError → Type 0
 IsNoLimit binary kind ignore_case text (Size error) =
     IsRejectedBy binary kind (ignores_case kind ignore_case) text (size_fault error)

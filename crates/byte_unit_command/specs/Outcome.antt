@@ -31,7 +31,7 @@ IsTotalLine options found line =
     MatchBool options.total ((shown : List ℕ) × (sum_of found < size_limit) × IsShown options (sum_of found) shown
     × (line ≡ shown ++ options.output_end ∷ [])) (line ≡ [])
 
--- the whole output for these records, and what was found in them
+-- the whole output for these records, `text` with the line of the total, and what was found in them
 pub record IsOutput (options : Options) (records : List (List ℕ)) (written : List ℕ) (found : List Found) : Type 0 where
   pub text : List ℕ
   pub line : List ℕ
@@ -62,7 +62,7 @@ pub record IsBegunOutput (options : Options) (records : List (List ℕ)) (writte
   pub is_output : IsOutput options records output found
   pub begins : IsPrefix written output
 
--- in the mode `abort`, the texts of the records before the first one that has a rejected field
+-- in the mode `abort`, the texts of the records before the first one, `bytes`, that has a rejected field
 pub record IsAborted (options : Options) (records : List (List ℕ)) (written : List ℕ) : Type 0 where
   pub before : List (List ℕ)
   pub bytes : List ℕ

@@ -14,7 +14,8 @@ abbrev pub AreFirstMessages : Options → List ℕ → List (List ℕ) → List 
 AreFirstMessages options word records messages =
     (first : List (List ℕ)) × IsPrefix first records × AreMessages options word 0 options.header first messages
 
--- the messages about the records before one that has a rejected field, and about its fields up to the first such one
+-- the messages, `front`, about the records before one that has a rejected field, and those, `own`, about the fields of
+-- that record, `bytes`, up to the first such one
 pub record AreAbortMessages (options : Options) (word : List ℕ) (records : List (List ℕ)) (messages : List ℕ)
     : Type 0 where
   pub before : List (List ℕ)

@@ -53,15 +53,18 @@ use Rattle.byte_unit_base.specs.declared.unit.Unit.{Unit as UnitName}
 use Rattle.byte_unit_base.proofs.LongFractions.{long_fault}
 use Rattle.byte_unit_choice.proofs.Quotients.{exact_more}
 
+-- Spaces before a text are skipped as leading white space.
 skip_spaces : (count : ℕ) (text : List ℕ)
     → skip_leading_whitespace (spaces count ++ text) ≡ skip_leading_whitespace text
 skip_spaces zero text = refl
 skip_spaces (suc count) text = skip_spaces count text
 
+-- Spaces alone are dropped as trailing white space.
 drop_spaces : (count : ℕ) → drop_trailing_whitespace (spaces count) ≡ []
 drop_spaces zero = refl
 drop_spaces (suc count) = rw (drop_spaces count) refl
 
+-- Spaces after a text are dropped as trailing white space.
 drop_end : (text : List ℕ) (count : ℕ) → drop_trailing_whitespace (text ++ spaces count) ≡ drop_trailing_whitespace text
 drop_end [] count = drop_spaces count
 drop_end (next ∷ text) count = rw (drop_end text count) refl
@@ -104,6 +107,7 @@ pub IsLeastOf-exact : (kind : Kind) (number size : ℕ) (unit : Shape) → numbe
 IsLeastOf-exact kind number size unit exact =
     record { has = grind (arith, exact); least = λ other covers. grind (arith, exact, covers) }
 
+-- Spaces, number, spaces and unit of a layout, as one text with spaces before it and none after it.
 layout_regrouped :
     (before behind gap : ℕ) (number unit : List ℕ)
     → (((spaces before ++ number) ++ spaces behind) ++ spaces gap) ++ unit
@@ -221,9 +225,11 @@ size_form_reads_back kind size spec ignore_case text below form = record {
   below = below;
 }
 
+-- A sign other than `Plus` writes nothing before the digits.
 no_plus : (sign : Sign) → sign ≢ Plus → plus_of sign ≡ []
 no_plus sign other = grind arith
 
+-- The digits of a number do not end with white space.
 decimal_end : (whole : ℕ) → whole < whole_limit → EndsWithoutSpace (decimal whole)
 decimal_end whole bound = ⊎_elim
     (λ one. record {
@@ -240,6 +246,7 @@ decimal_end whole bound = ⊎_elim
     })
     (cases_lt whole 10)
 
+-- The empty text spells the base unit of the kind.
 no_unit : (kind : Kind) (ignore_case : Bool) → Spells current (flags_for kind ignore_case) [] (own_unit kind)
 no_unit Byte ignore_case = inl record { count_is = inl (refl, refl); power_is = refl; binary_is = refl }
 no_unit Bit ignore_case = inl record { count_is = inl (refl, refl); power_is = refl; binary_is = refl }
@@ -307,6 +314,7 @@ expansion_product num den e expansion few =
       ap (λ n. e.whole * den * n) power,
     )
 
+-- An adjusted text is accepted as its size if that is exact within 28 places.
 form_accepted : (kind : Kind) (size : ℕ) (unit : UnitName) (text : List ℕ) → size < current.size_limit
     → IsAdjustedForm kind size unit ALTERNATE text
     → IsExactAt (size * bits_in kind) (bits (shape_of unit)) places_of_decimal → IsAccepted kind false text size
@@ -319,6 +327,7 @@ form_accepted kind size unit text below form exact =
     (expansion_bounded kind size shape e below expansion) few (unit_known unit) (λ bit. case_counts kind)
     (expansion_product (size * bits_in kind) (bits shape) e expansion few) below)
 
+-- Otherwise it is rejected as too long.
 form_rejected : (kind : Kind) (size : ℕ) (unit : UnitName) (text : List ℕ) → size < current.size_limit
     → IsAdjustedForm kind size unit ALTERNATE text
     → ¬ (IsExactAt (size * bits_in kind) (bits (shape_of unit)) places_of_decimal)

@@ -9,11 +9,13 @@ use Rattle.byte_unit_math.specs.Powers.{IsTwoFive, HasTwoFive}
 use Rattle.byte_unit_math.proofs.Scales.{power_of_sum}
 use Rattle.byte_unit_math.specs.NumberLaws.{ExactByPowers, NumbersHaveTwosAndFives, PlacesByPowers, ZeroTakesNoPlaces}
 
+-- An odd number times a power of 5 is odd.
 odd_times_fives : (left n : ℕ) → left % 2 ≢ 0 → (left * 5 ^ n) % 2 ≢ 0
 odd_times_fives left zero h = λ k. h (omega (arith, k))
 odd_times_fives left (suc n) h = λ k. odd_times_fives left n h
     (let e : left * 5 ^ suc n ≡ 5 * (left * 5 ^ n) = rw (pow-succ' 5 n) (omega arith) in omega (arith, k, e))
 
+-- A number that 5 does not divide, times a power of 2, is not divided by 5 either.
 no_five_times_twos : (left n : ℕ) → left % 5 ≢ 0 → (left * 2 ^ n) % 5 ≢ 0
 no_five_times_twos left zero h = λ k. h (omega (arith, k))
 no_five_times_twos left (suc n) h = λ k. no_five_times_twos left n h
@@ -34,10 +36,12 @@ count_of_units left twos fives a b p few =
     let five_parts = power_of_sum 5 (fives + p) (fives + p - b) b (omega (arith, few.1)) in
     tens_of_factors left twos fives p ∙ rw (two_parts, five_parts) (omega arith)
 
+-- A number scaled by 10^p, as the product of its rest and its powers of 2 and 5.
 times_tens : (num twos fives p : ℕ) (h : IsTwoFive num twos fives)
     → num * 10 ^ p ≡ h.left * (2 ^ (twos + p) * 5 ^ (fives + p))
 times_tens num twos fives p h = ap (λ n. n * 10 ^ p) h.product ∙ tens_of_factors h.left twos fives p
 
+-- A number divided by 2^a * 5^b is exact at p places if a is at most its exponent of 2 plus p, and b that of 5 plus p.
 exact_with_powers :
     (num a b twos fives p : ℕ) → IsTwoFive num twos fives → (a ≤ twos + p) × (b ≤ fives + p)
     → IsExactAt num (2 ^ a * 5 ^ b) p
@@ -61,10 +65,12 @@ enough_factors base m a left others count rest some none e = ⊎_elim (λ more.
     absurd (none (ap (λ n. n % base) same ∙ mul-mod_left multiple base)))
     (λ few. few) (cases_lt m a)
 
+-- If it is exact at p places, a is at most its exponent of 2 plus p.
 enough_twos : (num a b twos fives p : ℕ) → IsTwoFive num twos fives → IsExactAt num (2 ^ a * 5 ^ b) p → a ≤ twos + p
 enough_twos num a b twos fives p h e = enough_factors 2 (twos + p) a h.left (5 ^ (fives + p)) e.0 (5 ^ b) (omega arith)
     (odd_times_fives h.left (fives + p) h.odd) (sym (times_tens num twos fives p h) ∙ e.1)
 
+-- If it is exact at p places, b is at most its exponent of 5 plus p.
 enough_fives : (num a b twos fives p : ℕ) → IsTwoFive num twos fives → IsExactAt num (2 ^ a * 5 ^ b) p → b ≤ fives + p
 enough_fives num a b twos fives p h e = enough_factors 5 (fives + p) b h.left (2 ^ (twos + p)) e.0 (2 ^ a) (omega arith)
     (no_five_times_twos h.left (twos + p) h.no_five) (omega (arith, times_tens num twos fives p h, e.1))

@@ -198,16 +198,19 @@ pub record BothNearest (num den p : ℕ) (ties : Ties) (q r : ℕ) : Type 0 wher
   pub this : IsNearest num den p ties q
   pub other : IsNearest num den p ties r
 
+-- Two nearest counts are equally far from the fraction.
 equally_far :
     (num den p : ℕ) (ties : Ties) (q r : ℕ) → BothNearest num den p ties q r
     → abs_diff (r * den) (num * 10 ^ p) ≡ abs_diff (q * den) (num * 10 ^ p)
 equally_far num den p ties q r h = grind (arith)
 
+-- Of two nearest counts, the greater is not two or more above the other.
 not_between : (num den p : ℕ) (ties : Ties) (q r : ℕ) → BothNearest num den p ties q r → q + 1 < r → ⊥
 not_between num den p ties q r h apart =
     let product = mul-le-mul_right {m = q + 2} {n = r} den (omega (arith, apart)) in
     absurd (omega (arith, product, equally_far num den p ties q r h, h.this.nearest (q + 1), h.positive))
 
+-- Of two nearest counts, none is below the other.
 not_below : (num den p : ℕ) (ties : Ties) (q r : ℕ) → BothNearest num den p ties q r → q < r → ⊥
 not_below num den p Up q r h less =
     absurd (omega (arith, less, h.this.tie r (λ e. omega (arith, e, less)) (equally_far num den p Up q r h)))

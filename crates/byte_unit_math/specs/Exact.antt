@@ -12,7 +12,7 @@ abbrev pub IsLeastPlaces : ℕ → ℕ → ℕ → Type 0
 IsLeastPlaces size unit = IsLeast (IsExactAt size unit)
 
 -- N is size / unit scaled by 10^28, and the quotient is exact with `places` digits after the point; `places` is at most
--- 28 wherever this is used.
+-- 28 wherever this is used. `count` is the quotient times 10^places.
 pub record IsQuotient (size unit places N : ℕ) : Type 0 where
   pub count : ℕ
   pub exact : size * 10 ^ places ≡ count * unit

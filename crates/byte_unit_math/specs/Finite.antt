@@ -4,7 +4,7 @@ use Rattle.std.specs.List.{fold, All}
 use Rattle.std.specs.Coded.{Coded, code_by, coded×, coded_ℕ, coded_list}
 use Rattle.byte_unit_math.specs.Exact.{IsExactAt}
 
--- A terminating decimal. The first of its digits after the point is the tenths.
+-- A terminating decimal: its whole part, and its digits after the point, of which the first is the tenths.
 pub record Finite : Type 0 where
   pub whole : ℕ
   pub digits : List ℕ

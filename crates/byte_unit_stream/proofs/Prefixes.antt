@@ -30,7 +30,7 @@ module _ {X : Type 0} where
   IsPrefix-if true front more is = (more, is)
   IsPrefix-if false front more is = ([], is ∙ sym (append-nil front))
 
-  -- a prefix of a prefix
+  -- a prefix of a prefix is a prefix
   pub IsPrefix-trans : (front between whole : List X) → IsPrefix front between → IsPrefix between whole → IsPrefix front whole
   IsPrefix-trans front between whole (rest, is) (more, whole_is) =
       (rest ++ more, whole_is ∙ ap (λ xs. xs ++ more) is ∙ append_assoc front rest more)

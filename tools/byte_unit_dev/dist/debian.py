@@ -66,6 +66,7 @@ def chosen(parts, *patterns):
 
 
 def library(parts):
+    """Returns the files of the package with the shared library, and its control files."""
     _, soname, _ = shared_names(parts.x86)
     control = {"triggers": "activate-noawait ldconfig\n",
                "shlibs": f"libbyte_unit {soname.rpartition('.')[2]} libbyte-unit3 (>= {parts.version})\n",
@@ -74,6 +75,7 @@ def library(parts):
 
 
 def symbols(parts, soname):
+    """Returns the symbols file of the library."""
     names = re.findall(r"^\w+ \w (\w+)@@?(\w+)$", output("nm", "-D", "--defined-only", parts.x86 / soname), re.M)
     node = names[0][1]
     lines = [f" {name}@{node} {parts.version}\n" for name in sorted([node, *(name for name, _ in names)])]
@@ -81,6 +83,7 @@ def symbols(parts, soname):
 
 
 def development(parts):
+    """Returns the files of the package for programs in C, which has no control files."""
     return chosen(parts, "usr/include/.*", f"{LIB}/{ARCHIVE}", f"{LIB}/libbyte_unit[.]so", f"{LIB}/pkgconfig/.*",
                   "usr/share/man/man3/.*"), {}  # fmt: skip
 
@@ -94,6 +97,7 @@ def sqlite(parts):
 
 
 def python(parts):
+    """Returns the files of the package for Python, and its control files."""
     if not hasattr(parts, "wheel"):
         raise Failure("there is no wheel")
     dropped = ("/RECORD", "/LICENSE")

@@ -58,6 +58,7 @@ def of_messages(theirs, ours, first):
 
 
 def parsed(theirs, ours, text, kind, ignore_case):
+    """The call that parses a size."""
     size = size_of(text.encode(), kind, ignore_case, AS_IT_IS)
     error = size.name if isinstance(size, Rejected) else None
     yield f"! {size.message}" if error else str(size)
@@ -90,6 +91,7 @@ def of_best_unit(size, kind, number, their_unit, value, unit):
 
 
 def in_unit(theirs, ours, size, kind, either, precision):
+    """The call that gives the number of a size in its best unit."""
     unit = best_unit(size, kind, either, precision or 0)
     value = value_of(size, kind, unit)
     yield f"{value:f} {unit}"
@@ -134,6 +136,7 @@ class Spec:
 
 
 def formatted(theirs, ours, size, kind, spec):
+    """The call that formats a size."""
     unit = best_unit(size, kind, precision=FORM_PLACES if spec.precision is None else spec.precision)
     value = value_of(size, kind, unit)
     yield spec.layout(f"{value:f}", unit) if spec.alternate else spec.digits(str(size))
@@ -144,6 +147,7 @@ def formatted(theirs, ours, size, kind, spec):
 
 
 def adjusted(theirs, ours, size, kind, unit, spec):
+    """The call that formats a size in a unit."""
     yield spec.layout(spec.number_in(unit, value_of(size, kind, unit)), unit)
     yield "letter", theirs == "-" and unit[0] == "R"
     yield "limit", theirs == "-" and size >= OF_SIZES

@@ -241,6 +241,7 @@ def files_of(crates, places):
 
 
 def to_read():
+    """Returns the section of definitions to read, by crate."""
     quoted, reached, _ = groups()
     parts = []
     for spec in files_of(library(), reached):
@@ -276,6 +277,7 @@ def public_elsewhere():
 
 
 def public_of(crate):
+    """Returns the definitions that a crate's public contracts lead to."""
     found = set()
     for file in sources(crate):
         clauses = []
@@ -288,6 +290,7 @@ def public_of(crate):
 
 
 def others():
+    """Returns the section of the other crates."""
     _, reached, added = groups()
     parts, public = [], set().union(*public_elsewhere().values())
     for crate, own in public_elsewhere().items():

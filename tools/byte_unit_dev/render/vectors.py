@@ -132,11 +132,12 @@ class Form(string.Formatter):
     """Formats a row in a form."""
 
     def get_field(self, name, arguments, more):
+        """Returns a field; `i.j` joins a whole part and a fraction, `i/j` a mantissa and a scale."""
         pair = re.fullmatch(r"(\d+)([./])(\d+)", name)
         if not pair:
             return super().get_field(name, arguments, more)
         whole, fraction = arguments[int(pair[1])], arguments[int(pair[3])]
-        if pair[2] == "/":  # a mantissa and a scale
+        if pair[2] == "/":
             whole, fraction = whole // 10**fraction, whole % 10**fraction * 10 ** (28 - fraction)
         return decimal(whole, fraction), name
 

@@ -271,7 +271,8 @@ fn load_four(bytes: &[u8], from: usize) -> u64
     u64::from(u32x1::from_le_bytes(u8x4::from_slice(&bytes[from..])).to_array()[0])
 }
 
-/// Returns fewer than eight bytes. If there are four or more, the first four and the last four are loaded.
+/// Returns fewer than eight bytes as a number, in which the missing bytes are 0. If there are four or more, the first
+/// four and the last four are loaded.
 #[inline(always)]
 fn few_bytes(bytes: &[u8]) -> u64
     requires { length bytes.now < 8 }

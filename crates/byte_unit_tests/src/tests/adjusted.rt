@@ -8,6 +8,7 @@ use byte_unit::{Align, Bit, Byte, FormatSpec, Kind, Sign, Unit, UnitType};
 use std::alloc::Global;
 use std::process::Abort;
 
+/// The size in the kind of the test, the unit, the format and the text; so in the tables below.
 const DECIMALS_CARRIED_THROUGH_NINES: &[(u64, Unit, FormatSpec, &str)] = &[
     (9_996_000, Unit::MB, places!(2), "10.00 MB"),
     (9_996_000, Unit::MB, precise!(2), "10 MB"),

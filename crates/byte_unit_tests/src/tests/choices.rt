@@ -28,6 +28,7 @@ fn chosen(
     (parts(choice), steps.count())
 }
 
+/// The size, the units to choose from, the bits of a byte or bit (8 or 1), and the places.
 const SIZES_EXACT_IN_NO_UNIT: &[(u128, Family, u128, usize)] = &[
     (0, Family::All, 8, 28),
     (0, Family::Bits, 1, 0),
@@ -81,6 +82,7 @@ fn steps_of_two_choices(rt: HostRuntime) {
     assert_is(&rt, (once.count(), twice.count()), (11, 22));
 }
 
+/// The size, the units and their type, the bits of a byte or bit (8 or 1); then the largest unit.
 const LARGEST_UNITS: &[(u128, Family, UnitType, u128, Option<Unit>)] = &rows! {
     (10_000, Family::Bytes, UnitType::Both, 8, Some(Unit::KiB)),
     (1000, Family::Bytes, UnitType::Both, 8, Some(Unit::KB)),

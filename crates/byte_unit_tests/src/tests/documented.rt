@@ -3,6 +3,7 @@ use super::asserting::assert_is;
 use super::shown::{AnySize, assert_row};
 use byte_unit::{Bit, Byte, Decimal, FormatSpec, Unit, UnitType};
 
+/// The text, `ignore_case` and `prefer_byte`; then the unit.
 const UNITS_BY_THEIR_NAMES: &[(&str, bool, bool, Unit)] = &[
     ("K", true, true, Unit::KB),
     ("K", true, false, Unit::Kbit),

@@ -83,6 +83,7 @@ pub fn assert_unit_texts(
 const NO_UNIT: &str =
     "the character 'x' is incorrect ('B', 'K', 'M', 'G', 'T', 'P', 'E', 'Z', 'Y' or 'R' or no character is expected)";
 
+/// The character, those expected, whether the end is expected too, and the message.
 const UNIT_ERROR_MESSAGES: &[(char, &[char], bool, &str)] = &rows! {
     ('é', &['B', 'b'], true, "the character 'é' is incorrect ('B' or 'b' or no character is expected)"),
     ('x', &['t'], false, "the character 'x' is incorrect ('t' is expected)"),

@@ -13,6 +13,7 @@ const WHOLES: u128 = 5_192_296_858_534_827_628_530_496_329_220_095;
 /// The maximum fraction of a decimal, scaled by 10^28.
 const NINES: u128 = 9_999_999_999_999_999_999_999_999_999;
 
+/// The whole part, the fraction scaled by 10^28, and the text.
 const DECIMALS: &[(u128, u128, &str)] = &rows! {
     (WHOLES, NINES, "5192296858534827628530496329220095.9999999999999999999999999999"),
     (WHOLES, 0, "5192296858534827628530496329220095"),
@@ -28,6 +29,7 @@ const DECIMALS: &[(u128, u128, &str)] = &rows! {
     (18_446_744_073_709_551_616, 18_446_744_073_709_551_616, "18446744073709551616.0000000018446744073709551616"),
 };
 
+/// A numerator, the exponents of 2 and 5 in the denominator, and the text of the quotient.
 const EXPANSIONS: &[(u128, u32, u32, &str)] = &rows! {
     (0, 0, 0, "0"),
     (0, 93, 0, "0"),

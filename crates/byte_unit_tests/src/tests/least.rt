@@ -54,15 +54,18 @@ fn assert_least_in_four_steps(rt: &impl Abort, rows: &[Least]) {
     }
 }
 
+/// The number of bits in a yobibyte.
 const YOBIBYTE: u128 = 9_671_406_556_917_033_397_649_408;
 
+/// The limit of sizes of the first version, in bits.
 const BITS_OF_THE_FIRST_VERSION: u128 = 8_000_000_000_000_000_000_000_000_000;
 
-const SEVENTH: u128 = 1_000_000_000_000_000_000_000;
+/// The fraction 10^-7, scaled by 10^28.
+const TEN_MILLIONTH: u128 = 1_000_000_000_000_000_000_000;
 
 const FOUR_STEPS_EACH: &[Least] = &rows! {
-    (0, SEVENTH, 10_000_000, 100, Some(1)),
-    (0, SEVENTH + 1, 10_000_000, 100, Some(2)),
+    (0, TEN_MILLIONTH, 10_000_000, 100, Some(1)),
+    (0, TEN_MILLIONTH + 1, 10_000_000, 100, Some(2)),
     (0, NINES, YOBIBYTE, BITS_OF_THE_FIRST_VERSION, Some(YOBIBYTE)),
     (0, 1, YOBIBYTE, 2, Some(1)),
     (0, 1, YOBIBYTE, 1, None),
@@ -78,8 +81,10 @@ const IN_THE_LARGEST_UNIT: &[Least] = &rows! {
     (5_192_296_858_534_827_628_530_496_329_220_095, NINES, ROBIBYTE, BITS, None),
 };
 
+/// The number of bytes in a yobibyte.
 const YOBI: u128 = 1_208_925_819_614_629_174_706_176;
 
+/// The limit of sizes of the first version, in bytes.
 const BYTES_OF_THE_FIRST_VERSION: u128 = 1_000_000_000_000_000_000_000_000_000;
 
 const IN_THE_LARGEST_UNIT_OF_BYTES: &[Least] = &[
@@ -113,8 +118,10 @@ fn assert_quotients(rt: &impl Abort, rows: &[Quotient]) {
 
 const TWO_TO_28: u128 = 268_435_456;
 
+/// 1/8, as a whole part and a fraction scaled by 10^28.
 const EIGHTH: (u128, u128) = (0, 1_250_000_000_000_000_000_000_000_000);
 
+/// 2^-28, in the same form.
 const POWER: (u128, u128) = (0, 37_252_902_984_619_140_625);
 
 const QUOTIENTS_AND_STEP_COUNTS: &[Quotient] = &[
@@ -142,6 +149,7 @@ fn assert_powers(rt: &impl Abort, rows: &[(u128, (u32, u32), u64)]) {
     }
 }
 
+/// The size, the exponents of 2 and 5 in it, and the step count.
 const POWERS_AND_STEP_COUNTS: &[(u128, (u32, u32), u64)] = &[
     (1, (0, 0), 2),
     (7, (0, 0), 2),

@@ -60,6 +60,7 @@ fn assert_in_64_bits(rt: &impl Abort, kind: Kind, rows: &[(u128, Option<(u64, Op
     }
 }
 
+/// The size; then, unless it is out of range, the `u64` nearest to it, and it as a `u64` if it is one.
 const SIZES_IN_64_BITS: &[(u128, Option<(u64, Option<u64>)>)] = &[
     (7, Some((7, Some(7)))),
     (18_446_744_073_709_551_615, Some((u64::MAX, Some(u64::MAX)))),

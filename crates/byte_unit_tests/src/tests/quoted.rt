@@ -29,6 +29,7 @@ fn assert_not_number_messages(rt: &impl Abort, alloc: Global, rows: &[(char, &st
     }
 }
 
+/// The character, those expected, whether the end is expected too, and the message.
 const CHARACTERS_OF_A_UNIT: &[(char, &[char], bool, &str)] = &rows! {
     ('x', &['B', 'b'], true, "the character 'x' is incorrect ('B' or 'b' or no character is expected)"),
     ('"', &['B', 'b'], true, "the character '\"' is incorrect ('B' or 'b' or no character is expected)"),
@@ -48,6 +49,7 @@ const CHARACTERS_OF_A_UNIT: &[(char, &[char], bool, &str)] = &rows! {
     ('\'', &['B', 'b'], true, "the character '\\'' is incorrect ('B' or 'b' or no character is expected)"),
 };
 
+/// The same.
 const EXPECTED_CHARACTERS_IN_MESSAGES: &[(char, &[char], bool, &str)] = &rows! {
     ('x', &['\n', '\'', 'é'], false, "the character 'x' is incorrect ('\\n', '\\'' or 'é' is expected)"),
     ('\u{1F600}', &[], false, "the character '\u{1F600}' is incorrect (no character is expected)"),

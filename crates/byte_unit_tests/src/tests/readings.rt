@@ -87,6 +87,7 @@ const YOTTA: u128 = 1_000_000_000_000_000_000_000_000;
 /// The number of bytes in a ronnabyte.
 const RONNA: u128 = 1_000_000_000_000_000_000_000_000_000;
 
+/// The kind, the number and its unit; then the size, rounded up, if it is in range.
 const NUMBERS_OF_A_UNIT: &[(Kind, u128, Unit, Option<u128>)] = &rows! {
     (Kind::Byte, 17, Unit::Bit, Some(3)),
     (Kind::Byte, 8 * MAX_SIZE_OF_V1, Unit::Bit, Some(MAX_SIZE_OF_V1)),

@@ -28,6 +28,7 @@ fn assert_all_rejected(rt: &impl Abort, flags: (bool, bool), rows: &[(&str, Expe
     }
 }
 
+/// The text, `ignore_case` and `prefer_byte`; then the unit.
 const SPELLINGS_BY_THEIR_FLAGS: &[(&str, bool, bool, Unit)] = &[
     ("Kb", true, true, Unit::KB),
     ("Kb", false, true, Unit::Kbit),

@@ -17,6 +17,7 @@ fn exact(kind: Kind, size: u128, allow: bool) -> Option<(u128, Unit)> {
     }
 }
 
+/// The kind, the size, whether units of the other kind are allowed; then the number and the unit.
 const EXACT_UNITS: &[(Kind, u128, bool, u128, Unit)] = &rows! {
     (Kind::Byte, 50_840_000, false, 50_840, Unit::KB),
     (Kind::Byte, 437_500, false, 437_500, Unit::B),
@@ -99,6 +100,7 @@ const RECOVERABLE_UNITS: &[RecoverableUnit] = &[
     (Kind::Byte, 3_211_776, false, 0, 3_211_776, 0, Unit::B),
 ];
 
+/// The rows are as in `RECOVERABLE_UNITS`; sizes are in bits.
 const RECOVERABLE_UNITS_OF_BITS: &[RecoverableUnit] = &[
     (Kind::Bit, 0, true, 28, 0, 0, Unit::Bit),
     (Kind::Bit, 3_211_776, false, 3, 31_365, 1, Unit::Kibit),
