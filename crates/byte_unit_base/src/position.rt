@@ -9,8 +9,7 @@ ghost use Rattle.byte_unit_base.specs.ErrorPosition.{leading_white, IsSizePositi
 ghost use Rattle.byte_unit_base.specs.PlaceReading.{IsWholeLen, IsPlacesLen, IsNumberPlace, IsUnitPlace, IsSizePlace};
 
 use crate::Unit;
-use crate::read::number::leading_spaces;
-use crate::unit::parse::read_unit;
+use crate::read::number::{leading_spaces, read_unit};
 use crate::unit::scan::Flags;
 use byte_unit_math::{DECIMAL_PLACES, WHOLE_LIMIT};
 

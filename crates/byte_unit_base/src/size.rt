@@ -2,14 +2,14 @@
 
 ghost use Rattle.std.specs.Prelude.{◌≡◌, ℕ, Bool, List, ◌+◌, ◌*◌, ◌<◌, ◌≤◌, SomeIff, IfSome, IfOk, IsTrue, Ok, Err};
 ghost use Rattle.std.specs.Prelude.{length, take, drop};
-ghost use Rattle.std.specs.Str.{IsUtf8, IsAscii};
+ghost use Rattle.std.specs.Str.{IsAscii};
 ghost use Rattle.byte_unit_math.specs.Bounds.{size_limit};
 ghost use Rattle.byte_unit_base.specs.Kinds.{bits_in, flags_for};
 ghost use Rattle.byte_unit_base.specs.Readings.{IsNumberReading};
 ghost use Rattle.byte_unit_base.specs.SizeReading.{IsSizeReading, IsBytesReading};
 ghost use Rattle.byte_unit_base.specs.SizeOrNone.{IsSizeOfUnit, IsSizeOfDecimal};
 ghost use Rattle.byte_unit_base.specs.Line.{IsLine};
-ghost use Rattle.byte_unit_base.specs.PartsReading.{IsStopAt};
+ghost use Rattle.byte_unit_base.specs.PartsReading.{HasVisibleEnds};
 ghost use Rattle.byte_unit_base.specs.Outcome.{IsCharOfStops, IsOutcome};
 
 use crate::read::has_visible_ends;
@@ -161,9 +161,17 @@ pub fn parse_line(
     ensures bound { IfSome result (λ answer. IfOk answer (λ n. n < size_limit)) }
 {
     let line = &bytes[..len];
-    match read_parts(line, bytes, flags_for(kind, ignore_case)) {
+    let flags = flags_for(kind, ignore_case);
+    match read_parts(line, bytes, flags) {
         Ok(found) => Some(size_of((found.1, found.0), kind)),
-        Err(stop) => parse_stopped(line, stop.place, stop.reason, ignore_case, kind),
+        Err(stop) => {
+            if is_visible_ascii(line, stop.place) {
+                let next = first_ascii(&line[stop.place..]);
+                // Returned here: as one result with that of the call below, LLVM would clear its memory for each line.
+                return Some(Err(error_at(next, stop.place == 0, stop.reason, flags)));
+            }
+            parse_text(line, ignore_case, kind)
+        }
     }
 }
 
@@ -235,32 +243,18 @@ fn is_ascii_from(bytes: &[u8], from: usize) -> bool
     }
 }
 
-/// Parses as `parse_bytes` does, from bytes in which `read_parts` stops at this place and for this reason.
+/// Returns whether bytes have nothing to trim and are ASCII from an index on, as far as `is_ascii_from` tells.
 ///
-/// The two are passed apart, since a `Stop` would be in memory.
-///
-/// Bytes that are accepted come first in speed: if `parse_line` was made of `read_bytes`, whose test for ASCII is
+/// Bytes that are accepted come first in speed: if `parse_line` was made of `read_bytes`, in which these tests are
 /// inlined, each line took 3 to 7 % more instructions.
 #[cold]
 #[inline(never)]
-fn parse_stopped(
-    bytes: &[u8],
-    place: usize,
-    reason: Reason,
-    ignore_case: bool,
-    kind: Kind,
-) -> Option<Result<u128, ParseError>>
-    requires { IsStopAt (flags_for kind ignore_case) bytes.now place reason }
-    ensures reading { IsBytesReading kind ignore_case bytes.now result }
-    ensures bound { IfSome result (λ answer. IfOk answer (λ n. n < size_limit)) }
+fn is_visible_ascii(bytes: &[u8], from: usize) -> bool
+    requires { from ≤ length bytes.now }
+    ensures ends { IsTrue result → HasVisibleEnds bytes.now }
+    ensures ascii { IsTrue result → IsAscii (drop from bytes.now) }
 {
-    match visible_next(bytes, place) {
-        Some(next) => {
-            let flags = flags_for(kind, ignore_case);
-            Some(Err(error_at(next, place == 0, reason, flags)))
-        }
-        None => parse_text(bytes, ignore_case, kind),
-    }
+    has_visible_ends(bytes) && is_ascii_from(bytes, from)
 }
 
 /// Parses as `parse_bytes` does, from the string that the bytes are, trimmed.

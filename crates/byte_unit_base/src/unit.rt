@@ -9,7 +9,7 @@ ghost use Rattle.byte_unit_base.specs.Version.{unit_name};
 ghost use Rattle.byte_unit_base.specs.BinaryReading.{binary_of};
 
 use crate::Kind;
-use crate::unit::parse::unit_of;
+use crate::read::number::unit_of;
 use crate::unit::tables::{UNIT_BITS, UNITS};
 use std::fmt;
 

@@ -44,7 +44,7 @@ pub fn least_size(d: Decimal, unit_size: u128, limit: u128) -> Option<u128>
     // No size below the limit is at least the product.
     ensures none { IfNone result ((n : ℕ) → IsLeastSize d unit_size n → limit ≤ n) }
 {
-    let (digits, places) = (d.digits(), d.places());
+    let (whole, digits, places) = (d.whole(), d.digits(), d.places());
     let part = if places <= GROUP_PLACES {
         // All digits are in the most significant group.
         let group = digits as u64 * power_of_ten(GROUP_PLACES - places) as u64;
@@ -57,7 +57,7 @@ pub fn least_size(d: Decimal, unit_size: u128, limit: u128) -> Option<u128>
         carry_of_group(high / GROUP, unit_size, part)
     };
     // A number of more than 128 bits exceeds each limit.
-    let size = checked_mul_add(d.whole(), unit_size, part)?;
+    let size = checked_mul_add(whole, unit_size, part)?;
     (size < limit).then_some(size)
 }
 

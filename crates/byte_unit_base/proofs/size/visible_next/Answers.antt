@@ -1,28 +1,19 @@
 -- ASCII with visible ends is trimmed, so the error where the parser stops is that of the string.
-use Rattle.std.proofs.Common.{take, drop, nat_eq, ap, sym, subst, ◌∙◌, take-append-drop}
-use Rattle.std.specs.Str.{chars, IsAscii}
+use Rattle.std.proofs.Common.{nat_eq, ap, ◌∙◌}
+use Rattle.std.specs.Str.{chars}
 use Rattle.std.proofs.lemmas.List.{take_rest}
-use Rattle.std.proofs.lemmas.Str.{IsAscii-append, IsUtf8-from_ascii}
 use Rattle.byte_unit_base.specs.Kinds.{flags_for}
 use Rattle.byte_unit_base.specs.Accepted.{as_written}
 use Rattle.byte_unit_base.specs.PartsReading.{next_char, stop_fault}
-use Rattle.byte_unit_base.proofs.Trim.{trim_visible}
-use Rattle.byte_unit_base.proofs.SizeReads.{stop_reading}
-use Rattle.byte_unit_base.proofs.SizeOfText.{reading_of_fault}
+use Rattle.byte_unit_base.proofs.SizeOfText.{ascii_stop, visible_stop}
 use Rattle.byte_unit_base.proofs.size.visible_next.Goals as goal
 
 pub returns-then-is_ascii_from : goal.returns-then-is_ascii_from
 returns-then-is_ascii_from c kind ignore_case reason stop error error_is =
     let bytes = c.args.bytes.now in
-    let flags = flags_for kind ignore_case in
     let place = c.args.place in
-    let rest_ascii = c.is_ascii_from.ensures c.if-is_ascii_from.true in
-    let ascii : IsAscii bytes =
-    subst IsAscii (take-append-drop place bytes)
-    (IsAscii-append (take place bytes) (drop place bytes) stop.ascii rest_ascii) in
-    let utf8 = IsUtf8-from_ascii bytes ascii in
+    let utf8 = ascii_stop bytes place stop (c.is_ascii_from.ensures c.if-is_ascii_from.true) in
     let ends = c.has_visible_ends.ensures c.if-has_visible_ends.true in
     let next_is = c.first_ascii.ensures ∙ ap (λ rest. next_char (chars rest)) (take_rest bytes place) in
-    let reading = stop_reading flags bytes bytes place reason error (sym (trim_visible bytes utf8 ends)) utf8 stop
-    (error_is ∙ ap (stop_fault flags (nat_eq place 0) reason) next_is) in
-    (utf8, reading_of_fault as_written kind ignore_case bytes error reading)
+    let fault_is = error_is ∙ ap (stop_fault (flags_for kind ignore_case) (nat_eq place 0) reason) next_is in
+    (utf8, visible_stop as_written kind ignore_case bytes place reason error utf8 ends stop fault_is)

@@ -5,16 +5,16 @@ use Rattle.byte_unit_math.specs.Bounds.{places_of_decimal}
 use Rattle.byte_unit_math.specs.Least.{IsLeastSize}
 use Rattle.byte_unit_math.proofs.RoundedUp.{IsRoundedUp-groups, IsLeastSize-halves, IsLeastSize-parts, in_first_group}
 use Rattle.byte_unit_math.proofs.RoundedUp.{IsLeastSize-group, IfNone-always, IfNone-below}
-use Rattle.byte_unit_math.proofs.least.least_size.Goals.{After-whole, then-places-le-GROUP_PLACES}
+use Rattle.byte_unit_math.proofs.least.least_size.Goals.{After-checked_mul_add, then-places-le-GROUP_PLACES}
 use Rattle.byte_unit_math.proofs.least.least_size.Goals.{else-places-le-GROUP_PLACES}
 use Rattle.byte_unit_math.proofs.least.least_size.Goals as goal
 
 -- The digits are a number of at most their places.
-digits_below : (c : After-whole) → c.digits-digits.result < 10 ^ c.places-places.result
+digits_below : (c : After-checked_mul_add) → c.digits-digits.result < 10 ^ c.places-places.result
 digits_below c = c.digits-digits.ensures.bound c.places-places.result c.places-places.ensures.least
 
 -- The part that the code computes is the least size of the fraction.
-fraction_least : (c : After-whole)
+fraction_least : (c : After-checked_mul_add)
     → IsLeastSize (c.digits-digits.result * 10 ^ (places_of_decimal - c.places-places.result)) c.args.unit_size
     c.if-places-le-GROUP_PLACES.part
 fraction_least c =
@@ -38,26 +38,29 @@ fraction_least c =
     ]
 
 -- With the whole part it is the least size of the decimal.
-size_least : (c : After-whole)
-    → IsLeastSize c.args.d c.args.unit_size (c.whole.result * c.args.unit_size + c.if-places-le-GROUP_PLACES.part)
+size_least : (c : After-checked_mul_add)
+    → IsLeastSize c.args.d c.args.unit_size
+    (c.whole-whole.result * c.args.unit_size + c.if-places-le-GROUP_PLACES.part)
 size_least c =
-    IsLeastSize-parts c.args.d c.args.unit_size c.whole.result _ c.if-places-le-GROUP_PLACES.part c.whole.ensures.value
-    (c.digits-digits.ensures.value c.places-places.result c.places-places.ensures.least) (fraction_least c)
+    IsLeastSize-parts c.args.d c.args.unit_size c.whole-whole.result _ c.if-places-le-GROUP_PLACES.part
+    c.whole-whole.ensures.value (c.digits-digits.ensures.value c.places-places.result c.places-places.ensures.least)
+    (fraction_least c)
 
 -- If it reaches the limit, each size that is large enough does.
-not_below : (c : After-whole) → c.args.limit ≤ c.whole.result * c.args.unit_size + c.if-places-le-GROUP_PLACES.part
+not_below : (c : After-checked_mul_add)
+    → c.args.limit ≤ c.whole-whole.result * c.args.unit_size + c.if-places-le-GROUP_PLACES.part
     → (n : ℕ) → IsLeastSize c.args.d c.args.unit_size n → c.args.limit ≤ n
 not_below c reached n h = omega (arith, reached, (size_least c).least n h.has)
 
 pub returns-in_err-size-clause-none : goal.returns-in_err-size-clause-none
 returns-in_err-size-clause-none c = IfNone-always _ _
-    (not_below (goal.at.returns-in_err-size-clause-none c).After-whole
+    (not_below (goal.at.returns-in_err-size-clause-none c).After-checked_mul_add
     (omega (arith, c.in_err-size.ensures)))
 
 pub returns-clause-least : goal.returns-clause-least
 returns-clause-least c =
-    let least = size_least (goal.at.returns-clause-least c).After-whole in grind (arith, nat_tests, least)
+    let least = size_least (goal.at.returns-clause-least c).After-checked_mul_add in grind (arith, nat_tests, least)
 
 pub returns-clause-none : goal.returns-clause-none
 returns-clause-none c = rw c.then_some.ensures (IfNone-below c.in_ok-size.size c.args.limit _ (λ reached.
-    not_below (goal.at.returns-clause-none c).After-whole (omega (arith, reached, c.in_ok-size.ensures))))
+    not_below (goal.at.returns-clause-none c).After-checked_mul_add (omega (arith, reached, c.in_ok-size.ensures))))

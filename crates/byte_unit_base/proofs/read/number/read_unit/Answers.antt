@@ -3,7 +3,7 @@ use Rattle.std.proofs.Common.{◌≡◌, ◌+◌, ◌*◌, ◌/◌, ◌%◌, ◌
 use Rattle.std.proofs.Common.{length-drop}
 use Rattle.byte_unit_base.proofs.UnitLetters.{letters_in_line, power_in_table, power_few, prefix_kept}
 use Rattle.byte_unit_base.proofs.UnitStops.{spelled}
-use Rattle.byte_unit_base.proofs.unit.parse.read_unit.Goals as goal
+use Rattle.byte_unit_base.proofs.read.number.read_unit.Goals as goal
 
 pub unit_of-requires-then-length-ne2 : goal.unit_of-requires-then-length-ne2
 unit_of-requires-then-length-ne2 c =

@@ -8,7 +8,7 @@ use Rattle.core.proofs.dec2flt.DigitsLemmas.{all_below, every_below, beq_is}
 use mathlib.Core.Bool.{beq}
 use lib.Count.{count_trailing_zeros}
 use lib.Lanes.{mask_l, top}
-use Rattle.byte_unit_base.proofs.unit.parse.suffix_len.Goals as goal
+use Rattle.byte_unit_base.proofs.read.number.suffix_len.Goals as goal
 
 -- with this bit a byte is a letter if it is the letter in either case, and is not 0
 lower_is : (l : ℕ) → let is_letter = λ (c : ℕ). not (eqb l 0) && eqb (to_ascii_lowercase c) l in
