@@ -91,7 +91,7 @@ static void flags(uint32_t word)
     memset(&error, 'x', sizeof error);
     check("parse", byte_unit_parse("x", 1, word, &size, &error)
                        == (parses ? (uint32_t)BYTE_UNIT_NOT_NUMBER : (uint32_t)BYTE_UNIT_INVALID_ARGUMENT));
-    check("error", error.character == (parses ? 'x' : UINT32_C(0x78787878)));
+    check("error", error.character == (parses ? 'x' : UINT32_C(0x78787878)) && (error.position == 0) == parses);
     check("size", size.low == 7 && (byte_unit_parse("1", 1, word, &size, NULL) == BYTE_UNIT_OK) == parses
                       && size.low == (parses ? 1 : 7));
     check("parse_unit", (byte_unit_parse_unit("b", 1, word, &unit, NULL) == BYTE_UNIT_OK) == parses_units
@@ -148,6 +148,73 @@ static void nulls(void)
     check("parse_many_32", byte_unit_parse_many_32(NULL, 0, NULL, 0, 0, NULL, NULL) == BYTE_UNIT_OK);
     check("empty texts without data", byte_unit_parse_many(NULL, 0, zeros, 2, 0, sizes, codes) == BYTE_UNIT_OK
               && codes[0] == BYTE_UNIT_NO_VALUE && codes[1] == BYTE_UNIT_NO_VALUE && sizes[1].low == 0);
+}
+
+/* The position of an error: that of the call, or 0 if the call has none. */
+static void position_of_size(const char *text, uint32_t code, size_t expected)
+{
+    static const uint32_t words[] = { 0, BYTE_UNIT_BITS, BYTE_UNIT_IGNORE_CASE, BYTE_UNIT_BINARY_PREFIXES,
+                                      BYTE_UNIT_BINARY_PREFIXES | BYTE_UNIT_BITS };
+    byte_unit_number size;
+    byte_unit_error error;
+    size_t position = 0;
+
+    for (size_t at = 0; at < sizeof words / sizeof *words; at++) {
+        memset(&error, 'x', sizeof error);
+        check(text, byte_unit_parse(text, strlen(text), words[at], &size, &error) == code
+                        && error.position == expected);
+    }
+    check(text, byte_unit_error_position(text, strlen(text), &position) == (code != BYTE_UNIT_EXCEEDED_BOUNDS)
+                    && position == expected);
+}
+
+static void position_of_unit(const char *text, size_t expected)
+{
+    byte_unit_error error;
+    uint32_t unit;
+    size_t position = 0;
+
+    memset(&error, 'x', sizeof error);
+    check(text, byte_unit_parse_unit(text, strlen(text), 0, &unit, &error) == BYTE_UNIT_UNIT
+                    && error.position == expected);
+    check(text, byte_unit_unit_error_position(text, strlen(text), &position) && position == expected);
+}
+
+static void positions(void)
+{
+    byte_unit_number size;
+    byte_unit_error error;
+
+    position_of_size("", BYTE_UNIT_NO_VALUE, 0);
+    position_of_size("  ", BYTE_UNIT_NO_VALUE, 2);
+    position_of_size("x", BYTE_UNIT_NOT_NUMBER, 0);
+    position_of_size(" x", BYTE_UNIT_NOT_NUMBER, 1);
+    position_of_size("1.", BYTE_UNIT_NOT_NUMBER, 2);
+    position_of_size(" 1. ", BYTE_UNIT_NOT_NUMBER, 3);
+    position_of_size("1.x", BYTE_UNIT_NOT_NUMBER, 2);
+    position_of_size("\xc3\xa9", BYTE_UNIT_NOT_NUMBER, 0);
+    position_of_size("5192296858534827628530496329220095x", BYTE_UNIT_UNIT, 34);
+    position_of_size("5192296858534827628530496329220096", BYTE_UNIT_NUMBER_TOO_LONG, 33);
+    position_of_size(" 5192296858534827628530496329220096x", BYTE_UNIT_NUMBER_TOO_LONG, 34);
+    position_of_size("0.12345678901234567890123456789", BYTE_UNIT_NUMBER_TOO_LONG, 30);
+    position_of_size("1 byte", BYTE_UNIT_UNIT, 3);
+    position_of_size("12 Kiq", BYTE_UNIT_UNIT, 5);
+    position_of_size("1 bi", BYTE_UNIT_UNIT, 4);
+    position_of_size("1 bi \n", BYTE_UNIT_UNIT, 4);
+    position_of_size("\t1 Kix\n", BYTE_UNIT_UNIT, 5);
+    position_of_size("1 K\xc3\xa9", BYTE_UNIT_UNIT, 3);
+    position_of_size("\xc2\xa0""1 x", BYTE_UNIT_UNIT, 4);
+    position_of_size("1000000 RB", BYTE_UNIT_EXCEEDED_BOUNDS, 0);
+    position_of_size(" 1000000 RB", BYTE_UNIT_EXCEEDED_BOUNDS, 0);
+    position_of_unit("x", 0);
+    position_of_unit("Kx", 1);
+    position_of_unit("bitsx", 4);
+    position_of_unit(" bi ", 3);
+    position_of_unit("K\xc3\xa9", 1);
+    memset(&error, 0, sizeof error);
+    check("no error in a zeroed struct", byte_unit_parse(" 1 KiB", 6, 0, &size, &error) == BYTE_UNIT_OK
+              && byte_unit_parse("1\xff", 2, 0, &size, &error) == BYTE_UNIT_NOT_UTF8
+              && byte_unit_parse("1x", 2, 64, &size, &error) == BYTE_UNIT_INVALID_ARGUMENT && error.position == 0);
 }
 
 static void out_of_range(void)
@@ -228,6 +295,7 @@ int main(void)
     for (int bit = 6; bit < 32; bit++)
         flags(UINT32_C(1) << bit);
     nulls();
+    positions();
     out_of_range();
     many_offsets();
     printf("%lu checks, %lu wrong\n", checks, wrong);

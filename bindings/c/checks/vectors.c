@@ -89,6 +89,16 @@ static void print_error(uint32_t code, const byte_unit_error *error)
     }
 }
 
+/* Prints the position of an error if the call for it writes another, or, where it writes none, if it is not 0. */
+static void print_other_position(uint32_t code, const byte_unit_error *error, const char *text,
+                                 bool (*position_of)(const char *, size_t, size_t *))
+{
+    size_t position = 0;
+    position_of(text, strlen(text), &position);
+    if (code != BYTE_UNIT_NOT_UTF8 && error->position != position)
+        printf(" at %zu", error->position);
+}
+
 /* Returns the spec of a format string of the Rust crate. */
 static byte_unit_spec spec_of(const char *s)
 {
@@ -114,8 +124,10 @@ static void answer_parse(uint32_t flags, const char *text)
     uint32_t code = byte_unit_parse(text, strlen(text), flags, &size, &error);
     if (code == BYTE_UNIT_OK)
         print_number(size);
-    else
+    else {
         print_error(code, &error);
+        print_other_position(code, &error, text, byte_unit_error_position);
+    }
 }
 
 static void answer_unit(uint32_t flags, const char *text)
@@ -125,8 +137,10 @@ static void answer_unit(uint32_t flags, const char *text)
     uint32_t code = byte_unit_parse_unit(text, strlen(text), flags, &unit, &error);
     if (code == BYTE_UNIT_OK)
         print_unit(unit);
-    else
+    else {
         print_error(code, &error);
+        print_other_position(code, &error, text, byte_unit_unit_error_position);
+    }
 }
 
 /* Answers `text KIND SIZE [in UNIT | by TYPE] SPEC`. */

@@ -37,6 +37,7 @@ pub struct Error {
     pub also_expect_no_character: u8,
     pub expected: [u8; 16],
     pub number: Decimal,
+    pub position: usize,
 }
 
 pub const BYTE_UNIT_BYTES: u32 = 0;

@@ -1,7 +1,7 @@
 -- The parser reads the digits of a number at once. It gets to the state that the state machine has after them, or stops
 -- where the machine has an error.
 use Rattle.std.proofs.Common.{◌≡◌, ◌≢◌, ℕ, zero, suc, ◌+◌, ◌-◌, ◌*◌, ◌^◌, ◌<◌, ◌≤◌, false, nat_eq, eqb, inl, inr, List, [], ◌∷◌}
-use Rattle.std.proofs.Common.{◌++◌, Err, length, take, drop, get_or, replicate, refl, sym, ap, subst, ◌∙◌, arith}
+use Rattle.std.proofs.Common.{◌++◌, None, Err, length, take, drop, get_or, replicate, refl, sym, ap, subst, ◌∙◌, arith}
 use Rattle.std.proofs.Common.{append_assoc}
 use Rattle.std.proofs.Math.Seq.{take-add}
 use Rattle.std.specs.Char.{digit_value}
@@ -19,22 +19,24 @@ use Rattle.std.proofs.lemmas.List.Elements.{All-replicate}
 use Rattle.byte_unit_math.specs.Bounds.{scale, places_of_decimal, whole_limit}
 use Rattle.byte_unit_base.specs.Version.{current}
 use Rattle.byte_unit_base.specs.Spelling.{Flags}
-use Rattle.byte_unit_base.specs.Number.{point, IsWholePart, IsPrecise}
+use Rattle.byte_unit_base.specs.Number.{point, IsWholePart, IsPointed, IsPrecise}
 use Rattle.byte_unit_base.specs.SizeText.{space}
-use Rattle.byte_unit_base.specs.Fault.{too_long}
+use Rattle.byte_unit_base.specs.Fault.{no_value, not_number, too_long}
 use Rattle.byte_unit_base.specs.Scan.{read}
-use Rattle.byte_unit_base.specs.SizeScan.{Beginning, Whole, Point, size_scan, fixed_point}
+use Rattle.byte_unit_base.specs.SizeScan.{Beginning, Whole, Point, size_scan, size_step, fixed_point}
 use Rattle.byte_unit_base.specs.PartsReading.{IsFirst, IsNoSpace, IsStopAt, EndsNumber, IsLeadingNumber, IsUnitStop}
 use Rattle.byte_unit_base.specs.PartsReading.{missing_digit, next_char, unit_stop_fault}
 use Rattle.byte_unit_base.specs.declared.read.stop.Reason.TheVariants.{NoDigit, TooLong, InUnit}
 use Rattle.byte_unit_base.specs.declared.unit.scan.UnitStop.{UnitStop}
 use Rattle.byte_unit_base.proofs.Scans.{read_through, read_some}
-use Rattle.byte_unit_base.proofs.SizeRuns.{step_first, run_whole, run_precise, number_end}
+use Rattle.byte_unit_base.proofs.SizeRuns.{step_first, run_whole, run_pointed, run_precise, number_end}
 use Rattle.byte_unit_base.proofs.SizeAscii.{number_ascii}
 use Rattle.byte_unit_base.proofs.SizeRest.{first_char, IsNoDigit, wide_no_digit, no_digit_first, missing_at_start}
 use Rattle.byte_unit_base.proofs.SizeRest.{missing_after_point, too_large, too_many_places, read_point, ends_whole}
 use Rattle.byte_unit_base.proofs.SizeRest.{ends_fraction, read_after_number, with_number, text_from, utf8_from}
 use Rattle.byte_unit_base.proofs.UnitStops.{run_ascii, stop_read}
+use Rattle.byte_unit_base.proofs.WrongPlaces.{wrong_in_unit}
+use Rattle.byte_unit_base.proofs.Positions.{stop_place}
 use Rattle.byte_unit_base.proofs.NumberBytes.{digits_of_run}
 use Rattle.byte_unit_base.specs.UnitScan.{start}
 
@@ -62,6 +64,14 @@ none_after bytes end is =
     let all : end ≡ digits_len bytes = omega (arith, is) in
     no_digit_first (drop end bytes) (ap (λ n. digits_len (drop n bytes)) all ∙ ends_digits bytes)
 
+no_first_step : (c : ℕ) → IsNoDigit c → size_step Beginning c ≡ None
+unfolding size_step
+no_first_step c none = rw none refl
+
+no_point_step : (w c : ℕ) → IsNoDigit c → size_step (Point w) c ≡ None
+unfolding size_step
+no_point_step w c none = rw none refl
+
 -- a digit is missing at the start
 pub stops_at_start : (bytes : List ℕ) → digits_len bytes ≡ 0 → (flags : Flags) → IsStopAt flags bytes 0 NoDigit
 stops_at_start bytes none flags = record {
@@ -69,6 +79,15 @@ stops_at_start bytes none flags = record {
   ascii = IsAscii-nil;
   result_is = λ utf8. missing_at_start flags (chars bytes)
       (first_char IsNoDigit wide_no_digit bytes utf8 (no_digit_first bytes none));
+  wrong = λ utf8. record {
+    within = omega arith;
+    ascii = IsAscii-nil;
+    state = Beginning;
+    run_is = refl;
+    next = first_map IsNoDigit (λ c. size_step Beginning c ≡ None) no_first_step (chars bytes)
+        (first_char IsNoDigit wide_no_digit bytes utf8 (no_digit_first bytes none));
+    at_end = λ all. (no_value, refl);
+  };
 }
 
 -- the bytes begin with the digits of a whole part, as std finds and reads them
@@ -112,6 +131,9 @@ module _ (bytes : List ℕ) (end whole : ℕ) (run_is : end ≡ 0 + digits_len (
     pointed_text : take (end + 1) bytes ≡ take end bytes ++ point ∷ []
     pointed_text = take_more bytes end 0 (omega (arith, inside, within)) ∙ ap (λ c. take end bytes ++ c ∷ []) point_is
 
+    abbrev pointed : IsPointed current (take (end + 1) bytes) whole
+    pointed = record { whole = take end bytes; text_is = pointed_text; whole_is = whole_is }
+
     pointed_ascii : IsAscii (take (end + 1) bytes)
     pointed_ascii =
         subst IsAscii (sym pointed_text)
@@ -136,6 +158,16 @@ module _ (bytes : List ℕ) (end whole : ℕ) (run_is : end ≡ 0 + digits_len (
           (no_digit_first rest none))
           ∙ ap (λ at_start. Err (missing_digit at_start (next_char (chars rest))))
           (let at_point : false ≡ nat_eq (end + 1) 0 = grind (arith, nat_tests) in at_point));
+      wrong = λ utf8. record {
+        within = pointed_within;
+        ascii = pointed_ascii;
+        state = Point whole;
+        run_is = run_pointed (take (end + 1) bytes) whole pointed;
+        next = first_map IsNoDigit (λ c. size_step (Point whole) c ≡ None) (no_point_step whole) (chars rest)
+            (first_char IsNoDigit wide_no_digit rest (utf8_from bytes (end + 1) utf8 pointed_within pointed_ascii)
+            (no_digit_first rest none));
+        at_end = λ all. (not_number point, refl);
+      };
     }
 
     -- digits of a fraction follow the point, as std finds and reads them
@@ -168,6 +200,7 @@ module _ (bytes : List ℕ) (end whole : ℕ) (run_is : end ≡ 0 + digits_len (
         result_is = λ utf8. read_rest flags
             ∙ (ap (read (size_scan flags) (Point whole)) (text_from rest places (IsAscii-from_digits digits digits_are))
             ∙ too_many_places flags digits (chars (drop places rest)) whole digits_are (omega (arith, many, count_is)));
+        wrong = λ utf8. tt;
       }
 
       to_stop : end + 1 + places ≡ stop
@@ -229,6 +262,7 @@ stops_in_whole bytes end run_is above flags =
       result_is = λ utf8. ap (read (size_scan flags) Beginning)
           (text_from bytes end (IsAscii-from_digits (take end bytes) digits))
           ∙ too_large_read flags (take end bytes) (chars (drop end bytes)) digits above;
+      wrong = λ utf8. tt;
     }
 
 -- the number is read, and the parser of the unit stops after it
@@ -266,4 +300,10 @@ stops_in_unit flags bytes rest n end spaces place kept number rest_is within gap
           (subst (IsFirst IsNoSpace) at_unit other))
           ∙ (ap (with_number n) (stop_read flags unit place kept stop utf8_unit)
           ∙ ap (λ r. Err (unit_stop_fault flags kept (next_char (chars r)))) (drop-drop place (end + spaces) bytes)))));
+      wrong = λ utf8.
+          let leads = stop_place flags unit kept place stop in
+          wrong_in_unit bytes utf8 n end spaces place leads.0 number
+          (subst (λ r. spaces ≤ length r) (sym rest_is) within)
+          (subst (λ r. take spaces r ≡ replicate spaces space) (sym rest_is) gap)
+          (subst (λ r. IsFirst IsNoSpace (drop spaces r)) (sym rest_is) other) leads.1 leads.2;
     }

@@ -13,9 +13,12 @@ use Rattle.byte_unit_base.specs.Fault.{Fault, fault_at, fault_at_end, stops_at_b
 use Rattle.byte_unit_base.specs.UnitScan.{UnitScan, unit_step, unit_parser_state, unit_of, start, scan_of}
 use Rattle.byte_unit_base.specs.UnitScan.{word_parser_state, Multiple, Word, Bi}
 use Rattle.byte_unit_base.specs.SizeScan.{size_step, size_parser_state}
-use Rattle.byte_unit_base.specs.PartsReading.{IsFirst, IsLeadingUnit, IsUnitStop}
-use Rattle.byte_unit_base.specs.PlaceReading.{IsWrongAt, IsUnitPlace, IsSizePlace}
+use Rattle.byte_unit_base.specs.Outcome.{IsPositionOfStop}
+use Rattle.byte_unit_base.specs.PartsReading.{HasVisibleEnds, IsFirst, IsLeadingUnit, IsUnitStop, IsWrongAt, IsWrongPlace}
+use Rattle.byte_unit_base.specs.PlaceReading.{IsUnitPlace, IsSizePlace}
 use Rattle.byte_unit_base.specs.ErrorPosition.{leading_white, IsErrorAt, IsSizePosition, IsUnitPosition}
+use Rattle.byte_unit_base.specs.declared.read.stop.Reason.{Reason}
+use Rattle.byte_unit_base.specs.declared.read.stop.Reason.TheVariants.{NoDigit, TooLong, InUnit}
 use Rattle.byte_unit_base.specs.declared.unit.scan.UnitStop.{UnitStop}
 use Rattle.byte_unit_base.proofs.Scans.{CannotStep, no_longer_front, reached, one_answer}
 use Rattle.byte_unit_base.proofs.UnitReads.{unit_scan_is}
@@ -23,6 +26,7 @@ use Rattle.byte_unit_base.proofs.UnitStops.{run_ascii, no_other_step, spelled_ch
 use Rattle.byte_unit_base.proofs.SizeReads.{size_scan_is}
 use Rattle.byte_unit_base.proofs.SizeAscii.{size_of_chars}
 use Rattle.byte_unit_base.proofs.SizeRest.{first_char, text_from, utf8_from}
+use Rattle.byte_unit_base.proofs.Trim.{trim_visible, no_leading_white}
 
 -- what a text spells under some flags, it spells under any: a unit, of bits or of bytes by the flags
 
@@ -163,3 +167,17 @@ module _ (s text : List ℕ) (trimmed : chars text ≡ trim_of s) (utf8 : IsUtf8
       let unit : Spells current flags (trim_of s) found.0 =
       subst (λ t. Spells current flags t found.0) (sym (spelled_chars flags text found.0 found.1) ∙ trimmed) found.1 in
       (one_answer (unit_scan_is flags) (trim_of s)).not_both found.0 fault unit first
+
+-- a string with nothing to trim
+module _ (bytes : List ℕ) (utf8 : IsUtf8 bytes) (ends : HasVisibleEnds bytes) (place : ℕ) where
+  untrimmed : IsWrongAt bytes place → IsSizePosition bytes (Some place)
+  untrimmed wrong =
+      let at : leading_white bytes + place ≡ place = omega (arith, no_leading_white bytes utf8 ends) in
+      subst (λ n. IsSizePosition bytes (Some n)) at
+      (size_position bytes bytes (sym (trim_visible bytes utf8 ends)) utf8 place wrong)
+
+  -- the place where a parser stops in it is the position of its error
+  pub stop_position : (reason : Reason) → IsWrongPlace bytes place reason → IsPositionOfStop bytes place reason
+  stop_position NoDigit wrong = untrimmed wrong
+  stop_position TooLong wrong = tt
+  stop_position (InUnit stop) wrong = untrimmed wrong

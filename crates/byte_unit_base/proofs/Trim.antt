@@ -2,14 +2,15 @@
 use Rattle.std.proofs.Common.{◌≡◌, ℕ, ◌+◌, ◌-◌, ◌<◌, List, [], ◌∷◌, ◌++◌, length, take, get_or, refl, sym, ap, ◌∙◌}
 use Rattle.std.proofs.Common.{arith, true, false, ◌&&◌, nat_eq}
 use Rattle.std.specs.Str.{chars, trim, trim_start, trim_end, skip_leading_whitespace, drop_trailing_whitespace, IsUtf8}
-use Rattle.std.specs.Str.{IsAscii, all_scalars}
+use Rattle.std.specs.Str.{IsAscii, all_scalars, encode_utf8_all}
 use Rattle.std.specs.Char.{is_whitespace, is_ascii_graphic}
 use Rattle.std.proofs.lemmas.Bool.{and_from, and_parts, and_right, cond_both}
 use Rattle.std.proofs.lemmas.Bool.Decides.{nat_tests}
 use Rattle.std.proofs.lemmas.List.{take_more, take_all, length-append}
-use Rattle.std.proofs.lemmas.Str.{chars-encodes, scalars-chars, chars-IsAscii, chars-append, IsUtf8-from_ascii, IsUtf8-take}
-use Rattle.std.proofs.lemmas.Str.{IsCharBoundary-before_ascii}
+use Rattle.std.proofs.lemmas.Str.{chars-encodes, encodes-chars, scalars-chars, chars-IsAscii, chars-append, IsUtf8-from_ascii}
+use Rattle.std.proofs.lemmas.Str.{IsCharBoundary-before_ascii, IsUtf8-take}
 use Rattle.std.proofs.lemmas.Str.Ascii.{IsAscii-nil, IsAscii-cons}
+use Rattle.byte_unit_base.specs.ErrorPosition.{leading_white}
 use Rattle.byte_unit_base.specs.SizeText.{trim_of}
 use Rattle.byte_unit_base.specs.PartsReading.{HasVisibleEnds}
 
@@ -110,3 +111,12 @@ visible_end bytes utf8 ends =
 -- a string with visible characters of ASCII at both ends has nothing to trim
 pub trim_visible : (bytes : List ℕ) → IsUtf8 bytes → HasVisibleEnds bytes → trim_of bytes ≡ chars bytes
 trim_visible bytes utf8 ends = nothing_to_drop (chars bytes) (visible_start bytes ends) (visible_end bytes utf8 ends)
+
+-- and no white space at its start
+pub no_leading_white : (bytes : List ℕ) → IsUtf8 bytes → HasVisibleEnds bytes → leading_white bytes ≡ 0
+unfolding trim_start
+no_leading_white bytes utf8 ends =
+    let start = visible_start bytes ends in
+    let skipped : skip_leading_whitespace (chars bytes) ≡ chars bytes = rw (start.text_is, start.head_is) refl in
+    let kept : trim_start bytes ≡ bytes = ap encode_utf8_all skipped ∙ encodes-chars bytes utf8 in
+    omega (arith, ap length kept)

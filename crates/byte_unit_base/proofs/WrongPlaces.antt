@@ -23,8 +23,8 @@ use Rattle.byte_unit_base.specs.Scan.{run}
 use Rattle.byte_unit_base.specs.UnitScan.{UnitScan, One, Empty, unit_step, unit_parser_state, start as unit_start}
 use Rattle.byte_unit_base.specs.SizeScan.{SizeScan, Beginning, Whole, Point, Fraction, Gap, UnitAt, size_step}
 use Rattle.byte_unit_base.specs.SizeScan.{size_parser_state, after_number, fixed_point}
-use Rattle.byte_unit_base.specs.PartsReading.{IsFirst, IsNoSpace, EndsNumber, IsLeadingNumber, IsLeadingUnit}
-use Rattle.byte_unit_base.specs.PlaceReading.{IsWholeLen, IsPlacesLen, IsWrongAt, IsUnitPlace, IsSizePlace}
+use Rattle.byte_unit_base.specs.PartsReading.{IsFirst, IsNoSpace, EndsNumber, IsLeadingNumber, IsLeadingUnit, IsWrongAt}
+use Rattle.byte_unit_base.specs.PlaceReading.{IsWholeLen, IsPlacesLen, IsUnitPlace, IsSizePlace}
 use Rattle.byte_unit_base.proofs.Options.{some_passed}
 use Rattle.byte_unit_base.proofs.Scans.{run_through, run_step}
 use Rattle.byte_unit_base.proofs.SizeRuns.{run_whole, run_pointed, run_places, run_in_unit, number_end}

@@ -10,7 +10,8 @@ use Rattle.byte_unit_base.specs.Units.{shape_of}
 use Rattle.byte_unit_base.specs.Spelling.{Flags, Spells}
 use Rattle.byte_unit_base.specs.Number.{point, IsNumberText}
 use Rattle.byte_unit_base.specs.SizeText.{space, IsSizeText}
-use Rattle.byte_unit_base.specs.Fault.{Fault, fault_at, no_unit, not_number, no_value, too_long, stops_at_bi}
+use Rattle.byte_unit_base.specs.Fault.{Fault, fault_at, fault_at_end, no_unit, not_number, no_value, too_long}
+use Rattle.byte_unit_base.specs.Fault.{stops_at_bi}
 use Rattle.byte_unit_base.specs.Scan.{run, read}
 use Rattle.byte_unit_base.specs.UnitScan.{UnitScan, unit_of, unit_step, start}
 use Rattle.byte_unit_base.specs.UnitWord.{unit_stop, stop_parser_state}
@@ -94,6 +95,20 @@ stop_fault flags at_start NoDigit next = missing_digit at_start next
 stop_fault flags at_start TooLong next = too_long
 stop_fault flags at_start (InUnit stop) next = unit_stop_fault flags stop next
 
+-- the state machine of sizes has a state after these first bytes, no step at what follows, and an error if they are all
+pub record IsWrongAt (bytes : List ℕ) (place : ℕ) : Type 0 where
+  pub within : place ≤ length bytes
+  pub ascii : IsAscii (take place bytes)
+  pub state : SizeScan
+  pub run_is : run size_step Beginning (take place bytes) ≡ Some state
+  pub next : IsFirst (λ c. size_step state c ≡ None) (chars (drop place bytes))
+  pub at_end : place ≡ length bytes → (fault : Fault) × (fault_at_end (size_parser_state state) ≡ Some fault)
+
+-- the bytes are wrong at this place, where the parser stops for this reason, unless the number is too long
+abbrev pub IsWrongPlace : List ℕ → ℕ → Reason → Type 0
+IsWrongPlace bytes place TooLong = ⊤
+IsWrongPlace bytes place _ = IsWrongAt bytes place
+
 -- the parser stops in this input at this place and for this reason
 pub record IsStopAt (flags : Flags) (bytes : List ℕ) (place : ℕ) (reason : Reason) : Type 0 where
   pub within : place ≤ length bytes
@@ -101,6 +116,7 @@ pub record IsStopAt (flags : Flags) (bytes : List ℕ) (place : ℕ) (reason : R
   pub result_is : IsUtf8 bytes
       → read (size_scan flags) Beginning (chars bytes)
       ≡ Err (stop_fault flags (nat_eq place 0) reason (next_char (chars (drop place bytes))))
+  pub wrong : IsUtf8 bytes → IsWrongPlace bytes place reason
 
 -- the parser stops here in this input
 abbrev pub IsStop : Flags → List ℕ → Stop → Type 0

@@ -1,20 +1,17 @@
 -- Private: where the parts of a string are wrong, by the state machines. Contracts of private functions of this crate
 -- alone cite this file.
-use Rattle.std.specs.Prelude.{◌≡◌, ℕ, ◌+◌, ◌*◌, ◌<◌, ◌≤◌, List, length, take, drop, get_or, Option, Some, None}
+use Rattle.std.specs.Prelude.{◌≡◌, ℕ, ◌+◌, ◌*◌, ◌<◌, ◌≤◌, List, length, take, get_or, Option, Some, None}
 use Rattle.std.specs.Prelude.{Result, Ok, Err}
 use Rattle.std.specs.Char.{digit_value}
-use Rattle.std.specs.Str.{IsAscii, chars}
 use Rattle.std.specs.Str.Parse.{AllDigits, digits_value}
 use Rattle.byte_unit_math.specs.Bounds.{places_of_decimal, whole_limit}
 use Rattle.byte_unit_base.specs.Shape.{Shape}
 use Rattle.byte_unit_base.specs.Version.{current}
 use Rattle.byte_unit_base.specs.Spelling.{Flags, Spells}
 use Rattle.byte_unit_base.specs.SizeText.{IsSizeText}
-use Rattle.byte_unit_base.specs.Fault.{fault_at_end, stops_at_bi, Fault}
-use Rattle.byte_unit_base.specs.Scan.{run}
+use Rattle.byte_unit_base.specs.Fault.{fault_at_end, stops_at_bi}
 use Rattle.byte_unit_base.specs.UnitScan.{UnitScan, unit_parser_state}
-use Rattle.byte_unit_base.specs.SizeScan.{SizeScan, Beginning, size_step, size_parser_state}
-use Rattle.byte_unit_base.specs.PartsReading.{IsFirst, IsLeadingNumber, IsLeadingUnit}
+use Rattle.byte_unit_base.specs.PartsReading.{IsLeadingNumber, IsLeadingUnit, IsWrongAt}
 
 -- the bytes begin with this many digits of a whole part, and one more would reach its limit; `value` is
 -- their value
@@ -33,15 +30,6 @@ pub record IsPlacesLen (bytes : List ℕ) (end : ℕ) : Type 0 where
   pub digits : AllDigits 10 (take end bytes)
   pub few : end ≤ places_of_decimal
   pub next : end < length bytes → end < places_of_decimal → 10 ≤ digit_value (get_or bytes end 0)
-
--- the state machine of sizes has a state after these first bytes, no step at what follows, and an error if they are all
-pub record IsWrongAt (bytes : List ℕ) (place : ℕ) : Type 0 where
-  pub within : place ≤ length bytes
-  pub ascii : IsAscii (take place bytes)
-  pub state : SizeScan
-  pub run_is : run size_step Beginning (take place bytes) ≡ Some state
-  pub next : IsFirst (λ c. size_step state c ≡ None) (chars (drop place bytes))
-  pub at_end : place ≡ length bytes → (fault : Fault) × (fault_at_end (size_parser_state state) ≡ Some fault)
 
 -- the bytes begin with a number of this length, or are wrong at this place
 abbrev pub IsNumberPlace : List ℕ → Result ℕ ℕ → Type 0

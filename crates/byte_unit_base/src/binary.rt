@@ -60,10 +60,18 @@ pub fn parse_bytes(bytes: &[u8], ignore_case: bool, kind: Kind) -> Option<Result
 }
 
 /// Parses as `parse_bytes` does, from the string that the bytes are, trimmed.
+///
+/// # Errors
+/// As `parse_bytes`.
+///
+/// # Examples
+/// ```rust
+/// assert!(rt; matches!(binary::parse_text(b" 1 KB ", false, Kind::Byte), Some(Ok(1024))));
+/// ```
 #[cold]
 #[inline(never)]
 #[tactic(auto, using(crate::proofs::Computed::test_of_not_utf8))]
-fn parse_text(bytes: &[u8], ignore_case: bool, kind: Kind) -> Option<Result<u128, ParseError>>
+pub fn parse_text(bytes: &[u8], ignore_case: bool, kind: Kind) -> Option<Result<u128, ParseError>>
     ensures reading { IsBinaryBytesReading kind ignore_case bytes.now result }
     ensures bound { IfSome result (λ answer. IfOk answer (λ n. n < size_limit)) }
 {

@@ -1,16 +1,19 @@
 //! Where a string is wrong: the index in bytes of its first wrong character.
 //!
-//! These calls parse the string once more, character by character, so that no parser keeps an index for them.
+//! The calls that return it alone parse the string once more, character by character.
 
 ghost use Rattle.std.specs.Prelude.{◌≡◌, ◌+◌, ◌≤◌, length, drop};
 ghost use Rattle.std.specs.Str.{chars, IsUtf8};
 ghost use Rattle.byte_unit_base.specs.SizeText.{trim_of};
 ghost use Rattle.byte_unit_base.specs.ErrorPosition.{leading_white, IsSizePosition};
+ghost use Rattle.byte_unit_base.specs.Outcome.{IsPlacedUnitReading};
 ghost use Rattle.byte_unit_base.specs.PlaceReading.{IsWholeLen, IsPlacesLen, IsNumberPlace, IsUnitPlace, IsSizePlace};
+ghost use Rattle.byte_unit_base.specs.Spelling.{flags_of};
 
-use crate::Unit;
 use crate::read::number::{leading_spaces, read_unit};
+use crate::read::stop::first_char;
 use crate::unit::scan::Flags;
+use crate::{Unit, UnitParseError};
 use byte_unit_math::{DECIMAL_PLACES, WHOLE_LIMIT};
 
 /// Returns the index in bytes of the first wrong character of a string that is not in the grammar of sizes: up to there
@@ -60,6 +63,46 @@ impl Unit {
             None => None,
         }
     }
+}
+
+/// Parses a unit as [`Unit::parse_str`] does. An error has its position, as [`Unit::error_position`] returns it.
+///
+/// # Errors
+/// As `Unit::parse_str`.
+///
+/// # Examples
+/// ```rust
+/// assert!(rt; matches!(position::parse_unit("KiB", false, true), Ok(Unit::KiB)));
+/// assert!(rt; matches!(position::parse_unit(" Kix", false, true), Err((_, 3))));
+/// ```
+pub fn parse_unit(
+    s: &str,
+    ignore_case: bool,
+    prefer_byte: bool,
+) -> Result<Unit, (UnitParseError, usize)>
+    ensures { IsPlacedUnitReading (flags_of ignore_case prefer_byte) s.now result }
+{
+    let flags = Flags {
+        ignore_case,
+        prefer_byte,
+    };
+    let text = s.trim();
+    let bytes = text.as_bytes();
+    match read_unit(bytes, bytes, 0, flags) {
+        Ok(unit) => Ok(unit),
+        Err(stop) => {
+            let error = stop.0.error_before(first_char(&text[stop.1..]), flags);
+            Err((error, leading_len(s) + stop.1))
+        }
+    }
+}
+
+/// Returns the number of bytes of the white space at the start of a string.
+fn leading_len(s: &str) -> usize
+    ensures start { result ≡ leading_white s.now }
+    ensures bound { result ≤ length s.now }
+{
+    s.len() - s.trim_start().len()
 }
 
 /// Returns the string without the white space at its ends, and the number of bytes of that at its start.

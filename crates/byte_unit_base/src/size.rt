@@ -180,11 +180,11 @@ pub fn parse_line(
 pub enum Outcome {
     /// The bytes are a number with this unit: [`size_of`] makes the size.
     Accepted(Unit, Decimal),
-    /// The parser stops: at this character or at the end, whether that is the start, and why.
-    /// [`error_at`](crate::error_at) makes the error.
-    Stopped(Option<char>, bool, Reason),
-    /// There may be white space to trim, or characters past ASCII: [`parse_text`] parses the bytes.
-    AsString,
+    /// The parser stops for this reason, and at this index in bytes, or at 0 if the number is too long.
+    /// [`visible_next`] returns the character there, if the bytes need not be parsed as a string.
+    ///
+    /// The index comes last, where no part of the number is: LLVM would otherwise split the number into bytes.
+    Stopped(Reason, usize),
 }
 
 /// Parses the unit and the number of a size from bytes, none of which is trimmed.
@@ -197,9 +197,7 @@ pub enum Outcome {
 /// let outcome = size::read_bytes(b"1.5 KiB", false, Kind::Byte);
 /// assert!(rt; matches!(outcome, size::Outcome::Accepted(Unit::KiB, _)));
 /// let outcome = size::read_bytes(b"1 bi", false, Kind::Byte);
-/// assert!(rt; matches!(outcome, size::Outcome::Stopped(None, false, _)));
-/// let outcome = size::read_bytes(b" 1.5 KiB", false, Kind::Byte);
-/// assert!(rt; matches!(outcome, size::Outcome::AsString));
+/// assert!(rt; matches!(outcome, size::Outcome::Stopped(_, 4)));
 /// ```
 #[inline(always)]
 pub fn read_bytes(bytes: &[u8], ignore_case: bool, kind: Kind) -> Outcome
@@ -207,17 +205,24 @@ pub fn read_bytes(bytes: &[u8], ignore_case: bool, kind: Kind) -> Outcome
 {
     match read_parts(bytes, bytes, flags_for(kind, ignore_case)) {
         Ok(found) => Outcome::Accepted(found.0, found.1),
-        Err(stop) => match visible_next(bytes, stop.place) {
-            Some(next) => Outcome::Stopped(next, stop.place == 0, stop.reason),
-            None => Outcome::AsString,
-        },
+        Err(stop) => Outcome::Stopped(stop.reason, stop.place),
     }
 }
 
-/// Returns the character of bytes at a place, or `Some(None)` at their end. Returns `None` if there may be white space
-/// to trim, or characters past ASCII.
+/// Returns the character of bytes at the place where a parser stops, or `Some(None)` at their end:
+/// [`error_at`](crate::error_at) makes the error of it, and the place is the position of the error, unless the number
+/// is too long. Returns `None` if there may be white space to trim, or characters past ASCII: [`parse_text`] parses the
+/// bytes.
+///
+/// Precondition (proved at every call): `place <= bytes.len()`.
+///
+/// # Examples
+/// ```rust
+/// assert_eq!(rt; size::visible_next(b"1 bi", 4), Some(None));
+/// assert_eq!(rt; size::visible_next(b" 1 KiB", 0), None);
+/// ```
 #[inline(always)]
-fn visible_next(bytes: &[u8], place: usize) -> Option<Option<char>>
+pub fn visible_next(bytes: &[u8], place: usize) -> Option<Option<char>>
     requires { place ≤ length bytes.now }
     ensures { IfSome result (IsCharOfStops bytes.now place) }
 {

@@ -1,3 +1,4 @@
 mod Zeros
 mod Ascending
 mod Written
+mod Positions

@@ -1,6 +1,6 @@
 -- The errors of parsing as the C API reports them.
 use Rattle.std.specs.Prelude.{◌≡◌, ℕ, ◌-◌, Bool, false, List, [], ◌++◌, length, map, take, replicate, nat_lt, slice_set}
-use Rattle.std.specs.Prelude.{if◌then◌else◌}
+use Rattle.std.specs.Prelude.{if◌then◌else◌, Option, Some}
 use Rattle.byte_unit_base.specs.Fault.{Fault, bad_unit, not_number, no_value, too_long, exceeded}
 use Rattle.byte_unit_c.specs.declared.error.Error.{Error}
 use Rattle.byte_unit_c.specs.Values.{AreDecimalParts}
@@ -50,6 +50,17 @@ IsErrorOf too_long = HasFields 0 [] false 0
 IsErrorOf (exceeded number) = HasFields 0 [] false number
 IsErrorOf (bad_unit c expected may_end) = HasFields c expected may_end 0
 
--- the details of the error are written to the first place of the buffer, if it is not empty
-abbrev pub IsErrorWritten : Fault → List Error → List Error → Type 0
-IsErrorWritten fault old new = (error : Error) × IsErrorOf fault error × (new ≡ slice_set old 0 error)
+-- the position of each error, where `IsPosition` is that of the string; 0 if only its size is too large
+abbrev pub IsPositionOf : (Option ℕ → Type 0) → Fault → ℕ → Type 0
+IsPositionOf IsPosition (exceeded number) position = position ≡ 0
+IsPositionOf IsPosition _ position = IsPosition (Some position)
+
+-- the details of the error, with this position, are written to the first place of the buffer, if it is not empty
+abbrev pub IsWrittenAt : ℕ → Fault → List Error → List Error → Type 0
+IsWrittenAt position fault old new =
+    (error : Error) × IsErrorOf fault error × (error.position ≡ position) × (new ≡ slice_set old 0 error)
+
+-- they are written with the position of the error
+abbrev pub IsErrorWritten : (Option ℕ → Type 0) → Fault → List Error → List Error → Type 0
+IsErrorWritten IsPosition fault old new =
+    (position : ℕ) × IsPositionOf IsPosition fault position × IsWrittenAt position fault old new

@@ -2,6 +2,7 @@
 use Rattle.std.specs.Prelude.{◌≡◌, ℕ, ◌<◌, Bool, List, Option, Some, None, MatchOption, Result, Ok, Err, IfSome, codes}
 use Rattle.std.specs.Fmt.Cut.{IsTextOrCut}
 use Rattle.std.specs.Str.{IsUtf8}
+use Rattle.byte_unit_base.specs.ErrorPosition.{IsSizePosition, IsUnitPosition}
 use Rattle.byte_unit_base.specs.Errors.{size_fault, unit_fault}
 use Rattle.byte_unit_base.specs.FaultText.{parse_text}
 use Rattle.byte_unit_base.specs.Readings.{IsUnitReading}
@@ -19,11 +20,12 @@ use Rattle.byte_unit_c.specs.Error.{ok, code_of, not_utf8, IsErrorWritten}
 
 -- 0 with the size, the code of the error with its details, or 6 if the bytes are not UTF-8; what is not written is
 -- unchanged
-abbrev pub IsReturned : Option (Result ℕ ParseError) → ℕ → Number → Number → List Error → List Error → Type 0
-IsReturned None code size size' errors errors' = (code ≡ not_utf8) × (size' ≡ size) × (errors' ≡ errors)
-IsReturned (Some (Ok n)) code size size' errors errors' = (code ≡ ok) × (number_of size' ≡ n) × (errors' ≡ errors)
-IsReturned (Some (Err e)) code size size' errors errors' =
-    (code ≡ code_of (size_fault e)) × IsErrorWritten (size_fault e) errors errors' × (size' ≡ size)
+abbrev pub IsReturned : List ℕ → Option (Result ℕ ParseError) → ℕ → Number → Number → List Error → List Error → Type 0
+IsReturned bytes None code size size' errors errors' = (code ≡ not_utf8) × (size' ≡ size) × (errors' ≡ errors)
+IsReturned bytes (Some (Ok n)) code size size' errors errors' = (code ≡ ok) × (number_of size' ≡ n) × (errors' ≡ errors)
+IsReturned bytes (Some (Err e)) code size size' errors errors' =
+    (code ≡ code_of (size_fault e)) × IsErrorWritten (IsSizePosition bytes) (size_fault e) errors errors'
+    × (size' ≡ size)
 
 -- `None` if the bytes are not UTF-8, and otherwise the result of parsing them as a unit
 abbrev pub IsUnitBytesReading : Bool → Bool → List ℕ → Option (Result UnitName UnitParseError) → Type 0
@@ -33,12 +35,14 @@ IsUnitBytesReading ignore_case prefer_byte bytes result =
 
 -- 0 with the code of the unit, the code of the error with its details, or 6 if the bytes are not UTF-8; what is not
 -- written is unchanged
-abbrev pub IsUnitReturned : Option (Result UnitName UnitParseError) → ℕ → ℕ → ℕ → List Error → List Error → Type 0
-IsUnitReturned None code unit unit' errors errors' = (code ≡ not_utf8) × (unit' ≡ unit) × (errors' ≡ errors)
-IsUnitReturned (Some (Ok name)) code unit unit' errors errors' =
+abbrev pub IsUnitReturned : List ℕ → Option (Result UnitName UnitParseError) → ℕ → ℕ → ℕ → List Error → List Error
+    → Type 0
+IsUnitReturned bytes None code unit unit' errors errors' = (code ≡ not_utf8) × (unit' ≡ unit) × (errors' ≡ errors)
+IsUnitReturned bytes (Some (Ok name)) code unit unit' errors errors' =
     (code ≡ ok) × (unit_at unit' ≡ Some name) × (errors' ≡ errors)
-IsUnitReturned (Some (Err e)) code unit unit' errors errors' =
-    (code ≡ code_of (unit_fault e)) × IsErrorWritten (unit_fault e) errors errors' × (unit' ≡ unit)
+IsUnitReturned bytes (Some (Err e)) code unit unit' errors errors' =
+    (code ≡ code_of (unit_fault e)) × IsErrorWritten (IsUnitPosition bytes) (unit_fault e) errors errors'
+    × (unit' ≡ unit)
 
 -- the message of the error, or at most 256 bytes of it that end in dots; no claim if std specifies no message
 abbrev pub IsErrorText : ParseError → List ℕ → Type 0

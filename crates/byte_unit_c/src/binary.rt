@@ -4,6 +4,8 @@
 
 ghost use Rattle.std.specs.Prelude.{◌≡◌, ℕ, ◌≤◌, length, Option, Result, IfSome, IfNone};
 ghost use Rattle.byte_unit_base.specs.BinaryReading.{IsBinaryBytesReading};
+ghost use Rattle.byte_unit_base.specs.Kinds.{flags_for};
+ghost use Rattle.byte_unit_base.specs.PartsReading.{IsStopAt};
 ghost use Rattle.byte_unit_base.specs.declared.errors.ParseError.{ParseError};
 ghost use Rattle.byte_unit_c.specs.Flags.{binary_flags_at};
 ghost use Rattle.byte_unit_c.specs.Error.{ok, invalid_argument};
@@ -14,9 +16,10 @@ use crate::error::{Error, INVALID_ARGUMENT, NOT_UTF8, OK};
 use crate::flags::{ParseFlags, binary_flags_at};
 use crate::many::{code_of, is_layout};
 use crate::offsets::Offsets;
-use crate::parse::{explain_result, write_result};
+use crate::parse::{explain_result, write_result, write_stop};
 use crate::values::Number;
-use byte_unit_base::binary;
+use byte_unit_base::size::Outcome;
+use byte_unit_base::{Reason, binary, size};
 
 /// Parses as `byte_unit_parse_to` does, with the flag `BINARY_PREFIXES` (8) beside the others: a decimal prefix means
 /// the binary one, so `K` and `KB` are by 1024, as `Ki` and `KiB` are.
@@ -34,16 +37,54 @@ pub extern "C" fn byte_unit_parse_binary_to(
     ensures reading { IfSome (binary_flags_at flags)
         (λ asked. (answer : Option (Result ℕ ParseError))
         × IsBinaryBytesReading asked.kind asked.ignore_case text.now answer
-        × IsReturned answer result size.old size.new error.old error.new) }
+        × IsReturned text.now answer result size.old size.new error.old error.new) }
     ensures rejected { IfNone (binary_flags_at flags)
         ((result ≡ invalid_argument) × (size.new ≡ size.old) × (error.new ≡ error.old)) }
 {
     match binary_flags_at(flags) {
-        Some(asked) => {
-            let answer = binary::parse_bytes(text, asked.ignore_case, asked.kind);
-            write_result(answer, size, error)
-        }
+        Some(asked) => parse_as(text, asked, size, error),
         None => INVALID_ARGUMENT,
+    }
+}
+
+/// Parses as `byte_unit_parse_binary_to` does, with known flags.
+#[inline(always)]
+fn parse_as(text: &[u8], asked: ParseFlags, size: &mut Number, errors: &mut [Error]) -> u32
+    ensures { (answer : Option (Result ℕ ParseError))
+        × IsBinaryBytesReading asked.kind asked.ignore_case text.now answer
+        × IsReturned text.now answer result size.old size.new errors.old errors.new }
+{
+    match size::read_bytes(text, asked.ignore_case, asked.kind) {
+        Outcome::Accepted(unit, number) => {
+            let answer = Some(binary::size_of((number, unit), asked.kind));
+            write_result(text, answer, size, errors)
+        }
+        Outcome::Stopped(reason, place) => parse_stopped(text, place, reason, asked, size, errors),
+    }
+}
+
+/// Parses as `parse_as` does, from bytes in which the parser stops at this place and for this reason.
+#[cold]
+#[inline(never)]
+fn parse_stopped(
+    text: &[u8],
+    place: usize,
+    reason: Reason,
+    asked: ParseFlags,
+    size: &mut Number,
+    errors: &mut [Error],
+) -> u32
+    requires { IsStopAt (flags_for asked.kind asked.ignore_case) text.now place reason }
+    ensures { (answer : Option (Result ℕ ParseError))
+        × IsBinaryBytesReading asked.kind asked.ignore_case text.now answer
+        × IsReturned text.now answer result size.old size.new errors.old errors.new }
+{
+    match write_stop(text, place, reason, asked.kind, asked.ignore_case, errors) {
+        Some(code) => code,
+        None => {
+            let answer = binary::parse_text(text, asked.ignore_case, asked.kind);
+            write_result(text, answer, size, errors)
+        }
     }
 }
 

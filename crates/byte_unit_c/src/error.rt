@@ -22,6 +22,9 @@ pub struct Error {
     pub expected: [u8; 16],
     /// With `EXCEEDED_BOUNDS`: the number in the string, without its unit.
     pub number: DecimalParts,
+    /// With every other code: the index in bytes of the first wrong character, as `byte_unit_error_position` and
+    /// `byte_unit_unit_error_position` write it.
+    pub position: usize,
 }
 
 /// Success: the string represents a size.
@@ -55,18 +58,21 @@ impl Error {
         also_expect_no_character: 0,
         expected: [0; 16],
         number: DecimalParts::ZERO,
+        position: 0,
     };
 
-    /// Returns the code and the details of an error in the number.
-    pub fn of_value(error: ValueParseError) -> (u32, Error)
+    /// Returns the code and the details of an error in the number, at a position.
+    pub fn of_value(error: ValueParseError, position: usize) -> (u32, Error)
         ensures code { result.0 ≡ code_of (value_fault error) }
         ensures details { IsErrorOf (value_fault error) result.1 }
+        ensures position { result.1.position ≡ position }
     {
         match error {
             ValueParseError::ExceededBounds(number) => (
                 EXCEEDED_BOUNDS,
                 Error {
                     number: DecimalParts::new(number),
+                    position,
                     ..Error::NONE
                 },
             ),
@@ -74,32 +80,54 @@ impl Error {
                 NOT_NUMBER,
                 Error {
                     character: c as u32,
+                    position,
                     ..Error::NONE
                 },
             ),
-            ValueParseError::NoValue => (NO_VALUE, Error::NONE),
-            ValueParseError::NumberTooLong => (NUMBER_TOO_LONG, Error::NONE),
+            ValueParseError::NoValue => (
+                NO_VALUE,
+                Error {
+                    position,
+                    ..Error::NONE
+                },
+            ),
+            ValueParseError::NumberTooLong => (
+                NUMBER_TOO_LONG,
+                Error {
+                    position,
+                    ..Error::NONE
+                },
+            ),
         }
     }
 
-    /// Returns the details of an error in the unit. Its code is `UNIT`.
-    pub fn of_unit(error: UnitParseError) -> Error
-        ensures { IsErrorOf (unit_fault error) result }
+    /// Returns the details of an error in the unit, at a position. Its code is `UNIT`.
+    pub fn of_unit(error: UnitParseError, position: usize) -> Error
+        ensures details { IsErrorOf (unit_fault error) result }
+        ensures position { result.position ≡ position }
     {
         let expected = expected_bytes(error.expected_characters);
-        Error::of_unit_parts(error.character, expected, error.also_expect_no_character)
+        let may_end = error.also_expect_no_character;
+        Error::of_unit_parts(error.character, expected, may_end, position)
     }
 
-    /// Returns the details of an error in the unit, from its character, the bytes of the expected characters, and
-    /// whether the string could end there.
-    pub fn of_unit_parts(character: char, expected: [u8; 16], may_end: bool) -> Error
-        ensures { (characters : List ℕ) → expected ≡ expected_bytes characters
+    /// Returns the details of an error in the unit, from its character, the bytes of the expected characters, whether
+    /// the string could end there, and the position.
+    pub fn of_unit_parts(
+        character: char,
+        expected: [u8; 16],
+        may_end: bool,
+        position: usize,
+    ) -> Error
+        ensures details { (characters : List ℕ) → expected ≡ expected_bytes characters
             → IsErrorOf (bad_unit character characters may_end) result }
+        ensures position { result.position ≡ position }
     {
         Error {
             character: character as u32,
             also_expect_no_character: may_end as u8,
             expected,
+            position,
             ..Error::NONE
         }
     }

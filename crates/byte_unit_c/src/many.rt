@@ -121,7 +121,7 @@ pub fn code_of(error: ParseError) -> u8
     ensures { result ≡ code_of (size_fault error) }
 {
     match error {
-        ParseError::Value(error) => Error::of_value(error).0 as u8,
+        ParseError::Value(error) => Error::of_value(error, 0).0 as u8,
         ParseError::Unit(_) => UNIT as u8,
     }
 }

@@ -1,16 +1,24 @@
 //! Parsing of sizes and of units, and messages for strings that are rejected.
 
-ghost use Rattle.std.specs.Prelude.{◌≡◌, ℕ, ◌<◌, ◌≤◌, length, Option, Some, Result, Err, IfSome, IfNone, codes};
+ghost use Rattle.std.specs.Prelude.{◌≡◌, ℕ, Bool, ◌<◌, ◌≤◌, length, Option, Some, Result, Err, IfSome, IfNone};
+ghost use Rattle.std.specs.Prelude.{MatchOption, codes};
+ghost use Rattle.std.specs.Str.{IsUtf8};
 ghost use Rattle.byte_unit_base.specs.Errors.{size_fault};
-ghost use Rattle.byte_unit_base.specs.PartsReading.{stop_fault};
-ghost use Rattle.byte_unit_base.specs.SizeReading.{IsBytesReading};
+ghost use Rattle.byte_unit_base.specs.ErrorPosition.{IsSizePosition};
+ghost use Rattle.byte_unit_base.specs.Kinds.{flags_for};
+ghost use Rattle.byte_unit_base.specs.Outcome.{IsPlacedUnitReading};
+ghost use Rattle.byte_unit_base.specs.PartsReading.{IsStopAt, stop_fault};
+ghost use Rattle.byte_unit_base.specs.Shape.{Shape};
+ghost use Rattle.byte_unit_base.specs.SizeReading.{IsBytesReading, IsBytesReadingAs};
+ghost use Rattle.byte_unit_base.specs.Spelling.{flags_of};
 ghost use Rattle.byte_unit_base.specs.BinaryReading.{IsBinaryBytesReading};
 ghost use Rattle.byte_unit_base.specs.declared.errors.ParseError.{ParseError};
 ghost use Rattle.byte_unit_base.specs.declared.errors.UnitParseError.{UnitParseError};
 ghost use Rattle.byte_unit_base.specs.declared.unit.Unit.{Unit as UnitName};
 ghost use Rattle.byte_unit_format.specs.Written.{WritesForm};
 ghost use Rattle.byte_unit_c.specs.Flags.{parse_flags_at, binary_flags_at, prefers_byte};
-ghost use Rattle.byte_unit_c.specs.Error.{invalid_argument};
+ghost use Rattle.byte_unit_base.specs.declared.kind.Kind.{Kind};
+ghost use Rattle.byte_unit_c.specs.Error.{invalid_argument, code_of, IsWrittenAt, IsErrorWritten};
 ghost use Rattle.byte_unit_c.specs.Parse.{IsReturned, IsUnitBytesReading, IsUnitReturned, IsExplanation};
 ghost use Rattle.byte_unit_c.specs.Parse.{IsUnitExplanation};
 
@@ -19,7 +27,9 @@ use crate::codes::code_of;
 use crate::error::{Error, INVALID_ARGUMENT, NOT_UTF8, OK, UNIT, bytes_of};
 use crate::flags::{binary_flags_at, parse_flags_at};
 use crate::message::{write_message, write_not_utf8, write_unit_message, write_unknown_flag};
+use crate::position;
 use crate::values::Number;
+use byte_unit_base::position::parse_unit;
 use byte_unit_base::size::Outcome;
 use byte_unit_base::{Flags, Kind, ParseError, Reason, Unit, UnitParseError, error_at, size};
 use std::str;
@@ -43,7 +53,7 @@ pub extern "C" fn byte_unit_parse_to(
     ensures reading { IfSome (parse_flags_at flags)
         (λ asked. (answer : Option (Result ℕ ParseError))
         × IsBytesReading asked.kind asked.ignore_case text.now answer
-        × IsReturned answer result size.old size.new error.old error.new) }
+        × IsReturned text.now answer result size.old size.new error.old error.new) }
     ensures rejected { IfNone (parse_flags_at flags)
         ((result ≡ invalid_argument) × (size.new ≡ size.old) × (error.new ≡ error.old)) }
 {
@@ -64,65 +74,83 @@ fn parse_as(
 ) -> u32
     ensures { (answer : Option (Result ℕ ParseError))
         × IsBytesReading kind ignore_case text.now answer
-        × IsReturned answer result size.old size.new errors.old errors.new }
+        × IsReturned text.now answer result size.old size.new errors.old errors.new }
 {
     match size::read_bytes(text, ignore_case, kind) {
         Outcome::Accepted(unit, number) => {
-            write_result(Some(size::size_of((number, unit), kind)), size, errors)
+            let answer = Some(size::size_of((number, unit), kind));
+            write_result(text, answer, size, errors)
         }
-        Outcome::Stopped(next, at_start, reason) => {
-            let flags = size::flags_for(kind, ignore_case);
-            write_stop(next, at_start, reason, flags, size, errors)
-        }
-        Outcome::AsString => parse_text_as(text, kind, ignore_case, size, errors),
-    }
-}
-
-/// Writes the error of a parser that stops for this reason, by the character there, and returns its code.
-///
-/// `#[inline(always)]`: the error of a unit, whose parts are written, is then never in memory.
-#[inline(always)]
-fn write_stop(
-    next: Option<char>,
-    at_start: bool,
-    reason: Reason,
-    flags: Flags,
-    size: &mut Number,
-    errors: &mut [Error],
-) -> u32
-    ensures { (error : ParseError) × (size_fault error ≡ stop_fault flags at_start reason next)
-        × IsReturned (Some (Err error)) result size.old size.new errors.old errors.new }
-{
-    match reason {
-        Reason::InUnit(stop) => {
-            let expected = bytes_of(stop.expected_before(next, flags));
-            let error = stop.error_before(next, flags);
-            let may_end = error.also_expect_no_character;
-            Error::of_unit_parts(error.character, expected, may_end).write(errors);
-            UNIT
-        }
-        _ => {
-            let error = error_at(next, at_start, reason, flags);
-            write_result(Some(Err(error)), size, errors)
+        Outcome::Stopped(reason, place) => {
+            parse_stopped(text, place, reason, kind, ignore_case, size, errors)
         }
     }
 }
 
-/// Parses as `parse_as` does, from the string that the bytes are, trimmed.
+/// Parses as `parse_as` does, from bytes in which the parser stops at this place and for this reason.
 #[cold]
 #[inline(never)]
-fn parse_text_as(
+fn parse_stopped(
     text: &[u8],
+    place: usize,
+    reason: Reason,
     kind: Kind,
     ignore_case: bool,
     size: &mut Number,
     errors: &mut [Error],
 ) -> u32
+    requires { IsStopAt (flags_for kind ignore_case) text.now place reason }
     ensures { (answer : Option (Result ℕ ParseError))
         × IsBytesReading kind ignore_case text.now answer
-        × IsReturned answer result size.old size.new errors.old errors.new }
+        × IsReturned text.now answer result size.old size.new errors.old errors.new }
 {
-    write_result(size::parse_text(text, ignore_case, kind), size, errors)
+    match write_stop(text, place, reason, kind, ignore_case, errors) {
+        Some(code) => code,
+        None => {
+            let answer = size::parse_text(text, ignore_case, kind);
+            write_result(text, answer, size, errors)
+        }
+    }
+}
+
+/// Writes the error of a parser that stops at this place and for this reason, and returns its code. Returns `None` and
+/// writes nothing if the bytes have to be parsed as a string.
+///
+/// `#[inline(always)]`: the error of a unit, whose parts are written, is then never in memory.
+#[inline(always)]
+pub(crate) fn write_stop(
+    text: &[u8],
+    place: usize,
+    reason: Reason,
+    kind: Kind,
+    ignore_case: bool,
+    errors: &mut [Error],
+) -> Option<u32>
+    requires { IsStopAt (flags_for kind ignore_case) text.now place reason }
+    ensures some { IfSome result (λ code. (error : ParseError)
+        × ((meant : Shape → Shape)
+        → IsBytesReadingAs meant kind ignore_case text.now (Some (Err error)))
+        × (code ≡ code_of (size_fault error))
+        × IsErrorWritten (IsSizePosition text.now) (size_fault error) errors.old errors.new) }
+    ensures none { IfNone result (errors.new ≡ errors.old) }
+{
+    let next = size::visible_next(text, place)?;
+    let flags = size::flags_for(kind, ignore_case);
+    Some(match reason {
+        Reason::InUnit(stop) => {
+            let expected = bytes_of(stop.expected_before(next, flags));
+            let error = stop.error_before(next, flags);
+            let may_end = error.also_expect_no_character;
+            Error::of_unit_parts(error.character, expected, may_end, place).write(errors);
+            UNIT
+        }
+        Reason::NoDigit => write_error(error_at(next, place == 0, reason, flags), place, errors),
+        Reason::TooLong => {
+            let error = error_at(next, place == 0, reason, flags);
+            let position = position::of_error(text, &error);
+            write_error(error, position, errors)
+        }
+    })
 }
 
 /// Writes the result of a parser, and returns its code.
@@ -130,27 +158,44 @@ fn parse_text_as(
 /// `#[inline(always)]`: each caller knows which result it has, which is then never in memory.
 #[inline(always)]
 pub fn write_result(
+    text: &[u8],
     answer: Option<Result<u128, ParseError>>,
     size: &mut Number,
     errors: &mut [Error],
 ) -> u32
-    ensures { IsReturned answer result size.old size.new errors.old errors.new }
+    ensures { (meant : Shape → Shape) (kind : Kind) (ignore_case : Bool)
+        → IsBytesReadingAs meant kind ignore_case text.now answer
+        → IsReturned text.now answer result size.old size.new errors.old errors.new }
 {
     match answer {
         Some(Ok(found)) => {
             *size = Number::new(found);
             OK
         }
-        Some(Err(ParseError::Value(error))) => {
-            let (code, details) = Error::of_value(error);
+        Some(Err(error)) => {
+            let position = position::of_error(text, &error);
+            write_error(error, position, errors)
+        }
+        None => NOT_UTF8,
+    }
+}
+
+/// Writes the details of an error with its position, and returns its code.
+#[inline(always)]
+fn write_error(error: ParseError, position: usize, errors: &mut [Error]) -> u32
+    ensures code { result ≡ code_of (size_fault error) }
+    ensures written { IsWrittenAt position (size_fault error) errors.old errors.new }
+{
+    match error {
+        ParseError::Value(error) => {
+            let (code, details) = Error::of_value(error, position);
             details.write(errors);
             code
         }
-        Some(Err(ParseError::Unit(error))) => {
-            Error::of_unit(error).write(errors);
+        ParseError::Unit(error) => {
+            Error::of_unit(error, position).write(errors);
             UNIT
         }
-        None => NOT_UTF8,
     }
 }
 
@@ -173,7 +218,7 @@ pub extern "C" fn byte_unit_parse_unit_to(
     ensures reading { IfSome (parse_flags_at flags)
         (λ asked. (answer : Option (Result UnitName UnitParseError))
         × IsUnitBytesReading asked.ignore_case (prefers_byte asked.kind) text.now answer
-        × IsUnitReturned answer result unit.old unit.new error.old error.new) }
+        × IsUnitReturned text.now answer result unit.old unit.new error.old error.new) }
     ensures rejected { IfNone (parse_flags_at flags)
         ((result ≡ invalid_argument) × (unit.new ≡ unit.old) × (error.new ≡ error.old)) }
 {
@@ -193,28 +238,33 @@ fn parse_unit_as(
 ) -> u32
     ensures { (answer : Option (Result UnitName UnitParseError))
         × IsUnitBytesReading ignore_case (prefers_byte kind) text.now answer
-        × IsUnitReturned answer result unit.old unit.new errors.old errors.new }
+        × IsUnitReturned text.now answer result unit.old unit.new errors.old errors.new }
 {
     match read_unit(text, kind, ignore_case) {
         Some(Ok(found)) => {
             *unit = code_of(found);
             OK
         }
-        Some(Err(error)) => {
-            Error::of_unit(error).write(errors);
+        Some(Err(rejected)) => {
+            Error::of_unit(rejected.0, rejected.1).write(errors);
             UNIT
         }
         None => NOT_UTF8,
     }
 }
 
-/// Parses a unit from bytes, as `Unit::parse_str` does from a string. A unit with no suffix is of this kind. Returns
+/// Parses a unit from bytes, as `parse_unit` does from a string. A unit with no suffix is of this kind. Returns
 /// `None` if the bytes are not UTF-8.
-fn read_unit(bytes: &[u8], kind: Kind, ignore_case: bool) -> Option<Result<Unit, UnitParseError>>
-    ensures { IsUnitBytesReading ignore_case (prefers_byte kind) bytes.now result }
+fn read_unit(
+    bytes: &[u8],
+    kind: Kind,
+    ignore_case: bool,
+) -> Option<Result<Unit, (UnitParseError, usize)>>
+    ensures { MatchOption result (¬ IsUtf8 bytes.now) (λ answer. IsUtf8 bytes.now
+        × IsPlacedUnitReading (flags_of ignore_case (prefers_byte kind)) bytes.now answer) }
 {
     match str::from_utf8(bytes) {
-        Ok(text) => Some(Unit::parse_str(text, ignore_case, prefers_byte(kind))),
+        Ok(text) => Some(parse_unit(text, ignore_case, prefers_byte(kind))),
         Err(_) => None,
     }
 }
@@ -269,11 +319,13 @@ fn explain_as(text: &[u8], kind: Kind, ignore_case: bool, out: &mut [u8]) -> usi
         Outcome::Accepted(unit, number) => {
             explain_result(Some(size::size_of((number, unit), kind)), out)
         }
-        Outcome::Stopped(next, at_start, reason) => {
-            let flags = size::flags_for(kind, ignore_case);
-            write_stop_message(next, at_start, reason, flags, out)
-        }
-        Outcome::AsString => explain_result(size::parse_text(text, ignore_case, kind), out),
+        Outcome::Stopped(reason, place) => match size::visible_next(text, place) {
+            Some(next) => {
+                let flags = size::flags_for(kind, ignore_case);
+                write_stop_message(next, place == 0, reason, flags, out)
+            }
+            None => explain_result(size::parse_text(text, ignore_case, kind), out),
+        },
     }
 }
 
@@ -344,7 +396,7 @@ fn explain_unit_as(text: &[u8], kind: Kind, ignore_case: bool, out: &mut [u8]) -
 {
     match read_unit(text, kind, ignore_case) {
         Some(Ok(_)) => 0,
-        Some(Err(error)) => write_message(&ParseError::Unit(error), out),
+        Some(Err(rejected)) => write_message(&ParseError::Unit(rejected.0), out),
         None => write_not_utf8(out),
     }
 }

@@ -1,4 +1,4 @@
--- The number and the unit, or the error by the character where the parser stops.
+-- The number and the unit, or where the parser stops.
 use Rattle.byte_unit_base.specs.Kinds.{flags_for}
 use Rattle.byte_unit_base.proofs.SizeOfText.{bytes_number}
 use Rattle.byte_unit_base.proofs.size.read_bytes.Goals as goal
@@ -8,6 +8,5 @@ returns-in-Ok c =
     bytes_number (flags_for c.args.kind c.args.ignore_case) c.args.bytes.now c.in-Ok.found.1 c.in-Ok.found.0
     (rw c.flags_for.ensures at c.in-Ok.ensures)
 
-pub returns-in-Some : goal.returns-in-Some
-returns-in-Some c =
-    c.in-Some.ensures c.args.kind c.args.ignore_case c.in-Err.stop.reason (rw c.flags_for.ensures at c.in-Err.ensures)
+pub returns-in-Err : goal.returns-in-Err
+returns-in-Err c = rw c.flags_for.ensures at c.in-Err.ensures

@@ -1,20 +1,73 @@
--- The characters that the error of a unit names are those of `Expected`.
-use Rattle.std.proofs.Common.{refl, sym, ap, ◌∙◌}
-use Rattle.byte_unit_base.specs.PartsReading.{stop_fault}
-use Rattle.byte_unit_base.specs.Expected.{named_in}
-use Rattle.byte_unit_base.specs.declared.errors.ParseError.TheVariants.{Unit as UnitError}
+-- The error where the parser stops is that of the string, and the place is its position.
+use Rattle.std.proofs.Common.{refl, sym, ap, subst, ◌∙◌, nat_eq}
+use Rattle.byte_unit_base.specs.Accepted.{as_written}
+use Rattle.byte_unit_base.specs.ErrorPosition.{IsSizePosition}
 use Rattle.byte_unit_base.specs.Errors.{unit_fault}
-use Rattle.byte_unit_c.specs.Error.{expected_bytes, IsErrorOf}
+use Rattle.byte_unit_base.specs.Expected.{named_in}
+use Rattle.byte_unit_base.specs.Kinds.{flags_for}
+use Rattle.byte_unit_base.specs.Outcome.{IsPositionOfStop}
+use Rattle.byte_unit_base.specs.PartsReading.{stop_fault}
+use Rattle.byte_unit_base.specs.declared.errors.ParseError.TheVariants.{Unit as UnitError}
+use Rattle.byte_unit_c.specs.Error.{expected_bytes, IsErrorOf, IsPositionOf}
+use Rattle.byte_unit_c.proofs.Positions.{at_missing_digit}
 use Rattle.byte_unit_c.proofs.parse.write_stop.Goals as goal
 
-pub returns-in-InUnit : goal.returns-in-InUnit
-returns-in-InUnit c =
+pub returns-in-InUnit-clause-some : goal.returns-in-InUnit-clause-some
+returns-in-InUnit-clause-some c =
+    let bytes = c.args.text.now in
+    let at_start = nat_eq c.args.place 0 in
+    let next = c.in_ok-next.next in
+    let stops = c.in_ok-next.ensures c.args.kind c.args.ignore_case c.args.reason c.requires in
     let error = c.error_before-error.result in
     let fault_is = c.error_before-error.ensures
-    ∙ ap (λ reason. stop_fault c.args.flags c.args.at_start reason c.args.next) (sym c.in-InUnit.is) in
+    ∙ (ap (λ reason. stop_fault c.flags_for-flags.result at_start reason next) (sym c.in-InUnit.is)
+    ∙ ap (λ flags. stop_fault flags at_start c.args.reason next) c.flags_for-flags.ensures) in
+    let is = stops.0 (UnitError error) fault_is in
     let bytes_are = c.bytes_of-expected.ensures
     ∙ ap expected_bytes (c.expected_before.ensures ∙ ap named_in (sym c.error_before-error.ensures)) in
     let details : IsErrorOf (unit_fault error) c.of_unit_parts.result =
     rw (← c.error.view_is)
-    (c.of_unit_parts.ensures c.error.inside.expected_characters.now (rw (← c.error.view_is) at bytes_are)) in
-    (UnitError error, fault_is, (refl, (c.of_unit_parts.result, details, c.write.ensures), refl))
+    (c.of_unit_parts.ensures.details c.error.inside.expected_characters.now (rw (← c.error.view_is) at bytes_are)) in
+    let position = subst (IsPositionOfStop bytes c.args.place) c.in-InUnit.is stops.1 in (
+      UnitError error,
+      (λ meant. (is.0, is.1 meant)),
+      refl,
+      (
+        c.args.place,
+        position,
+        (c.of_unit_parts.result, details, c.of_unit_parts.ensures.position, c.write.ensures),
+      ),
+    )
+
+pub returns-in-NoDigit-clause-some : goal.returns-in-NoDigit-clause-some
+returns-in-NoDigit-clause-some c =
+    let bytes = c.args.text.now in
+    let at_start = nat_eq c.args.place 0 in
+    let next = c.in_ok-next.next in
+    let stops = c.in_ok-next.ensures c.args.kind c.args.ignore_case c.args.reason c.requires in
+    let fault_is = c.error_at.ensures
+    ∙ ap (λ flags. stop_fault flags at_start c.args.reason next) c.flags_for-flags.ensures in
+    let is = stops.0 c.error_at.result fault_is in
+    let place = subst (IsPositionOfStop bytes c.args.place) c.in-NoDigit.is stops.1 in
+    let flags = flags_for c.args.kind c.args.ignore_case in
+    let fault = fault_is ∙ ap (λ reason. stop_fault flags at_start reason next) c.in-NoDigit.is in
+    let position = subst (λ fault. IsPositionOf (IsSizePosition bytes) fault c.args.place) (sym fault)
+    (at_missing_digit (IsSizePosition bytes) at_start next c.args.place place) in (
+      c.error_at.result,
+      (λ meant. (is.0, is.1 meant)),
+      c.write_error.ensures.code,
+      (c.args.place, position, c.write_error.ensures.written),
+    )
+
+pub returns-in-TooLong-clause-some : goal.returns-in-TooLong-clause-some
+returns-in-TooLong-clause-some c =
+    let stops = c.in_ok-next.ensures c.args.kind c.args.ignore_case c.args.reason c.requires in
+    let fault_is = c.error_at-error.ensures
+    ∙ ap (λ flags. stop_fault flags (nat_eq c.args.place 0) c.args.reason c.in_ok-next.next) c.flags_for-flags.ensures in
+    let is = stops.0 c.error_at-error.result fault_is in
+    let position = c.of_error-position.ensures as_written c.args.kind c.args.ignore_case (is.0, is.1 as_written) in (
+      c.error_at-error.result,
+      (λ meant. (is.0, is.1 meant)),
+      c.write_error-in-TooLong.ensures.code,
+      (c.of_error-position.result, position, c.write_error-in-TooLong.ensures.written),
+    )

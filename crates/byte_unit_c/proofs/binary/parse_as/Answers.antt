@@ -1,0 +1,13 @@
+-- The result is that of the number and the unit, or the error where the parser stops.
+use Rattle.std.specs.Prelude.{Some}
+use Rattle.byte_unit_base.specs.BinaryReading.{binary_of}
+use Rattle.byte_unit_c.proofs.binary.parse_as.Goals as goal
+
+pub returns-in-Accepted : goal.returns-in-Accepted
+returns-in-Accepted c =
+    let found = c.in-Accepted.ensures in
+    let reading = c.size_of.ensures.reading c.args.asked.ignore_case c.args.text.now found.1 in (
+      Some c.size_of.result,
+      (found.0, reading),
+      c.write_result.ensures binary_of c.args.asked.kind c.args.asked.ignore_case (found.0, reading),
+    )
