@@ -35,7 +35,7 @@ from ..libraries import ARCHIVE, EXTENSION, HEADER, MODULE
 from ..needs import DEBIAN_PYTHON, PYTHON_PACKAGE, is_there
 from ..page import page
 from . import archives, debian
-from .readmes import readme
+from .readmes import linked, readme
 
 RELOCATABLE = "${pcfiledir}/../.."
 RELEASE = """# byte-unit {version}
@@ -119,11 +119,12 @@ def prefix(parts, folder, machine):
     files = files_of(folder, RELOCATABLE, [])
     config = "lib/pkgconfig/byte_unit.pc"
     files[config] = files[config].replace(b'"', b"")  # pkgconf escapes the spaces of pcfiledir itself
-    files["share/byte_unit/README.md"] = readme("c", machine=machine)
+    page = "share/byte_unit/README.md"
+    files[page] = readme("c", files, page, machine=machine)
     names = sorted([*files, "share/byte_unit/installed"])
     files["share/byte_unit/installed"] = "".join(f"{name}\n" for name in names).encode()
     files["install.sh"] = (Path(__file__).parent / "install.sh").read_bytes()
-    files.update({name: files[f"share/byte_unit/{name}"] for name in ("README.md", "LICENSE")})
+    files.update({"README.md": readme("c", files, machine=machine), "LICENSE": files["share/byte_unit/LICENSE"]})
     top = f"byte-unit-{parts.version}-linux-{machine}"
     return {f"{top}.tar.gz": archives.tarball(top, files, parts.seconds)}
 
@@ -142,10 +143,10 @@ def needed(place, what):
         raise Failure(f"{what} is missing")
 
 
-def package(parts, name):
+def package(parts, name, files=None):
     """Copies the binding for Python, with the README of what is made, to a folder for work. Returns its path."""
     copy = Path(copied("python", parts.work / name))
-    (copy / "README.md").write_bytes(readme("python"))
+    (copy / "README.md").write_bytes(readme("python", files))
     return copy
 
 
@@ -155,11 +156,13 @@ def python(parts):
     if missing:
         raise Failure(f"{missing[0]} is missing")
     made = wheel(package(parts, "wheel"), parts.x86, parts.work / "wheel", parts.seconds, CFLAGS="-g0")
-    parts.wheel, copy = archives.files_of_zip(made), package(parts, "sdist")
+    changes = {"CHANGELOG.md": read("CHANGELOG.md").encode()}
+    parts.wheel, copy = archives.files_of_zip(made), package(parts, "sdist", changes)
     here = environment(BYTE_UNIT_LIBRARY_DIR=parts.x86, SOURCE_DATE_EPOCH=parts.seconds)
     output(DEBIAN_PYTHON, "setup.py", "sdist", "-d", parts.work, cwd=copy, env=here)
     (source,) = parts.work.glob("byte_unit-*.tar.gz")
-    files = {**archives.files_of_tar(source), "CHANGELOG.md": read("CHANGELOG.md").encode()}
+    files = archives.files_of_tar(source)
+    files["CHANGELOG.md"] = linked(read("CHANGELOG.md"), "", files, "CHANGELOG.md").encode()
     top = source.name.removesuffix(".tar.gz")
     return {made.name: archives.zipped(parts.wheel, parts.seconds),
             source.name: archives.tarball(top, files, parts.seconds)}  # fmt: skip
@@ -178,7 +181,7 @@ def cargo(parts):
     """Returns the Rust package, as cargo reads it in a folder of vendored sources, with the archive inside."""
     files = archives.files_in(copied("rust", parts.work))
     files = {name: data for name, data in files.items() if not name.startswith(("checks/", "test_", "."))}
-    files["README.md"] = readme("rust")
+    files["README.md"] = readme("rust", files)
     files[f"library/{ARCHIVE}"] = (parts.x86 / ARCHIVE).read_bytes()
     sums = {name: hashlib.sha256(data).hexdigest() for name, data in sorted(files.items())}
     files[".cargo-checksum.json"] = json.dumps({"files": sums, "package": None}).encode()
@@ -192,7 +195,7 @@ def javascript(parts):
     names = [name for name in json.loads(read("bindings/js/package.json"))["files"] if name != MODULE]
     files = {name: Path(path("bindings/js", name)).read_bytes() for name in [*names, "package.json"]}
     top = f"byte-unit-{parts.version}-js"
-    files.update({MODULE: module, "README.md": readme("js", package=top)})
+    files.update({MODULE: module, "README.md": readme("js", files, package=top)})
     return {f"{top}.tar.gz": archives.tarball(top, files, parts.seconds),
             "how-a-size-is-read.html": page(module).encode()}  # fmt: skip
 

@@ -1,14 +1,20 @@
 """Tests what `tools/dev make-dist` makes, as its users have it: without a toolchain, a network, a variable."""
 
 import hashlib
+import io
 import os
 import re
 import shutil
+import subprocess
+import tarfile
+from pathlib import Path
 
 import pytest
 from byte_unit_dev import fixtures
+from byte_unit_dev.dist import archives
 from byte_unit_dev.fixtures import AARCH64_CC, AARCH64_RUN, call, environment, need, output, path, read
-from byte_unit_dev.needs import DEBIAN_PYTHON, POSTGRESQL, POSTGRESQL_15, PYTHON_PACKAGE
+from byte_unit_dev.needs import DEBIAN_PYTHON, POSTGRESQL, POSTGRESQL_15, PYTHON_PACKAGE, is_there
+from byte_unit_dev.pages.text import LINK
 
 VERSION = read("VERSION").strip()
 MAKE = [path("tools/dev"), "make-dist"]
@@ -28,6 +34,41 @@ def test_same_bytes(dist, source, tmp_path):
 def test_release(dist):
     page = read(dist / "RELEASE.md")
     assert len(page.split()) <= 300 and output("git", "rev-parse", "--short=12", "HEAD", cwd=path()).strip() in page
+
+
+def members(file):
+    """Returns the contents of the files in an archive or a package, by their paths."""
+    if file.suffix == ".whl":
+        return archives.files_of_zip(file)
+    if file.suffix == ".gz":
+        return archives.files_of_tar(file)
+    data = subprocess.run(["dpkg-deb", "--fsys-tarfile", file], stdout=-1, check=True).stdout
+    with tarfile.open(fileobj=io.BytesIO(data)) as archive:
+        return {entry.name.removeprefix("./"): archive.extractfile(entry).read() for entry in archive if entry.isfile()}
+
+
+def linked(files, name):
+    """Yields the places that the relative links of a page among files lead to."""
+    text = re.sub(r"^ *```.*?^ *```|`[^`\n]*`", "", files[name].decode(), flags=re.M | re.S)
+    for link in (link for pair in LINK.findall(text) for link in pair):
+        if not re.match(r"\w+:|#|$", link):
+            yield os.path.normpath(os.path.join(os.path.dirname(name), link.partition("#")[0]))
+
+
+def test_links(dist):
+    """Each relative link of a page, also of that in the METADATA of a package, leads to a file that is there too."""
+    made = [file for file in sorted(dist.iterdir()) if file.suffix in (".gz", ".whl")]
+    made += dist.glob("*.deb") if is_there("dpkg-deb") else []
+    wrong = []
+    for file in made:
+        files = members(file)
+        places = {str(place) for name in files for place in (Path(name), *Path(name).parents)}
+        pages = [name for name in files if name.endswith((".md", "/METADATA"))]
+        assert file.suffix == ".deb" or pages
+        assert file.suffix != ".gz" or {"README.md", "LICENSE"} <= places
+        lead = [(name, place) for name in pages for place in linked(files, name)]
+        wrong += [f"{file.name}: {name}: {place}" for name, place in lead if place not in places]
+    assert wrong == []
 
 
 def test_wrong_calls(dist, tmp_path):
