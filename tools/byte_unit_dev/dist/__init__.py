@@ -50,6 +50,7 @@ what is in them was compiled of what was proved where they were made.
 - The README.md in an archive (of the wheel: METADATA) has the commands that install it.
 - `apt-get install ./NAME.deb` installs a package for Debian; libbyte-unit-dev needs libbyte-unit3 in the same call.
   `autopkgtest *.deb byte-unit-{version}-autopkgtest/ -- null`, with that archive unpacked, installs and tries them all.
+- A browser opens `how-a-size-is-read.html`, which loads nothing else, and `how-a-size-is-read.html#bytes=1.5%20KiB`.
 - `sha256sum -c SHA256SUMS`: the files are those that were made.
 - `vectors/byte-unit.txt` in the sources has sizes, errors and texts: compare them with any of the packages;
   `vectors/run_python.py` does so with the wheel.

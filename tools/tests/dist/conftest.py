@@ -9,7 +9,7 @@ import pytest
 from byte_unit_dev import clean
 from byte_unit_dev.fixtures import AARCH64_CC, AARCH64_RUN, is_there, need, output, path
 from byte_unit_dev.libraries import MODULE
-from trials import scripts
+from trials import all_trials, for_aarch64
 
 
 @pytest.fixture(scope="session")
@@ -35,15 +35,20 @@ def workers():
 
 
 @pytest.fixture(scope="session")
-def base(workers, tmp_path_factory):
-    """The folder of a clean Debian 12, while it is made."""
-    folder = tmp_path_factory.mktemp("clean")
-    yield workers.submit(clean.make, folder)
+def bases(request, workers, tmp_path_factory):
+    """The folders of a clean Debian 12 by processor, while they are made."""
+    folder, made = tmp_path_factory.mktemp("clean"), {}
+    makes = {"x86_64": clean.make, "aarch64": lambda folder: clean.make_aarch64(folder, for_aarch64())}
+    for machine, make in makes.items():
+        (folder / machine).mkdir()
+        if machine == "x86_64" or any(machine in name for name in wanted(request)):
+            made[machine] = workers.submit(make, folder / machine)
+    yield made
     shutil.rmtree(folder, ignore_errors=True)
 
 
 @pytest.fixture(scope="session")
-def dist(base, source, tmp_path_factory):
+def dist(bases, source, tmp_path_factory):
     need("git", "cc", "strip")
     made = tmp_path_factory.mktemp("made") / "dist"
     output(path("tools/dev"), "make-dist", made, "--from", source)
@@ -72,13 +77,15 @@ def unpacked(file, tmp_path):
 
 
 @pytest.fixture(scope="session")
-def trials(request, dist, base, workers, tmp_path_factory):
+def trials(request, dist, bases, workers, tmp_path_factory):
     """The trials of the tests that are to run, by name: some at a time, while they run."""
-    def begin(script):
-        work = tmp_path_factory.mktemp("system")
-        return workers.submit(lambda: clean.run(base.result(), work, dist, *script))
+    def begin(trial):
+        work, base = tmp_path_factory.mktemp("system"), bases[trial.machine]
+        needs = trial.needs if trial.machine == "x86_64" else []
+        words = [work, dist, needs, trial.script, trial.variables]
+        return workers.submit(lambda: clean.run(base.result(), *words))
 
-    return {name: begin(script) for name, script in scripts(dist).items() if name in wanted(request)}
+    return {name: begin(trial) for name, trial in all_trials(dist).items() if name in wanted(request)}
 
 
 def wanted(request):

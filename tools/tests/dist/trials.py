@@ -2,12 +2,13 @@
 
 import re
 from pathlib import Path
+from typing import NamedTuple
 
+from byte_unit_dev import clean
 from byte_unit_dev.common import output, read
 from byte_unit_dev.dist.debian import TESTS
 
 SCRIPTS = Path(__file__).parent / "clean"
-ARTEFACTS = sorted(file.stem for file in SCRIPTS.iterdir() if file.stem != "begin")
 PACKAGES = re.findall(r"^Tests: (.*)\nDepends: (.*)$", read(TESTS / "control"), re.M)
 # Without a network.
 TRY = 'unshare --net chroot root sh -c "$SCRIPT"'
@@ -22,21 +23,59 @@ in_root "apt-get purge --yes --quiet=2 -o Dpkg::Use-Pty=0 $NAMES"
 """
 
 
-def header(name, word):
-    """Returns what the script that tries an artefact says that it tries or needs."""
-    return re.search(rf"^# {word}: (.*)$", read(SCRIPTS / f"{name}.sh"), re.M)[1]
+class Trial(NamedTuple):
+    """A script with its variables, the files that it tries, the packages of Debian that it needs, and the processor."""
+
+    needs: list
+    script: str
+    variables: dict
+    tries: str = ""
+    machine: str = "x86_64"
 
 
-def scripts(dist):
-    """Returns the trials by name: the packages of Debian that each needs, its script, and the script's variables."""
-    begin, made = read(SCRIPTS / "begin.sh"), {}
-    for name in ARTEFACTS:
-        made[name] = header(name, "Needs").split(), TRY, {"SCRIPT": begin + read(SCRIPTS / f"{name}.sh")}
+def header(text, word):
+    """Returns what a script says that it tries or needs, or nothing."""
+    found = re.search(rf"^# {word}: (.*)$", text, re.M)
+    return found[1] if found else ""
+
+
+def by_script(file, machine):
+    """Returns the trial of an artefact by a script, on a processor."""
+    text = read(file)
+    script = read(SCRIPTS / "begin.sh") + text
+    tries = header(text, "Tries").replace("MACHINE", machine)
+    by = TRY if machine == "x86_64" else clean.AARCH64
+    return Trial(header(text, "Needs").split(), by, {"SCRIPT": script}, tries, machine)
+
+
+def artefacts():
+    """Returns the trials of artefacts by name. Those for aarch64 take longest, so they come first."""
+    made = {}
+    for machine in ("aarch64", "x86_64"):
+        for file in sorted(SCRIPTS.iterdir(), reverse=True):
+            several = "MACHINE" in header(read(file), "Tries")
+            if file.stem != "begin" and (several or machine == "x86_64"):
+                made[f"{file.stem}-{machine}" if several else file.stem] = by_script(file, machine)
+    return made
+
+
+ARTEFACTS = artefacts()
+
+
+def all_trials(dist):
+    """Returns all trials by name."""
+    made = dict(ARTEFACTS)
     for package, depends in PACKAGES:
         needs, ours = needed(dist, {package, *depends.split(", ")})
         files = " ".join(f"./{file.name}" for file in ours.values())
-        made[package] = ["apt-utils", *needs], PACKAGE, {"TEST": package, "NAMES": " ".join(ours), "FILES": files}
+        variables = {"TEST": package, "NAMES": " ".join(ours), "FILES": files}
+        made[package] = Trial(["apt-utils", *needs], PACKAGE, variables)
     return made
+
+
+def for_aarch64():
+    """Returns the packages of Debian that the trials on aarch64 need."""
+    return {name for trial in ARTEFACTS.values() if trial.machine == "aarch64" for name in trial.needs}
 
 
 def needed(dist, names):

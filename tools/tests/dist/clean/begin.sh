@@ -1,4 +1,5 @@
-# What the scripts of this folder share. Each tries a file of /dist as its user does: by the commands of its README.
+# What the scripts of this folder share. Each tries a file of /dist as its user does: by the commands of its README. Its
+# first lines name the file, of which MACHINE is a processor, and the packages of Debian that it needs.
 set -eu
 cd /root
 
