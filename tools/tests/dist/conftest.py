@@ -7,7 +7,7 @@ from pathlib import Path
 
 import pytest
 from byte_unit_dev import clean
-from byte_unit_dev.fixtures import AARCH64_CC, AARCH64_RUN, is_there, need, output, path
+from byte_unit_dev.fixtures import AARCH64_CC, AARCH64_RUN, environment, is_there, need, output, path
 from byte_unit_dev.libraries import MODULE
 from trials import all_trials, for_aarch64
 
@@ -29,7 +29,7 @@ def source(request, library, tmp_path_factory):
 
 @pytest.fixture(scope="session")
 def workers():
-    with ThreadPoolExecutor(3) as pool:
+    with ThreadPoolExecutor(4) as pool:
         yield pool
         pool.shutdown(cancel_futures=True)
 
@@ -53,6 +53,27 @@ def dist(bases, source, tmp_path_factory):
     made = tmp_path_factory.mktemp("made") / "dist"
     output(path("tools/dev"), "make-dist", made, "--from", source)
     return made
+
+
+@pytest.fixture(scope="session")
+def remade(dist, source, workers, tmp_path_factory):
+    """The folder of what is made again, elsewhere and with another mask and time zone, while it is made."""
+    folder = tmp_path_factory.mktemp("remade")
+    shutil.copytree(source, folder / "source")
+    words = ["sh", "-c", 'umask 077; exec "$@"', "", path("tools/dev"), "make-dist", "dist", "--from", "source"]
+    return folder / "dist", workers.submit(output, *words, cwd=folder, env=environment(TZ="Asia/Tokyo"))
+
+
+@pytest.fixture(scope="session")
+def sources(dist, source, workers, tmp_path_factory):
+    """The folder of the unpacked sources, and that of what is made there again, while it is made; or nothing."""
+    folder, found = tmp_path_factory.mktemp("sources"), list(dist.glob("*-rattle.tar.gz"))
+    if not found:
+        return None
+    shutil.unpack_archive(found[0], folder / "unpacked", "gztar")
+    (top,) = (folder / "unpacked").iterdir()
+    words = [top / "tools/dev", "make-dist", folder / "again", "--from", source]
+    return top, folder / "again", workers.submit(output, *words)
 
 
 @pytest.fixture
@@ -95,6 +116,8 @@ def wanted(request):
 
 @pytest.fixture(scope="session", autouse=True)
 def begun(request):
-    """Starts the trials before the first test, if any is to run: they take longest."""
-    if wanted(request):
-        request.getfixturevalue("trials")
+    """Starts what takes longest before the first test, if a test that is to run waits for it."""
+    names = {name for item in request.session.items for name in item.fixturenames}
+    for name in ("trials", "remade", "sources"):
+        if name in names:
+            request.getfixturevalue(name)

@@ -20,17 +20,6 @@ VERSION = read("VERSION").strip()
 MAKE = [path("tools/dev"), "make-dist"]
 
 
-def test_same_bytes(dist, source, tmp_path):
-    """Made in another folder, of another one, with another mask and time zone, the files are the same."""
-    shutil.copytree(source, tmp_path / "source")
-    script = 'umask 077; exec "$@"'
-    output("sh", "-c", script, "", *MAKE, "dist", "--from", "source", cwd=tmp_path, env=environment(TZ="Asia/Tokyo"))
-    assert read(tmp_path / "dist/SHA256SUMS") == read(dist / "SHA256SUMS")
-    lines = [line.split("  ") for line in read(dist / "SHA256SUMS").splitlines()]
-    made = {file.name: hashlib.sha256(file.read_bytes()).hexdigest() for file in dist.iterdir()}
-    assert {name: value for value, name in lines} == {name: made[name] for name in made if name != "SHA256SUMS"}
-
-
 def test_release(dist):
     page = read(dist / "RELEASE.md")
     assert len(page.split()) <= 300 and output("git", "rev-parse", "--short=12", "HEAD", cwd=path()).strip() in page
@@ -154,19 +143,6 @@ def test_older_postgresql(file, tmp_path):
     assert '= "1.5 KiB"' in output(*words, input=";\n\n".join(statements) + ";\n\n", **where)
 
 
-def test_sources(dist, source, unpacked, tmp_path):
-    """Without .git they say their commit, `tools/dev take` works, and they make the same files again."""
-    top, there = unpacked("*-rattle.tar.gz"), tmp_path / "there"
-    there.mkdir()
-    output(top / "tools/dev", "take", there)
-    head = output("git", "rev-parse", "--short=12", "HEAD", cwd=path()).strip()
-    assert f"commit: {head}" in read(there / "crates/byte_unit/VERSION")
-    if not output("git", "status", "--porcelain", "--untracked-files=no", cwd=path()):
-        output(top / "tools/dev", "make-dist", tmp_path / "again", "--from", source)
-        again, sums = (set(read(folder / "SHA256SUMS").splitlines()) for folder in (tmp_path / "again", dist))
-        assert again < sums and len(again) == len(sums) - 1
-
-
 @pytest.mark.parametrize("name, depends", [
     ("libbyte-unit3", r"libc6 \(>= 2\.\d+\)"), ("libbyte-unit-dev", rf"libbyte-unit3 \(= {VERSION}-1\)"),
     ("python3-byte-unit", r"libc6 \(>= 2\.\d+\), python3 \(>= 3\.11\)"),
@@ -181,3 +157,30 @@ def test_lintian(dist):
     need("dpkg-deb", "lintian")
     words = ["lintian", "--fail-on", "error", "--allow-root", *sorted(dist.glob("*.deb"))]
     output(*words, env=environment(PATH="/usr/sbin:/usr/bin:/sbin:/bin"))
+
+
+def sums(folder):
+    """Returns the lines of the checksums in a folder of what was made."""
+    return read(folder / "SHA256SUMS").splitlines()
+
+
+def test_same_bytes(dist, remade):
+    """Made in another folder, of another one, with another mask and time zone, the files are the same."""
+    folder, made = remade
+    made.result()
+    assert sums(folder) == sums(dist)
+    here = {file.name: hashlib.sha256(file.read_bytes()).hexdigest() for file in dist.iterdir()}
+    del here["SHA256SUMS"]
+    assert {name: value for value, name in (line.split("  ") for line in sums(dist))} == here
+
+
+def test_sources(dist, file, sources, tmp_path):
+    """Without .git they say their commit, `tools/dev take` works, and they make the same files again."""
+    file("*-rattle.tar.gz")
+    top, again, made = sources
+    output(top / "tools/dev", "take", tmp_path)
+    head = output("git", "rev-parse", "--short=12", "HEAD", cwd=path()).strip()
+    assert f"commit: {head}" in read(tmp_path / "crates/byte_unit/VERSION")
+    made.result()
+    if not output("git", "status", "--porcelain", "--untracked-files=no", cwd=path()):
+        assert set(sums(again)) < set(sums(dist)) and len(sums(again)) == len(sums(dist)) - 1
