@@ -2,6 +2,7 @@
 it installs there alone."""
 
 import os
+import shlex
 import subprocess
 
 from .common import Failure, call, output
@@ -29,6 +30,9 @@ mount -t overlay overlay -o "lowerdir={ARCHIVES},upperdir=new-archives,workdir=w
 mount --bind "$DIST" root/dist
 cp /etc/resolv.conf root/etc/resolv.conf
 """
+MOUNT = """mkdir -p root{0}
+mount --bind {0} root{0}
+mount -o remount,bind,ro root{0}"""
 # In a name space of users, in which qemu-user runs programs for aarch64, as nowhere else; and without a network.
 AARCH64 = f"""unshare --user --mount --net true || {{ echo "the kernel makes no name spaces"; exit {MISSING}; }}
 mkfifo begun mapped
@@ -51,7 +55,7 @@ MERGED = "/usr/share/mmdebstrap/hooks/merged-usr"
 # What apt, dpkg, ldconfig and Python keep of a package that is gone; and what is mounted.
 KEPT = ("proc|dev|dist|tmp|root/[.]cache|var/(cache|log|lib/(apt|dpkg|systemd|ucf))|etc/(ld[.]so[.]cache|[.]pwd[.]lock)"
         "|usr/lib/python3[.][0-9]+(/.*)?/__pycache__")  # fmt: skip
-LISTED = f"find root -regextype posix-extended -regex 'root/({KEPT})(/.*)?' -prune -o -print | LC_ALL=C sort"
+LISTED = f"find root -xdev -regextype posix-extended -regex 'root/({KEPT})(/.*)?' -prune -o -print | LC_ALL=C sort"
 
 
 def make(folder):
@@ -96,11 +100,12 @@ def checked(*words, **more):
         raise Failure(f"a clean Debian 12 could not be made: {'; '.join(got.stdout.strip().splitlines()[-2:])}")
 
 
-def run(base, work, dist, needs, script, variables):
+def run(base, work, dist, needs, script, variables, mounts=()):
     """Runs a script where `root` is a system that begins as `base`, with the packages that it needs, and with `dist`.
 
-    Returns its status and what it printed, and then a line `left: ` for each file in the system that was not before."""
-    words = [BEGIN]
+    Folders of this machine in `mounts` are there at their places, to be read. Returns the script's status and what it
+    printed, and then a line `left: ` for each file in the system that was not there before."""
+    words = [BEGIN, *(MOUNT.format(shlex.quote(folder)) for folder in mounts)]
     if needs:
         words.append(" ".join(["chroot root apt-get install --yes --quiet=2 --no-install-recommends",
                                "-o Dpkg::Use-Pty=0 -o Dpkg::Options::=--force-unsafe-io", *needs,

@@ -103,7 +103,7 @@ def trials(request, dist, bases, workers, tmp_path_factory):
     def begin(trial):
         work, base = tmp_path_factory.mktemp("system"), bases[trial.machine]
         needs = trial.needs if trial.machine == "x86_64" else []
-        words = [work, dist, needs, trial.script, trial.variables]
+        words = [work, dist, needs, trial.script, trial.variables, trial.mounts]
         return workers.submit(lambda: clean.run(base.result(), *words))
 
     return {name: begin(trial) for name, trial in all_trials(dist).items() if name in wanted(request)}

@@ -1,12 +1,14 @@
 """How what `tools/dev make-dist` makes is tried: by scripts that do as its users do, and by apt-get and autopkgtest."""
 
 import re
+import shutil
 from pathlib import Path
 from typing import NamedTuple
 
 from byte_unit_dev import clean
-from byte_unit_dev.common import output, read
+from byte_unit_dev.common import output, path, read
 from byte_unit_dev.dist.debian import TESTS
+from byte_unit_dev.libraries import kit_folder
 
 SCRIPTS = Path(__file__).parent / "clean"
 PACKAGES = re.findall(r"^Tests: (.*)\nDepends: (.*)$", read(TESTS / "control"), re.M)
@@ -24,17 +26,19 @@ in_root "apt-get purge --yes --quiet=2 -o Dpkg::Use-Pty=0 $NAMES"
 
 
 class Trial(NamedTuple):
-    """A script with its variables, the files that it tries, the packages of Debian that it needs, and the processor."""
+    """A script with its variables, the files that it tries, and what it needs: packages of Debian, the processor, and
+    folders of this machine."""
 
     needs: list
     script: str
     variables: dict
     tries: str = ""
     machine: str = "x86_64"
+    mounts: tuple = ()
 
 
 def header(text, word):
-    """Returns what a script says that it tries or needs, or nothing."""
+    """Returns what a script says that it tries, needs or mounts, or nothing."""
     found = re.search(rf"^# {word}: (.*)$", text, re.M)
     return found[1] if found else ""
 
@@ -42,10 +46,13 @@ def header(text, word):
 def by_script(file, machine):
     """Returns the trial of an artefact by a script, on a processor."""
     text = read(file)
-    script = read(SCRIPTS / "begin.sh") + text
+    script, variables = read(SCRIPTS / "begin.sh") + text, {}
+    if header(text, "Mounts"):
+        variables = {"KIT": kit_folder() if shutil.which("rt") else "", "PROVED": path("crates")}
+    mounts = tuple(variables[name] for name in header(text, "Mounts").split())
     tries = header(text, "Tries").replace("MACHINE", machine)
     by = TRY if machine == "x86_64" else clean.AARCH64
-    return Trial(header(text, "Needs").split(), by, {"SCRIPT": script}, tries, machine)
+    return Trial(header(text, "Needs").split(), by, {"SCRIPT": script, **variables}, tries, machine, mounts)
 
 
 def artefacts():
@@ -60,6 +67,8 @@ def artefacts():
 
 
 ARTEFACTS = artefacts()
+# Those that take long.
+WHOLE = ["proved"]
 
 
 def all_trials(dist):
