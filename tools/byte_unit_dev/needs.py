@@ -16,6 +16,8 @@ from .common import call
 DEBIAN_RUST = "/usr/share/cargo/registry"
 POSTGRESQL_15 = "/usr/lib/postgresql/15"
 POSTGRES_H = "/usr/include/postgresql/15/server/postgres.h"
+# By which the kernel runs programs for aarch64.
+QEMU_AARCH64 = "/usr/lib/binfmt.d/qemu-aarch64.conf"
 DEBIAN_PYTHON, PYTHON_H = "/usr/bin/python3", "/usr/include/python3.*/Python.h"
 # What tests need, and the package that has it. A need is a program; a file, if it begins with a slash; a C header; or a
 # module of Debian's Python.
@@ -39,7 +41,7 @@ PACKAGES = {
     **dict.fromkeys(["du", "df", "ls", "numfmt"], "coreutils"), **dict.fromkeys(["free", "ps"], "procps"),
     "valgrind": "valgrind", "lintian": "lintian", "dpkg-deb": "dpkg", "unshare": "util-linux", "strip": "binutils",
     POSTGRES_H: "postgresql-server-dev-15", "mmdebstrap": "mmdebstrap",
-    "autopkgtest": "autopkgtest", "apt-get": "apt",
+    "autopkgtest": "autopkgtest", "apt-get": "apt", QEMU_AARCH64: "qemu-user-static",
 }
 POSTGRESQL = ["gcc", "make", "setpriv", POSTGRES_H, *(need for need in PACKAGES if need.startswith(POSTGRESQL_15))]
 # What only measurements need.

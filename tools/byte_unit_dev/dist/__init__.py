@@ -35,7 +35,7 @@ from ..libraries import ARCHIVE, EXTENSION, HEADER, MODULE
 from ..needs import DEBIAN_PYTHON, PYTHON_PACKAGE, is_there
 from ..page import page
 from . import archives, debian
-from .readmes import readme
+from .readmes import linked, readme
 
 RELOCATABLE = "${pcfiledir}/../.."
 RELEASE = """# byte-unit {version}
@@ -50,6 +50,7 @@ what is in them was compiled of what was proved where they were made.
 - The README.md in an archive (of the wheel: METADATA) has the commands that install it.
 - `apt-get install ./NAME.deb` installs a package for Debian; libbyte-unit-dev needs libbyte-unit3 in the same call.
   `autopkgtest *.deb byte-unit-{version}-autopkgtest/ -- null`, with that archive unpacked, installs and tries them all.
+- A browser opens `how-a-size-is-read.html`, which loads nothing else, and `how-a-size-is-read.html#bytes=1.5%20KiB`.
 - `sha256sum -c SHA256SUMS`: the files are those that were made.
 - `vectors/byte-unit.txt` in the sources has sizes, errors and texts: compare them with any of the packages;
   `vectors/run_python.py` does so with the wheel.
@@ -62,7 +63,8 @@ In the unpacked sources, with the toolchain above (`rt version`):
 - `rt ci` proves each function again; its last line is `N passed, 0 failed`.
 - `tools/dev make-dist FOLDER` makes the other files again. With the same compilers (Debian 12) each has the checksum of
   SHA256SUMS; libbyte_unit.a and the command depend on the toolchain alone.
-- `tools/dev take` copies the library for Rattle into your repository; with `--with proofs` what was proved, too.
+- `tools/dev take` copies the library for Rattle into your repository; with `--with proofs` what was proved, too. To
+  remove it, delete `crates/byte_unit*` there, and the lines of these crates in `crates.txt`.
 
 ## What is trusted
 
@@ -119,11 +121,12 @@ def prefix(parts, folder, machine):
     files = files_of(folder, RELOCATABLE, [])
     config = "lib/pkgconfig/byte_unit.pc"
     files[config] = files[config].replace(b'"', b"")  # pkgconf escapes the spaces of pcfiledir itself
-    files["share/byte_unit/README.md"] = readme("c", machine=machine)
+    page = "share/byte_unit/README.md"
+    files[page] = readme("c", files, page, machine=machine)
     names = sorted([*files, "share/byte_unit/installed"])
     files["share/byte_unit/installed"] = "".join(f"{name}\n" for name in names).encode()
     files["install.sh"] = (Path(__file__).parent / "install.sh").read_bytes()
-    files.update({name: files[f"share/byte_unit/{name}"] for name in ("README.md", "LICENSE")})
+    files.update({"README.md": readme("c", files, machine=machine), "LICENSE": files["share/byte_unit/LICENSE"]})
     top = f"byte-unit-{parts.version}-linux-{machine}"
     return {f"{top}.tar.gz": archives.tarball(top, files, parts.seconds)}
 
@@ -142,10 +145,10 @@ def needed(place, what):
         raise Failure(f"{what} is missing")
 
 
-def package(parts, name):
+def package(parts, name, files=None):
     """Copies the binding for Python, with the README of what is made, to a folder for work. Returns its path."""
     copy = Path(copied("python", parts.work / name))
-    (copy / "README.md").write_bytes(readme("python"))
+    (copy / "README.md").write_bytes(readme("python", files))
     return copy
 
 
@@ -155,11 +158,13 @@ def python(parts):
     if missing:
         raise Failure(f"{missing[0]} is missing")
     made = wheel(package(parts, "wheel"), parts.x86, parts.work / "wheel", parts.seconds, CFLAGS="-g0")
-    parts.wheel, copy = archives.files_of_zip(made), package(parts, "sdist")
+    changes = {"CHANGELOG.md": read("CHANGELOG.md").encode()}
+    parts.wheel, copy = archives.files_of_zip(made), package(parts, "sdist", changes)
     here = environment(BYTE_UNIT_LIBRARY_DIR=parts.x86, SOURCE_DATE_EPOCH=parts.seconds)
     output(DEBIAN_PYTHON, "setup.py", "sdist", "-d", parts.work, cwd=copy, env=here)
     (source,) = parts.work.glob("byte_unit-*.tar.gz")
-    files = {**archives.files_of_tar(source), "CHANGELOG.md": read("CHANGELOG.md").encode()}
+    files = archives.files_of_tar(source)
+    files["CHANGELOG.md"] = linked(read("CHANGELOG.md"), "", files, "CHANGELOG.md").encode()
     top = source.name.removesuffix(".tar.gz")
     return {made.name: archives.zipped(parts.wheel, parts.seconds),
             source.name: archives.tarball(top, files, parts.seconds)}  # fmt: skip
@@ -178,7 +183,7 @@ def cargo(parts):
     """Returns the Rust package, as cargo reads it in a folder of vendored sources, with the archive inside."""
     files = archives.files_in(copied("rust", parts.work))
     files = {name: data for name, data in files.items() if not name.startswith(("checks/", "test_", "."))}
-    files["README.md"] = readme("rust")
+    files["README.md"] = readme("rust", files)
     files[f"library/{ARCHIVE}"] = (parts.x86 / ARCHIVE).read_bytes()
     sums = {name: hashlib.sha256(data).hexdigest() for name, data in sorted(files.items())}
     files[".cargo-checksum.json"] = json.dumps({"files": sums, "package": None}).encode()
@@ -192,7 +197,7 @@ def javascript(parts):
     names = [name for name in json.loads(read("bindings/js/package.json"))["files"] if name != MODULE]
     files = {name: Path(path("bindings/js", name)).read_bytes() for name in [*names, "package.json"]}
     top = f"byte-unit-{parts.version}-js"
-    files.update({MODULE: module, "README.md": readme("js", package=top)})
+    files.update({MODULE: module, "README.md": readme("js", files, package=top)})
     return {f"{top}.tar.gz": archives.tarball(top, files, parts.seconds),
             "how-a-size-is-read.html": page(module).encode()}  # fmt: skip
 

@@ -34,6 +34,18 @@ FIELDS = {"libbyte-unit3": {"Section": "libs", "Multi-Arch": "same"},
 COMPILED = {"postinst": ("configure", "py3compile -p python3-byte-unit"),
             "prerm": ("remove|upgrade|deconfigure", "py3clean -p python3-byte-unit")}  # fmt: skip
 TESTS = Path(__file__).parent / "autopkgtest"
+TESTS_README = """# The tests of the packages for Debian
+
+As root, in the folder of the packages, for the program autopkgtest:
+
+```sh
+tar -xzf {top}.tar.gz
+autopkgtest *.deb {top}/ -- null
+```
+
+installs and tries them all. Each file in `debian/tests` but `control` is a script for the package of its name, which
+`sh` runs once that is installed; the package has it as `/usr/share/doc/NAME/examples/try`.
+"""
 SCRIPT = """#!/bin/sh
 set -e
 case "$1" in
@@ -162,6 +174,7 @@ def tests(parts):
     """Returns the tests of the packages, as autopkgtest reads them."""
     top = f"byte-unit-{parts.version}-autopkgtest"
     files = {f"debian/tests/{file.name}": file.read_bytes() for file in TESTS.iterdir()}
+    files.update({"LICENSE": Path(path("LICENSE")).read_bytes(), "README.md": TESTS_README.format(top=top).encode()})
     return {f"{top}.tar.gz": archives.tarball(top, files, parts.seconds)}
 
 

@@ -1,9 +1,14 @@
 """The READMEs of what is made: those of the bindings, which say how to install it without a repository."""
 
+import os
 import re
+from pathlib import Path
 
-from ..common import Failure, read
+from ..common import Failure, path, read
 
+# A link to a file, or an image.
+LINK = re.compile(r"!?\[([^\]]*)\]\((?!\w+:|#)([^)#\s]+)(#[^)\s]*)?\)")
+SOURCES = "\nWhat is said to be in the sources is in `byte-unit-{version}-rattle.tar.gz`.\n"
 INSTALL = {
     "c": """For Linux on @MACHINE@. As root, in this folder:
 
@@ -63,13 +68,30 @@ node --experimental-wasm-memory64 -e 'import("./@PACKAGE@/index.js").then(({ par
 }
 
 
-def readme(binding, **names):
-    """Returns the README of a binding, with a section "Install" for those who have what was made."""
-    text = INSTALL[binding]
+def readme(binding, files=None, at="README.md", **names):
+    """Returns the README of a binding at a place of an artefact, with a section "Install" for those who have it."""
+    text = INSTALL[binding] + SOURCES.format(version=read("VERSION").strip())
     for name, value in names.items():
         text = text.replace(f"@{name.upper()}@", value)
     made, count = re.subn(r"^(## Install\n\n).*?(?=^## )", lambda found: f"{found[1]}{text}\n",
                           read(f"bindings/{binding}/README.md"), flags=re.M | re.S)  # fmt: skip
     if count != 1:
         raise Failure(f"bindings/{binding}/README.md has {count} sections Install, not one")
-    return made.encode()
+    return linked(made, f"bindings/{binding}", files or {}, at).encode()
+
+
+def linked(text, folder, files, at):
+    """Returns a page of a folder here as it is at a place among the files of an artefact.
+
+    A link leads to the file there that has the contents of the one here, or else says where that is in the sources."""
+    places = {content: place for place, content in sorted(files.items(), reverse=True)}
+
+    def link(found):
+        label, name, anchor = found.groups(default="")
+        file = os.path.normpath(os.path.join(folder, name))
+        place = places.get(Path(path(file)).read_bytes())
+        if place is None:
+            return f"`{file}` in the sources" if label == file else f"{label} (`{file}` in the sources)"
+        return f"[{label}]({os.path.relpath(place, os.path.dirname(at) or '.')}{anchor})"
+
+    return LINK.sub(link, text)

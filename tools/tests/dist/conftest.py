@@ -7,9 +7,9 @@ from pathlib import Path
 
 import pytest
 from byte_unit_dev import clean
-from byte_unit_dev.fixtures import AARCH64_CC, AARCH64_RUN, is_there, need, output, path
+from byte_unit_dev.fixtures import AARCH64_CC, AARCH64_RUN, environment, is_there, need, output, path
 from byte_unit_dev.libraries import MODULE
-from trials import scripts
+from trials import all_trials, for_aarch64
 
 
 @pytest.fixture(scope="session")
@@ -29,25 +29,51 @@ def source(request, library, tmp_path_factory):
 
 @pytest.fixture(scope="session")
 def workers():
-    with ThreadPoolExecutor(3) as pool:
+    with ThreadPoolExecutor(4) as pool:
         yield pool
         pool.shutdown(cancel_futures=True)
 
 
 @pytest.fixture(scope="session")
-def base(workers, tmp_path_factory):
-    """The folder of a clean Debian 12, while it is made."""
-    folder = tmp_path_factory.mktemp("clean")
-    yield workers.submit(clean.make, folder)
+def bases(request, workers, tmp_path_factory):
+    """The folders of a clean Debian 12 by processor, while they are made."""
+    folder, made = tmp_path_factory.mktemp("clean"), {}
+    makes = {"x86_64": clean.make, "aarch64": lambda folder: clean.make_aarch64(folder, for_aarch64())}
+    for machine, make in makes.items():
+        (folder / machine).mkdir()
+        if machine == "x86_64" or any(machine in name for name in wanted(request)):
+            made[machine] = workers.submit(make, folder / machine)
+    yield made
     shutil.rmtree(folder, ignore_errors=True)
 
 
 @pytest.fixture(scope="session")
-def dist(base, source, tmp_path_factory):
+def dist(bases, source, tmp_path_factory):
     need("git", "cc", "strip")
     made = tmp_path_factory.mktemp("made") / "dist"
     output(path("tools/dev"), "make-dist", made, "--from", source)
     return made
+
+
+@pytest.fixture(scope="session")
+def remade(dist, source, workers, tmp_path_factory):
+    """The folder of what is made again, elsewhere and with another mask and time zone, while it is made."""
+    folder = tmp_path_factory.mktemp("remade")
+    shutil.copytree(source, folder / "source")
+    words = ["sh", "-c", 'umask 077; exec "$@"', "", path("tools/dev"), "make-dist", "dist", "--from", "source"]
+    return folder / "dist", workers.submit(output, *words, cwd=folder, env=environment(TZ="Asia/Tokyo"))
+
+
+@pytest.fixture(scope="session")
+def sources(dist, source, workers, tmp_path_factory):
+    """The folder of the unpacked sources, and that of what is made there again, while it is made; or nothing."""
+    folder, found = tmp_path_factory.mktemp("sources"), list(dist.glob("*-rattle.tar.gz"))
+    if not found:
+        return None
+    shutil.unpack_archive(found[0], folder / "unpacked", "gztar")
+    (top,) = (folder / "unpacked").iterdir()
+    words = [top / "tools/dev", "make-dist", folder / "again", "--from", source]
+    return top, folder / "again", workers.submit(output, *words)
 
 
 @pytest.fixture
@@ -72,13 +98,15 @@ def unpacked(file, tmp_path):
 
 
 @pytest.fixture(scope="session")
-def trials(request, dist, base, workers, tmp_path_factory):
+def trials(request, dist, bases, workers, tmp_path_factory):
     """The trials of the tests that are to run, by name: some at a time, while they run."""
-    def begin(script):
-        work = tmp_path_factory.mktemp("system")
-        return workers.submit(lambda: clean.run(base.result(), work, dist, *script))
+    def begin(trial):
+        work, base = tmp_path_factory.mktemp("system"), bases[trial.machine]
+        needs = trial.needs if trial.machine == "x86_64" else []
+        words = [work, dist, needs, trial.script, trial.variables, trial.mounts]
+        return workers.submit(lambda: clean.run(base.result(), *words))
 
-    return {name: begin(script) for name, script in scripts(dist).items() if name in wanted(request)}
+    return {name: begin(trial) for name, trial in all_trials(dist).items() if name in wanted(request)}
 
 
 def wanted(request):
@@ -88,6 +116,8 @@ def wanted(request):
 
 @pytest.fixture(scope="session", autouse=True)
 def begun(request):
-    """Starts the trials before the first test, if any is to run: they take longest."""
-    if wanted(request):
-        request.getfixturevalue("trials")
+    """Starts what takes longest before the first test, if a test that is to run waits for it."""
+    names = {name for item in request.session.items for name in item.fixturenames}
+    for name in ("trials", "remade", "sources"):
+        if name in names:
+            request.getfixturevalue(name)

@@ -1,33 +1,63 @@
 """Tests what `tools/dev make-dist` makes, as its users have it: without a toolchain, a network, a variable."""
 
 import hashlib
+import io
 import os
 import re
 import shutil
+import subprocess
+import tarfile
+from pathlib import Path
 
 import pytest
 from byte_unit_dev import fixtures
+from byte_unit_dev.dist import archives
 from byte_unit_dev.fixtures import AARCH64_CC, AARCH64_RUN, call, environment, need, output, path, read
-from byte_unit_dev.needs import DEBIAN_PYTHON, POSTGRESQL, POSTGRESQL_15, PYTHON_PACKAGE
+from byte_unit_dev.needs import DEBIAN_PYTHON, POSTGRESQL, POSTGRESQL_15, PYTHON_PACKAGE, is_there
+from byte_unit_dev.pages.text import LINK
 
 VERSION = read("VERSION").strip()
 MAKE = [path("tools/dev"), "make-dist"]
 
 
-def test_same_bytes(dist, source, tmp_path):
-    """Made in another folder, of another one, with another mask and time zone, the files are the same."""
-    shutil.copytree(source, tmp_path / "source")
-    script = 'umask 077; exec "$@"'
-    output("sh", "-c", script, "", *MAKE, "dist", "--from", "source", cwd=tmp_path, env=environment(TZ="Asia/Tokyo"))
-    assert read(tmp_path / "dist/SHA256SUMS") == read(dist / "SHA256SUMS")
-    lines = [line.split("  ") for line in read(dist / "SHA256SUMS").splitlines()]
-    made = {file.name: hashlib.sha256(file.read_bytes()).hexdigest() for file in dist.iterdir()}
-    assert {name: value for value, name in lines} == {name: made[name] for name in made if name != "SHA256SUMS"}
-
-
 def test_release(dist):
     page = read(dist / "RELEASE.md")
     assert len(page.split()) <= 300 and output("git", "rev-parse", "--short=12", "HEAD", cwd=path()).strip() in page
+
+
+def members(file):
+    """Returns the contents of the files in an archive or a package, by their paths."""
+    if file.suffix == ".whl":
+        return archives.files_of_zip(file)
+    if file.suffix == ".gz":
+        return archives.files_of_tar(file)
+    data = subprocess.run(["dpkg-deb", "--fsys-tarfile", file], stdout=-1, check=True).stdout
+    with tarfile.open(fileobj=io.BytesIO(data)) as archive:
+        return {entry.name.removeprefix("./"): archive.extractfile(entry).read() for entry in archive if entry.isfile()}
+
+
+def linked(files, name):
+    """Yields the places that the relative links of a page among files lead to."""
+    text = re.sub(r"^ *```.*?^ *```|`[^`\n]*`", "", files[name].decode(), flags=re.M | re.S)
+    for link in (link for pair in LINK.findall(text) for link in pair):
+        if not re.match(r"\w+:|#|$", link):
+            yield os.path.normpath(os.path.join(os.path.dirname(name), link.partition("#")[0]))
+
+
+def test_links(dist):
+    """Each relative link of a page, also of that in the METADATA of a package, leads to a file that is there too."""
+    made = [file for file in sorted(dist.iterdir()) if file.suffix in (".gz", ".whl")]
+    made += dist.glob("*.deb") if is_there("dpkg-deb") else []
+    wrong = []
+    for file in made:
+        files = members(file)
+        places = {str(place) for name in files for place in (Path(name), *Path(name).parents)}
+        pages = [name for name in files if name.endswith((".md", "/METADATA"))]
+        assert file.suffix == ".deb" or pages
+        assert file.suffix != ".gz" or {"README.md", "LICENSE"} <= places
+        lead = [(name, place) for name in pages for place in linked(files, name)]
+        wrong += [f"{file.name}: {name}: {place}" for name, place in lead if place not in places]
+    assert wrong == []
 
 
 def test_wrong_calls(dist, tmp_path):
@@ -113,19 +143,6 @@ def test_older_postgresql(file, tmp_path):
     assert '= "1.5 KiB"' in output(*words, input=";\n\n".join(statements) + ";\n\n", **where)
 
 
-def test_sources(dist, source, unpacked, tmp_path):
-    """Without .git they say their commit, `tools/dev take` works, and they make the same files again."""
-    top, there = unpacked("*-rattle.tar.gz"), tmp_path / "there"
-    there.mkdir()
-    output(top / "tools/dev", "take", there)
-    head = output("git", "rev-parse", "--short=12", "HEAD", cwd=path()).strip()
-    assert f"commit: {head}" in read(there / "crates/byte_unit/VERSION")
-    if not output("git", "status", "--porcelain", "--untracked-files=no", cwd=path()):
-        output(top / "tools/dev", "make-dist", tmp_path / "again", "--from", source)
-        again, sums = (set(read(folder / "SHA256SUMS").splitlines()) for folder in (tmp_path / "again", dist))
-        assert again < sums and len(again) == len(sums) - 1
-
-
 @pytest.mark.parametrize("name, depends", [
     ("libbyte-unit3", r"libc6 \(>= 2\.\d+\)"), ("libbyte-unit-dev", rf"libbyte-unit3 \(= {VERSION}-1\)"),
     ("python3-byte-unit", r"libc6 \(>= 2\.\d+\), python3 \(>= 3\.11\)"),
@@ -140,3 +157,30 @@ def test_lintian(dist):
     need("dpkg-deb", "lintian")
     words = ["lintian", "--fail-on", "error", "--allow-root", *sorted(dist.glob("*.deb"))]
     output(*words, env=environment(PATH="/usr/sbin:/usr/bin:/sbin:/bin"))
+
+
+def sums(folder):
+    """Returns the lines of the checksums in a folder of what was made."""
+    return read(folder / "SHA256SUMS").splitlines()
+
+
+def test_same_bytes(dist, remade):
+    """Made in another folder, of another one, with another mask and time zone, the files are the same."""
+    folder, made = remade
+    made.result()
+    assert sums(folder) == sums(dist)
+    here = {file.name: hashlib.sha256(file.read_bytes()).hexdigest() for file in dist.iterdir()}
+    del here["SHA256SUMS"]
+    assert {name: value for value, name in (line.split("  ") for line in sums(dist))} == here
+
+
+def test_sources(dist, file, sources, tmp_path):
+    """Without .git they say their commit, `tools/dev take` works, and they make the same files again."""
+    file("*-rattle.tar.gz")
+    top, again, made = sources
+    output(top / "tools/dev", "take", tmp_path)
+    head = output("git", "rev-parse", "--short=12", "HEAD", cwd=path()).strip()
+    assert f"commit: {head}" in read(tmp_path / "crates/byte_unit/VERSION")
+    made.result()
+    if not output("git", "status", "--porcelain", "--untracked-files=no", cwd=path()):
+        assert set(sums(again)) < set(sums(dist)) and len(sums(again)) == len(sums(dist)) - 1

@@ -4,7 +4,8 @@ import pytest
 from byte_unit_dev import clean
 from byte_unit_dev.common import Failure
 from byte_unit_dev.fixtures import need
-from trials import ARTEFACTS, PACKAGES, header
+from byte_unit_dev.needs import QEMU_AARCH64
+from trials import ARTEFACTS, PACKAGES, WHOLE
 
 
 def passed(trial):
@@ -14,14 +15,18 @@ def passed(trial):
     except Failure as why:
         pytest.skip(str(why))
     if got.returncode == clean.MISSING:
-        pytest.skip(f"packages could not be installed in a clean Debian 12: {got.stdout.strip().splitlines()[-1]}")
+        pytest.skip(f"a trial in a clean Debian 12 could not begin: {got.stdout.strip().splitlines()[-1]}")
     assert got.returncode == 0 and "left: " not in got.stdout, got.stdout
 
 
-@pytest.mark.parametrize("name", ARTEFACTS)
+@pytest.mark.parametrize("name", [
+    pytest.param(name, marks=[pytest.mark.whole] * (name in WHOLE)) for name in ARTEFACTS])  # fmt: skip
 def test_artefact(file, trials, name):
-    need("mmdebstrap", "unshare")
-    file(header(name, "Tries"))
+    trial = ARTEFACTS[name]
+    need("mmdebstrap", "unshare", *[QEMU_AARCH64] * (trial.machine == "aarch64"))
+    if "" in trial.mounts:
+        pytest.skip("the toolchain is missing")
+    file(trial.tries)
     passed(trials[name])
 
 

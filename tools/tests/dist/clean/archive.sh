@@ -1,7 +1,7 @@
-# Tries: byte-unit-*-linux-x86_64.tar.gz
+# Tries: byte-unit-*-linux-MACHINE.tar.gz
 # Needs: gcc libc6-dev pkg-config sqlite3
-tar -xzf /dist/byte-unit-*-linux-x86_64.tar.gz
-cd byte-unit-*-x86_64
+tar -xzf /dist/byte-unit-*-linux-"$(uname -m)".tar.gz
+cd byte-unit-*-linux-*
 eval "$(install_of < README.md)"
 if [ -e bin/byte-unit ]; then
     test "$(byte-unit --to=plain '1.5 KiB')" = 1536
@@ -14,9 +14,11 @@ first_of c < README.md > program.c
 cc -Wall -Werror -o program program.c $(pkg-config --cflags --libs byte_unit)
 test "$(./program)" = "1.5 KiB"
 fails_with "the character 'x' is incorrect" ./program "1 x"
-by_sqlite() { sqlite3 -cmd ".load /usr/local/lib/sqlite3/byte_unit" :memory: "$1"; }
-test "$(by_sqlite "SELECT size_parse('1.5 KiB')")" = 1536
-fails_with "the character 'x' is incorrect" by_sqlite "SELECT size_parse('1 x')"
+if [ "$(uname -m)" = x86_64 ]; then
+    by_sqlite() { sqlite3 -cmd ".load /usr/local/lib/sqlite3/byte_unit" :memory: "$1"; }
+    test "$(by_sqlite "SELECT size_parse('1.5 KiB')")" = 1536
+    fails_with "the character 'x' is incorrect" by_sqlite "SELECT size_parse('1 x')"
+fi
 sh install.sh --uninstall /usr/local
 ldconfig
 fails_with "byte_unit" pkg-config --libs byte_unit

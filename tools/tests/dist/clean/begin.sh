@@ -1,4 +1,6 @@
-# What the scripts of this folder share. Each tries a file of /dist as its user does: by the commands of its README.
+# What the scripts of this folder share. Each tries a file of /dist as its user does: by the commands of its README. Its
+# first lines name the file, of which MACHINE is a processor, the packages of Debian that it needs, and the variables
+# that name what else it reads: the folders of the toolchain (KIT), and of crates that were proved (PROVED).
 set -eu
 cd /root
 

@@ -1,4 +1,4 @@
-# Tries: *x86_64.whl
+# Tries: *MACHINE.whl
 # Needs: python3 python3-venv
 cp /dist/*.whl .
 eval "$(python3 -c '
