@@ -180,7 +180,7 @@ fn run_reads<A: Allocator, R: Read, W: Write, E: Write>(
     ensures write_failed { IsErrOf result RunError.Write
         → IsTrue (writing_failed streams.new.writer) }
 {
-    buffers.converter.progress = Progress::new(options, streams.word);
+    buffers.converter.progress = Progress::new(options.header, streams.word);
     'reads: loop {
         match streams.reader.read(chunk) {
             None => return Err(RunError::Read),
