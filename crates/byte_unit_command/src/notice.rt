@@ -316,6 +316,7 @@ fn add_words<A: Allocator>(
 /// # Errors
 ///
 /// Returns `AllocError` if allocation fails.
+#[inline(always)]
 fn add_character<A: Allocator>(
     reason: &FieldError,
     text: &[u8],

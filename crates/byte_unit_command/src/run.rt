@@ -291,8 +291,10 @@ impl<A: Allocator> Buffers<A> {
         ensures waiting_capacity { vec_capacity self.old.converter.waiting
             ≤ vec_capacity self.new.converter.waiting }
     {
+        // Before the loop: it calls functions after each of which the compiler would read this again.
+        let end = options.record_end;
         let mut rest = bytes;
-        while let Some(n) = end_of(rest, options.record_end) {
+        while let Some(n) = end_of(rest, end) {
             if self.part.is_empty() {
                 self.converter.add_record(options, &rest[..n], digits)?;
             } else {

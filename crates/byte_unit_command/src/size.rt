@@ -37,6 +37,7 @@ pub(crate) fn ignores_case(kind: Kind, ignore_case: bool) -> bool
 }
 
 /// Returns the text before the suffix, or the text itself if it does not end with it.
+#[inline(always)]
 pub(crate) fn without_suffix<'a>(suffix: &[u8], text: &'a [u8]) -> &'a [u8]
     ensures { result.now ≡ without_suffix suffix.now text.now }
 {
