@@ -1,6 +1,6 @@
 -- Lemmas: the fields between blanks.
 use Rattle.std.proofs.Common.{◌≡◌, ℕ, suc, ◌+◌, ◌<◌, ◌≤◌, Bool, true, false, not, ◌&&◌, cond, List, [], ◌∷◌, ◌++◌}
-use Rattle.std.proofs.Common.{take, drop, get_or, length, Option, None, Some, true≢false, refl, sym, ap, ◌∙◌}
+use Rattle.std.proofs.Common.{take, drop, get_or, length, refl, sym, ap, ◌∙◌}
 use Rattle.std.proofs.Common.{append_assoc, append-nil, arith, inl, inr, zero, ◌-◌}
 use Rattle.std.proofs.Math.Bool.{and-false}
 use Rattle.std.proofs.lemmas.List.{drop_all, length-take, take_more, take_all}
@@ -8,7 +8,7 @@ use Rattle.std.proofs.Math.Nat.{eq-or-lt_of_le}
 use Rattle.std.proofs.Math.Seq.{drop-cons}
 use Rattle.std.specs.List.{onto_first}
 use Rattle.byte_unit_command.specs.Fields.{at_blanks, begins_blank, between_of, blank_fields, bytes_between, fields_by}
-use Rattle.byte_unit_command.specs.Fields.{fields_of, is_blank, splits_at_blanks, width_by}
+use Rattle.byte_unit_command.specs.Fields.{fields_of, is_blank, width_by}
 use Rattle.byte_unit_command.specs.declared.options.Options.{Options}
 
 -- bytes put before the first of these fields
@@ -91,12 +91,6 @@ blank_fields-whole bytes place within last so_far =
       | inl end ↦ blank_fields-end bytes place (omega (arith, end)) so_far
       | inr more ↦ blank_fields-end bytes (place + 1) last (IsUncut-step bytes place more so_far goes_on)
     ]
-
--- if fields are between blanks, the options have a delimiter
-pub delimiter-at_blanks : (mark : Option ℕ) (blanks : Bool) → splits_at_blanks mark blanks ≡ true
-    → (delimiter : ℕ) × (mark ≡ Some delimiter)
-delimiter-at_blanks None blanks at = absurd (true≢false (sym at))
-delimiter-at_blanks (Some delimiter) blanks at = (delimiter, refl)
 
 module _ (options : Options) (at : at_blanks options ≡ true) where
   pub fields_of-blanks : (bytes : List ℕ) → fields_of options bytes ≡ blank_fields bytes

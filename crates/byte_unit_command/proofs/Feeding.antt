@@ -1,8 +1,8 @@
 -- Lemmas: the loop over the records that end in a chunk.
 use Rattle.std.proofs.Common.{◌≡◌, ℕ, ◌+◌, List, [], ◌∷◌, ◌++◌, take, drop, refl, sym, ap, subst, ◌∙◌, append_assoc}
-use Rattle.std.proofs.Common.{append-nil, ◌⊎◌, inl, inr}
+use Rattle.std.proofs.Common.{◌⊎◌, inl, inr}
 use Rattle.std.specs.Prelude.{vec_capacity, vec_len}
-use Rattle.byte_unit_stream.specs.Chunks.{ended_records, begun_record, IsUnbroken}
+use Rattle.byte_unit_stream.specs.Chunks.{ended_records, begun_record}
 use Rattle.byte_unit_command.specs.RunState.{AddsRecords, Aborts, State, EndsEarly, at_next}
 use Rattle.byte_unit_command.specs.declared.options.Options.{Options}
 use Rattle.byte_unit_command.specs.RunState.{RecordHasNoMessage, RecordsHaveNoMessage, state_of}
@@ -99,21 +99,6 @@ IsFed-step {options} {start} {now} {place} {bytes} fed is_next next adds part_is
           ∙ sym (append_assoc fed.converted (bytes ∷ []) (ended_records end next.part next.rest));
       begun = fed.begun ∙ begun_record-EndsAt end now.part now.rest place is_next.ends ∙ begun;
     }
-
--- after the last record that ends in the chunk: all of them are converted
-pub AddsRecords-all : (options : Options) (start now : Feed) → IsFed options start now
-    → IsUnbroken options.record_end now.rest
-    → AddsRecords options (ended_records options.record_end start.part start.rest) start.state now.state
-AddsRecords-all options start now fed unbroken =
-    let all : fed.converted ≡ ended_records options.record_end start.part start.rest =
-    sym (append-nil fed.converted) ∙ ap (λ records. fed.converted ++ records) (sym (unbroken now.part).0)
-    ∙ sym fed.ended in
-    subst (λ records. AddsRecords options records start.state now.state) all fed.added
-
-pub begun_record-all : (options : Options) (start now : Feed) → IsFed options start now
-    → IsUnbroken options.record_end now.rest
-    → now.part ++ now.rest ≡ begun_record options.record_end start.part start.rest
-begun_record-all options start now fed unbroken = sym (unbroken now.part).1 ∙ sym fed.begun
 
 -- out of memory with nothing more appended, the loop ends with the records converted so far
 pub EndsEarly-memory : (options : Options) (start now : Feed) → IsFed options start now → (out messages : List ℕ)

@@ -5,7 +5,6 @@ pub mod Converting
 pub mod Feeding
 pub mod Finishing
 pub mod Ranges
-pub mod Prefixes
 pub mod Readings
 pub mod Suffixes
 pub mod Numbers

@@ -1,33 +1,13 @@
 -- Lemmas: which fields are in ranges.
 use native.Mathlib.Numerals.{unary_clauses}
 use Rattle.std.proofs.Common.{◌≡◌, ℕ, zero, suc, ◌<◌, ◌≤◌, ◌↔◌, inl, inr, List, [], ◌∷◌, length, arith}
-use Rattle.std.proofs.Common.{subst, sym, refl, true}
-use Rattle.std.proofs.lemmas.Bool.{eqb-true}
-use Rattle.std.specs.Prelude.{◌==◌, slice_index_or}
+use Rattle.std.proofs.Common.{subst, sym, refl}
+use Rattle.std.specs.Prelude.{slice_index_or}
 use Rattle.std.specs.List.{AllAdjacentBelow, Contains}
 use Rattle.std.specs.List.Sorted.{IsPermutation}
 use Rattle.std.proofs.lemmas.List.Sorted.{Contains-permutation, IsPermutation-sym}
 use Rattle.byte_unit_command.specs.Fields.{GoesTo, IsChosen, IsInOrder, InRange}
 use Rattle.byte_unit_command.specs.declared.options.FieldRange.{FieldRange}
-
--- a list whose length is tested to be 0 has no range
-pub no-ranges : (ranges : List FieldRange) → true ≡ (length ranges == 0) → ranges ≡ []
-no-ranges [] none = refl
-no-ranges (range ∷ ranges) none =
-    let zero_is : length (range ∷ ranges) ≡ 0 = eqb-true (length (range ∷ ranges)) 0 (sym none) in
-    let never : ⊥ = omega (arith, zero_is) in
-    absurd never
-
--- a range that has ended chooses no later field
-pub chosen-after : (range : FieldRange) (others : List FieldRange) (later : ℕ) → ¬ InRange range later
-    → IsChosen (range ∷ others) later ↔ IsChosen others later
-chosen-after range others later ended =
-    (λ chosen. elim chosen [ inl is ↦ absurd (ended is) | inr more ↦ more ], λ more. inr more)
-
--- ranges without the first of them are in order too
-pub in_order-others : (range : FieldRange) (others : List FieldRange) → IsInOrder (range ∷ others) → IsInOrder others
-in_order-others range [] order = tt
-in_order-others range (next ∷ others) order = order.1
 
 -- of ranges in order, none chooses a field before the first of them
 pub none-before : (range : FieldRange) (others : List FieldRange) (number : ℕ) → IsInOrder (range ∷ others)
@@ -48,12 +28,6 @@ pub chosen-by_first : (ranges : List FieldRange) (default : FieldRange) (number 
     → GoesTo ranges number → (slice_index_or ranges 0 default).first ≤ number → IsChosen ranges number
 chosen-by_first [] default number some goes begun = omega (arith, some)
 chosen-by_first (range ∷ others) default number some goes begun = inl (begun, goes)
-
--- what goes to a field is the first of them
-pub goes-by_first : (ranges : List FieldRange) (default : FieldRange) (number : ℕ) → 0 < length ranges
-    → GoesTo (slice_index_or ranges 0 default ∷ []) number → GoesTo ranges number
-goes-by_first [] default number some goes = tt
-goes-by_first (range ∷ others) default number some goes = goes
 
 -- ranges each of which begins no later than the next one are in order
 pub in_order-adjacent : (ranges : List FieldRange)

@@ -1,13 +1,11 @@
 -- Lemmas: what the parser has returned for a field.
-use Rattle.std.proofs.Common.{◌≡◌, ℕ, ◌<◌, ◌≤◌, Bool, true, false, List, [], Option, None, Some, Result, Ok}
-use Rattle.std.proofs.Common.{Err, inr, sym, subst}
-use Rattle.std.specs.Prelude.{IfSome, IfNone}
+use Rattle.std.proofs.Common.{◌≡◌, ℕ, Bool, true, false, List, Option, Some, Result, Ok, Err, inr, sym, subst}
 use Rattle.std.specs.Str.{IsUtf8}
 use Rattle.byte_unit.specs.Errors.{size_fault}
 use Rattle.byte_unit.specs.Fault.{Fault}
 use Rattle.byte_unit.specs.declared.Kind.{Kind}
 use Rattle.byte_unit.specs.declared.ParseError.{ParseError}
-use Rattle.byte_unit_command.specs.Field.{IsSize, IsNoSize, IsSizeText, IsNoSizeText, ignores_case, without_suffix}
+use Rattle.byte_unit_command.specs.Field.{IsNoSizeText, ignores_case}
 use Rattle.byte_unit_command.specs.declared.options.Options.{Options}
 use Rattle.byte_unit_command.specs.Prefixes.{IsAcceptedBy, IsRejectedBy, IsReadingBy, IsBytesReadingBy}
 
@@ -47,19 +45,3 @@ no-size-of options field binary kind {error} binary_is kind_is answer_is found_i
     λ binary kind. IsUtf8 field × ((fault : Fault) × IsRejectedBy binary kind (case kind) field fault) in
     let here : Of binary kind = (read.0, (_, fault-of binary kind (case kind) field error read.1)) in
     inr (subst (λ binary. Of binary options.kind) (sym binary_is) (subst (λ kind. Of binary kind) (sym kind_is) here))
-
--- without a suffix, a field is the size that was found, or no size if none was found
-pub found-size : (options : Options) (field : List ℕ) → options.suffix.now ≡ [] → (size no_size : ℕ)
-    (result : Option ℕ) → (size < no_size → IsSizeText options field size)
-    → IfSome result (λ n. (n ≡ size) × (size < no_size)) → IfSome result (IsSize options field)
-found-size options field empty size no_size None is found = tt
-found-size options field empty size no_size (Some n) is found =
-    subst (λ n. IsSize options field n) (sym found.0)
-    (subst (λ suffix. IsSizeText options (without_suffix suffix field) size) (sym empty) (is found.1))
-
-pub found-none : (options : Options) (field : List ℕ) → options.suffix.now ≡ [] → (size no_size : ℕ)
-    (result : Option ℕ) → (no_size ≤ size → IsNoSizeText options field) → IfNone result (no_size ≤ size)
-    → IfNone result (IsNoSize options field)
-found-none options field empty size no_size None is found =
-    subst (λ suffix. IsNoSizeText options (without_suffix suffix field)) (sym empty) (is found)
-found-none options field empty size no_size (Some n) is found = tt

@@ -123,19 +123,6 @@ module _ (options : Options) where
       times-le room (fields_max mark part) 1 (read_fields_max mark longest chunk + 1) (omega (arith, fields)) in
       omega (arith, one, texts, short, some)
 
-  -- buffers that suffice for a longer record and a longer read suffice
-  pub SufficeFor-less : {Z : Type 0} (part rest longest chunk : ℕ) (parts_now waiting : Vec ℕ Z) → part ≤ longest
-      → rest ≤ chunk
-      → SufficeFor options longest chunk parts_now waiting → SufficeFor options part rest parts_now waiting
-  SufficeFor-less part rest longest chunk parts_now waiting short few (part_fits, waiting_fits) = (
-    omega (arith, part_fits, short, few),
-    omega (
-      arith,
-      waiting_fits,
-      read_room-more part rest longest chunk short few,
-    ),
-  )
-
 -- between two fields of a record: the text has grown by no more than the bytes that are no longer left account for, no
 -- capacity has fallen, and if there is no message about the record, there is none about the fields that are left
 pub record IsSplitWithin {Z : Type 0} (options : Options) (old : State) (bytes : List ℕ) (text : Vec ℕ Z) (number : ℕ)

@@ -10,8 +10,6 @@ ghost use Rattle.byte_unit_command.specs.Capacity.{text_room as room_of_text};
 use crate::converter::{Converter, Progress};
 use crate::notice::Notices;
 use crate::options::{Form, Invalid, Options};
-use crate::place::Place;
-use crate::tally::Tally;
 use crate::text::AT_ONCE;
 use std::alloc::{AllocError, Allocator};
 
@@ -43,18 +41,10 @@ impl<A: Allocator + Copy> Buffers<A> {
     pub fn new(alloc: A) -> Buffers<A>
         ensures { AreEmpty result }
     {
-        let progress = Progress {
-            header: 0,
-            tally: Tally::new(),
-            place: Place {
-                word: "",
-                number: 0,
-            },
-        };
         Buffers {
             part: Vec::new(alloc),
             converter: Converter {
-                progress,
+                progress: Progress::new(0, ""),
                 waiting: Vec::new(alloc),
                 notices: Notices::new(alloc),
             },

@@ -16,9 +16,8 @@ use crate::blanks::{add_placed, between, end_of_first};
 use crate::error::RunError;
 use crate::field::{is_chosen, is_in_one, is_in_order, ranges_from};
 use crate::laws::texts_are_sizes_or_not;
-use crate::notice::{Notices, add_limit_notice, add_reject_notice};
+use crate::notice::{Notices, Place, add_limit_notice, add_reject_notice};
 use crate::options::{Invalid, Options};
-use crate::place::Place;
 use crate::size::accepted;
 use crate::tally::Tally;
 use std::alloc::Allocator;
@@ -35,15 +34,15 @@ pub(crate) struct Progress {
 }
 
 impl Progress {
-    /// Creates the progress of a run that has not begun.
-    pub(crate) fn new(options: &Options, word: &'static str) -> Progress
-        ensures header { result.header ≡ options.now.header }
+    /// Creates the progress of a run that has not begun, with this number of header records.
+    pub(crate) fn new(header: u64, word: &'static str) -> Progress
+        ensures header { result.header ≡ header }
         ensures tally { result.tally ≡ no_tally }
         ensures word { result.place.word.now ≡ word.now }
         ensures number { result.place.number ≡ 0 }
     {
         Progress {
-            header: options.header,
+            header,
             tally: Tally::new(),
             place: Place { word, number: 0 },
         }

@@ -7,11 +7,7 @@ use byte_unit::laws;
 /// States that each text is a size or not, and has one size or one error, whether `K` is 1000 or 1024.
 pub(crate) fn texts_are_sizes_or_not()
     ensures { TextsAreSizesOrNot }
-{
-    laws::texts_are_accepted_or_refused();
-    laws::size_texts_have_one_answer();
-    laws::each_number_has_one_least_size();
-}
+{}
 
 /// States that what is shown in the exact form or as digits is parsed as the same size.
 pub fn shown_sizes_are_read()

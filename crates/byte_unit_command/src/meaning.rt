@@ -369,7 +369,7 @@ fn limit_of<'a>(
     let Some(value) = value else {
         return Ok(None);
     };
-    match size_of(value, binary, kind, ignore_case) {
+    match parse_size(value, binary, kind, ignore_case) {
         Ok(size) => Ok(Some(size)),
         Err(error) => Err(Wrong {
             option,
@@ -380,7 +380,7 @@ fn limit_of<'a>(
 }
 
 /// Parses a size of a kind. Decimal prefixes mean binary ones if `binary` is set.
-fn size_of(text: &str, binary: bool, kind: Kind, ignore_case: bool) -> Result<u128, ParseError>
+fn parse_size(text: &str, binary: bool, kind: Kind, ignore_case: bool) -> Result<u128, ParseError>
     ensures { IsReadingBy binary kind (ignores_case kind ignore_case) text.now result }
 {
     let ignore_case = ignores_case(kind, ignore_case);

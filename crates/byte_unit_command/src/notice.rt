@@ -15,7 +15,6 @@ ghost use Rattle.byte_unit_stream.specs.Streams.{HasWritten, writing_failed};
 use crate::error::RunError;
 use crate::laws::texts_are_sizes_or_not;
 use crate::options::{Invalid, Options};
-use crate::place::Place;
 use crate::quote::add_quoted;
 use crate::size::{parse, without_suffix};
 use crate::tally::{is_above, is_below};
@@ -25,6 +24,15 @@ use byte_unit_stream::{FusedWriter, write_whole};
 use std::alloc::{AllocError, Allocator};
 use std::fmt::Write as WriteText;
 use std::io::Write;
+
+/// The place of a record in the input.
+#[derive(Debug, Clone, Copy)]
+pub(crate) struct Place {
+    /// What a record is called: `line`, `record` or `operand`.
+    pub word: &'static str,
+    /// The number of the record, counted from 1.
+    pub number: u64,
+}
 
 /// Messages that are not written yet.
 #[derive(Drop)]
@@ -308,6 +316,7 @@ fn add_words<A: Allocator>(
 /// # Errors
 ///
 /// Returns `AllocError` if allocation fails.
+#[inline(always)]
 fn add_character<A: Allocator>(
     reason: &FieldError,
     text: &[u8],

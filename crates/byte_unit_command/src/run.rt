@@ -180,7 +180,7 @@ fn run_reads<A: Allocator, R: Read, W: Write, E: Write>(
     ensures write_failed { IsErrOf result RunError.Write
         → IsTrue (writing_failed streams.new.writer) }
 {
-    buffers.converter.progress = Progress::new(options, streams.word);
+    buffers.converter.progress = Progress::new(options.header, streams.word);
     'reads: loop {
         match streams.reader.read(chunk) {
             None => return Err(RunError::Read),
@@ -291,8 +291,10 @@ impl<A: Allocator> Buffers<A> {
         ensures waiting_capacity { vec_capacity self.old.converter.waiting
             ≤ vec_capacity self.new.converter.waiting }
     {
+        // Before the loop: it calls functions after each of which the compiler would read this again.
+        let end = options.record_end;
         let mut rest = bytes;
-        while let Some(n) = end_of(rest, options.record_end) {
+        while let Some(n) = end_of(rest, end) {
             if self.part.is_empty() {
                 self.converter.add_record(options, &rest[..n], digits)?;
             } else {

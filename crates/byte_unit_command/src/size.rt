@@ -1,6 +1,6 @@
 //! Reads one size of either kind.
 
-ghost use Rattle.std.specs.Prelude.{◌≡◌, ◌<◌, ◌≤◌, [], true, false, IfSome, IfNone};
+ghost use Rattle.std.specs.Prelude.{◌≡◌, ◌<◌, ◌≤◌, false, IfSome, IfNone};
 ghost use Rattle.byte_unit_command.specs.Field.{IsSize, IsNoSize, IsSizeText, IsNoSizeText, ignores_case};
 ghost use Rattle.byte_unit_command.specs.Field.{without_suffix};
 ghost use Rattle.byte_unit_command.specs.Prefixes.{IsBytesReadingBy};
@@ -37,6 +37,7 @@ pub(crate) fn ignores_case(kind: Kind, ignore_case: bool) -> bool
 }
 
 /// Returns the text before the suffix, or the text itself if it does not end with it.
+#[inline(always)]
 pub(crate) fn without_suffix<'a>(suffix: &[u8], text: &'a [u8]) -> &'a [u8]
     ensures { result.now ≡ without_suffix suffix.now text.now }
 {
@@ -63,30 +64,11 @@ pub(crate) fn accepted(options: &Options, field: &[u8]) -> Option<u128>
     ensures some { IfSome result (IsSize options.now field.now) }
     ensures none { IfNone result (IsNoSize options.now field.now) }
 {
-    if is_plain(options) {
-        found(plain_size(options, field))
+    let size = if options.suffix.is_empty() && !options.binary {
+        plain_size(options, field)
     } else {
-        found(special_size(options, field))
-    }
-}
-
-/// Returns `true` if the options read prefixes as they are, and have no suffix.
-#[inline(always)]
-fn is_plain(options: &Options) -> bool
-    ensures { result ≡ true → (options.now.binary ≡ false) × (options.now.suffix.now ≡ []) }
-{
-    match options.suffix {
-        [] => !options.binary,
-        [_, ..] => false,
-    }
-}
-
-/// Returns a size, or `None` for `NO_SIZE`.
-#[inline(always)]
-fn found(size: u128) -> Option<u128>
-    ensures some { IfSome result (λ n. (n ≡ size) × (size < NO_SIZE)) }
-    ensures none { IfNone result (NO_SIZE ≤ size) }
-{
+        special_size(options, field)
+    };
     if size >= NO_SIZE { None } else { Some(size) }
 }
 

@@ -1,13 +1,18 @@
 -- Without a suffix, the text is the field.
-use Rattle.byte_unit_command.proofs.Readings.{found-size, found-none}
+use Rattle.std.proofs.Common.{ℕ, List, length, refl, sym, subst, arith}
+use Rattle.byte_unit_command.specs.Field.{IsNoSizeText, without_suffix}
+use Rattle.byte_unit_stream.proofs.ChunkRecords.{empty_from_length}
+use Rattle.byte_unit_command.proofs.size.accepted.Goals.{else-is_empty, then-is_empty+then-not-options}
 use Rattle.byte_unit_command.proofs.size.accepted.Goals as goal
 
-pub returns-then-is_plain-clause-some : goal.returns-then-is_plain-clause-some
-returns-then-is_plain-clause-some c =
-    let plain = c.is_plain.ensures c.if-is_plain.true in
-    found-size c.args.options.now c.args.field.now plain.1 _ _ _ c.plain_size.ensures.some c.found.ensures.some
-
-pub returns-then-is_plain-clause-none : goal.returns-then-is_plain-clause-none
-returns-then-is_plain-clause-none c =
-    let plain = c.is_plain.ensures c.if-is_plain.true in
-    found-none c.args.options.now c.args.field.now plain.1 _ _ _ c.plain_size.ensures.none c.found.ensures.none
+pub returns-then-size-ge-NO_SIZE-clause-none : goal.returns-then-size-ge-NO_SIZE-clause-none
+returns-then-size-ge-NO_SIZE-clause-none c =
+    let options = c.args.options.now in
+    let suffix = options.suffix.now in
+    elim c.if-is_empty.branch [
+      | then-is_empty+then-not-options w ↦
+          let none = empty_from_length suffix (length suffix) refl w.if-is_empty.ensures in
+          subst (λ (suffix : List ℕ). IsNoSizeText options (without_suffix suffix c.args.field.now)) (sym none)
+          (w.plain_size-size.ensures.none (omega (arith, w.size-is, c.if-size-ge-NO_SIZE.true)))
+      | else-is_empty w ↦ w.special_size-size.ensures.none (omega (arith, w.size-is, c.if-size-ge-NO_SIZE.true))
+    ]

@@ -2,14 +2,14 @@
 -- field. A field that is rejected in the mode `abort` is one of the record.
 use Rattle.std.proofs.Common.{true≢false, ◌≡◌, ◌≤◌, ◌+◌, ◌-◌, ◌∙◌, ◌++◌, [], List, ℕ, take, drop, length, ap, sym}
 use Rattle.std.proofs.Common.{subst, Err, arith, length-drop, vec_len}
-use Rattle.std.proofs.lemmas.List.{take_rest, length-take-le}
+use Rattle.std.proofs.lemmas.Bool.{eqb-true}
+use Rattle.std.proofs.lemmas.List.{nil_from_length, take_rest, length-take-le}
 use Rattle.byte_unit_command.specs.Capacity.{text_room}
 use Rattle.byte_unit_command.specs.Fields.{IsChosen, between_of, fields_of}
 use Rattle.byte_unit_command.specs.Messages.{AreMessagesOfFields}
 use Rattle.byte_unit_command.specs.RunState.{AddsFields, State, messages_of, state_of}
 use Rattle.byte_unit_command.specs.declared.error.RunError.TheVariants.{Rejected}
 use Rattle.std.proofs.lemmas.Result.{on_ok_weaker}
-use Rattle.byte_unit_command.proofs.Ranges.{no-ranges}
 use Rattle.byte_unit_command.proofs.Results.{error-passed}
 use Rattle.byte_unit_command.proofs.Rooms.{IsSplitWithin-first, IsSplitWithin-fits, split_len-step, split_room-cut}
 use Rattle.byte_unit_command.proofs.Rooms.{split_room-last}
@@ -105,7 +105,8 @@ returns-then-is_empty-clause-ok g c =
     let out_is = c.in_ok-extend_from_slice.ensures.items ∙ ap (λ mark. next.out ++ mark) c.between-between.ensures in
     let stepped = IsSplitting-at c.loop-n.invariant.0 c.args.delimiter c.requires.delimiter place gap ends next
     c.in_ok-add_field.ensures.ok before out_is in
-    let none = no-ranges c.ranges_from-ranges.result.now c.if-is_empty.ensures in
+    let ranges = c.ranges_from-ranges.result.now in
+    let none = nil_from_length ranges (eqb-true (length ranges) 0 (sym c.if-is_empty.ensures)) in
     let past : (later : ℕ) → number + 1 ≤ later → ¬ IsChosen options.fields.now later =
     λ later high chosen.
     let left = (c.ranges_from-ranges.ensures.same later high).0
