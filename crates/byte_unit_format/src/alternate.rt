@@ -128,10 +128,11 @@ fn put_unit_fraction(fraction: UnitFraction, kind: Kind, out: &mut [u8], point: 
             point + 2
         }
         UnitFraction::Eighths(eighths, power) => {
+            let unit = [b' ', prefix_letter(power), b'i', own];
             let (digits, len) = digits_of_eighths(eighths);
             put(&digits, out, point + 4);
             let end = point + len + 4;
-            put(&[b' ', prefix_letter(power), b'i', own], out, end);
+            put(&unit, out, end);
             end
         }
         UnitFraction::Thousandths(thousandths, power) => {
