@@ -119,7 +119,7 @@ impl TextParts<'_> {
         let behind = put_run(b' ', self.after, out, name);
         let point = self.fraction.put(out, behind);
         let digits = put_u128(self.whole, out, point);
-        let sign = put(self.sign.as_bytes(), out, digits);
+        let sign = put_name(self.sign.as_bytes(), out, digits);
         put_run(b' ', self.before, out, sign)
     }
 }

@@ -29,7 +29,7 @@ pub(crate) fn put_run(byte: u8, count: usize, out: &mut [u8], end: usize) -> usi
     start
 }
 
-/// Writes a name of at most three bytes as `put`, without a loop: its last, its middle and its first byte are all.
+/// Writes a name or a sign of at most three bytes as `put`, without a loop: its last, its middle and its first byte are all.
 #[inline(always)]
 #[tactic(auto, using(crate::proofs::TextParts::name_put))]
 pub(crate) fn put_name(name: &[u8], out: &mut [u8], end: usize) -> usize

@@ -6,7 +6,8 @@ ghost use Rattle.byte_unit_math.specs.Bounds.{places_of_number};
 ghost use Rattle.byte_unit_math.specs.Digits.{last_digits};
 ghost use Rattle.byte_unit_math.specs.Numeral.{fraction_text, glyphs};
 
-use crate::dividing::{TEN_POW_18, split_last_18_digits};
+use crate::dividing::split_last_18_digits;
+use crate::lanes::{TEN_POW_16, put_16_digits};
 use crate::tens::power_of_ten;
 use std::marker::Model;
 use std::{fmt, str};
@@ -14,7 +15,7 @@ use std::{fmt, str};
 /// The most decimal digits of a `u128`.
 pub const NUMBER_DIGITS: usize = 39;
 
-/// The length of the buffer: one byte more, for the 1 before the last group of digits.
+/// The length of the buffer: one byte more than the digits.
 const BUFFER_LEN: usize = NUMBER_DIGITS + 1;
 
 /// The two digits of each number below 100.
@@ -235,11 +236,24 @@ fn put_u128_wide(n: u128, bytes: &mut [u8], end: usize) -> usize
     let mut rest = n;
     while rest > u128::from(u64::MAX) {
         let (before, last) = split_last_18_digits(rest);
-        // A leading 1 keeps the zeros after it; the next digits overwrite it.
-        start = put_u64(TEN_POW_18 + last, bytes, start) + 1;
+        start = put_18_digits(last, bytes, start);
         rest = before;
     }
     put_u64(rest as u64, bytes, start)
+}
+
+/// Writes 18 digits, leading zeros included, and returns the index where they begin.
+#[inline]
+#[tactic(auto, using(crate::proofs::WrittenDigits::two_and_16_digits))]
+fn put_18_digits(n: u64, bytes: &mut [u8], end: usize) -> usize
+    requires below { n < 10 ^ 18 }
+    requires room { 18 ≤ end }
+    requires within { end ≤ length bytes.old }
+    ensures begins { result + 18 ≡ end }
+    ensures digits { drop result bytes.new ≡ glyphs (last_digits 18 n) ++ drop end bytes.old }
+{
+    let middle = put_16_digits(n % TEN_POW_16, bytes, end);
+    put_2_digits((n / TEN_POW_16) as u32, bytes, middle)
 }
 
 /// Writes the digits of a number of 64 bits as `put_u128`.

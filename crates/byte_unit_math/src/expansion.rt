@@ -13,7 +13,7 @@ ghost use Rattle.byte_unit_math.specs.Numeral.{fraction_text, glyphs, text_of};
 use crate::binary::binary_digits;
 use crate::decimal::{Decimal, ONE};
 use crate::decimal_digits::fmt_u128;
-use crate::dividing::div_rem_digit;
+use crate::dividing::{div_rem, div_rem_digit};
 use crate::tens::{power_of_five, power_of_two};
 use std::marker::Model;
 use std::{fmt, str};
@@ -81,7 +81,8 @@ impl Expansion {
         ensures { IsExpansion numerator (2 ^ twos * 5 ^ fives) result }
     {
         let den = power_of_two(twos) * power_of_five(fives);
-        divide(numerator / den, numerator % den, den)
+        let (whole, rest) = div_rem(numerator, den);
+        divide(whole, rest, den)
     }
 
     /// Creates the same expansion as `new`, with the same precondition. Over a power of 2 it takes no division.
