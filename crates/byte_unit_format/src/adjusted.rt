@@ -186,10 +186,10 @@ fn write_longer(
     ensures written { WritesForm (IsAdjustedForm kind size unit spec) out.old out.new result }
     ensures bound { result < text_limit }
 {
-    match short_parts(size, kind, unit, rounding, spec) {
-        Some(parts) => parts.write(out),
-        None => write_expanded(size, kind, unit, rounding, spec, out),
+    if let Some(parts) = short_parts(size, kind, unit, rounding, spec) {
+        return parts.write(out);
     }
+    write_expanded(size, kind, unit, rounding, spec, out)
 }
 
 /// Writes as `write_longer`, by all digits of the number.
@@ -207,8 +207,18 @@ fn write_expanded(
     ensures written { WritesForm (IsAdjustedForm kind size unit spec) out.old out.new result }
     ensures bound { result < text_limit }
 {
-    let (number, places) = expanded(size, kind, unit, rounding);
-    write_layout(&number, places, unit, spec, out)
+    let exact = number_in_unit(size, kind, unit);
+    // Not by `expanded`: a number that both arms of a `match` make is copied.
+    match rounding {
+        Rounding::Exact => write_layout(&exact, exact.places(), unit, spec, out),
+        Rounding::To(places) => {
+            write_layout(&exact.rounded(places, Ties::Even), places, unit, spec, out)
+        }
+        Rounding::AtMost(places) => {
+            let number = exact.rounded(places, Ties::Up);
+            write_layout(&number, number.places(), unit, spec, out)
+        }
+    }
 }
 
 /// Returns how the spec rounds a number in the unit.
@@ -297,11 +307,11 @@ fn expanded(size: u128, kind: Kind, unit: Unit, rounding: Rounding) -> (Expansio
         (text_of (pad_of result.1 result.0)) }
     ensures bound { result.1 < 2 ^ 16 }
 {
-    let exact = number_in_unit(size, kind, unit);
+    let number = number_in_unit(size, kind, unit);
     match rounding {
-        Rounding::Exact => with_all_places(exact),
-        Rounding::To(places) => (exact.rounded(places, Ties::Even), places),
-        Rounding::AtMost(places) => with_all_places(exact.rounded(places, Ties::Up)),
+        Rounding::Exact => with_all_places(number),
+        Rounding::To(places) => (number.rounded(places, Ties::Even), places),
+        Rounding::AtMost(places) => with_all_places(number.rounded(places, Ties::Up)),
     }
 }
 
@@ -358,7 +368,7 @@ pub fn number_in_unit(size: u128, kind: Kind, unit: Unit) -> Expansion
     ensures { IsExpansion (size * bits_in kind) (bits (shape_of unit)) result }
 {
     let (twos, fives) = unit.powers();
-    Expansion::in_full(size * kind.bits(), twos, fives)
+    Expansion::new(size * kind.bits(), twos, fives)
 }
 
 /// Returns whether the unit has no prefix.

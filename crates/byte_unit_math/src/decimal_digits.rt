@@ -15,9 +15,6 @@ use std::{fmt, str};
 /// The most decimal digits of a `u128`.
 pub const NUMBER_DIGITS: usize = 39;
 
-/// The length of the buffer: one byte more than the digits.
-const BUFFER_LEN: usize = NUMBER_DIGITS + 1;
-
 /// The two digits of each number below 100.
 static PAIRS: [u8; 200] = *b"\
     0001020304050607080910111213141516171819\
@@ -35,19 +32,19 @@ static PAIRS: [u8; 200] = *b"\
 /// ```
 #[derive(Drop)]
 pub struct DecimalDigits {
-    bytes: [u8; BUFFER_LEN],
+    bytes: [u8; NUMBER_DIGITS],
     start: usize,
 }
 
 impl Model for DecimalDigits {
     ghost use Rattle.std.specs.Prelude.{ℕ, List, drop, ◌≤◌, ◌≡◌, length};
-    ghost use Rattle.byte_unit_math.specs.declared.decimal_digits.TheConstants.{BUFFER_LEN};
+    ghost use Rattle.byte_unit_math.specs.declared.decimal_digits.TheConstants.{NUMBER_DIGITS};
 
     ghost Value = { List ℕ };
 
     ghost view = { λ d. drop d.start d.bytes };
 
-    ghost invariant = { λ d. (d.start ≤ BUFFER_LEN) × (length d.bytes ≡ BUFFER_LEN) };
+    ghost invariant = { λ d. (d.start ≤ NUMBER_DIGITS) × (length d.bytes ≡ NUMBER_DIGITS) };
 }
 
 impl DecimalDigits {
@@ -63,8 +60,8 @@ impl DecimalDigits {
         ensures ascii { IsAscii result }
         ensures bound { length result ≤ NUMBER_DIGITS }
     {
-        let mut bytes = [b'0'; BUFFER_LEN];
-        let start = put_u128(n, &mut bytes, BUFFER_LEN);
+        let mut bytes = [b'0'; NUMBER_DIGITS];
+        let start = put_u128(n, &mut bytes, NUMBER_DIGITS);
         DecimalDigits { bytes, start }
     }
 
@@ -79,7 +76,7 @@ impl DecimalDigits {
     pub fn len(&self) -> usize
         ensures { result ≡ length self.now }
     {
-        BUFFER_LEN - self.start
+        NUMBER_DIGITS - self.start
     }
 
     /// Returns the digits as ASCII bytes, the most significant first.

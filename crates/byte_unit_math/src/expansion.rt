@@ -65,7 +65,7 @@ impl Model for Expansion {
 }
 
 impl Expansion {
-    /// Creates the expansion of `numerator / (2^twos * 5^fives)`.
+    /// Creates the expansion of `numerator / (2^twos * 5^fives)`. Over a power of 2 it takes no division.
     ///
     /// Precondition (proved at every call): `numerator < 8 * 10^30` and `2^twos * 5^fives <= 2^93`.
     ///
@@ -80,29 +80,15 @@ impl Expansion {
         requires den { 2 ^ twos * 5 ^ fives ≤ unit_limit }
         ensures { IsExpansion numerator (2 ^ twos * 5 ^ fives) result }
     {
+        if fives == 0 {
+            return Expansion::binary(numerator, twos);
+        }
         let den = power_of_two(twos) * power_of_five(fives);
         let (whole, rest) = div_rem(numerator, den);
         divide(whole, rest, den)
     }
 
-    /// Creates the same expansion as `new`, with the same precondition. Over a power of 2 it takes no division.
-    ///
-    /// # Examples
-    /// ```rust
-    /// assert_eq!(rt; Expansion::in_full(3, 93, 0).places(), 93);
-    /// ```
-    pub fn in_full(numerator: u128, twos: u32, fives: u32) -> Expansion
-        requires small { numerator < bits_limit }
-        requires den { 2 ^ twos * 5 ^ fives ≤ unit_limit }
-        ensures { IsExpansion numerator (2 ^ twos * 5 ^ fives) result }
-    {
-        if fives == 0 {
-            return Expansion::binary(numerator, twos);
-        }
-        Expansion::new(numerator, twos, fives)
-    }
-
-    /// Creates the expansion of `numerator / 2^twos`.
+    /// Creates the same expansion as `new`, over `2^twos`.
     fn binary(numerator: u128, twos: u32) -> Expansion
         requires small { numerator < bits_limit }
         requires few { twos ≤ expansion_places }
