@@ -21,9 +21,6 @@ use std::{fmt, str};
 /// The most digits after the point of an [`Expansion`].
 pub const EXPANSION_PLACES: usize = 93;
 
-/// Up to this many digits after the point, one digit after another is faster than a group of them.
-const FEW_PLACES: u32 = 4;
-
 /// How to round a number halfway between two decimals.
 #[derive(Debug, Clone, Copy, PartialEq, Eq)]
 pub enum Ties {
@@ -346,9 +343,6 @@ fn in_lowest_terms(numerator: u128, places: u32) -> Expansion
 {
     let whole = numerator >> places;
     let rest = numerator & ((1 << places) - 1);
-    if places <= FEW_PLACES {
-        return divide(whole, rest, 1 << places);
-    }
     Expansion {
         whole,
         digits: binary_digits(rest, places),
