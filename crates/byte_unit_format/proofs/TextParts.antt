@@ -136,16 +136,16 @@ pub piece_ascii :
 piece_ascii room start text bytes behind begins put ascii =
     rw (put, take_at text behind (room - start) (omega (arith, begins))) ascii
 
--- The last, the middle and the first byte of a name of at most three, set in this order, are all of it.
-pub name_put : (name out : List ℕ) (start : ℕ) → 0 < length name → length name ≤ 3 → start + length name ≤ length out
-    → drop start (set (set (set out (start + (length name - 1)) (get_or name (length name - 1) 0))
-    (start + length name / 2) (get_or name (length name / 2) 0)) start (get_or name 0 0))
-    ≡ name ++ drop (start + length name) out
-name_put [] out start some few within = absurd (omega (arith, some))
-name_put (a ∷ []) out start some few within = grind (arith, common_steps)
-name_put (a ∷ b ∷ []) out start some few within = grind (arith, common_steps)
-name_put (a ∷ b ∷ c ∷ []) out start some few within = grind (arith, common_steps)
-name_put (a ∷ b ∷ c ∷ d ∷ more) out start some few within = absurd (omega (arith, few))
+-- The last, the middle and the first of at most three bytes, set in this order, are all of them.
+pub short_put : (bytes out : List ℕ) (start : ℕ) → 0 < length bytes → length bytes ≤ 3 → start + length bytes ≤ length out
+    → drop start (set (set (set out (start + (length bytes - 1)) (get_or bytes (length bytes - 1) 0))
+    (start + length bytes / 2) (get_or bytes (length bytes / 2) 0)) start (get_or bytes 0 0))
+    ≡ bytes ++ drop (start + length bytes) out
+short_put [] out start some few within = absurd (omega (arith, some))
+short_put (a ∷ []) out start some few within = grind (arith, common_steps)
+short_put (a ∷ b ∷ []) out start some few within = grind (arith, common_steps)
+short_put (a ∷ b ∷ c ∷ []) out start some few within = grind (arith, common_steps)
+short_put (a ∷ b ∷ c ∷ d ∷ more) out start some few within = absurd (omega (arith, few))
 
 -- what the calls that write the digits after a point use: the first digits of an expansion, and the last of a number
 pub ruleset first_digits_put = (fraction_length, glyphs_within, common_steps)

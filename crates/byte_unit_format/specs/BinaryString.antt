@@ -22,7 +22,8 @@ binary_spec unit = if has_binary_prefix unit then alternate_spec else plain_spec
 -- reading takes a decimal prefix for the binary one.
 abbrev pub IsBinaryString : Kind → ℕ → List ℕ → Type 0
 IsBinaryString kind size text =
-    (unit : Shape) × IsRecoveredIn current kind false size default_precision unit × IsText kind size (binary_spec unit) text
+    (unit : Shape) × IsRecoveredIn current kind false size default_precision unit
+    × IsText kind size (binary_spec unit) text
 
 -- This string of a size is parsed as that size by the binary reading and by the usual one, with and without case.
 pub record BothReadingsAccept (kind : Kind) (ignore_case : Bool) (size : ℕ) (text : List ℕ) : Type 0 where

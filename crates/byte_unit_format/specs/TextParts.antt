@@ -34,6 +34,7 @@ number_text row = row.sign.now ++ decimal row.whole ++ fraction_of row.fraction
 abbrev pub parts_text : TextParts → List ℕ
 parts_text row = spaces row.before ++ number_text row ++ spaces row.after ++ row.name.now
 
--- The parts can be written: the fraction is within its bounds, sign and name are ASCII, and the name is short.
+-- The parts can be written: the fraction is within its bounds, and sign and name are ASCII and short.
 abbrev pub IsReady : TextParts → Type 0
 IsReady row = FitsPlaces row.fraction × IsAscii row.sign.now × IsAscii row.name.now × (length row.name.now ≤ 3)
+    × (length row.sign.now ≤ 3)

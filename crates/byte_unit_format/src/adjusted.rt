@@ -15,7 +15,6 @@ ghost use Rattle.byte_unit_base.specs.Kinds.{bits_in};
 ghost use Rattle.byte_unit_base.specs.Version.{unit_name};
 ghost use Rattle.byte_unit_format.specs.Layout.{layout};
 ghost use Rattle.byte_unit_format.specs.Rounding.{rule_from, FitsRounding, IsRoundingOf};
-ghost use Rattle.byte_unit_format.specs.declared.adjusted.Rounding.TheVariants.{Exact};
 ghost use Rattle.byte_unit_format.specs.TextParts.{IsReady, parts_text};
 ghost use Rattle.byte_unit_format.specs.Room.{AppendsForm};
 ghost use Rattle.byte_unit_format.specs.Written.{WritesForm};
@@ -190,28 +189,10 @@ fn write_longer(
     if let Some(parts) = short_parts(size, kind, unit, rounding, spec) {
         return parts.write(out);
     }
-    match rounding {
-        Rounding::Exact if unit.is_binary_multiples() => {
-            write_in_full(size, kind, unit, spec, out)
-        }
-        _ => write_expanded(size, kind, unit, rounding, spec, out),
-    }
+    write_expanded(size, kind, unit, rounding, spec, out)
 }
 
-/// Writes as `write_longer`, with all digits of the number.
-#[inline(never)]
-fn write_in_full(size: u128, kind: Kind, unit: Unit, spec: FormatSpec, out: &mut [u8]) -> usize
-    requires size { size < size_limit }
-    requires rounding { IsRoundingOf unit spec Exact }
-    ensures written { WritesForm (IsAdjustedForm kind size unit spec) out.old out.new result }
-    ensures bound { result < text_limit }
-{
-    let exact = number_in_unit(size, kind, unit);
-    let (number, places) = with_all_places(exact);
-    write_layout(&number, places, unit, spec, out)
-}
-
-/// Writes as `write_longer`, digit by digit.
+/// Writes as `write_longer`, by all digits of the number.
 #[inline(never)]
 fn write_expanded(
     size: u128,
@@ -226,8 +207,18 @@ fn write_expanded(
     ensures written { WritesForm (IsAdjustedForm kind size unit spec) out.old out.new result }
     ensures bound { result < text_limit }
 {
-    let (number, places) = expanded(size, kind, unit, rounding);
-    write_layout(&number, places, unit, spec, out)
+    let exact = number_in_unit(size, kind, unit);
+    // Not by `expanded`: a number that both arms of a `match` make is copied.
+    match rounding {
+        Rounding::Exact => write_layout(&exact, exact.places(), unit, spec, out),
+        Rounding::To(places) => {
+            write_layout(&exact.rounded(places, Ties::Even), places, unit, spec, out)
+        }
+        Rounding::AtMost(places) => {
+            let number = exact.rounded(places, Ties::Up);
+            write_layout(&number, number.places(), unit, spec, out)
+        }
+    }
 }
 
 /// Returns how the spec rounds a number in the unit.
@@ -316,11 +307,11 @@ fn expanded(size: u128, kind: Kind, unit: Unit, rounding: Rounding) -> (Expansio
         (text_of (pad_of result.1 result.0)) }
     ensures bound { result.1 < 2 ^ 16 }
 {
-    let exact = divided_in_unit(size, kind, unit);
+    let number = number_in_unit(size, kind, unit);
     match rounding {
-        Rounding::Exact => with_all_places(exact),
-        Rounding::To(places) => (exact.rounded(places, Ties::Even), places),
-        Rounding::AtMost(places) => with_all_places(exact.rounded(places, Ties::Up)),
+        Rounding::Exact => with_all_places(number),
+        Rounding::To(places) => (number.rounded(places, Ties::Even), places),
+        Rounding::AtMost(places) => with_all_places(number.rounded(places, Ties::Up)),
     }
 }
 
@@ -373,16 +364,6 @@ fn scaled_parts<'a>(number: u128, places: u32, unit: Unit, spec: FormatSpec) -> 
 /// ```
 #[inline(never)]
 pub fn number_in_unit(size: u128, kind: Kind, unit: Unit) -> Expansion
-    requires { size < size_limit }
-    ensures { IsExpansion (size * bits_in kind) (bits (shape_of unit)) result }
-{
-    let (twos, fives) = unit.powers();
-    Expansion::in_full(size * kind.bits(), twos, fives)
-}
-
-/// Returns the same as `number_in_unit`, by long division.
-#[inline(always)]
-fn divided_in_unit(size: u128, kind: Kind, unit: Unit) -> Expansion
     requires { size < size_limit }
     ensures { IsExpansion (size * bits_in kind) (bits (shape_of unit)) result }
 {

@@ -11,7 +11,7 @@ ghost use Rattle.byte_unit_format.specs.TextParts.{fraction_of, places_in, FitsP
 ghost use Rattle.byte_unit_format.specs.Written.{WritesForm};
 
 use crate::capacity::{push, push_ascii, push_run, reserve};
-use crate::put::{put, put_name, put_run};
+use crate::put::{put, put_run, put_short};
 use byte_unit_math::{DecimalDigits, Expansion, glyphs_of, put_fraction, put_u128};
 use std::alloc::{AllocError, Allocator};
 
@@ -115,11 +115,11 @@ impl TextParts<'_> {
         ensures bytes { drop result out.new ≡ parts_text self.now ++ drop end out.old }
         ensures ascii { IsAscii (parts_text self.now) }
     {
-        let name = put_name(self.name.as_bytes(), out, end);
+        let name = put_short(self.name.as_bytes(), out, end);
         let behind = put_run(b' ', self.after, out, name);
         let point = self.fraction.put(out, behind);
         let digits = put_u128(self.whole, out, point);
-        let sign = put(self.sign.as_bytes(), out, digits);
+        let sign = put_short(self.sign.as_bytes(), out, digits);
         put_run(b' ', self.before, out, sign)
     }
 }

@@ -29,23 +29,23 @@ pub(crate) fn put_run(byte: u8, count: usize, out: &mut [u8], end: usize) -> usi
     start
 }
 
-/// Writes a name of at most three bytes as `put`, without a loop: its last, its middle and its first byte are all.
+/// Writes at most three bytes as `put`, without a loop: the last, the middle and the first byte are all.
 #[inline(always)]
-#[tactic(auto, using(crate::proofs::TextParts::name_put))]
-pub(crate) fn put_name(name: &[u8], out: &mut [u8], end: usize) -> usize
-    requires short { length name.now ≤ 3 }
-    requires room { length name.now ≤ end }
+#[tactic(auto, using(crate::proofs::TextParts::short_put))]
+pub(crate) fn put_short(bytes: &[u8], out: &mut [u8], end: usize) -> usize
+    requires short { length bytes.now ≤ 3 }
+    requires room { length bytes.now ≤ end }
     requires within { end ≤ length out.old }
-    ensures begins { result + length name.now ≡ end }
-    ensures bytes { drop result out.new ≡ name.now ++ drop end out.old }
+    ensures begins { result + length bytes.now ≡ end }
+    ensures bytes { drop result out.new ≡ bytes.now ++ drop end out.old }
 {
-    let len = name.len();
+    let len = bytes.len();
     if len == 0 {
         return end;
     }
     let start = end - len;
-    out[start + (len - 1)] = name[len - 1];
-    out[start + len / 2] = name[len / 2];
-    out[start] = name[0];
+    out[start + (len - 1)] = bytes[len - 1];
+    out[start + len / 2] = bytes[len / 2];
+    out[start] = bytes[0];
     start
 }

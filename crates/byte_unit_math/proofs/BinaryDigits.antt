@@ -19,7 +19,8 @@ use Rattle.byte_unit_math.specs.Finite.{value_of_digits}
 use Rattle.byte_unit_math.proofs.Digits.{length_last_digits, last_digits_below_ten, value_of_last_digits, value_append}
 use Rattle.byte_unit_math.proofs.Digits.{value_below_power, same_digits}
 use Rattle.byte_unit_math.proofs.Scales.{power_of_sum, powers_from, powers_from_at}
-use Rattle.byte_unit_math.proofs.ShortExpansions.{ten_power, binary_count, odd_times_fives}
+use Rattle.byte_unit_math.proofs.ShortExpansions.{ten_power, binary_count}
+use Rattle.byte_unit_math.proofs.Powers.{odd_times_fives}
 
 -- A remainder below 2^left, times 5^count: its bits before the last `next` are the next digits, and those are the next
 -- remainder.

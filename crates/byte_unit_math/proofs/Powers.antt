@@ -10,7 +10,7 @@ use Rattle.byte_unit_math.proofs.Scales.{power_of_sum}
 use Rattle.byte_unit_math.specs.NumberLaws.{ExactByPowers, NumbersHaveTwosAndFives, PlacesByPowers, ZeroTakesNoPlaces}
 
 -- An odd number times a power of 5 is odd.
-odd_times_fives : (left n : ℕ) → left % 2 ≢ 0 → (left * 5 ^ n) % 2 ≢ 0
+pub odd_times_fives : (left n : ℕ) → left % 2 ≢ 0 → (left * 5 ^ n) % 2 ≢ 0
 odd_times_fives left zero h = λ k. h (omega (arith, k))
 odd_times_fives left (suc n) h = λ k. odd_times_fives left n h
     (let e : left * 5 ^ suc n ≡ 5 * (left * 5 ^ n) = rw (pow-succ' 5 n) (omega arith) in omega (arith, k, e))

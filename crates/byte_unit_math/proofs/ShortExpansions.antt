@@ -1,5 +1,7 @@
 -- Expansions with few digits after the point, from one product.
 use Rattle.std.proofs.Common.{◌≡◌, ◌≢◌, ℕ, zero, suc, ◌+◌, ◌-◌, ◌*◌, ◌/◌, ◌%◌, ◌^◌, ◌<◌, ◌≤◌, min, bit_and, arith, ap, ◌∙◌}
+use Rattle.std.proofs.Common.{⊎_elim}
+use Rattle.std.proofs.lemmas.Bool.{cases_lt}
 use Rattle.std.specs.Int.{trailing_zeros, w128}
 use Rattle.std.specs.Int.Count.{trailing_of_zero}
 use Rattle.std.proofs.Math.Nat.{mul-lt-mul_of_pos_right, one-le-pow, div-add-mod', pow-zero, pow-succ', mod-eq_of_lt}
@@ -15,16 +17,13 @@ use Rattle.byte_unit_math.specs.declared.short.ShortExpansion.{ShortExpansion}
 use Rattle.byte_unit_math.proofs.Digits.{length_last_digits, last_digits_below_ten, value_of_last_digits}
 use Rattle.byte_unit_math.proofs.Expanding.{IsLeastPlaces-last_digit, product_positive}
 use Rattle.byte_unit_math.proofs.Texts.{SameFraction, expansion_of_same_fraction}
+use Rattle.byte_unit_math.proofs.Powers.{odd_times_fives}
 use Rattle.byte_unit_math.proofs.Scales.{pow10_split, pow10_times_rest, power_of_sum}
 use Rattle.byte_unit_math.proofs.TwosFives.{FivesOff-trailing_zeros, trailing_zeros_divide}
 
 -- 10^p is 2^p times 5^p.
 pub ten_power : (p : ℕ) → 10 ^ p ≡ 2 ^ p * 5 ^ p
 ten_power p = mul-pow 2 5 p
-
--- 10^p / 2^p is 5^p.
-pub ten_over_two : (p : ℕ) → 10 ^ p / 2 ^ p ≡ 5 ^ p
-ten_over_two p = rw (ten_power p) (grind (arith, one-le-pow))
 
 -- Masked by its last p bits, a number is its remainder by 2^p.
 pub masked_rest : (n p : ℕ) → p ≤ expansion_places → bit_and n (1 * 2 ^ p % 2 ^ 128 - 1) ≡ n % 2 ^ p
@@ -36,21 +35,6 @@ masked_rest n p few =
 -- A remainder by 2^p, times 5^p, is below 10^p.
 pub rest_below_ten_power : (n p : ℕ) → n % 2 ^ p * 5 ^ p < 10 ^ p
 rest_below_ten_power n p = grind (arith, ten_power, mul-lt-mul_of_pos_right, mod_below, one-le-pow)
-
--- A power of five is odd.
-five_power_odd : (p : ℕ) → 5 ^ p % 2 ≡ 1
-five_power_odd zero = rw (pow-zero 5) (omega arith)
-five_power_odd (suc p) = rw (pow-succ' 5 p) (omega (arith, five_power_odd p))
-
--- The product of an odd number and a power of five does not end in the digit 0.
-pub odd_times_fives : (n p : ℕ) → n % 2 ≢ 0 → 0 < n * 5 ^ p % 10
-odd_times_fives n p odd =
-    let power = 5 ^ p in
-    let five : power ≡ power / 2 * 2 + 1 = omega (arith, five_power_odd p) in
-    let number : n ≡ n / 2 * 2 + 1 = omega (arith, odd) in
-    let product : n * power ≡ 2 * (n / 2 * 2 * (power / 2) + n / 2 + power / 2) + 1 =
-    ap (λ n. n * power) number ∙ ap (λ power. (n / 2 * 2 + 1) * power) five ∙ omega arith in
-    omega (arith, product)
 
 -- The whole part, and the remainder by 2^p as p digits, are the number times 5^p.
 pub binary_count : (n p : ℕ) → n / 2 ^ p * 10 ^ p + n % 2 ^ p * 5 ^ p ≡ n * 5 ^ p
@@ -69,7 +53,7 @@ binary_is_expansion n p odd =
     omega (arith, ap (λ power. n * power) (ten_power p), ap (λ m. m * 2 ^ p) (binary_count n p)) in
     let positive : 0 < 2 ^ p = omega (arith, one-le-pow p 2 (omega arith)) in
     let least = IsLeastPlaces-last_digit n (2 ^ p) (n / 2 ^ p * 10 ^ p + digits) p positive exact
-    (λ some. rw (binary_count n p) (odd_times_fives n p (odd some))) in
+    (λ some. rw (binary_count n p) (omega (arith, odd_times_fives n p (odd some)))) in
     record {
       small = last_digits_below_ten p digits;
       exact = rw (length_last_digits p digits, value) exact;
@@ -180,6 +164,21 @@ pub short_places : {num den : ℕ} {e : ShortExpansion} (places : ℕ) → IsSho
     → e.places ≤ places
 short_places {num} {den} {e} places h exact =
     omega (arith, h.is_expansion.least places exact, length_last_digits e.places e.digits)
+
+-- Its last digit is not 0, since it is exact with no fewer places.
+pub short_trimmed : {num den : ℕ} {e : ShortExpansion} → IsShortExpansion num den e → 0 < e.places → 0 < e.digits % 10
+short_trimmed {num} {den} {e} h some = ⊎_elim (λ last. last)
+    (λ none.
+    let before = 10 ^ (e.places - 1) in
+    let power = pow10_split 1 e.places some in
+    let tens : e.digits ≡ e.digits / 10 * 10 = omega (arith, none) in
+    let scaled = ap (λ n. num * n) power in
+    let whole = ap (λ n. e.whole * n * den) power in
+    let digits = ap (λ n. n * den) tens in
+    let fewer : num * before ≡ (e.whole * before + e.digits / 10) * den =
+    omega (arith, short_is_exact h, scaled, whole, digits) in
+    absurd (omega (arith, some, short_places (e.places - 1) h (e.whole * before + e.digits / 10, fewer))))
+    (cases_lt 0 (e.digits % 10))
 
 -- Its whole part is at most the numerator.
 pub short_whole : {num den : ℕ} {e : ShortExpansion} → 1 ≤ den → IsShortExpansion num den e → e.whole ≤ num

@@ -108,13 +108,14 @@ decimal_of_one_and_digits places digits below few =
     ∙ (sym (rw (div-mul-add 1 power digits below, mod-mul-add 1 power digits below) at cut)
     ∙ ap (λ l. l ++ glyphs (last_digits places digits)) (decimal_one_digit 1 (omega arith)))
 
--- 10^18 plus digits below it has 19 digits.
-pub length_of_one_and_18_digits : (r : ℕ) → r < 10 ^ 18 → length (decimal (10 ^ 18 + r)) ≡ 19
-length_of_one_and_18_digits r small = omega (
-  arith,
-  decimal_length_split 18 (10 ^ 18 + r) (omega arith) (omega (arith, small)),
-  decimal_length_one ((10 ^ 18 + r) / 10 ^ 18) (omega (arith, small)),
-)
+-- The last 18 digits are two and then 16.
+pub two_and_16_digits : (n : ℕ)
+    → glyphs (last_digits 18 n) ≡ glyphs (last_digits 2 (n / 10 ^ 16)) ++ glyphs (last_digits 16 (n % 10 ^ 16))
+two_and_16_digits n =
+    let first : n / 10 ^ 17 % 10 ≡ n / 10 ^ 16 / 10 ^ 1 % 10 = omega arith in
+    let second : n / 10 ^ 16 % 10 ≡ n / 10 ^ 16 / 10 ^ 0 % 10 = omega arith in
+    let others = last_digits_of_rest 16 n in
+    λ i. (48 + first i) ∷ (48 + second i) ∷ glyphs (sym others i)
 
 -- A table of the two digits of each of `count` numbers, as characters, beginning at a given number.
 abbrev pairs_from : ℕ → ℕ → List ℕ
@@ -292,6 +293,6 @@ module _ (k n : ℕ) (few : k ≤ 128) (wide : 10 ≤ n) (small : n < 2 ^ k) whe
 -- what the calls that write a number use of its length: in groups of 16 and of 18 digits, and by its binary digits
 pub ruleset lengths_by_16 = (few_30, few_16, more_16)
 
-pub ruleset lengths_by_18 = (eighteen_more, decimal_length_positive, length_of_one_and_18_digits)
+pub ruleset lengths_by_18 = (eighteen_more, decimal_length_positive)
 
 pub ruleset lengths_by_bits = (decimal_length_one, few_digits, more_digits)

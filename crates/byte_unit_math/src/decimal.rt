@@ -150,11 +150,7 @@ impl Decimal {
             short /= 10;
             left -= 1;
         }
-        Decimal {
-            whole,
-            digits: u128::from(short),
-            places: left,
-        }
+        Decimal::from_trimmed_digits(whole, u128::from(short), left)
     }
 
     /// Creates the same number from digits that need more than 64 bits, whose divisions take longer.
@@ -171,10 +167,23 @@ impl Decimal {
             short /= 10;
             left -= 1;
         }
+        Decimal::from_trimmed_digits(whole, short, left)
+    }
+
+    /// Creates the same number from digits of which the last is not 0.
+    #[inline(always)]
+    #[tactic(auto, using(crate::proofs::ShortDecimals::digits_are_normalized))]
+    pub(crate) fn from_trimmed_digits(whole: u128, digits: u128, places: u32) -> Decimal
+        requires whole { whole < whole_limit }
+        requires places { places ≤ places_of_decimal }
+        requires digits { digits < 10 ^ places }
+        requires trimmed { 0 < places → 0 < digits % 10 }
+        ensures { result ≡ whole * scale + digits * 10 ^ (places_of_decimal - places) }
+    {
         Decimal {
             whole,
-            digits: short,
-            places: left,
+            digits,
+            places,
         }
     }
 

@@ -6,16 +6,14 @@ ghost use Rattle.byte_unit_math.specs.Bounds.{places_of_number};
 ghost use Rattle.byte_unit_math.specs.Digits.{last_digits};
 ghost use Rattle.byte_unit_math.specs.Numeral.{fraction_text, glyphs};
 
-use crate::dividing::{TEN_POW_18, split_last_18_digits};
+use crate::dividing::split_last_18_digits;
+use crate::lanes::{TEN_POW_16, put_16_digits};
 use crate::tens::power_of_ten;
 use std::marker::Model;
 use std::{fmt, str};
 
 /// The most decimal digits of a `u128`.
 pub const NUMBER_DIGITS: usize = 39;
-
-/// The length of the buffer: one byte more, for the 1 before the last group of digits.
-const BUFFER_LEN: usize = NUMBER_DIGITS + 1;
 
 /// The two digits of each number below 100.
 static PAIRS: [u8; 200] = *b"\
@@ -34,19 +32,19 @@ static PAIRS: [u8; 200] = *b"\
 /// ```
 #[derive(Drop)]
 pub struct DecimalDigits {
-    bytes: [u8; BUFFER_LEN],
+    bytes: [u8; NUMBER_DIGITS],
     start: usize,
 }
 
 impl Model for DecimalDigits {
     ghost use Rattle.std.specs.Prelude.{ℕ, List, drop, ◌≤◌, ◌≡◌, length};
-    ghost use Rattle.byte_unit_math.specs.declared.decimal_digits.TheConstants.{BUFFER_LEN};
+    ghost use Rattle.byte_unit_math.specs.declared.decimal_digits.TheConstants.{NUMBER_DIGITS};
 
     ghost Value = { List ℕ };
 
     ghost view = { λ d. drop d.start d.bytes };
 
-    ghost invariant = { λ d. (d.start ≤ BUFFER_LEN) × (length d.bytes ≡ BUFFER_LEN) };
+    ghost invariant = { λ d. (d.start ≤ NUMBER_DIGITS) × (length d.bytes ≡ NUMBER_DIGITS) };
 }
 
 impl DecimalDigits {
@@ -62,8 +60,8 @@ impl DecimalDigits {
         ensures ascii { IsAscii result }
         ensures bound { length result ≤ NUMBER_DIGITS }
     {
-        let mut bytes = [b'0'; BUFFER_LEN];
-        let start = put_u128(n, &mut bytes, BUFFER_LEN);
+        let mut bytes = [b'0'; NUMBER_DIGITS];
+        let start = put_u128(n, &mut bytes, NUMBER_DIGITS);
         DecimalDigits { bytes, start }
     }
 
@@ -78,7 +76,7 @@ impl DecimalDigits {
     pub fn len(&self) -> usize
         ensures { result ≡ length self.now }
     {
-        BUFFER_LEN - self.start
+        NUMBER_DIGITS - self.start
     }
 
     /// Returns the digits as ASCII bytes, the most significant first.
@@ -235,11 +233,24 @@ fn put_u128_wide(n: u128, bytes: &mut [u8], end: usize) -> usize
     let mut rest = n;
     while rest > u128::from(u64::MAX) {
         let (before, last) = split_last_18_digits(rest);
-        // A leading 1 keeps the zeros after it; the next digits overwrite it.
-        start = put_u64(TEN_POW_18 + last, bytes, start) + 1;
+        start = put_18_digits(last, bytes, start);
         rest = before;
     }
     put_u64(rest as u64, bytes, start)
+}
+
+/// Writes 18 digits, leading zeros included, and returns the index where they begin.
+#[inline]
+#[tactic(auto, using(crate::proofs::WrittenDigits::two_and_16_digits))]
+fn put_18_digits(n: u64, bytes: &mut [u8], end: usize) -> usize
+    requires below { n < 10 ^ 18 }
+    requires room { 18 ≤ end }
+    requires within { end ≤ length bytes.old }
+    ensures begins { result + 18 ≡ end }
+    ensures digits { drop result bytes.new ≡ glyphs (last_digits 18 n) ++ drop end bytes.old }
+{
+    let middle = put_16_digits(n % TEN_POW_16, bytes, end);
+    put_2_digits((n / TEN_POW_16) as u32, bytes, middle)
 }
 
 /// Writes the digits of a number of 64 bits as `put_u128`.

@@ -3,7 +3,7 @@ ghost use Rattle.std.specs.Prelude.{◌≡◌, ◌+◌, ◌*◌, ◌/◌, ◌%�
 ghost use Rattle.byte_unit_math.specs.Inverse.{HasInverse};
 
 /// The radix of groups of 18 digits.
-pub(crate) const TEN_POW_18: u64 = 1_000_000_000_000_000_000;
+const TEN_POW_18: u64 = 1_000_000_000_000_000_000;
 
 /// The reciprocal of `TEN_POW_18`: 2^123 / 10^18, rounded down.
 const TEN_POW_18_INVERSE: u64 = 10_633_823_966_279_326_983;

@@ -13,16 +13,13 @@ ghost use Rattle.byte_unit_math.specs.Numeral.{fraction_text, glyphs, text_of};
 use crate::binary::binary_digits;
 use crate::decimal::{Decimal, ONE};
 use crate::decimal_digits::fmt_u128;
-use crate::dividing::div_rem_digit;
+use crate::dividing::{div_rem, div_rem_digit};
 use crate::tens::{power_of_five, power_of_two};
 use std::marker::Model;
 use std::{fmt, str};
 
 /// The most digits after the point of an [`Expansion`].
 pub const EXPANSION_PLACES: usize = 93;
-
-/// Up to this many digits after the point, one digit after another is faster than a group of them.
-const FEW_PLACES: u32 = 4;
 
 /// How to round a number halfway between two decimals.
 #[derive(Debug, Clone, Copy, PartialEq, Eq)]
@@ -65,7 +62,7 @@ impl Model for Expansion {
 }
 
 impl Expansion {
-    /// Creates the expansion of `numerator / (2^twos * 5^fives)`.
+    /// Creates the expansion of `numerator / (2^twos * 5^fives)`. Over a power of 2 it takes no division.
     ///
     /// Precondition (proved at every call): `numerator < 8 * 10^30` and `2^twos * 5^fives <= 2^93`.
     ///
@@ -80,28 +77,15 @@ impl Expansion {
         requires den { 2 ^ twos * 5 ^ fives ≤ unit_limit }
         ensures { IsExpansion numerator (2 ^ twos * 5 ^ fives) result }
     {
-        let den = power_of_two(twos) * power_of_five(fives);
-        divide(numerator / den, numerator % den, den)
-    }
-
-    /// Creates the same expansion as `new`, with the same precondition. Over a power of 2 it takes no division.
-    ///
-    /// # Examples
-    /// ```rust
-    /// assert_eq!(rt; Expansion::in_full(3, 93, 0).places(), 93);
-    /// ```
-    pub fn in_full(numerator: u128, twos: u32, fives: u32) -> Expansion
-        requires small { numerator < bits_limit }
-        requires den { 2 ^ twos * 5 ^ fives ≤ unit_limit }
-        ensures { IsExpansion numerator (2 ^ twos * 5 ^ fives) result }
-    {
         if fives == 0 {
             return Expansion::binary(numerator, twos);
         }
-        Expansion::new(numerator, twos, fives)
+        let den = power_of_two(twos) * power_of_five(fives);
+        let (whole, rest) = div_rem(numerator, den);
+        divide(whole, rest, den)
     }
 
-    /// Creates the expansion of `numerator / 2^twos`.
+    /// Creates the same expansion as `new`, over `2^twos`.
     fn binary(numerator: u128, twos: u32) -> Expansion
         requires small { numerator < bits_limit }
         requires few { twos ≤ expansion_places }
@@ -359,9 +343,6 @@ fn in_lowest_terms(numerator: u128, places: u32) -> Expansion
 {
     let whole = numerator >> places;
     let rest = numerator & ((1 << places) - 1);
-    if places <= FEW_PLACES {
-        return divide(whole, rest, 1 << places);
-    }
     Expansion {
         whole,
         digits: binary_digits(rest, places),

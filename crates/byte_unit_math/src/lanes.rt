@@ -13,7 +13,7 @@ use std::simd::prelude::*;
 pub const PADDED_DIGITS: usize = 32;
 
 /// 10^16, the radix of groups of 16 digits.
-const TEN_POW_16: u64 = 10_000_000_000_000_000;
+pub(crate) const TEN_POW_16: u64 = 10_000_000_000_000_000;
 
 /// The reciprocal of `TEN_POW_16`: 2^117 / 10^16, rounded down.
 const TEN_POW_16_INVERSE: u64 = 16_615_349_947_311_448_411;
@@ -96,6 +96,20 @@ fn last_16_digits(n: u64) -> u8x16
     // The first digit of two is in the low byte, the second one in the high byte.
     let digits = (pairs / ten + pairs % ten * u16x8::splat(256)).to_le_bytes();
     digits + u8x16::splat(b'0')
+}
+
+/// Writes sixteen digits, leading zeros included, and returns the index where they begin.
+#[inline(always)]
+pub(crate) fn put_16_digits(n: u64, bytes: &mut [u8], end: usize) -> usize
+    requires below { n < 10 ^ 16 }
+    requires room { 16 ≤ end }
+    requires within { end ≤ length bytes.old }
+    ensures begins { result + 16 ≡ end }
+    ensures digits { drop result bytes.new ≡ glyphs (last_digits 16 n) ++ drop end bytes.old }
+{
+    let start = end - 16;
+    bytes[start..end].copy_from_slice(&last_16_digits(n).to_array());
+    start
 }
 
 /// Returns the digits of a number below 10^16 as numbers, with leading zeros.

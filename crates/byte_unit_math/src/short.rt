@@ -70,7 +70,7 @@ fn binary_expansion(numerator: u128, places: u32) -> Option<ShortExpansion>
     Some(ShortExpansion {
         whole: numerator >> places,
         // 10^places / 2^places is 5^places.
-        digits: rest * (power_of_ten(places) >> places),
+        digits: rest * power_of_five(places),
         places,
     })
 }
@@ -86,7 +86,7 @@ fn decimal_expansion(numerator: u128, twos: u32, tens: u32) -> Option<ShortExpan
         return None;
     }
     let places = tens + twos;
-    let scaled = numerator * (power_of_ten(twos) >> twos);
+    let scaled = numerator * power_of_five(twos);
     let (whole, digits) = div_rem(scaled, power_of_ten(places));
     // Leaves trailing zeros out.
     let number = Decimal::from_digits(whole, digits, places);
@@ -126,36 +126,32 @@ pub fn exact_number(
     ensures steps { (least : ℕ) × IsLeastPlaces result scale least
         × (steps.new ≡ saturating_add steps.old least) }
 {
-    let number = quotient_of(numerator, twos, fives, places);
-    steps.advance_by(number.places());
-    number
-}
-
-/// Returns the same as `exact_number`, without counting.
-fn quotient_of(numerator: u128, twos: u32, fives: u32, places: u32) -> Decimal
-    requires small { numerator < bits_limit }
-    requires den { 2 ^ twos * 5 ^ fives ≤ unit_limit }
-    requires exact { IsExactAt numerator (2 ^ twos * 5 ^ fives) (min places places_of_decimal) }
-    ensures { result * (2 ^ twos * 5 ^ fives) ≡ numerator * scale }
-{
     if fives > twos {
-        return divided(numerator, twos, fives, places);
+        return divided(numerator, twos, fives, places, steps);
     }
     match short_expansion(numerator, twos, fives) {
-        Some(parts) => Decimal::from_digits(parts.whole, parts.digits, parts.places),
-        None => divided(numerator, twos, fives, places),
+        Some(parts) => {
+            let number = Decimal::from_trimmed_digits(parts.whole, parts.digits, parts.places);
+            steps.advance_by(number.places());
+            number
+        }
+        None => divided(numerator, twos, fives, places, steps),
     }
 }
 
-/// Returns the same as `quotient_of`, by long division.
+/// Returns the same as `exact_number`, by long division.
 #[inline(never)]
 #[tactic(auto, using(crate::proofs::Expanding::powers))]
-fn divided(numerator: u128, twos: u32, fives: u32, places: u32) -> Decimal
+fn divided(numerator: u128, twos: u32, fives: u32, places: u32, steps: &mut Steps) -> Decimal
     requires small { numerator < bits_limit }
     requires den { 2 ^ twos * 5 ^ fives ≤ unit_limit }
     requires exact { IsExactAt numerator (2 ^ twos * 5 ^ fives) (min places places_of_decimal) }
-    ensures { result * (2 ^ twos * 5 ^ fives) ≡ numerator * scale }
+    ensures exact { result * (2 ^ twos * 5 ^ fives) ≡ numerator * scale }
+    ensures steps { (least : ℕ) × IsLeastPlaces result scale least
+        × (steps.new ≡ saturating_add steps.old least) }
 {
     let unit = power_of_two(twos) * power_of_five(fives);
-    exact_quotient(numerator, unit, places, &mut Steps::new()).unwrap()
+    let number = exact_quotient(numerator, unit, places, &mut Steps::new()).unwrap();
+    steps.advance_by(number.places());
+    number
 }

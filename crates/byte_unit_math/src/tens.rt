@@ -75,7 +75,7 @@ pub(crate) fn power_of_five(exponent: u32) -> u128
     requires { 5 ^ exponent ≤ unit_limit }
     ensures { result ≡ 5 ^ exponent }
 {
-    5u128.pow(exponent)
+    POWERS_OF_FIVE[exponent as usize]
 }
 
 /// The powers of 5 below 2^112.

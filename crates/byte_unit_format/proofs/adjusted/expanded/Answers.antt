@@ -11,7 +11,7 @@ use Rattle.byte_unit_format.proofs.adjusted.expanded.Goals as goal
 
 pub returns-in-To-clause-number : goal.returns-in-To-clause-number
 returns-in-To-clause-number c =
-    let exact = c.divided_in_unit-exact in
+    let exact = c.number_in_unit-number in
     let unit = shape_of c.args.unit in
     let near = c.rounded.ensures in
     rw c.in-To.is (
@@ -23,7 +23,7 @@ returns-in-To-clause-number c =
 
 pub returns-in-AtMost-clause-number : goal.returns-in-AtMost-clause-number
 returns-in-AtMost-clause-number c =
-    let exact = c.divided_in_unit-exact in
+    let exact = c.number_in_unit-number in
     let unit = shape_of c.args.unit in
     let near = c.rounded-in-AtMost.ensures in
     rw c.in-AtMost.is (

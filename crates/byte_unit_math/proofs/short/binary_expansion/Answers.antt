@@ -1,36 +1,44 @@
 -- The digits of the remainder are it times a power of five.
-use Rattle.std.proofs.Common.{◌≡◌, ℕ, ◌-◌, ◌*◌, ◌/◌, ◌%◌, ◌^◌, ◌<◌, bit_and, arith, ap}
+use Rattle.std.proofs.Common.{◌≡◌, ℕ, ◌-◌, ◌*◌, ◌%◌, ◌^◌, ◌<◌, bit_and, arith, refl}
+use Rattle.std.proofs.Math.Nat.{pow-le-pow_right}
 use Rattle.byte_unit_math.proofs.Scales.{pow10_fits}
-use Rattle.byte_unit_math.proofs.ShortExpansions.{masked_rest, ten_over_two, rest_below_ten_power, binary_is_expansion}
-use Rattle.byte_unit_math.proofs.short.binary_expansion.Goals.{After-power_of_ten}
+use Rattle.byte_unit_math.proofs.ShortExpansions.{masked_rest, rest_below_ten_power, binary_is_expansion}
+use Rattle.byte_unit_math.proofs.short.binary_expansion.Goals.{After-power_of_five}
 use Rattle.byte_unit_math.proofs.short.binary_expansion.Goals as goal
 
 -- The remainder times 5^places, as the code has it.
-abbrev digits_of : After-power_of_ten → ℕ
+abbrev digits_of : After-power_of_five → ℕ
 digits_of c =
-    bit_and c.args.numerator (1 * 2 ^ c.args.places % 2 ^ 128 - 1) * (c.power_of_ten.result / 2 ^ c.args.places)
+    bit_and c.args.numerator (1 * 2 ^ c.args.places % 2 ^ 128 - 1) * c.power_of_five.result
 
-digits_are : (c : After-power_of_ten) → digits_of c ≡ c.args.numerator % 2 ^ c.args.places * 5 ^ c.args.places
+digits_are : (c : After-power_of_five) → digits_of c ≡ c.args.numerator % 2 ^ c.args.places * 5 ^ c.args.places
 digits_are c =
-    rw (masked_rest c.args.numerator c.args.places (omega (arith, c.if-places-gt-MOST_PLACES.false)), c.power_of_ten.ensures)
-    (ap (λ power. c.args.numerator % 2 ^ c.args.places * power) (ten_over_two c.args.places))
+    rw (masked_rest c.args.numerator c.args.places (omega (arith, c.if-places-gt-MOST_PLACES.false)), c.power_of_five.ensures)
+    refl
 
-digits_below : (c : After-power_of_ten) → digits_of c < 10 ^ c.args.places
+digits_below : (c : After-power_of_five) → digits_of c < 10 ^ c.args.places
 digits_below c = rw (digits_are c) (rest_below_ten_power c.args.numerator c.args.places)
+
+pub power_of_five-requires : goal.power_of_five-requires
+power_of_five-requires c =
+    omega (
+      arith,
+      pow-le-pow_right {n = 5} (omega arith) {i = c.args.places} {j = 38} (omega (arith, c.if-places-gt-MOST_PLACES.false)),
+    )
 
 pub overflow_mul-result : goal.overflow_mul-result
 overflow_mul-result c =
     omega (
       arith,
-      digits_below (goal.at.overflow_mul-result c).After-power_of_ten,
+      digits_below (goal.at.overflow_mul-result c).After-power_of_five,
       pow10_fits c.args.places c.if-places-gt-MOST_PLACES.false,
     )
 
 pub returns : goal.returns
 returns c = record {
   few = c.if-places-gt-MOST_PLACES.false;
-  below = digits_below (goal.at.returns c).After-power_of_ten;
+  below = digits_below (goal.at.returns c).After-power_of_five;
   is_expansion =
-      rw (digits_are (goal.at.returns c).After-power_of_ten)
+      rw (digits_are (goal.at.returns c).After-power_of_five)
       (binary_is_expansion c.args.numerator c.args.places c.requires.odd);
 }

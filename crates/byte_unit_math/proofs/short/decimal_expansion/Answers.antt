@@ -4,43 +4,50 @@ use Rattle.std.proofs.Math.Nat.{pow-le-pow_right, mul-le-mul_left, one-le-pow, d
 use Rattle.std.proofs.lemmas.Nat.{mod_below, mul-le}
 use Rattle.byte_unit_math.specs.Bounds.{bits_limit, places_of_decimal, scale}
 use Rattle.byte_unit_math.proofs.Scales.{cut_at_point}
-use Rattle.byte_unit_math.proofs.ShortExpansions.{AreParts, ten_over_two, decimal_is_exact, short_of_decimal}
-use Rattle.byte_unit_math.proofs.short.decimal_expansion.Goals.{After-power_of_ten, After-div_rem-whole}
+use Rattle.byte_unit_math.proofs.ShortExpansions.{AreParts, decimal_is_exact, short_of_decimal}
+use Rattle.byte_unit_math.proofs.short.decimal_expansion.Goals.{After-power_of_five, After-div_rem-whole}
 use Rattle.byte_unit_math.proofs.short.decimal_expansion.Goals as goal
 
 -- The numerator times 5^twos, as the code has it.
-abbrev scaled_of : After-power_of_ten → ℕ
-scaled_of c = c.args.numerator * (c.power_of_ten.result / 2 ^ c.args.twos)
+abbrev scaled_of : After-power_of_five → ℕ
+scaled_of c = c.args.numerator * c.power_of_five.result
 
-scaled_is : (c : After-power_of_ten) → scaled_of c ≡ c.args.numerator * 5 ^ c.args.twos
+scaled_is : (c : After-power_of_five) → scaled_of c ≡ c.args.numerator * 5 ^ c.args.twos
 scaled_is c =
-    rw c.power_of_ten.ensures (ap (λ power. c.args.numerator * power) (ten_over_two c.args.twos))
+    ap (λ power. c.args.numerator * power) c.power_of_five.ensures
 
-scaled_small : (c : After-power_of_ten) → scaled_of c < 125 * bits_limit
+scaled_small : (c : After-power_of_five) → scaled_of c < 125 * bits_limit
 scaled_small c =
     let power : 5 ^ c.args.twos ≤ 125 =
     pow-le-pow_right {n = 5} (omega arith) {i = c.args.twos} {j = 3} c.if-twos-gt-BYTE_TWOS.false in
     omega (arith, scaled_is c, mul-le-mul_left c.args.numerator power, c.requires)
 
+pub power_of_five-requires : goal.power_of_five-requires
+power_of_five-requires c =
+    omega (
+      arith,
+      pow-le-pow_right {n = 5} (omega arith) {i = c.args.twos} {j = 3} (omega (arith, c.if-twos-gt-BYTE_TWOS.false)),
+    )
+
 pub overflow_mul-scaled : goal.overflow_mul-scaled
-overflow_mul-scaled c = omega (arith, scaled_small (goal.at.overflow_mul-scaled c).After-power_of_ten)
+overflow_mul-scaled c = omega (arith, scaled_small (goal.at.overflow_mul-scaled c).After-power_of_five)
 
 pub div_rem-whole-requires : goal.div_rem-whole-requires
 div_rem-whole-requires c =
-    omega (arith, c.power_of_ten-2.ensures, one-le-pow (c.args.tens + c.args.twos) 10 (omega arith))
+    omega (arith, c.power_of_ten.ensures, one-le-pow (c.args.tens + c.args.twos) 10 (omega arith))
 
-abbrev start_of : After-div_rem-whole → After-power_of_ten
-start_of c = (goal.at.from_digits-number-requires-clause-whole c).After-power_of_ten
+abbrev start_of : After-div_rem-whole → After-power_of_five
+start_of c = (goal.at.from_digits-number-requires-clause-whole c).After-power_of_five
 
 pub from_digits-number-requires-clause-whole : goal.from_digits-number-requires-clause-whole
 from_digits-number-requires-clause-whole c =
-    let below = div-le_self (scaled_of (start_of c)) c.power_of_ten-2.result in
+    let below = div-le_self (scaled_of (start_of c)) c.power_of_ten.result in
     omega (arith, c.div_rem-whole.ensures.quotient, below, scaled_small (start_of c))
 
 pub from_digits-number-requires-clause-digits : goal.from_digits-number-requires-clause-digits
 from_digits-number-requires-clause-digits c =
     let power = 10 ^ (c.args.tens + c.args.twos) in
-    rw (c.div_rem-whole.ensures.rest, c.power_of_ten-2.ensures)
+    rw (c.div_rem-whole.ensures.rest, c.power_of_ten.ensures)
     (mod_below (scaled_of (start_of c)) power
     (omega (arith, one-le-pow (c.args.tens + c.args.twos) 10 (omega arith))))
 
@@ -54,7 +61,7 @@ returns c =
       number.ensures,
       c.div_rem-whole.ensures.quotient,
       c.div_rem-whole.ensures.rest,
-      c.power_of_ten-2.ensures,
+      c.power_of_ten.ensures,
       scaled_is (start_of split),
     )
     (ap (λ N. N * (2 ^ c.args.twos * 10 ^ c.args.tens))

@@ -1,9 +1,0 @@
--- The bytes of the name are written one by one, or there are none.
-use Rattle.std.proofs.Common.{◌++◌, drop, ap, sym, arith}
-use Rattle.std.proofs.lemmas.List.{nil_from_length}
-use Rattle.byte_unit_format.proofs.put.put_name.Goals as goal
-
-pub returns-then-len-eq0-clause-bytes : goal.returns-then-len-eq0-clause-bytes
-returns-then-len-eq0-clause-bytes c =
-    let none = nil_from_length c.args.name.now (omega (arith, c.if-len-eq0.true)) in
-    ap (λ name. name ++ drop c.args.end c.args.out.now) (sym none)

@@ -1,0 +1,9 @@
+-- The bytes are written one by one, or there are none.
+use Rattle.std.proofs.Common.{◌++◌, drop, ap, sym, arith}
+use Rattle.std.proofs.lemmas.List.{nil_from_length}
+use Rattle.byte_unit_format.proofs.put.put_short.Goals as goal
+
+pub returns-then-len-eq0-clause-bytes : goal.returns-then-len-eq0-clause-bytes
+returns-then-len-eq0-clause-bytes c =
+    let none = nil_from_length c.args.bytes.now (omega (arith, c.if-len-eq0.true)) in
+    ap (λ bytes. bytes ++ drop c.args.end c.args.out.now) (sym none)
