@@ -11,11 +11,11 @@ ghost use Rattle.byte_unit.specs.declared.Kind.TheVariants.{Byte as InBytes};
 ghost use Rattle.byte_unit_serde.specs.Outcomes.{ReadingSizeBy, WritingSizeAs};
 ghost use Rattle.byte_unit_serde.specs.Serialized.{ReadsString, WritesSizeAs};
 
-use crate::byte::write_as;
 use crate::messages::size_message;
+use crate::sizes::write_as;
 use crate::strings::{DeserializeString, SerializeString};
 use crate::{Sink, Source};
-use byte_unit::{Byte, FormatSpec, Unit};
+use byte_unit::{Byte, FormatSpec, Kind, Unit};
 use serde::Deserializer;
 use std::alloc::Global;
 
@@ -32,7 +32,7 @@ pub fn serialize<S: Sink>(size: &Byte, out: &mut S) -> Result<(), S::Error>
         (WritesSizeAs (IsBinaryString InBytes) size.now (S.written out.old) (S.written out.new)) }
     ensures exact { WritingSizeAs (IsBinaryString InBytes) S.str_returns size.now out.old result out.new }
 {
-    write_as(size, spec_of(*size), out)
+    write_as(size.as_u128(), Kind::Byte, spec_of(*size), out)
 }
 
 /// Returns how the string of the size is formatted: without a width, as `write_as` requires.
