@@ -4,17 +4,16 @@ ghost use Rattle.std.specs.Prelude.{◌≡◌, ◌<◌, false, None, OnOk};
 ghost use Rattle.byte_unit.specs.Accepted.{IsAccepted};
 ghost use Rattle.byte_unit.specs.Bounds.{size_limit};
 ghost use Rattle.byte_unit.specs.Forms.{IsText};
+ghost use Rattle.byte_unit.specs.SizeReading.{IsSizeReading};
 ghost use Rattle.byte_unit.specs.declared.Kind.TheVariants.{Bit as InBits, Byte as InBytes};
-ghost use Rattle.byte_unit_serde.specs.Outcomes.{ReadingSize, WritingSize, WritingSizeAs};
+ghost use Rattle.byte_unit_serde.specs.Outcomes.{ParsesSize, WritingSize, WritingSizeAs};
 ghost use Rattle.byte_unit_serde.specs.Serialized.{WritesSize, WritesSizeAs};
 
+use crate::Sink;
 use crate::messages::size_message;
 use crate::strings::{DeserializeString, SerializeString};
-use crate::{Sink, Source};
 use byte_unit::{Bit, Byte, FormatSpec, Kind};
 use byte_unit_format::write_text;
-use serde::Deserializer;
-use std::alloc::Global;
 
 /// Writes the text of a size of this kind by the spec as a string. Does not allocate.
 ///
@@ -58,15 +57,10 @@ impl DeserializeString for Byte {
 
     ghost means = { IsAccepted InBytes false };
 
-    ghost reading = { ReadingSize InBytes };
+    ghost parses = { ParsesSize (IsSizeReading InBytes false) };
 
-    fn deserialize_string<F: Source>(
-        alloc: Global,
-        from: &mut Deserializer<'_, '_, F>,
-    ) -> Result<Byte, F::Error> {
-        let text = F::read_string(alloc, from)?;
-        text.parse::<Byte>()
-            .map_err(|error| F::rejection(from, size_message(&error)))
+    fn parse_string(text: &str) -> Result<Byte, &'static str> {
+        text.parse::<Byte>().map_err(|error| size_message(&error))
     }
 }
 
@@ -87,14 +81,9 @@ impl DeserializeString for Bit {
 
     ghost means = { IsAccepted InBits false };
 
-    ghost reading = { ReadingSize InBits };
+    ghost parses = { ParsesSize (IsSizeReading InBits false) };
 
-    fn deserialize_string<F: Source>(
-        alloc: Global,
-        from: &mut Deserializer<'_, '_, F>,
-    ) -> Result<Bit, F::Error> {
-        let text = F::read_string(alloc, from)?;
-        text.parse::<Bit>()
-            .map_err(|error| F::rejection(from, size_message(&error)))
+    fn parse_string(text: &str) -> Result<Bit, &'static str> {
+        text.parse::<Bit>().map_err(|error| size_message(&error))
     }
 }
