@@ -145,9 +145,9 @@ def test_update(here, copied):
 def test_serde(here, there, copied):
     """--with serde copies one crate more, at first or by an update; a later update keeps it."""
     assert "--with toml is none of: serde proofs" in run(here, "--with", "toml", there, status=1)
-    assert "byte_unit_serde: byte_unit serde toml\n" not in (copied / "crates.txt").read_text()
+    assert "byte_unit_serde: byte_unit byte_unit_format serde toml\n" not in (copied / "crates.txt").read_text()
     run(here, "--update", "--with", "serde", copied)
-    assert "byte_unit_serde: byte_unit serde toml\n" in (copied / "crates.txt").read_text()
+    assert "byte_unit_serde: byte_unit byte_unit_format serde toml\n" in (copied / "crates.txt").read_text()
     change(here)
     write(here, {"crates/byte_unit_serde/src/lib.rt": "// The next version.\n"})
     run(here, "--update", copied)

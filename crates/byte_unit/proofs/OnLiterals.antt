@@ -1,16 +1,15 @@
 -- For a caller who parses a literal, a text that is written in his program.
-use Rattle.std.proofs.Common.{◌≡◌, ℕ, Bool, List, Result, Ok, Err, subst, ap, ◌∙◌}
-use Rattle.std.specs.Prelude.{⊤, false}
-use Rattle.serde_json.specs.Data.{Data, string}
-use Rattle.serde_json.specs.Find.{as_str}
+use Rattle.std.proofs.Common.{◌≡◌, ℕ, Bool, false, List, Option, Some, None, Result, Ok, Err, ap, ◌∙◌}
+use Rattle.std.specs.Prelude.{⊤, option_map}
+use Rattle.std.proofs.lemmas.Option.{same_Some}
 use Rattle.byte_unit_base.specs.Fault.{Fault}
 use Rattle.byte_unit_base.specs.Accepted.{IsAccepted, IsRejected}
 use Rattle.byte_unit_base.specs.SizeReading.{IsSizeReading}
-use Rattle.byte_unit_base.specs.JsonReading.{ReadsString, size_errors, string_answer}
+use Rattle.byte_unit_base.specs.JsonReading.{JsonErrors, ReadsString, string_answer}
 use Rattle.byte_unit_base.specs.Parsed.{parsed_size}
 use Rattle.byte_unit_choice.specs.ParsedAdjusted.{parsed_adjusted}
 use Rattle.byte_unit_base.specs.declared.kind.Kind.{Kind}
-use Rattle.byte_unit_base.specs.declared.errors.JsonSizeError.{JsonSizeError}
+use Rattle.byte_unit_base.specs.declared.errors.ParseError.{ParseError}
 use Rattle.byte_unit_base.proofs.OnLiterals.{byte_unit_base_on_literals}
 use Rattle.byte_unit_base.proofs.ParsedTexts.{parsed_sizes_are_accepted}
 pub use Rattle.byte_unit_choice.proofs.AdjustedLiterals.{adjusted_computed}
@@ -31,11 +30,11 @@ pub rejected_literal : (kind : Kind) (ignore_case : Bool) (bytes : List ℕ) (fa
 rejected_literal kind ignore_case bytes fault e =
     ((parsed_sizes_are_accepted kind ignore_case bytes).is_fault fault).0 e
 
--- a JSON string that is computed as a size is parsed as this size
-pub json_literal : (kind : Kind) (value : Data) (bytes : List ℕ) (n : ℕ) (r : Result ℕ JsonSizeError)
-    → value ≡ string bytes → parsed_size kind false bytes ≡ Ok n
-    → ReadsString size_errors (IsSizeReading kind false) (as_str value) r → r ≡ Ok n
-json_literal kind value bytes n r is_string e reads =
-    let IsReadFrom : Data → Type 0 = λ json. ReadsString size_errors (IsSizeReading kind false) (as_str json) r in
-    let answer = subst IsReadFrom is_string reads in
-    answer.2 ∙ ap (string_answer size_errors) (answer.1.reads n (accepted_literal kind false bytes n e))
+-- a JSON or TOML string that is computed as a size is parsed as this size
+pub string_literal : {E : Type 0} (errors : JsonErrors ParseError E) (kind : Kind) (string : Option (List ℕ)) (n : ℕ)
+    (result : Result ℕ E) → option_map (parsed_size kind false) string ≡ Some (Ok n)
+    → ReadsString errors (IsSizeReading kind false) string result → result ≡ Ok n
+string_literal errors kind (Some bytes) n result computed reads =
+    let read = reads.1.reads n (accepted_literal kind false bytes n (same_Some _ _ computed)) in
+    reads.2 ∙ ap (string_answer errors) read
+string_literal errors kind None n result computed reads = absurd (let z : ⊥ = cc in z)

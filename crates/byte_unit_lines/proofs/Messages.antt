@@ -12,13 +12,14 @@ use Rattle.byte_unit_lines.specs.Answer.{Kind, IsAnswer, words_of, not_text, siz
 use Rattle.byte_unit_lines.specs.Answered.{AddsAnswer}
 
 -- a call that appends an answer if it succeeds has appended it on `Ok`
-pub AddsAnswer-if_ok : {E : Type 0} (kind : Kind) (line : List ℕ) (result : Result ⊤ E) (old added new : List ℕ) → IsAnswer kind line added
-    → new ≡ (if is_ok result then old ++ added else old) → OnOk result (AddsAnswer kind line old new)
-AddsAnswer-if_ok kind line (Ok _) old added new is_answer is_added = (added, is_answer, is_added)
-AddsAnswer-if_ok kind line (Err _) old added new is_answer is_added = tt
+pub adds_answer : {E : Type 0} {kind : Kind} {line added new : List ℕ} (result : Result ⊤ E) (old : List ℕ)
+    → IsAnswer kind line added → new ≡ (if is_ok result then old ++ added else old)
+    → OnOk result (AddsAnswer kind line old new)
+adds_answer {added = added} (Ok _) old is_answer is_added = (added, is_answer, is_added)
+adds_answer (Err _) old is_answer is_added = tt
 
--- the digits of a size, ` = `, the size with a unit and the line end, written to a buffer, are the answer to a line
--- that is accepted as this size
+-- what is written to a buffer for a line that is accepted as a size is the answer to it: the digits of the size, ` = `,
+-- the size with a unit, and the line end
 pub answer_with_size :
     {kind : Kind} {number : ℕ} (line bytes : List ℕ) (count : ℕ) → IsUtf8 line → IsAccepted kind false line number
     → IsTextWithDigits kind number (codes " = ") (take count bytes) → count < length bytes
@@ -40,12 +41,12 @@ answer_with_size {kind} {number} line bytes count is_text is_accepted written ro
     }
 
 -- the words for a parse error and a line end are the answer to a line that has this error
-pub answer_with_error : (kind : Kind) (line : List ℕ) (fault : Fault) (all : List ℕ) → IsUtf8 line → IsRejected kind false line fault
-    → all ≡ words_of fault ++ 10 ∷ [] → IsAnswer kind line all
-answer_with_error kind line fault all is_text is_refused put =
-    record { message = words_of fault; is_message = rejected fault is_text is_refused refl; ended = put }
+pub answer_with_error : (kind : Kind) (line : List ℕ) (fault : Fault) {all : List ℕ} → IsUtf8 line
+    → IsRejected kind false line fault → all ≡ words_of fault ++ 10 ∷ [] → IsAnswer kind line all
+answer_with_error kind line fault is_text is_rejected ended =
+    record { message = words_of fault; is_message = rejected fault is_text is_rejected refl; ended = ended }
 
 -- `not text` and a line end are the answer to a line that is not UTF-8
-pub answer_not_text : (kind : Kind) (line all : List ℕ) → ¬ (IsUtf8 line) → all ≡ codes "not text" ++ 10 ∷ [] → IsAnswer kind line all
-answer_not_text kind line all no_text put =
-    record { message = codes "not text"; is_message = not_text no_text refl; ended = put }
+pub answer_not_text : (kind : Kind) (line : List ℕ) → ¬ IsUtf8 line → IsAnswer kind line (codes "not text" ++ 10 ∷ [])
+answer_not_text kind line no_text =
+    record { message = codes "not text"; is_message = not_text no_text refl; ended = refl }

@@ -1,10 +1,16 @@
--- How a call of the program ends: its output, its exit status, its line for standard error.
-use Rattle.std.specs.Prelude.{ℕ, List, Option, None, Some, Ok, Err, codes}
+-- A call of the program: what its arguments ask for, its output, its exit status, its line for standard error.
+use Rattle.std.specs.Prelude.{◌≡◌, ◌⊎◌, ℕ, List, [], ◌∷◌, Option, None, Some, Ok, Err, codes}
 use Rattle.byte_unit_lines.specs.Answer.{Kind}
-use Rattle.byte_unit_lines.specs.FaultWords.{message_of}
+use Rattle.byte_unit.specs.declared.Kind.TheVariants.{Byte, Bit}
 use Rattle.byte_unit_lines.specs.Outcome.{IsWritten}
 use Rattle.byte_unit_lines.specs.declared.ending.Ending.{Ending}
 use Rattle.byte_unit_lines.specs.declared.ending.Ending.TheVariants.{Done, Usage, Failed}
+use Rattle.byte_unit_lines.specs.declared.run.RunError.TheVariants.{Memory, Read, Write}
+
+-- these arguments, each as its bytes, ask for sizes of this kind: none or `byte` for bytes, `bit` for bits
+abbrev pub AskFor : List (List ℕ) → Kind → Type 0
+AskFor words Byte = (words ≡ []) ⊎ (words ≡ codes "byte" ∷ [])
+AskFor words Bit = words ≡ codes "bit" ∷ []
 
 -- what a call with valid arguments has written that has read these bytes and ends in this way: what a run with that
 -- result has written. It never ends in `Usage`
@@ -22,5 +28,7 @@ status_of Usage = 2
 -- the line for standard error, without its line end; `None` if all lines are answered
 abbrev pub line_of : Ending → Option (List ℕ)
 line_of Done = None
-line_of (Failed error) = Some (message_of error)
+line_of (Failed Memory) = Some (codes "out of memory")
+line_of (Failed Read) = Some (codes "read failed")
+line_of (Failed Write) = Some (codes "write failed")
 line_of Usage = Some (codes "usage: byte_unit_lines [byte|bit]")

@@ -1,8 +1,6 @@
 pub mod Answer
-pub mod Arguments
 pub mod Capacity
 pub mod Ending
-pub mod FaultWords
 pub mod Laws
 pub mod Lines
 pub mod Outcome

@@ -1,15 +1,13 @@
-//! How a call of the program ends.
+//! A call of the program: what its arguments ask for, its run, and how it ends.
 
-ghost use Rattle.std.specs.Prelude.{◌≡◌, ℕ, List, map, option_map, IsTrue};
+ghost use Rattle.std.specs.Prelude.{◌≡◌, ℕ, List, map, option_map, IsTrue, IfSome};
 ghost use Rattle.std.specs.String.{string_bytes};
-ghost use Rattle.byte_unit_lines.specs.Arguments.{AskFor};
-ghost use Rattle.byte_unit_lines.specs.Ending.{IsWrittenAtEnding, status_of, line_of};
+ghost use Rattle.byte_unit_lines.specs.Ending.{AskFor, IsWrittenAtEnding, status_of, line_of};
 ghost use Rattle.byte_unit_stream.specs.Streams.{HasRead, HasReadAll, reading_failed};
 ghost use Rattle.byte_unit_stream.specs.Streams.{HasWritten, writing_failed};
 
-use crate::arguments::{Kind, kind_of};
 use crate::run::{RunError, run};
-use crate::words::fault_words;
+use byte_unit::Kind;
 use byte_unit_stream::{FusedReader, FusedWriter};
 use std::alloc::Global;
 use std::io::{Read, Write};
@@ -43,7 +41,9 @@ impl Ending {
     {
         match self {
             Ending::Done => None,
-            Ending::Failed(error) => Some(fault_words(error)),
+            Ending::Failed(RunError::Memory) => Some("out of memory"),
+            Ending::Failed(RunError::Read) => Some("read failed"),
+            Ending::Failed(RunError::Write) => Some("write failed"),
             Ending::Usage => Some("usage: byte_unit_lines [byte|bit]"),
         }
     }
@@ -74,5 +74,23 @@ pub fn serve<R: Read, W: Write>(
             Ok(()) => Ending::Done,
             Err(error) => Ending::Failed(error),
         },
+    }
+}
+
+/// Returns the kind of sizes that the arguments ask for: bytes for `byte` or no argument, bits for `bit`.
+///
+/// Returns `None` for any other argument, and if there is more than one.
+pub fn kind_of(words: &[String]) -> Option<Kind>
+    ensures some { IfSome result (AskFor (map string_bytes words.now)) }
+    ensures each { (kind : Kind) → AskFor (map string_bytes words.now) kind → result ≡ Some kind }
+{
+    match words {
+        [] => Some(Kind::Byte),
+        [word] => match word.as_str() {
+            "byte" => Some(Kind::Byte),
+            "bit" => Some(Kind::Bit),
+            _ => None,
+        },
+        _ => None,
     }
 }

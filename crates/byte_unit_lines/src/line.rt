@@ -9,13 +9,29 @@ ghost use Rattle.byte_unit_lines.specs.Capacity.{answer_max};
 ghost use Rattle.byte_unit_lines.specs.Lines.{line_end};
 ghost use Rattle.byte_unit_lines.specs.Answered.{AddsAnswer};
 
-use crate::arguments::Kind;
-use byte_unit::{Bit, Byte, ParseError, ValueParseError};
+use byte_unit::{Bit, Byte, Kind, ParseError, ValueParseError};
 use byte_unit_format::write_with_digits;
 use std::alloc::{AllocError, Allocator};
 
 /// The maximum length in bytes of an answer: two strings of at most 37 bytes, ` = ` between them, and the line end.
 pub(crate) const ANSWER_MAX: usize = 78;
+
+/// Appends the answer to a line that was parsed as a size of this kind. Two functions use it, since one over the kind
+/// takes more instructions.
+macro_rules! answer {
+    ($parsed:expr, $kind:expr, $out:expr) => {
+        match $parsed {
+            Some(Ok(size)) => {
+                let mut answer = [0; ANSWER_MAX];
+                let end = write_with_digits(size.as_u128(), $kind, *b" = ", &mut answer);
+                answer[end] = b'\n';
+                $out.extend_from_slice(&answer[..end + 1])
+            }
+            Some(Err(error)) => $out.extend_from_slice(fault_line_of(&error)),
+            None => $out.extend_from_slice(b"not text\n"),
+        }
+    };
+}
 
 /// Appends the answer to the line at the beginning of bytes, its first `len` bytes, with its line end.
 ///
@@ -57,16 +73,7 @@ fn answer_bytes<A: Allocator>(
     ensures len { vec_len out.new ≤ vec_len out.old + answer_max }
     ensures capacity { vec_capacity out.old ≤ vec_capacity out.new }
 {
-    match Byte::parse_line(bytes, len, false) {
-        Some(Ok(size)) => {
-            let mut answer = [0; ANSWER_MAX];
-            let end = write_with_digits(size.as_u128(), Kind::Byte, *b" = ", &mut answer);
-            answer[end] = b'\n';
-            out.extend_from_slice(&answer[..end + 1])
-        }
-        Some(Err(error)) => out.extend_from_slice(fault_line_of(&error)),
-        None => out.extend_from_slice(b"not text\n"),
-    }
+    answer!(Byte::parse_line(bytes, len, false), Kind::Byte, out)
 }
 
 /// Appends the answer to a line, parsed as a size in bits. The errors are those of [`add_answer`].
@@ -82,16 +89,7 @@ fn answer_bits<A: Allocator>(
     ensures len { vec_len out.new ≤ vec_len out.old + answer_max }
     ensures capacity { vec_capacity out.old ≤ vec_capacity out.new }
 {
-    match Bit::parse_line(bytes, len) {
-        Some(Ok(size)) => {
-            let mut answer = [0; ANSWER_MAX];
-            let end = write_with_digits(size.as_u128(), Kind::Bit, *b" = ", &mut answer);
-            answer[end] = b'\n';
-            out.extend_from_slice(&answer[..end + 1])
-        }
-        Some(Err(error)) => out.extend_from_slice(fault_line_of(&error)),
-        None => out.extend_from_slice(b"not text\n"),
-    }
+    answer!(Bit::parse_line(bytes, len), Kind::Bit, out)
 }
 
 /// Returns the message for a parse error, with the line end.

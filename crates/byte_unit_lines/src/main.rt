@@ -1,14 +1,12 @@
 //! Reads lines from standard input and writes the answer to each: the size that it represents, or its parse error.
 #![tactic(auto)]
 
-mod arguments;
 mod ending;
 mod laws;
 mod line;
 mod run;
 #[cfg(test)]
 mod tests;
-mod words;
 
 use byte_unit_stream::{FusedReader, FusedWriter};
 use ending::{Ending, serve};

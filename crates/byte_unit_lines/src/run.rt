@@ -14,9 +14,9 @@ ghost use Rattle.byte_unit_stream.specs.Chunks.{ended_records, begun_record};
 ghost use Rattle.byte_unit_stream.specs.Streams.{HasRead, HasReadAll, reading_failed};
 ghost use Rattle.byte_unit_stream.specs.Streams.{HasWritten, writing_failed};
 
-use crate::arguments::Kind;
 use crate::laws::each_line_has_an_answer;
 use crate::line::{ANSWER_MAX, add_answer};
+use byte_unit::Kind;
 use byte_unit_stream::{FusedReader, FusedWriter, end_of, write_whole};
 use std::alloc::{AllocError, Allocator, Global};
 use std::io::{Read, Write};

@@ -3,8 +3,9 @@
 ghost use Rattle.std.specs.Prelude.{IfOk};
 ghost use Rattle.byte_unit_lines.specs.Report.{IsReport};
 
-use crate::arguments::{Kind, kind_of};
+use crate::ending::kind_of;
 use crate::run::{RunError, run};
+use byte_unit::Kind;
 use byte_unit_stream::{FusedReader, FusedWriter};
 use std::alloc::Global;
 use std::fmt::Debug;

@@ -1,18 +1,19 @@
 -- What a function returns, by what the calls of a format returned. `D` is what a format is read from or written to, and
 -- `E` is the error of the format.
 use Rattle.std.specs.Prelude.{◌≡◌, ◌⊎◌, ◌≤◌, ◌-◌, ◌^◌, ℕ, List, length, Bool, MatchBool, Option, Some, None, Result, Ok, Err, MatchResult, true, false, [], ◌∷◌, IsUtf8}
+use Rattle.std.specs.Result.{result_map_both}
 use Rattle.serde.specs.Event.{Event, seq_begins}
 use Rattle.serde.specs.Steps.{Gives, Stays}
 use Rattle.serde.specs.declared.deserializer.Deserializer.{Deserializer}
 use Rattle.byte_unit.specs.Errors.{size_fault, unit_fault}
 use Rattle.byte_unit.specs.Readings.{IsUnitReading}
-use Rattle.byte_unit.specs.SizeReading.{IsSizeReading}
 use Rattle.byte_unit.specs.Spelling.{flags_of}
 use Rattle.byte_unit.specs.Forms.{IsText}
 use Rattle.byte_unit.specs.NamedSpecs.{alternate_spec}
 use Rattle.byte_unit.specs.declared.Kind.{Kind}
 use Rattle.byte_unit.specs.declared.ParseError.{ParseError}
 use Rattle.byte_unit.specs.declared.Unit.{Unit as UnitName}
+use Rattle.byte_unit.specs.declared.UnitParseError.{UnitParseError}
 use Rattle.byte_unit_serde.specs.Messages.{message_of}
 use Rattle.byte_unit_serde.specs.Serialized.{ReadsString, ReadsEach}
 
@@ -39,33 +40,25 @@ Converting {D} {E} {A} call Converts old result new =
     (got : Result A E) × call old got new
     × MatchResult got (λ value. Converts value new result) (λ error. result ≡ Err error)
 
--- The value that the string is parsed as is returned, or, if it is rejected, the error that is made of this message.
-abbrev pub Parsing :
-    {D E A Rejection : Type 0} → (List ℕ → Result A Rejection → Type 0) → (Rejection → List ℕ)
-    → (D → List ℕ → E → Type 0) → List ℕ → D → Result A E → Type 0
-Parsing {D} {E} {A} {Rejection} Reads message rejects bytes from result =
-    (reading : Result A Rejection) × Reads bytes reading × MatchResult reading
+-- The string that the format gives is parsed in this way: its value is returned, or the error that is made of the
+-- message of its error.
+abbrev pub Reading :
+    {D E A : Type 0} → (List ℕ → Result A (List ℕ) → Type 0) → Returns D (List ℕ) E → (D → List ℕ → E → Type 0)
+    → Returns D A E
+Reading {D} {E} {A} Parses string_returns rejects = Converting string_returns (λ bytes from result.
+    (parsed : Result A (List ℕ)) × Parses bytes parsed × MatchResult parsed
     (λ value. result ≡ Ok value)
-    (λ rejection. (error : E) × rejects from (message rejection) error × (result ≡ Err error))
+    (λ message. (error : E) × rejects from message error × (result ≡ Err error)))
 
--- The string that the format gives is parsed as a size, in this way.
-abbrev pub ReadingSizeBy :
-    {D E : Type 0} → (List ℕ → Result ℕ ParseError → Type 0) → Returns D (List ℕ) E → (D → List ℕ → E → Type 0)
-    → Returns D ℕ E
-ReadingSizeBy Reads string_returns rejects =
-    Converting string_returns (Parsing Reads (λ error. message_of (size_fault error)) rejects)
+-- A string is parsed as a size in this way; an error is its message.
+abbrev pub ParsesSize : (List ℕ → Result ℕ ParseError → Type 0) → List ℕ → Result ℕ (List ℕ) → Type 0
+ParsesSize Reads bytes parsed = (reading : Result ℕ ParseError) × Reads bytes reading
+    × (parsed ≡ result_map_both (λ size. size) (λ error. message_of (size_fault error)) reading)
 
--- The string that the format gives is parsed as a size, with case.
-abbrev pub ReadingSize :
-    {D E : Type 0} → Kind → Returns D (List ℕ) E → (D → List ℕ → E → Type 0) → Returns D ℕ E
-ReadingSize kind = ReadingSizeBy (IsSizeReading kind false)
-
--- The string that the format gives is parsed as a unit.
-abbrev pub ReadingUnit :
-    {D E : Type 0} → Returns D (List ℕ) E → (D → List ℕ → E → Type 0) → Returns D UnitName E
-ReadingUnit string_returns rejects =
-    Converting string_returns
-    (Parsing (IsUnitReading (flags_of false true)) (λ error. message_of (unit_fault error)) rejects)
+-- A string is parsed as a unit; an error is its message.
+abbrev pub ParsesUnit : List ℕ → Result UnitName (List ℕ) → Type 0
+ParsesUnit bytes parsed = (reading : Result UnitName UnitParseError) × IsUnitReading (flags_of false true) bytes reading
+    × (parsed ≡ result_map_both (λ unit. unit) (λ error. message_of (unit_fault error)) reading)
 
 -- `None` is returned if the format gives nothing, and else what is read.
 abbrev pub ReadingOption :

@@ -8,14 +8,14 @@ ghost use Rattle.byte_unit.specs.BinaryString.{IsBinaryString, has_binary_prefix
 ghost use Rattle.byte_unit.specs.Forms.{IsText};
 ghost use Rattle.byte_unit.specs.Units.{shape_of};
 ghost use Rattle.byte_unit.specs.declared.Kind.TheVariants.{Byte as InBytes};
-ghost use Rattle.byte_unit_serde.specs.Outcomes.{ReadingSizeBy, WritingSizeAs};
+ghost use Rattle.byte_unit_serde.specs.Outcomes.{ParsesSize, Reading, WritingSizeAs};
 ghost use Rattle.byte_unit_serde.specs.Serialized.{ReadsString, WritesSizeAs};
 
-use crate::byte::write_as;
 use crate::messages::size_message;
-use crate::strings::{DeserializeString, SerializeString};
+use crate::sizes::write_as;
+use crate::strings::{DeserializeString, SerializeString, deserialize_as};
 use crate::{Sink, Source};
-use byte_unit::{Byte, FormatSpec, Unit};
+use byte_unit::{Byte, FormatSpec, Kind, Unit};
 use serde::Deserializer;
 use std::alloc::Global;
 
@@ -32,7 +32,7 @@ pub fn serialize<S: Sink>(size: &Byte, out: &mut S) -> Result<(), S::Error>
         (WritesSizeAs (IsBinaryString InBytes) size.now (S.written out.old) (S.written out.new)) }
     ensures exact { WritingSizeAs (IsBinaryString InBytes) S.str_returns size.now out.old result out.new }
 {
-    write_as(size, spec_of(*size), out)
+    write_as(size.as_u128(), Kind::Byte, spec_of(*size), out)
 }
 
 /// Returns how the string of the size is formatted: without a width, as `write_as` requires.
@@ -87,14 +87,10 @@ pub fn deserialize<'de, F: Source>(
 ) -> Result<Byte, F::Error>
     ensures string { IfOk result
         (ReadsString (IsBinaryAccepted InBytes true) F.gives from.old from.new) }
-    ensures exact { ReadingSizeBy (IsBinaryReading InBytes true) F.string_returns F.rejects
+    ensures exact { Reading (ParsesSize (IsBinaryReading InBytes true)) F.string_returns F.rejects
         from.old result from.new }
 {
-    let text = F::read_string(alloc, from)?;
-    Byte::parse_str_binary(text.as_str(), true).map_err(|error| F::rejection(
-        from,
-        size_message(&error),
-    ))
+    deserialize_as::<Binary, F>(alloc, from)
 }
 
 /// A size in bytes whose prefixes are by 1024, read with case ignored.
@@ -117,12 +113,9 @@ impl DeserializeString for Binary {
 
     ghost means = { IsBinaryAccepted InBytes true };
 
-    ghost reading = { ReadingSizeBy (IsBinaryReading InBytes true) };
+    ghost parses = { ParsesSize (IsBinaryReading InBytes true) };
 
-    fn deserialize_string<F: Source>(
-        alloc: Global,
-        from: &mut Deserializer<'_, '_, F>,
-    ) -> Result<Byte, F::Error> {
-        deserialize(alloc, from)
+    fn parse_string(text: &str) -> Result<Byte, &'static str> {
+        Byte::parse_str_binary(text, true).map_err(|error| size_message(&error))
     }
 }

@@ -4,13 +4,13 @@ ghost use Rattle.std.specs.Prelude.{true, IfOk};
 ghost use Rattle.byte_unit.specs.Accepted.{IsAccepted};
 ghost use Rattle.byte_unit.specs.SizeReading.{IsSizeReading};
 ghost use Rattle.byte_unit.specs.declared.Kind.TheVariants.{Byte as InBytes};
-ghost use Rattle.byte_unit_serde.specs.Outcomes.{ReadingSizeBy};
+ghost use Rattle.byte_unit_serde.specs.Outcomes.{ParsesSize, Reading};
 ghost use Rattle.byte_unit_serde.specs.Serialized.{ReadsString};
 
 use crate::Source;
 use crate::messages::size_message;
-use crate::strings::DeserializeString;
 pub use crate::strings::serialize;
+use crate::strings::{DeserializeString, deserialize_as};
 use byte_unit::Byte;
 use serde::Deserializer;
 use std::alloc::Global;
@@ -43,11 +43,10 @@ pub fn deserialize<'de, F: Source>(
 ) -> Result<Byte, F::Error>
     ensures string { IfOk result
         (ReadsString (IsAccepted InBytes true) F.gives from.old from.new) }
-    ensures exact { ReadingSizeBy (IsSizeReading InBytes true) F.string_returns F.rejects
+    ensures exact { Reading (ParsesSize (IsSizeReading InBytes true)) F.string_returns F.rejects
         from.old result from.new }
 {
-    let text = F::read_string(alloc, from)?;
-    Byte::parse_str(text.as_str(), true).map_err(|error| F::rejection(from, size_message(&error)))
+    deserialize_as::<IgnoreCase, F>(alloc, from)
 }
 
 /// A size in bytes, read with case ignored.
@@ -58,12 +57,9 @@ impl DeserializeString for IgnoreCase {
 
     ghost means = { IsAccepted InBytes true };
 
-    ghost reading = { ReadingSizeBy (IsSizeReading InBytes true) };
+    ghost parses = { ParsesSize (IsSizeReading InBytes true) };
 
-    fn deserialize_string<F: Source>(
-        alloc: Global,
-        from: &mut Deserializer<'_, '_, F>,
-    ) -> Result<Byte, F::Error> {
-        deserialize(alloc, from)
+    fn parse_string(text: &str) -> Result<Byte, &'static str> {
+        Byte::parse_str(text, true).map_err(|error| size_message(&error))
     }
 }

@@ -6,7 +6,7 @@ ghost use Rattle.serde.specs.Event.{WritesSeq};
 ghost use Rattle.byte_unit.specs.BinaryReading.{IsBinaryAccepted, IsBinaryReading};
 ghost use Rattle.byte_unit.specs.BinaryString.{IsBinaryString};
 ghost use Rattle.byte_unit.specs.declared.Kind.TheVariants.{Byte as InBytes};
-ghost use Rattle.byte_unit_serde.specs.Outcomes.{IsListError, ReadingSizeBy, WritingList, WritingSizeAs};
+ghost use Rattle.byte_unit_serde.specs.Outcomes.{IsListError, ParsesSize, Reading, WritingList, WritingSizeAs};
 ghost use Rattle.byte_unit_serde.specs.Serialized.{ReadsSeq, WritesSizeAs};
 
 use crate::byte_binary::Binary;
@@ -40,10 +40,10 @@ pub fn deserialize<'de, F: Source>(
 ) -> Result<Vec<Byte>, F::Error>
     ensures list { IfOk result (λ sizes.
         ReadsSeq (IsBinaryAccepted InBytes true) F.gives F.stays from.old from.new sizes.items) }
-    ensures error { let Reading = ReadingSizeBy
-        (IsBinaryReading InBytes true) F.string_returns F.rejects in
-        IfErr result (IsListError (IsBinaryAccepted InBytes true) F.gives F.stays F.begin_returns
-        F.next_returns Reading F.refuses from.old from.new) }
+    ensures error { IfErr result (IsListError (IsBinaryAccepted InBytes true)
+        F.gives F.stays F.begin_returns F.next_returns
+        (Reading (ParsesSize (IsBinaryReading InBytes true)) F.string_returns F.rejects)
+        F.refuses from.old from.new) }
 {
     lists::deserialize_as::<Binary, F>(alloc, from)
 }

@@ -5,7 +5,7 @@ ghost use Rattle.std.specs.Prelude.{true, IfErr, IfOk};
 ghost use Rattle.byte_unit.specs.Accepted.{IsAccepted};
 ghost use Rattle.byte_unit.specs.SizeReading.{IsSizeReading};
 ghost use Rattle.byte_unit.specs.declared.Kind.TheVariants.{Byte as InBytes};
-ghost use Rattle.byte_unit_serde.specs.Outcomes.{IsListError, ReadingSizeBy};
+ghost use Rattle.byte_unit_serde.specs.Outcomes.{IsListError, ParsesSize, Reading};
 ghost use Rattle.byte_unit_serde.specs.Serialized.{ReadsSeq};
 
 use crate::byte_ignore_case::IgnoreCase;
@@ -26,10 +26,10 @@ pub fn deserialize<'de, F: Source>(
 ) -> Result<Vec<Byte>, F::Error>
     ensures list { IfOk result (λ sizes.
         ReadsSeq (IsAccepted InBytes true) F.gives F.stays from.old from.new sizes.items) }
-    ensures error { let Reading = ReadingSizeBy
-        (IsSizeReading InBytes true) F.string_returns F.rejects in
-        IfErr result (IsListError (IsAccepted InBytes true) F.gives F.stays F.begin_returns
-        F.next_returns Reading F.refuses from.old from.new) }
+    ensures error { IfErr result (IsListError (IsAccepted InBytes true)
+        F.gives F.stays F.begin_returns F.next_returns
+        (Reading (ParsesSize (IsSizeReading InBytes true)) F.string_returns F.rejects)
+        F.refuses from.old from.new) }
 {
     lists::deserialize_as::<IgnoreCase, F>(alloc, from)
 }

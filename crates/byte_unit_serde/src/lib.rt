@@ -18,6 +18,7 @@ pub mod optional_byte_ignore_case;
 pub mod optional_unit;
 mod options;
 mod sink;
+mod sizes;
 mod source;
 mod stored;
 mod strings;

@@ -2,11 +2,11 @@
 
 ghost use Rattle.std.specs.Prelude.{IfErr, IfOk, OnOk};
 ghost use Rattle.serde.specs.Event.{WritesSeq};
-ghost use Rattle.byte_unit_serde.specs.Outcomes.{IsListError, WritingList};
+ghost use Rattle.byte_unit_serde.specs.Outcomes.{IsListError, Reading, WritingList};
 ghost use Rattle.byte_unit_serde.specs.Serialized.{ReadsSeq};
 
 use crate::strings::{DeserializeString, SerializeString};
-use crate::{Sink, Source};
+use crate::{Sink, Source, strings};
 use serde::Deserializer;
 use std::alloc::Global;
 
@@ -39,7 +39,7 @@ pub fn deserialize<'de, T: DeserializeString<Value = T> + Drop, F: Source>(
     ensures list { IfOk result (λ values.
         ReadsSeq T.means F.gives F.stays from.old from.new values.items) }
     ensures error { IfErr result (IsListError T.means F.gives F.stays F.begin_returns F.next_returns
-        (T.reading F.string_returns F.rejects) F.refuses from.old from.new) }
+        (Reading T.parses F.string_returns F.rejects) F.refuses from.old from.new) }
 {
     deserialize_as::<T, F>(alloc, from)
 }
@@ -69,7 +69,7 @@ pub(crate) fn deserialize_as<'de, R: DeserializeString, F: Source>(
     ensures list { IfOk result (λ values.
         ReadsSeq R.means F.gives F.stays from.old from.new values.items) }
     ensures error { IfErr result (IsListError R.means F.gives F.stays F.begin_returns F.next_returns
-        (R.reading F.string_returns F.rejects) F.refuses from.old from.new) }
+        (Reading R.parses F.string_returns F.rejects) F.refuses from.old from.new) }
 {
     F::begin_list(from)?;
     let mut items = Vec::new(alloc);
@@ -77,7 +77,7 @@ pub(crate) fn deserialize_as<'de, R: DeserializeString, F: Source>(
         if !F::next_in_list(from)? {
             return Ok(items);
         }
-        let item = R::deserialize_string(alloc, from)?;
+        let item = strings::deserialize_as::<R, F>(alloc, from)?;
         F::append(from, &mut items, item)?;
     }
     Err(from.wrong_len())

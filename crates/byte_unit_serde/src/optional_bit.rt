@@ -1,4 +1,3 @@
-// Rendered from crates/byte_unit_serde/src/optional_byte.rt. Do not edit.
 //! A size in bits as a string, or nothing, for `#[serde(with = "byte_unit_serde::optional_bit", default)]`.
 
 pub use crate::options::{deserialize, serialize};

@@ -6,7 +6,7 @@ ghost use Rattle.serde.specs.Event.{WritesOption};
 ghost use Rattle.byte_unit.specs.BinaryReading.{IsBinaryAccepted, IsBinaryReading};
 ghost use Rattle.byte_unit.specs.BinaryString.{IsBinaryString};
 ghost use Rattle.byte_unit.specs.declared.Kind.TheVariants.{Byte as InBytes};
-ghost use Rattle.byte_unit_serde.specs.Outcomes.{ReadingOption, ReadingSizeBy, WritingOption, WritingSizeAs};
+ghost use Rattle.byte_unit_serde.specs.Outcomes.{ParsesSize, Reading, ReadingOption, WritingOption, WritingSizeAs};
 ghost use Rattle.byte_unit_serde.specs.Serialized.{ReadsOption, WritesSizeAs};
 
 use crate::byte_binary::Binary;
@@ -41,7 +41,7 @@ pub fn deserialize<'de, F: Source>(
     ensures option { IfOk result
         (ReadsOption (IsBinaryAccepted InBytes true) F.gives F.stays from.old from.new) }
     ensures exact { ReadingOption F.none_returns
-        (ReadingSizeBy (IsBinaryReading InBytes true) F.string_returns F.rejects)
+        (Reading (ParsesSize (IsBinaryReading InBytes true)) F.string_returns F.rejects)
         from.old result from.new }
 {
     options::deserialize_as::<Binary, F>(alloc, from)

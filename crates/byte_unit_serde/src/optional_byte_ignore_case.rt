@@ -5,7 +5,7 @@ ghost use Rattle.std.specs.Prelude.{true, IfOk};
 ghost use Rattle.byte_unit.specs.Accepted.{IsAccepted};
 ghost use Rattle.byte_unit.specs.SizeReading.{IsSizeReading};
 ghost use Rattle.byte_unit.specs.declared.Kind.TheVariants.{Byte as InBytes};
-ghost use Rattle.byte_unit_serde.specs.Outcomes.{ReadingOption, ReadingSizeBy};
+ghost use Rattle.byte_unit_serde.specs.Outcomes.{ParsesSize, Reading, ReadingOption};
 ghost use Rattle.byte_unit_serde.specs.Serialized.{ReadsOption};
 
 use crate::byte_ignore_case::IgnoreCase;
@@ -27,7 +27,7 @@ pub fn deserialize<'de, F: Source>(
     ensures option { IfOk result
         (ReadsOption (IsAccepted InBytes true) F.gives F.stays from.old from.new) }
     ensures exact { ReadingOption F.none_returns
-        (ReadingSizeBy (IsSizeReading InBytes true) F.string_returns F.rejects)
+        (Reading (ParsesSize (IsSizeReading InBytes true)) F.string_returns F.rejects)
         from.old result from.new }
 {
     options::deserialize_as::<IgnoreCase, F>(alloc, from)

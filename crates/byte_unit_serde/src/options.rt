@@ -2,11 +2,11 @@
 
 ghost use Rattle.std.specs.Prelude.{IfOk, OnOk};
 ghost use Rattle.serde.specs.Event.{WritesOption};
-ghost use Rattle.byte_unit_serde.specs.Outcomes.{ReadingOption, WritingOption};
+ghost use Rattle.byte_unit_serde.specs.Outcomes.{Reading, ReadingOption, WritingOption};
 ghost use Rattle.byte_unit_serde.specs.Serialized.{ReadsOption};
 
 use crate::strings::{DeserializeString, SerializeString};
-use crate::{Sink, Source};
+use crate::{Sink, Source, strings};
 use serde::Deserializer;
 use std::alloc::Global;
 
@@ -37,7 +37,7 @@ pub fn deserialize<'de, T: DeserializeString<Value = T> + Drop, F: Source>(
     from: &mut Deserializer<'de, '_, F>,
 ) -> Result<Option<T>, F::Error>
     ensures option { IfOk result (ReadsOption T.means F.gives F.stays from.old from.new) }
-    ensures exact { ReadingOption F.none_returns (T.reading F.string_returns F.rejects)
+    ensures exact { ReadingOption F.none_returns (Reading T.parses F.string_returns F.rejects)
         from.old result from.new }
 {
     deserialize_as::<T, F>(alloc, from)
@@ -65,11 +65,11 @@ pub(crate) fn deserialize_as<'de, R: DeserializeString, F: Source>(
     from: &mut Deserializer<'de, '_, F>,
 ) -> Result<Option<R::Value>, F::Error>
     ensures option { IfOk result (ReadsOption R.means F.gives F.stays from.old from.new) }
-    ensures exact { ReadingOption F.none_returns (R.reading F.string_returns F.rejects)
+    ensures exact { ReadingOption F.none_returns (Reading R.parses F.string_returns F.rejects)
         from.old result from.new }
 {
     if F::read_none(from)? {
         return Ok(None);
     }
-    Ok(Some(R::deserialize_string(alloc, from)?))
+    Ok(Some(strings::deserialize_as::<R, F>(alloc, from)?))
 }

@@ -3,7 +3,7 @@
 ghost use Rattle.std.specs.Prelude.{IfOk};
 ghost use Rattle.byte_unit_serde.specs.Serialized.{ReadsString};
 
-use crate::strings::{DeserializeString, SerializeString};
+use crate::strings::{DeserializeString, SerializeString, deserialize_as};
 use serde::{
     Described, Deserialize, DeserializeOwned, Deserializer, Format, Serialize, Serializer,
 };
@@ -41,7 +41,7 @@ impl<T: DeserializeString<Value = T> + Drop> DeserializeOwned for Stored<T> {
         ensures { IfOk result (λ stored.
             ReadsString T.means F.gives from.old from.new stored.0) }
     {
-        Ok(Stored(T::deserialize_string(alloc, from)?))
+        Ok(Stored(deserialize_as::<T, F>(alloc, from)?))
     }
 }
 

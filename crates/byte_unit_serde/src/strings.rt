@@ -1,8 +1,9 @@
 //! Values that are stored as strings, and the ways to write and to read them.
 
-ghost use Rattle.std.specs.Prelude.{ℕ, List, IfOk, OnOk};
+ghost use Rattle.std.specs.Prelude.{ℕ, List, Result, IfOk, OnOk};
+ghost use Rattle.std.specs.Result.{result_map_both};
 ghost use Rattle.serde.specs.Event.{Log};
-ghost use Rattle.byte_unit_serde.specs.Outcomes.{Returns};
+ghost use Rattle.byte_unit_serde.specs.Outcomes.{Reading, Returns};
 ghost use Rattle.byte_unit_serde.specs.Serialized.{ReadsString};
 
 use crate::{Sink, Source};
@@ -36,9 +37,21 @@ pub fn deserialize<'de, T: DeserializeString<Value = T> + Drop, F: Source>(
     from: &mut Deserializer<'de, '_, F>,
 ) -> Result<T, F::Error>
     ensures string { IfOk result (ReadsString T.means F.gives from.old from.new) }
-    ensures exact { T.reading F.string_returns F.rejects from.old result from.new }
+    ensures exact { Reading T.parses F.string_returns F.rejects from.old result from.new }
 {
-    T::deserialize_string(alloc, from)
+    deserialize_as::<T, F>(alloc, from)
+}
+
+/// Reads a string as `R` parses it. The errors are those of [`deserialize`].
+pub(crate) fn deserialize_as<R: DeserializeString, F: Source>(
+    alloc: Global,
+    from: &mut Deserializer<'_, '_, F>,
+) -> Result<R::Value, F::Error>
+    ensures string { IfOk result (ReadsString R.means F.gives from.old from.new) }
+    ensures exact { Reading R.parses F.string_returns F.rejects from.old result from.new }
+{
+    let text = F::read_string(alloc, from)?;
+    R::parse_string(text.as_str()).map_err(|message| F::rejection(from, message))
 }
 
 /// A way to write a value as a string.
@@ -64,14 +77,16 @@ pub trait DeserializeString {
 
     // The string has this meaning.
     ghost means: { List ℕ → Self.Value → Type 0 };
-    // What is returned, by what the call that reads a string returned, and by the errors of rejected strings.
-    ghost reading: { {D E : Type 0} → Returns D (List ℕ) E → (D → List ℕ → E → Type 0) → Returns D Self.Value E };
+    // The string is parsed as this: its value, or the message of its error.
+    ghost parses: { List ℕ → Result Self.Value (List ℕ) → Type 0 };
 
-    /// Reads a string, and parses it.
-    fn deserialize_string<F: Source>(
-        alloc: Global,
-        from: &mut Deserializer<'_, '_, F>,
-    ) -> Result<Self::Value, F::Error>
-        ensures string { IfOk result (ReadsString means F.gives from.old from.new) }
-        ensures exact { reading F.string_returns F.rejects from.old result from.new };
+    /// Parses a string.
+    ///
+    /// # Errors
+    ///
+    /// Returns the message of the error if the string is rejected.
+    fn parse_string(text: &str) -> Result<Self::Value, &'static str>
+        ensures value { IfOk result (means text.now) }
+        ensures exact { parses text.now
+            (result_map_both (λ value. value) (λ message. message.now) result) };
 }

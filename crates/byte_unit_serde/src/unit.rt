@@ -1,16 +1,14 @@
 //! A unit as a string, for `#[serde(with = "byte_unit_serde::unit")]`.
 
 ghost use Rattle.byte_unit.specs.Version.{unit_name};
-ghost use Rattle.byte_unit_serde.specs.Outcomes.{ReadingUnit};
+ghost use Rattle.byte_unit_serde.specs.Outcomes.{ParsesUnit};
 ghost use Rattle.byte_unit_serde.specs.Serialized.{SpellsUnit, WritesUnit};
 
+use crate::Sink;
 use crate::messages::BAD_UNIT;
 use crate::strings::{DeserializeString, SerializeString};
 pub use crate::strings::{deserialize, serialize};
-use crate::{Sink, Source};
 use byte_unit::Unit;
-use serde::Deserializer;
-use std::alloc::Global;
 
 impl SerializeString for Unit {
     type Value = Unit;
@@ -29,14 +27,9 @@ impl DeserializeString for Unit {
 
     ghost means = { SpellsUnit };
 
-    ghost reading = { ReadingUnit };
+    ghost parses = { ParsesUnit };
 
-    fn deserialize_string<F: Source>(
-        alloc: Global,
-        from: &mut Deserializer<'_, '_, F>,
-    ) -> Result<Unit, F::Error> {
-        let text = F::read_string(alloc, from)?;
-        text.parse::<Unit>()
-            .map_err(|_| F::rejection(from, BAD_UNIT))
+    fn parse_string(text: &str) -> Result<Unit, &'static str> {
+        text.parse::<Unit>().map_err(|_| BAD_UNIT)
     }
 }

@@ -1,6 +1,6 @@
 """Renders files, and parts of files, from the sources that own what they say.
 
-    bits         byte_unit_bit from byte_unit_byte, and modules of byte_unit_serde
+    bits         byte_unit_bit from byte_unit_byte
     bindings     the lists of units, constants and expected characters in `bindings/`, from tables of the library
     calling      the contracts in CALLING.md, from what `byte_unit` exports
     definitions  the lists of docs/DEFINITIONS.md, from the definitions that contracts lead to

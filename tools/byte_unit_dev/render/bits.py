@@ -1,4 +1,4 @@
-"""The words and rows by which byte_unit_bit is rendered from byte_unit_byte, and modules of byte_unit_serde."""
+"""The words and rows by which byte_unit_bit is rendered from byte_unit_byte."""
 
 import functools
 import os
@@ -11,10 +11,9 @@ from ..source import catalogue
 
 CRATE = "byte_unit_bit"
 SOURCE, TARGET, MOST_COLUMNS = "crates/byte_unit_byte", f"crates/{CRATE}", 120
-HEAD = "{} Rendered from {}. Do not edit.\n".format
+HEAD = "// Rendered from {}. Do not edit.\n".format
 # The differences beside words: the file says what it has.
 ROWS = f"{SOURCE}/bits.toml"
-SERDE = re.compile(r"crates/byte_unit_serde/(?:src|proofs)/(byte|optional_byte|byte_vec)[/.].*")
 # The longest `field: value` that `rt fmt` leaves on one line with its struct.
 MOST_FIELD_COLUMNS = 18
 # The prefixes of units, with the beginnings of the constants' names.
@@ -32,8 +31,8 @@ def both_ways(pairs):
 # Words of code: names of the two crates, and symbols of units in texts.
 WORDS = {
     "Byte": "Bit", "AdjustedByte": "AdjustedBit", "InBytes": "InBits", "byte": "bit", "get_byte": "get_bit",
-    "byte_constant": "bit_constant", "byte_bounds": "bit_bounds", "optional_byte": "optional_bit",
-    "byte_vec": "bit_vec", "B": "b", **{f"{prefix}B": f"{prefix}b" for prefix in PREFIXES},
+    "byte_constant": "bit_constant", "byte_bounds": "bit_bounds", "B": "b",
+    **{f"{prefix}B": f"{prefix}b" for prefix in PREFIXES},
     **both_ways({
         "Kind::Byte": "Kind::Bit", "allow_in_bits": "allow_in_bytes", "Unit::B": "Unit::Bit", "Unit.B": "Unit.Bit",
         **{f"Unit::{prefix}B": f"Unit::{prefix}bit" for prefix in PREFIXES},
@@ -132,10 +131,10 @@ def misfits(name, texts, mutants):
 
 
 def made():
-    """Each file of src/; modules of byte_unit_serde and their proofs. A mutant of either crate that cannot be applied,
-    because its old text is not in its file exactly once, is a failure."""
+    """Each file of src/. A mutant of either crate that cannot be applied, because its old text is not in its file
+    exactly once, is a failure."""
     texts, edits = crate(SOURCE)
-    made_texts = {named(name): HEAD("//", f"{SOURCE}/{name}") + in_bits(
+    made_texts = {named(name): HEAD(f"{SOURCE}/{name}") + in_bits(
         name, constants(text) if name == CONSTANTS else text) for name, text in texts.items()}
     without = differences()["without"]
     made_edits = mutants()
@@ -145,10 +144,6 @@ def made():
     there = [name.removeprefix(f"{TARGET}/") for name in files() if name.startswith(f"{TARGET}/")]
     for name in sorted({*made_texts, *there}):
         yield f"{TARGET}/{name}", made_texts.get(name, "")
-    for found in filter(None, map(SERDE.fullmatch, files())):
-        name, mark = found[0], "//" if found[0].endswith(".rt") else "--"
-        target = name[:found.start(1)] + WORDS[found[1]] + name[found.end(1):]
-        yield target, HEAD(mark, name) + in_bits(name, read(name))
     wrong = [f"{TARGET}/{name}:{number}: more than {MOST_COLUMNS} columns: {line}" for name, text in made_texts.items()
              for number, line in enumerate(text.splitlines(), 1) if len(line) > MOST_COLUMNS]
     wrong += [*misfits(SOURCE, texts, edits), *misfits(TARGET, made_texts, made_edits)]

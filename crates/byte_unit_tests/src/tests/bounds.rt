@@ -58,38 +58,30 @@ fn strings_at_the_limits(rt: HostRuntime) {
     assert_all_bits(&rt, BITS_BEYOND_THE_LIMIT_OF_V1);
 }
 
+/// Tests the arithmetic of a type of sizes, with its constant of 1.
+macro_rules! arithmetic {
+    ($rt:expr, $size:ident, $one:expr) => {
+        let size = $size::from_u64(15_500);
+        let step = $size::from_u64(500);
+        let power = $size::from_u128(1 << 65).expect($rt, "a size");
+        assert_are(
+            $rt,
+            &[
+                (size.add(step), Some($size::from_u64(16_000))),
+                (size.subtract(step), Some($size::from_u64(15_000))),
+                (size.multiply(2), Some($size::from_u64(31_000))),
+                (size.divide(5), Some($size::from_u64(3100))),
+                (size.divide(0), None),
+                ($size::MAX.add($one), None),
+                ($size::MIN.subtract($one), None),
+                (power.multiply(1 << 63), None),
+            ],
+        );
+    };
+}
+
 #[test]
 fn arithmetic(rt: HostRuntime) {
-    let size = Byte::from_u64(15_500);
-    let step = Byte::from_u64(500);
-    let power = Byte::from_u128(1 << 65).expect(&rt, "a size");
-    assert_are(
-        &rt,
-        &[
-            (size.add(step), Some(Byte::from_u64(16_000))),
-            (size.subtract(step), Some(Byte::from_u64(15_000))),
-            (size.multiply(2), Some(Byte::from_u64(31_000))),
-            (size.divide(5), Some(Byte::from_u64(3100))),
-            (size.divide(0), None),
-            (Byte::MAX.add(Byte::BYTE), None),
-            (Byte::MIN.subtract(Byte::BYTE), None),
-            (power.multiply(1 << 63), None),
-        ],
-    );
-    let size = Bit::from_u64(15_500);
-    let step = Bit::from_u64(500);
-    let power = Bit::from_u128(1 << 65).expect(&rt, "a size");
-    assert_are(
-        &rt,
-        &[
-            (size.add(step), Some(Bit::from_u64(16_000))),
-            (size.subtract(step), Some(Bit::from_u64(15_000))),
-            (size.multiply(2), Some(Bit::from_u64(31_000))),
-            (size.divide(5), Some(Bit::from_u64(3100))),
-            (size.divide(0), None),
-            (Bit::MAX.add(Bit::BIT), None),
-            (Bit::MIN.subtract(Bit::BIT), None),
-            (power.multiply(1 << 63), None),
-        ],
-    );
+    arithmetic!(&rt, Byte, Byte::BYTE);
+    arithmetic!(&rt, Bit, Bit::BIT);
 }

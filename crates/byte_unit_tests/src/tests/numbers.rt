@@ -139,116 +139,85 @@ fn try_convert<N, S: TryFrom<N>>(number: N) -> Result<S, S::Error> {
     S::try_from(number)
 }
 
+/// Tests the conversions of integers into a type of sizes, with its constant of 10^27.
+macro_rules! from_integers {
+    ($rt:expr, $size:ident, $ronna:expr) => {
+        let five = $size::from_u64(5);
+        assert_each(
+            $rt,
+            &[
+                ("u8", convert::<u8, $size>(5), five),
+                ("u16", convert::<u16, $size>(5), five),
+                ("u32", convert::<u32, $size>(5), five),
+                ("u64", convert::<u64, $size>(5), five),
+                ("usize", convert::<usize, $size>(5), five),
+            ],
+        );
+        assert_each(
+            $rt,
+            &rows! {
+                ("i8", try_convert::<i8, $size>(5).ok(), Some(five)),
+                ("i16", try_convert::<i16, $size>(5).ok(), Some(five)),
+                ("i32", try_convert::<i32, $size>(5).ok(), Some(five)),
+                ("isize", try_convert::<isize, $size>(5).ok(), Some(five)),
+                ("i64", try_convert::<i64, $size>(5).ok(), Some(five)),
+                ("i128", try_convert::<i128, $size>(5).ok(), Some(five)),
+                ("u128", try_convert::<u128, $size>(5).ok(), Some(five)),
+                ("10^27", try_convert::<u128, $size>(1_000_000_000_000_000_000_000_000_000).ok(), Some($ronna)),
+            },
+        );
+        let error = Some(ExceededBoundsError);
+        assert_each(
+            $rt,
+            &rows! {
+                ("below 0", try_convert::<i64, $size>(-1).err(), error),
+                ("10^30", try_convert::<u128, $size>(MAX_SIZE + 1).err(), error),
+            },
+        );
+    };
+}
+
 #[test]
 fn bytes_from_integers(rt: HostRuntime) {
-    let five = Byte::from_u64(5);
-    assert_each(
-        &rt,
-        &[
-            ("u8", convert::<u8, Byte>(5), five),
-            ("u16", convert::<u16, Byte>(5), five),
-            ("u32", convert::<u32, Byte>(5), five),
-            ("u64", convert::<u64, Byte>(5), five),
-            ("usize", convert::<usize, Byte>(5), five),
-        ],
-    );
-    assert_each(
-        &rt,
-        &rows! {
-            ("i8", try_convert::<i8, Byte>(5).ok(), Some(five)),
-            ("i16", try_convert::<i16, Byte>(5).ok(), Some(five)),
-            ("i32", try_convert::<i32, Byte>(5).ok(), Some(five)),
-            ("isize", try_convert::<isize, Byte>(5).ok(), Some(five)),
-            ("i64", try_convert::<i64, Byte>(5).ok(), Some(five)),
-            ("i128", try_convert::<i128, Byte>(5).ok(), Some(five)),
-            ("u128", try_convert::<u128, Byte>(5).ok(), Some(five)),
-            ("10^27", try_convert::<u128, Byte>(1_000_000_000_000_000_000_000_000_000).ok(), Some(Byte::RONNABYTE)),
-        },
-    );
-    let error = Some(ExceededBoundsError);
-    assert_each(
-        &rt,
-        &rows! {
-            ("below 0", try_convert::<i64, Byte>(-1).err(), error),
-            ("10^30", try_convert::<u128, Byte>(MAX_SIZE + 1).err(), error),
-        },
-    );
+    from_integers!(&rt, Byte, Byte::RONNABYTE);
 }
 
 #[test]
 fn bits_from_integers(rt: HostRuntime) {
-    let five = Bit::from_u64(5);
-    assert_each(
-        &rt,
-        &[
-            ("u8", convert::<u8, Bit>(5), five),
-            ("u16", convert::<u16, Bit>(5), five),
-            ("u32", convert::<u32, Bit>(5), five),
-            ("u64", convert::<u64, Bit>(5), five),
-            ("usize", convert::<usize, Bit>(5), five),
-        ],
-    );
-    assert_each(
-        &rt,
-        &rows! {
-            ("i8", try_convert::<i8, Bit>(5).ok(), Some(five)),
-            ("i16", try_convert::<i16, Bit>(5).ok(), Some(five)),
-            ("i32", try_convert::<i32, Bit>(5).ok(), Some(five)),
-            ("isize", try_convert::<isize, Bit>(5).ok(), Some(five)),
-            ("i64", try_convert::<i64, Bit>(5).ok(), Some(five)),
-            ("i128", try_convert::<i128, Bit>(5).ok(), Some(five)),
-            ("u128", try_convert::<u128, Bit>(5).ok(), Some(five)),
-            ("10^27", try_convert::<u128, Bit>(1_000_000_000_000_000_000_000_000_000).ok(), Some(Bit::RONNABIT)),
-        },
-    );
-    let error = Some(ExceededBoundsError);
-    assert_each(
-        &rt,
-        &[
-            ("below 0", try_convert::<i64, Bit>(-1).err(), error),
-            ("10^30", try_convert::<u128, Bit>(MAX_SIZE + 1).err(), error),
-        ],
-    );
+    from_integers!(&rt, Bit, Bit::RONNABIT);
 }
 
 fn rejects<N, S: TryFrom<N, Error = TryFromIntError> + Drop>(size: N) -> bool {
     S::try_from(size).is_err()
 }
 
+/// Tests the conversions of a type of sizes into integers, with its constant of 1024.
+macro_rules! into_integers {
+    ($rt:expr, $size:ident, $kibi:expr) => {
+        for (number, holds) in rows! {
+            ("u128", convert::<$size, u128>($size::MAX) == MAX_SIZE),
+            ("u64, cut", convert::<$size, u64>($size::MAX) == u64::MAX),
+            ("u64", convert::<$size, u64>($kibi) == 1024),
+            ("u8", try_convert::<$size, u8>($size::from_u64(255)).ok() == Some(255)),
+            ("u16", try_convert::<$size, u16>($size::from_u64(300)).ok() == Some(300)),
+            ("u32", try_convert::<$size, u32>($size::from_u64(4_294_967_295)).ok() == Some(4_294_967_295)),
+            ("usize", try_convert::<$size, usize>($kibi).ok() == Some(1024)),
+            ("no u8", rejects::<$size, u8>($size::from_u64(300))),
+            ("no u16", rejects::<$size, u16>($size::from_u64(65_536))),
+            ("no u32", rejects::<$size, u32>($size::from_u64(4_294_967_296))),
+            ("no usize", rejects::<$size, usize>($size::MAX)),
+        } {
+            assert_for($rt, holds, number);
+        }
+    };
+}
+
 #[test]
 fn bytes_into_integers(rt: HostRuntime) {
-    for (number, holds) in rows! {
-        ("u128", convert::<Byte, u128>(Byte::MAX) == MAX_SIZE),
-        ("u64, cut", convert::<Byte, u64>(Byte::MAX) == u64::MAX),
-        ("u64", convert::<Byte, u64>(Byte::KIBIBYTE) == 1024),
-        ("u8", try_convert::<Byte, u8>(Byte::from_u64(255)).ok() == Some(255)),
-        ("u16", try_convert::<Byte, u16>(Byte::from_u64(300)).ok() == Some(300)),
-        ("u32", try_convert::<Byte, u32>(Byte::from_u64(4_294_967_295)).ok() == Some(4_294_967_295)),
-        ("usize", try_convert::<Byte, usize>(Byte::KIBIBYTE).ok() == Some(1024)),
-        ("no u8", rejects::<Byte, u8>(Byte::from_u64(300))),
-        ("no u16", rejects::<Byte, u16>(Byte::from_u64(65_536))),
-        ("no u32", rejects::<Byte, u32>(Byte::from_u64(4_294_967_296))),
-        ("no usize", rejects::<Byte, usize>(Byte::MAX)),
-    } {
-        assert_for(&rt, holds, number);
-    }
+    into_integers!(&rt, Byte, Byte::KIBIBYTE);
 }
 
 #[test]
 fn bits_into_integers(rt: HostRuntime) {
-    for (number, holds) in rows! {
-        ("u128", convert::<Bit, u128>(Bit::MAX) == MAX_SIZE),
-        ("u64, cut", convert::<Bit, u64>(Bit::MAX) == u64::MAX),
-        ("u64", convert::<Bit, u64>(Bit::KIBIBIT) == 1024),
-        ("u8", try_convert::<Bit, u8>(Bit::from_u64(255)).ok() == Some(255)),
-        ("u16", try_convert::<Bit, u16>(Bit::from_u64(300)).ok() == Some(300)),
-        ("u32", try_convert::<Bit, u32>(Bit::from_u64(4_294_967_295)).ok() == Some(4_294_967_295)),
-        ("usize", try_convert::<Bit, usize>(Bit::KIBIBIT).ok() == Some(1024)),
-        ("no u8", rejects::<Bit, u8>(Bit::from_u64(300))),
-        ("no u16", rejects::<Bit, u16>(Bit::from_u64(65_536))),
-        ("no u32", rejects::<Bit, u32>(Bit::from_u64(4_294_967_296))),
-        ("no usize", rejects::<Bit, usize>(Bit::MAX)),
-    } {
-        assert_for(&rt, holds, number);
-    }
+    into_integers!(&rt, Bit, Bit::KIBIBIT);
 }

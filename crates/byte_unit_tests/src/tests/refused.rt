@@ -11,23 +11,43 @@ use serde_json::Value;
 use std::alloc::Global;
 use std::process::Abort;
 
-/// Asserts that no result is wrong, and that at most one of three calls failed.
-fn assert_counts(rt: &impl Abort, right: u32, wrong: u32, wanted: &str) {
-    assert_for(rt, wrong == 0 && right >= 2, wanted);
+/// Makes a call three times, and asserts that no result is wrong, and that at most one call failed.
+macro_rules! assert_calls {
+    ($rt:expr, $call:expr, $value:ident, $is_right:expr, $wanted:expr) => {
+        let mut right = 0u32;
+        let mut wrong = 0u32;
+        for _ in 0..3 {
+            match $call {
+                Ok($value) if $is_right => right = right.saturating_add(1),
+                Ok(_) => wrong = wrong.saturating_add(1),
+                Err(_) => (),
+            }
+        }
+        assert_for($rt, wrong == 0 && right >= 2, $wanted);
+    };
 }
 
-/// Asserts the JSON string of a size in three calls, of which at most one fails.
+/// Asserts the JSON string of a size.
 fn assert_string(rt: &impl Abort, alloc: Global, shown: &AnySize, wanted: &str) {
-    let mut right = 0u32;
-    let mut wrong = 0u32;
-    for _ in 0..3 {
-        match stored(shown, alloc) {
-            Ok(value) if value.as_str() == Some(wanted) => right = right.saturating_add(1),
-            Ok(_) => wrong = wrong.saturating_add(1),
-            Err(_) => (),
-        }
-    }
-    assert_counts(rt, right, wrong, wanted);
+    assert_calls!(
+        rt,
+        stored(shown, alloc),
+        value,
+        value.as_str() == Some(wanted),
+        wanted
+    );
+}
+
+/// Asserts the text of a size with a unit.
+fn assert_text(rt: &impl Abort, alloc: Global, shown: &AnySize, wanted: &str) {
+    let spec = FormatSpec::ALTERNATE;
+    assert_calls!(
+        rt,
+        text_of(shown, alloc, spec),
+        text,
+        text.as_str() == wanted,
+        wanted
+    );
 }
 
 #[test]
@@ -52,30 +72,13 @@ fn json_string_of_adjusted_bits(rt: HostRuntime) {
 
 #[test]
 fn json_string_of_a_unit(rt: HostRuntime) {
-    let mut right = 0u32;
-    let mut wrong = 0u32;
-    for _ in 0..3 {
-        match unit_to_json(rt.alloc(), Unit::Kbit) {
-            Ok(value) if value.as_str() == Some("Kb") => right = right.saturating_add(1),
-            Ok(_) => wrong = wrong.saturating_add(1),
-            Err(_) => (),
-        }
-    }
-    assert_counts(&rt, right, wrong, "Kb");
-}
-
-/// Asserts the text of a size with a unit in three calls, of which at most one fails.
-fn assert_text(rt: &impl Abort, alloc: Global, shown: &AnySize, wanted: &str) {
-    let mut right = 0u32;
-    let mut wrong = 0u32;
-    for _ in 0..3 {
-        match text_of(shown, alloc, FormatSpec::ALTERNATE) {
-            Ok(text) if text.as_str() == wanted => right = right.saturating_add(1),
-            Ok(_) => wrong = wrong.saturating_add(1),
-            Err(_) => (),
-        }
-    }
-    assert_counts(rt, right, wrong, wanted);
+    assert_calls!(
+        &rt,
+        unit_to_json(rt.alloc(), Unit::Kbit),
+        value,
+        value.as_str() == Some("Kb"),
+        "Kb"
+    );
 }
 
 #[test]

@@ -6,4 +6,4 @@ pub returns-clause-written : goal.returns-clause-written
 returns-clause-written g c =
     on_ok_weaker c.write_as.result
     (λ wrote. (wrote.0, c.spec_of.ensures.string wrote.0 wrote.1, wrote.2))
-    c.write_as.ensures.written
+    (rw c.as_u128.ensures.number at c.write_as.ensures.written)

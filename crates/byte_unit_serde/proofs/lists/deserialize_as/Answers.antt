@@ -1,6 +1,7 @@
 -- Each iteration reads one more item; the sequence ends after the last, or with an error.
 use Rattle.std.proofs.Common.{rules, ◌≡◌, [], ◌∷◌, ◌++◌, subst, sym, Err, inl, inr}
 use Rattle.serde.specs.Steps.{Stays}
+use Rattle.byte_unit_serde.specs.Outcomes.{Reading}
 use Rattle.byte_unit_serde.specs.Serialized.{ReadsEach}
 use Rattle.byte_unit_serde.proofs.Reading.{reads_each_snoc, holds_of_error}
 use Rattle.byte_unit_serde.proofs.lists.deserialize_as.Goals as goal
@@ -10,14 +11,7 @@ returns-in_err-next_in_list-clause-error g c =
     let returned : g.F.Source.next_returns c.loop-alloc.from (Err c.in_err-next_in_list.field-0.0)
     c.next_in_list.new.from = search rules in
     holds_of_error _ c.from_residual-in_err-next_in_list.result c.in_err-next_in_list.field-0.0 (search rules)
-    (inr (
-      c.begin_list.new.from,
-      c.loop-alloc.from,
-      c.loop-alloc.items.items,
-      c.in_ok-begin_list.ensures.given,
-      c.loop-alloc.invariant,
-      inl returned,
-    ))
+    (inr (_, _, _, c.in_ok-begin_list.ensures.given, c.loop-alloc.invariant, inl returned))
 
 pub returns-then-not-branch-clause-list : goal.returns-then-not-branch-clause-list
 returns-then-not-branch-clause-list g c =
@@ -26,38 +20,26 @@ returns-then-not-branch-clause-list g c =
 pub returns-in_err-item-clause-error : goal.returns-in_err-item-clause-error
 returns-in_err-item-clause-error g c =
     let looks : Stays g.F.Format.stays c.loop-alloc.from c.next_in_list.new.from = search rules in
-    let failed : g.R.DeserializeString.reading g.F.Source.string_returns g.F.Source.rejects c.next_in_list.new.from
-    (Err c.in_err-item.field-0.0) c.deserialize_string.new.from = search rules in
+    let failed : Reading g.R.DeserializeString.parses g.F.Source.string_returns g.F.Source.rejects c.next_in_list.new.from
+    (Err c.in_err-item.field-0.0) c.deserialize_as.new.from = search rules in
     holds_of_error _ c.from_residual-in_err-item.result c.in_err-item.field-0.0 (search rules)
-    (inr (
-      c.begin_list.new.from,
-      c.loop-alloc.from,
-      c.loop-alloc.items.items,
-      c.in_ok-begin_list.ensures.given,
-      c.loop-alloc.invariant,
-      inr (inl (c.next_in_list.new.from, looks, failed)),
-    ))
+    (inr (_, _, _, c.in_ok-begin_list.ensures.given, c.loop-alloc.invariant, inr (inl (_, looks, failed))))
 
 pub loop-alloc-preserved : goal.loop-alloc-preserved
 loop-alloc-preserved g c =
     let pushed : c.append.new.items.items ≡ c.loop-alloc.items.items ++ c.in_ok-item.item ∷ [] = search rules in
     let looks : Stays g.F.Format.stays c.loop-alloc.from c.next_in_list.new.from = search rules in
     let more = reads_each_snoc g.R.DeserializeString.means g.F.Format.gives g.F.Format.stays c.loop-alloc.items.items
-    c.in_ok-item.item _ c.loop-alloc.from c.next_in_list.new.from c.deserialize_string.new.from c.loop-alloc.invariant looks
+    c.in_ok-item.item _ c.loop-alloc.from c.next_in_list.new.from c.deserialize_as.new.from c.loop-alloc.invariant looks
     c.in_ok-item.ensures.string in
     subst (λ items. ReadsEach g.R.DeserializeString.means g.F.Format.gives g.F.Format.stays c.begin_list.new.from
-    c.deserialize_string.new.from items) (sym pushed) more
+    c.deserialize_as.new.from items) (sym pushed) more
 
 pub returns-in_err-append-clause-error : goal.returns-in_err-append-clause-error
 returns-in_err-append-clause-error g c =
     let looks : Stays g.F.Format.stays c.loop-alloc.from c.next_in_list.new.from = search rules in
-    let failed : g.F.Source.refuses c.deserialize_string.new.from c.in_err-append.field-0.0 = search rules in
+    let given = c.in_ok-begin_list.ensures.given in
+    let string = c.in_ok-item.ensures.string in
+    let failed : g.F.Source.refuses c.deserialize_as.new.from c.in_err-append.field-0.0 = search rules in
     holds_of_error _ c.from_residual-in_err-append.result c.in_err-append.field-0.0 (search rules)
-    (inr (
-      c.begin_list.new.from,
-      c.loop-alloc.from,
-      c.loop-alloc.items.items,
-      c.in_ok-begin_list.ensures.given,
-      c.loop-alloc.invariant,
-      inr (inr (inl (c.next_in_list.new.from, c.in_ok-item.item, looks, c.in_ok-item.ensures.string, failed))),
-    ))
+    (inr (_, _, _, given, c.loop-alloc.invariant, inr (inr (inl (c.next_in_list.new.from, _, looks, string, failed)))))

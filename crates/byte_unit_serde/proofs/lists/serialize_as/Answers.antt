@@ -23,8 +23,7 @@ returns-in_err-serialize_string-clause-exact g c =
     (Err c.in_err-serialize_string.field-0.0, c.serialize_string.new.out, failed, (refl, refl)) in (
       Ok c.in_ok-begin_list.field-0,
       c.begin_list.new.self,
-      subst (λ len. g.S.Sink.begin_returns len c.args.out.now (Ok c.in_ok-begin_list.field-0) c.begin_list.new.self)
-          begun c.in_ok-begin_list.ensures.returned,
+      rw begun at c.in_ok-begin_list.ensures.returned,
       search (rules, error),
     )
 
@@ -58,7 +57,6 @@ returns-clause-exact g c =
     c.end_list.ensures.returned in (
       Ok c.in_ok-begin_list.field-0,
       c.begin_list.new.self,
-      subst (λ len. g.S.Sink.begin_returns len c.args.out.now (Ok c.in_ok-begin_list.field-0) c.begin_list.new.self)
-          begun c.in_ok-begin_list.ensures.returned,
+      rw begun at c.in_ok-begin_list.ensures.returned,
       search (rules, ended),
     )

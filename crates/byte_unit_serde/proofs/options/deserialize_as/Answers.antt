@@ -9,14 +9,14 @@ returns-in_err-read_none-clause-exact g c =
 pub returns-then-branch-clause-exact : goal.returns-then-branch-clause-exact
 returns-then-branch-clause-exact g c = (Ok true, c.read_none.new.from, search rules, (refl, refl))
 
-pub returns-in_err-deserialize_string-clause-exact : goal.returns-in_err-deserialize_string-clause-exact
-returns-in_err-deserialize_string-clause-exact g c = (
+pub returns-in_err-deserialize_as-clause-exact : goal.returns-in_err-deserialize_as-clause-exact
+returns-in_err-deserialize_as-clause-exact g c = (
   Ok false,
   c.read_none.new.from,
   search rules,
-  (Err c.in_err-deserialize_string.field-0.0, search rules, search rules),
+  (Err c.in_err-deserialize_as.field-0.0, search rules, search rules),
 )
 
 pub returns-clause-exact : goal.returns-clause-exact
 returns-clause-exact g c =
-    (Ok false, c.read_none.new.from, search rules, (Ok c.in_ok-deserialize_string.field-0, search rules, refl))
+    (Ok false, c.read_none.new.from, search rules, (Ok c.in_ok-deserialize_as.field-0, search rules, refl))

@@ -1,7 +1,6 @@
 -- What the text is parsed as is computed: a JSON object with a size at each key.
 use Rattle.std.proofs.Common.{◌≡◌, ◌∙◌, ◌*◌, ◌^◌, ℕ, List, Option, Some, None, Result, Ok, Err, Bor, IsOk, IsSome, codes, false, refl, sym, ap}
 use Rattle.std.specs.Prelude.{⊤, option_and_then, option_map}
-use Rattle.std.proofs.lemmas.Option.{same_Some}
 use Rattle.std.proofs.lemmas.Result.{err_from_is_err_and}
 use Rattle.serde_json.specs.Data.{Data}
 use Rattle.serde_json.specs.Find.{as_str, get}
@@ -11,12 +10,12 @@ use Rattle.serde_json.specs.declared.value.Value.{Value}
 use Rattle.serde_json.proofs.OnLiterals.{serde_json_on_literals}
 use Rattle.serde_json.proofs.Refusals.{IsMemory-from_err}
 use Rattle.byte_unit.specs.Fault.{Fault}
-use Rattle.byte_unit.specs.JsonReading.{ReadsString, size_errors, string_answer}
+use Rattle.byte_unit.specs.JsonReading.{ReadsString, size_errors}
 use Rattle.byte_unit.specs.Parsed.{parsed_size}
 use Rattle.byte_unit.specs.SizeReading.{IsSizeReading}
 use Rattle.byte_unit.specs.declared.JsonSizeError.{JsonSizeError}
 use Rattle.byte_unit.specs.declared.Kind.TheVariants.{Byte}
-use Rattle.byte_unit.proofs.OnLiterals.{byte_unit_on_literals, accepted_literal}
+use Rattle.byte_unit.proofs.OnLiterals.{byte_unit_on_literals, string_literal}
 use Rattle.byte_unit_uses.specs.declared.defaults.TheConstants.{DEFAULTS}
 use Rattle.byte_unit_uses.proofs.defaults.default_limits.Goals as goal
 
@@ -41,14 +40,6 @@ is_some : (found : Option (Bor Value)) (size : Result ℕ Fault) → size_of (op
 is_some (Some value) size computed = refl
 is_some None size computed = absurd (let z : ⊥ = cc in z)
 
--- a JSON string is parsed as its size
-is_parsed : (text : Option (List ℕ)) (n : ℕ) (result : Result ℕ JsonSizeError)
-    → option_map (parsed_size Byte false) text ≡ Some (Ok n)
-    → ReadsString size_errors (IsSizeReading Byte false) text result → result ≡ Ok n
-is_parsed (Some bytes) n result computed reads =
-    reads.2 ∙ ap (string_answer size_errors) (reads.1.reads n (accepted_literal Byte false bytes n (same_Some _ _ computed)))
-is_parsed None n result computed reads = absurd (let z : ⊥ = cc in z)
-
 -- What is found at the key of a size has the size, so it is there. It is parsed as the size, so without an error.
 module _ {key : List ℕ} {n : ℕ} (size : HasSize key n) (document : Data) (is_text : read_text DEFAULTS.now ≡ Some document)
     (found : Option (Bor Value)) (finds : option_map (λ v. view v.now) found ≡ get key document) where
@@ -62,7 +53,8 @@ module _ {key : List ℕ} {n : ℕ} (size : HasSize key n) (document : Data) (is
       (reads : ReadsString size_errors (IsSizeReading Byte false) (as_str (view value.now)) result) where
     parsed : result ≡ Ok n
     parsed =
-        is_parsed (as_str (view value.now)) n result (ap (λ f. size_of (option_map (λ v. view v.now) f)) (sym is) ∙ has_size) reads
+        string_literal size_errors Byte (as_str (view value.now)) n result
+        (ap (λ f. size_of (option_map (λ v. view v.now) f)) (sym is) ∙ has_size) reads
 
     is_ok : IsOk result
     is_ok = rw parsed refl

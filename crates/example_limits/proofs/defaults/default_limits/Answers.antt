@@ -13,12 +13,12 @@ use Rattle.toml.specs.declared.value.Value.{Value}
 use Rattle.toml.proofs.OnLiterals.{toml_on_literals}
 use Rattle.toml.proofs.Views.{Entry, table_get}
 use Rattle.byte_unit.specs.Fault.{Fault}
-use Rattle.byte_unit.specs.JsonReading.{ReadsString, string_answer}
+use Rattle.byte_unit.specs.JsonReading.{ReadsString}
 use Rattle.byte_unit.specs.Parsed.{parsed_size}
 use Rattle.byte_unit.specs.SizeReading.{IsSizeReading}
 use Rattle.byte_unit.specs.declared.Kind.{Kind}
 use Rattle.byte_unit.specs.declared.Kind.TheVariants.{Bit, Byte}
-use Rattle.byte_unit.proofs.OnLiterals.{byte_unit_on_literals, accepted_literal}
+use Rattle.byte_unit.proofs.OnLiterals.{byte_unit_on_literals, string_literal}
 use Rattle.byte_unit_serde.specs.TomlErrors.{size_errors}
 use Rattle.byte_unit_serde.specs.declared.toml_values.TomlSizeError.{TomlSizeError}
 use Rattle.example_limits.specs.declared.Rule.TheVariants.{FileInTotal, AllOnDisk, WithinHour}
@@ -59,14 +59,6 @@ is_some : (kind : Kind) (found : Option (Bor Value)) (size : Result ℕ Fault)
 is_some kind (Some value) size computed = refl
 is_some kind None size computed = absurd (let z : ⊥ = cc in z)
 
--- a TOML string is parsed as its size
-is_parsed : (kind : Kind) (text : Option (List ℕ)) (n : ℕ) (result : Result ℕ TomlSizeError)
-    → option_map (parsed_size kind false) text ≡ Some (Ok n)
-    → ReadsString size_errors (IsSizeReading kind false) text result → result ≡ Ok n
-is_parsed kind (Some bytes) n result computed reads =
-    reads.2 ∙ ap (string_answer size_errors) (reads.1.reads n (accepted_literal kind false bytes n (same_Some _ _ computed)))
-is_parsed kind None n result computed reads = absurd (let z : ⊥ = cc in z)
-
 -- What is found at the key of a size has the size, so it is there. It is parsed as the size, so without an error.
 module _ {kind : Kind} {key : List ℕ} {n : ℕ} (size : HasSize kind key n)
     (entries : List Entry) (is_text : parse_document DEFAULTS.now ≡ Some (members_view entries)) (found : Option (Bor Value))
@@ -83,7 +75,7 @@ module _ {kind : Kind} {key : List ℕ} {n : ℕ} (size : HasSize kind key n)
       (reads : ReadsString size_errors (IsSizeReading kind false) (as_str (view value.now)) result) where
     parsed : result ≡ Ok n
     parsed =
-        is_parsed kind (as_str (view value.now)) n result
+        string_literal size_errors kind (as_str (view value.now)) n result
         (ap (λ f. size_of kind (option_map (λ x. view x.now) f)) (sym is) ∙ has_size) reads
 
     is_ok : IsOk result

@@ -1,0 +1,5 @@
+-- The number that is written is that of the size.
+use Rattle.byte_unit_serde.proofs.sizes.BitSerializeString.serialize_string.Goals as goal
+
+pub returns-clause-written : goal.returns-clause-written
+returns-clause-written g c = rw c.as_u128.ensures.number at c.write_as.ensures.written
