@@ -88,8 +88,9 @@ fn parse_as(
 }
 
 /// Parses as `parse_as` does, from bytes in which the parser stops at this place and for this reason.
-#[cold]
-#[inline(never)]
+///
+/// `#[inline(always)]`: a call would cost a rejected text 30 instructions.
+#[inline(always)]
 fn parse_stopped(
     text: &[u8],
     place: usize,
@@ -106,11 +107,26 @@ fn parse_stopped(
 {
     match write_stop(text, place, reason, kind, ignore_case, errors) {
         Some(code) => code,
-        None => {
-            let answer = size::parse_text(text, ignore_case, kind);
-            write_result(text, answer, size, errors)
-        }
+        None => parse_as_string(text, kind, ignore_case, size, errors),
     }
+}
+
+/// Parses as `parse_as` does, from the string that the bytes are.
+#[cold]
+#[inline(never)]
+fn parse_as_string(
+    text: &[u8],
+    kind: Kind,
+    ignore_case: bool,
+    size: &mut Number,
+    errors: &mut [Error],
+) -> u32
+    ensures { (answer : Option (Result ℕ ParseError))
+        × IsBytesReading kind ignore_case text.now answer
+        × IsReturned text.now answer result size.old size.new errors.old errors.new }
+{
+    let answer = size::parse_text(text, ignore_case, kind);
+    write_result(text, answer, size, errors)
 }
 
 /// Writes the error of a parser that stops at this place and for this reason, and returns its code. Returns `None` and

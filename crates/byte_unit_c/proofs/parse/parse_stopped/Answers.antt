@@ -12,9 +12,7 @@ returns-in-Some c =
 
 pub returns-in-None : goal.returns-in-None
 returns-in-None c =
-    let answer = c.parse_text-answer.result in
-    let reading = c.parse_text-answer.ensures.reading in
-    let returned = c.write_result.ensures as_written c.args.kind c.args.ignore_case reading in
-    let R : List Error → Type 0 = λ old. IsReturned c.args.text.now answer c.write_result.result c.args.size.now
-    c.write_result.new.size old c.write_result.new.errors in
-    (answer, reading, subst R c.in-None.ensures.none returned)
+    let parsed = c.parse_as_string.ensures in
+    let R : List Error → Type 0 = λ old. IsReturned c.args.text.now parsed.0 c.parse_as_string.result c.args.size.now
+    c.parse_as_string.new.size old c.parse_as_string.new.errors in
+    (parsed.0, parsed.1, subst R c.in-None.ensures.none parsed.2)

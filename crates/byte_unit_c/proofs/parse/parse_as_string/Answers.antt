@@ -1,0 +1,8 @@
+-- The result is that of the string.
+use Rattle.byte_unit_base.specs.Accepted.{as_written}
+use Rattle.byte_unit_c.proofs.parse.parse_as_string.Goals as goal
+
+pub returns : goal.returns
+returns c =
+    let reading = c.parse_text-answer.ensures.reading in
+    (c.parse_text-answer.result, reading, c.write_result.ensures as_written c.args.kind c.args.ignore_case reading)
