@@ -13,10 +13,11 @@ ghost use Rattle.byte_unit_c.specs.Many.{offsets_of, IsLayout, IsBinaryParsed, A
 ghost use Rattle.byte_unit_c.specs.Parse.{IsReturned, IsExplanation};
 
 use crate::error::{Error, INVALID_ARGUMENT, NOT_UTF8, OK};
+use crate::explain::explain_result;
 use crate::flags::{ParseFlags, binary_flags_at};
 use crate::many::{code_of, is_layout};
 use crate::offsets::Offsets;
-use crate::parse::{explain_result, write_result, write_stop};
+use crate::parse::{write_result, write_stop};
 use crate::values::Number;
 use byte_unit_base::size::Outcome;
 use byte_unit_base::{Reason, binary, size};

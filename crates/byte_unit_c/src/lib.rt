@@ -12,6 +12,7 @@
 mod binary;
 mod codes;
 mod error;
+mod explain;
 mod flags;
 mod many;
 mod message;

@@ -1,4 +1,4 @@
-//! Parsing of sizes and of units, and messages for strings that are rejected.
+//! Parsing of sizes and of units.
 
 ghost use Rattle.std.specs.Prelude.{◌≡◌, ℕ, Bool, ◌<◌, ◌≤◌, length, Option, Some, Result, Err, IfSome, IfNone};
 ghost use Rattle.std.specs.Prelude.{MatchOption, codes};
@@ -7,31 +7,26 @@ ghost use Rattle.byte_unit_base.specs.Errors.{size_fault};
 ghost use Rattle.byte_unit_base.specs.ErrorPosition.{IsSizePosition};
 ghost use Rattle.byte_unit_base.specs.Kinds.{flags_for};
 ghost use Rattle.byte_unit_base.specs.Outcome.{IsPlacedUnitReading};
-ghost use Rattle.byte_unit_base.specs.PartsReading.{IsStopAt, stop_fault};
+ghost use Rattle.byte_unit_base.specs.PartsReading.{IsStopAt};
 ghost use Rattle.byte_unit_base.specs.Shape.{Shape};
 ghost use Rattle.byte_unit_base.specs.SizeReading.{IsBytesReading, IsBytesReadingAs};
 ghost use Rattle.byte_unit_base.specs.Spelling.{flags_of};
-ghost use Rattle.byte_unit_base.specs.BinaryReading.{IsBinaryBytesReading};
 ghost use Rattle.byte_unit_base.specs.declared.errors.ParseError.{ParseError};
 ghost use Rattle.byte_unit_base.specs.declared.errors.UnitParseError.{UnitParseError};
 ghost use Rattle.byte_unit_base.specs.declared.unit.Unit.{Unit as UnitName};
-ghost use Rattle.byte_unit_format.specs.Written.{WritesForm};
-ghost use Rattle.byte_unit_c.specs.Flags.{parse_flags_at, binary_flags_at, prefers_byte};
+ghost use Rattle.byte_unit_c.specs.Flags.{parse_flags_at, prefers_byte};
 ghost use Rattle.byte_unit_base.specs.declared.kind.Kind.{Kind};
 ghost use Rattle.byte_unit_c.specs.Error.{invalid_argument, code_of, IsWrittenAt, IsErrorWritten};
-ghost use Rattle.byte_unit_c.specs.Parse.{IsReturned, IsUnitBytesReading, IsUnitReturned, IsExplanation};
-ghost use Rattle.byte_unit_c.specs.Parse.{IsUnitExplanation};
+ghost use Rattle.byte_unit_c.specs.Parse.{IsReturned, IsUnitBytesReading, IsUnitReturned};
 
-use crate::binary::explain_binary;
 use crate::codes::code_of;
 use crate::error::{Error, INVALID_ARGUMENT, NOT_UTF8, OK, UNIT, bytes_of};
-use crate::flags::{binary_flags_at, parse_flags_at};
-use crate::message::{write_message, write_not_utf8, write_unit_message, write_unknown_flag};
+use crate::flags::parse_flags_at;
 use crate::position;
 use crate::values::Number;
 use byte_unit_base::position::parse_unit;
 use byte_unit_base::size::Outcome;
-use byte_unit_base::{Flags, Kind, ParseError, Reason, Unit, UnitParseError, error_at, size};
+use byte_unit_base::{Kind, ParseError, Reason, Unit, UnitParseError, error_at, size};
 use std::str;
 
 /// Parses a size, rounded up to the next whole byte, or to the next whole bit with the flag `BITS` (1). Sizes are below
@@ -271,7 +266,7 @@ fn parse_unit_as(
 
 /// Parses a unit from bytes, as `parse_unit` does from a string. A unit with no suffix is of this kind. Returns
 /// `None` if the bytes are not UTF-8.
-fn read_unit(
+pub(crate) fn read_unit(
     bytes: &[u8],
     kind: Kind,
     ignore_case: bool,
@@ -292,127 +287,5 @@ fn prefers_byte(kind: Kind) -> bool
     match kind {
         Kind::Byte => true,
         Kind::Bit => false,
-    }
-}
-
-/// Writes the error message for a string that is rejected to the start of `out`, and returns its length, at most 256
-/// bytes. Returns the length and writes nothing if `out` is shorter. Returns 0 if and only if the string represents a
-/// size, and then writes nothing. The flags are those of `byte_unit_parse_to`; for another, the message is
-/// `a flag is unknown`.
-///
-/// For example, `-1` gives 33, the length of `the character '-' is not a number`.
-#[unsafe(no_mangle)]
-pub extern "C" fn byte_unit_explain(text: &[u8], flags: u32, out: &mut [u8]) -> usize
-    ensures reading { IfSome (parse_flags_at flags)
-        (λ asked. (answer : Option (Result ℕ ParseError))
-        × IsBytesReading asked.kind asked.ignore_case text.now answer
-        × IsExplanation answer out.old out.new result) }
-    ensures binary { IfSome (binary_flags_at flags)
-        (λ asked. (answer : Option (Result ℕ ParseError))
-        × IsBinaryBytesReading asked.kind asked.ignore_case text.now answer
-        × IsExplanation answer out.old out.new result) }
-    ensures unknown_flag { IfNone (parse_flags_at flags) (IfNone (binary_flags_at flags)
-        (WritesForm (λ words. words ≡ codes "a flag is unknown") out.old out.new result)) }
-    ensures bound { result ≤ 256 }
-{
-    match parse_flags_at(flags) {
-        Some(asked) => explain_as(text, asked.kind, asked.ignore_case, out),
-        None => match binary_flags_at(flags) {
-            Some(asked) => explain_binary(text, asked, out),
-            None => write_unknown_flag(out),
-        },
-    }
-}
-
-/// Explains as `byte_unit_explain` does, with known flags.
-fn explain_as(text: &[u8], kind: Kind, ignore_case: bool, out: &mut [u8]) -> usize
-    ensures reading { (answer : Option (Result ℕ ParseError))
-        × IsBytesReading kind ignore_case text.now answer
-        × IsExplanation answer out.old out.new result }
-    ensures bound { result ≤ 256 }
-{
-    match size::read_bytes(text, ignore_case, kind) {
-        Outcome::Accepted(unit, number) => {
-            explain_result(Some(size::size_of((number, unit), kind)), out)
-        }
-        Outcome::Stopped(reason, place) => match size::visible_next(text, place) {
-            Some(next) => {
-                let flags = size::flags_for(kind, ignore_case);
-                write_stop_message(next, place == 0, reason, flags, out)
-            }
-            None => explain_result(size::parse_text(text, ignore_case, kind), out),
-        },
-    }
-}
-
-/// Writes the message of the error of a parser that stops for this reason, by the character there.
-fn write_stop_message(
-    next: Option<char>,
-    at_start: bool,
-    reason: Reason,
-    flags: Flags,
-    out: &mut [u8],
-) -> usize
-    ensures text { (error : ParseError) × (size_fault error ≡ stop_fault flags at_start reason next)
-        × IsExplanation (Some (Err error)) out.old out.new result }
-    ensures bound { result ≤ 256 }
-{
-    match reason {
-        Reason::InUnit(stop) => {
-            let error = stop.error_before(next, flags);
-            write_unit_message(&error, Some(stop.expected_before(next, flags)), out)
-        }
-        _ => write_message(&error_at(next, at_start, reason, flags), out),
-    }
-}
-
-/// Writes the message of the result of a parser, if it is an error, and returns its length.
-///
-/// `#[inline(always)]`: each caller knows which result it has, which is then never in memory.
-#[inline(always)]
-pub fn explain_result(answer: Option<Result<u128, ParseError>>, out: &mut [u8]) -> usize
-    ensures text { IsExplanation answer out.old out.new result }
-    ensures bound { result ≤ 256 }
-{
-    match answer {
-        Some(Ok(_)) => 0,
-        Some(Err(error)) => write_message(&error, out),
-        None => write_not_utf8(out),
-    }
-}
-
-/// Writes the error message for a string that is not a unit to the start of `out`, and returns its length, at most 256
-/// bytes. Returns the length and writes nothing if `out` is shorter. Returns 0 if and only if the string spells a unit,
-/// and then writes nothing. The flags are those of `byte_unit_parse_unit_to`; for another, the message is
-/// `a flag is unknown`.
-///
-/// For example, `Kx` gives 71, the length of `the character 'x' is incorrect ('B' or 'b' or no character is expected)`.
-#[unsafe(no_mangle)]
-pub extern "C" fn byte_unit_explain_unit(text: &[u8], flags: u32, out: &mut [u8]) -> usize
-    ensures reading { IfSome (parse_flags_at flags)
-        (λ asked. (answer : Option (Result UnitName UnitParseError))
-        × IsUnitBytesReading asked.ignore_case (prefers_byte asked.kind) text.now answer
-        × IsUnitExplanation answer out.old out.new result) }
-    ensures unknown_flag { IfNone (parse_flags_at flags)
-        (WritesForm (λ words. words ≡ codes "a flag is unknown") out.old out.new result) }
-    ensures bound { result ≤ 256 }
-{
-    match parse_flags_at(flags) {
-        Some(asked) => explain_unit_as(text, asked.kind, asked.ignore_case, out),
-        None => write_unknown_flag(out),
-    }
-}
-
-/// Explains as `byte_unit_explain_unit` does, with known flags.
-fn explain_unit_as(text: &[u8], kind: Kind, ignore_case: bool, out: &mut [u8]) -> usize
-    ensures reading { (answer : Option (Result UnitName UnitParseError))
-        × IsUnitBytesReading ignore_case (prefers_byte kind) text.now answer
-        × IsUnitExplanation answer out.old out.new result }
-    ensures bound { result ≤ 256 }
-{
-    match read_unit(text, kind, ignore_case) {
-        Some(Ok(_)) => 0,
-        Some(Err(rejected)) => write_message(&ParseError::Unit(rejected.0), out),
-        None => write_not_utf8(out),
     }
 }

@@ -1,7 +1,7 @@
 -- The message is that of the number and the unit, or of the error where the parser stops.
 use Rattle.std.specs.Prelude.{Err, Some}
 use Rattle.byte_unit_base.specs.Accepted.{as_written}
-use Rattle.byte_unit_c.proofs.parse.explain_as.Goals as goal
+use Rattle.byte_unit_c.proofs.explain.explain_as.Goals as goal
 
 pub returns-in-Accepted-clause-reading : goal.returns-in-Accepted-clause-reading
 returns-in-Accepted-clause-reading c =

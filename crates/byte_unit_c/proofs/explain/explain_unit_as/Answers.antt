@@ -3,7 +3,7 @@ use Rattle.std.proofs.Common.{Some, Ok, Err, refl, subst}
 use Rattle.byte_unit_base.specs.Outcome.{IsPlacedUnitReading}
 use Rattle.byte_unit_base.specs.Spelling.{flags_of}
 use Rattle.byte_unit_c.specs.Flags.{prefers_byte}
-use Rattle.byte_unit_c.proofs.parse.explain_unit_as.Goals as goal
+use Rattle.byte_unit_c.proofs.explain.explain_unit_as.Goals as goal
 
 pub returns-in-Some-Ok-clause-reading : goal.returns-in-Some-Ok-clause-reading
 returns-in-Some-Ok-clause-reading c =
