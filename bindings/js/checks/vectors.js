@@ -15,6 +15,7 @@ function spec(word) {
 /** Returns the name and the fields of an error. */
 function errorOf(error) {
     const name = error.code.replace(/(?:^|_)(.)/g, (_, letter) => letter.toUpperCase());
+    // A SizeError has no field for a number that is too large: only the message states it, before " exceeds".
     const number = / (\d+(?:\.\d+)?) exceeds/.exec(error.message)?.[1];
     return name + ({
         not_number: ` "${error.character}"`,

@@ -29,6 +29,7 @@ def source(request, library, tmp_path_factory):
 
 @pytest.fixture(scope="session")
 def workers():
+    """Threads in which what takes long is made; at the end what has not begun is cancelled."""
     with ThreadPoolExecutor(4) as pool:
         yield pool
         pool.shutdown(cancel_futures=True)
