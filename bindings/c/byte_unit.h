@@ -95,11 +95,11 @@ enum {
 
 /* The details of a parse error. A field that the error's code does not use is zero. */
 typedef struct byte_unit_error {
-    uint32_t character;               /* NOT_NUMBER, UNIT: the code point of the character that is rejected */
+    uint32_t character;               /* NOT_NUMBER, UNIT: the character that is rejected; the last, if the end is */
     uint8_t also_expect_no_character; /* UNIT: 1 if the string could end before that character */
     char expected[16];                /* UNIT: the characters that are expected in its place, zero-terminated */
     byte_unit_decimal number;         /* EXCEEDED_BOUNDS: the number as it was written, without its unit */
-    size_t position;                  /* all but EXCEEDED_BOUNDS: the index that byte_unit_error_position writes */
+    size_t position;                  /* all but EXCEEDED_BOUNDS: its index, as the calls for positions write it */
 } byte_unit_error;
 
 /* The codes that the parsing calls return. */
@@ -204,9 +204,9 @@ static inline uint32_t byte_unit_parse_many_32(const char *data, size_t data_len
 
 /* Writes to `position` the index in bytes, from 0, of the first wrong character of a string that byte_unit_parse
  * rejects: up to there the string, without the white space at its ends, begins a size, and with that character it
- * begins none. If it ends too early, the index is that of its end, before white space there. The index is the same with
- * all flags, and is the `position` of the error of byte_unit_parse. Returns false and writes nothing if the string is a
- * size, if only its size is 10^30 or more, or if the bytes are not UTF-8. */
+ * begins none. If it ends too early, the index is that of its end, before white space there; of white space alone, its
+ * length. The index is the same with all flags, and is the `position` of the error of byte_unit_parse. Returns false,
+ * and writes nothing, if the string is a size, if only its size is 10^30 or more, or if the bytes are not UTF-8. */
 bool byte_unit_error_position(const char *text, size_t len, size_t *position);
 
 /* The same for a string that byte_unit_parse_unit rejects, and for its error. */

@@ -51,7 +51,8 @@ export class SizeError extends Error {
     readonly expected: string | null;
     /** Whether the string could end there, of `unit`. */
     readonly alsoExpectNoCharacter?: boolean;
-    /** The index in the string of the wrong character, its length if it ends too early, or null if the size is too large. */
+    /** The index in the string of the wrong character, or, if it ends too early, of its end, before white space there;
+     *  null if the size is too large. */
     readonly position: number | null;
 }
 

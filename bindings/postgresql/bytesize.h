@@ -60,7 +60,7 @@ static inline void reject_range(void)
                     errdetail("A size is not negative and less than 10^30 bytes.")));
 }
 
-/* The same, or an error if the value is no size. */
+/* Returns the value as a result, or ends the statement with an error if it is no size. */
 static inline Datum result_in_range(uint128_value value)
 {
     if (!is_size(value))

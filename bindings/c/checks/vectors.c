@@ -89,7 +89,7 @@ static void print_error(uint32_t code, const byte_unit_error *error)
     }
 }
 
-/* Prints the position of an error if the call for it writes another, or, where it writes none, if it is not 0. */
+/* Prints the position of an error unless it is the one that its call writes, or 0 if that writes none. */
 static void print_other_position(uint32_t code, const byte_unit_error *error, const char *text,
                                  bool (*position_of)(const char *, size_t, size_t *))
 {

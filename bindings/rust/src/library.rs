@@ -107,8 +107,8 @@ fn parse_by<T>(call: ParseCall, text: &str, flags: u32, make: fn(u128) -> T) -> 
     }
 }
 
-/// Returns the error with a code. The codes that are not matched have no details: they are `NO_VALUE`, and those of
-/// bytes that are not UTF-8 and of unknown flags, which this package does not pass.
+/// Returns the error with a code. Of the codes that are not matched no details are read: they are `NO_VALUE`, and those
+/// of bytes that are not UTF-8 and of unknown flags, which this package does not pass.
 #[cold]
 #[inline(never)]
 fn value_error(code: u32, error: &MaybeUninit<sys::Error>) -> ValueParseError {

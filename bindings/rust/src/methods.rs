@@ -150,7 +150,8 @@ macro_rules! size_methods {
         /// Parsing.
         impl $Size {
             /// Returns the index in bytes of the first wrong character of a string that `parse_str` rejects: no size
-            /// can have it there. If the string ends too early, it is the index of its end, before white space there.
+            /// can have it there. If the string ends too early, it is the index of its end, before white space there;
+            /// of white space alone, its length.
             ///
             /// Returns `None` if the string is accepted, or if only its size is too large. The index is the same for
             /// `parse_str_binary`, and does not depend on the case of `b`.

@@ -123,7 +123,8 @@ impl Unit {
     }
 
     /// Returns the index in bytes of the first wrong character of a string that [`Unit::parse_str`] rejects: no unit
-    /// can have it there. If the string ends too early, it is the index of its end, before white space there.
+    /// can have it there. If the string ends too early, it is the index of its end, before white space there; of white
+    /// space alone, its length.
     ///
     /// Returns `None` if the string is a unit. The index does not depend on the options of `parse_str`.
     ///

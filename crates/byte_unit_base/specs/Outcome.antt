@@ -1,5 +1,5 @@
--- Private: what a parser of bytes that are not trimmed returns. Contracts of this crate cite this file, and proofs of
--- private functions of byte_unit_c.
+-- Private: what a parser of bytes that are not trimmed returns. Contracts of this crate and of private functions of
+-- byte_unit_c cite this file.
 use Rattle.std.specs.Prelude.{◌≡◌, ⊤, ℕ, Bool, nat_eq, List, Option, Some, Result, Ok, Err}
 use Rattle.std.specs.Str.{IsUtf8}
 use Rattle.byte_unit_base.specs.ErrorPosition.{IsSizePosition, IsUnitPosition}

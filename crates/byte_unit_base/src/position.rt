@@ -1,6 +1,6 @@
 //! Where a string is wrong: the index in bytes of its first wrong character.
 //!
-//! The calls that return it alone parse the string once more, character by character.
+//! The calls that return it alone parse the string once more.
 
 ghost use Rattle.std.specs.Prelude.{◌≡◌, ◌+◌, ◌≤◌, length, drop};
 ghost use Rattle.std.specs.Str.{chars, IsUtf8};
@@ -18,7 +18,7 @@ use byte_unit_math::{DECIMAL_PLACES, WHOLE_LIMIT};
 
 /// Returns the index in bytes of the first wrong character of a string that is not in the grammar of sizes: up to there
 /// the string, without the white space at its ends, begins a size, and with that character it begins none. If it ends
-/// too early, the index is that of its end, before white space there.
+/// too early, the index is that of its end, before white space there; of white space alone, its length.
 ///
 /// Returns `None` if the string is in the grammar. The index is the same for both kinds, with and without
 /// `ignore_case`.
@@ -44,7 +44,7 @@ impl Unit {
 
     /// Returns the index in bytes of the first wrong character of a string that [`Unit::parse_str`] rejects: up to
     /// there the string, without the white space at its ends, begins a unit, and with that character it begins none.
-    /// If it ends too early, the index is that of its end, before white space there.
+    /// If it ends too early, the index is that of its end, before white space there; of white space alone, its length.
     ///
     /// Returns `None` if the string spells a unit. The index does not depend on the options of `parse_str`.
     ///

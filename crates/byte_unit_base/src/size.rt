@@ -250,8 +250,7 @@ fn is_ascii_from(bytes: &[u8], from: usize) -> bool
 
 /// Returns whether bytes have nothing to trim and are ASCII from an index on, as far as `is_ascii_from` tells.
 ///
-/// Bytes that are accepted come first in speed: if `parse_line` was made of `read_bytes`, in which these tests are
-/// inlined, each line took 3 to 7 % more instructions.
+/// Not inlined: where these tests are part of `parse_line`, a line that is accepted takes more instructions.
 #[cold]
 #[inline(never)]
 fn is_visible_ascii(bytes: &[u8], from: usize) -> bool

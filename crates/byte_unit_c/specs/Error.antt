@@ -42,7 +42,7 @@ pub record HasFields (character : ℕ) (expected : List ℕ) (may_end : Bool) (n
   pub may_end_is : error.also_expect_no_character ≡ (if may_end then 1 else 0)
   pub number_is : AreDecimalParts error.number number
 
--- the fields of each error; a field that it does not use is zero
+-- the fields of each error but its position; a field that it does not use is zero
 abbrev pub IsErrorOf : Fault → Error → Type 0
 IsErrorOf no_value = HasFields 0 [] false 0
 IsErrorOf (not_number c) = HasFields c [] false 0
@@ -60,7 +60,7 @@ abbrev pub IsWrittenAt : ℕ → Fault → List Error → List Error → Type 0
 IsWrittenAt position fault old new =
     (error : Error) × IsErrorOf fault error × (error.position ≡ position) × (new ≡ slice_set old 0 error)
 
--- they are written with the position of the error
+-- the details are written with the position of the error
 abbrev pub IsErrorWritten : (Option ℕ → Type 0) → Fault → List Error → List Error → Type 0
 IsErrorWritten IsPosition fault old new =
     (position : ℕ) × IsPositionOf IsPosition fault position × IsWrittenAt position fault old new

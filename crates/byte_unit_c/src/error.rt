@@ -52,7 +52,7 @@ pub const NOT_UTF8: u32 = 6;
 pub const INVALID_ARGUMENT: u32 = 7;
 
 impl Error {
-    /// The details of an error that has only a code: every field is zero.
+    /// Every field zero: what the details of each error begin with.
     pub const NONE: Error = Error {
         character: 0,
         also_expect_no_character: 0,

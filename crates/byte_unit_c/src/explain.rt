@@ -1,6 +1,6 @@
 //! Messages for strings that are rejected.
 
-ghost use Rattle.std.specs.Prelude.{◌≡◌, ℕ, Bool, ◌≤◌, Option, Some, Result, Err, IfSome, IfNone, codes};
+ghost use Rattle.std.specs.Prelude.{◌≡◌, ℕ, ◌≤◌, Option, Some, Result, Err, IfSome, IfNone, codes};
 ghost use Rattle.byte_unit_base.specs.Errors.{size_fault};
 ghost use Rattle.byte_unit_base.specs.PartsReading.{stop_fault};
 ghost use Rattle.byte_unit_base.specs.SizeReading.{IsBytesReading};

@@ -14,7 +14,8 @@ use std::str;
 
 /// Writes the index in bytes of the first wrong character of a string that `byte_unit_parse_to` rejects: up to there
 /// the string, without the white space at its ends, begins a size, and with that character it begins none. If it ends
-/// too early, the index is that of its end, before white space there. The index is the same with all flags.
+/// too early, the index is that of its end, before white space there; of white space alone, its length. The index is
+/// the same with all flags.
 ///
 /// Returns `true` if there is one. Returns `false` and writes nothing if the string represents a size, if only its size
 /// is too large, or if the bytes are not UTF-8.

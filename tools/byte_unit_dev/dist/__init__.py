@@ -64,7 +64,7 @@ In the unpacked sources, with the toolchain above (`rt version`):
 - `tools/dev make-dist FOLDER` makes the other files again. With the same compilers (Debian 12) each has the checksum of
   SHA256SUMS; libbyte_unit.a and the command depend on the toolchain alone.
 - `tools/dev take` copies the library for Rattle into your repository; with `--with proofs` what was proved, too. To
-  remove it, delete `crates/byte_unit*` there, and the lines of these crates in `crates.txt`.
+  remove it, delete the crates that it names, their lines in `crates.txt`, and `out/` in `.gitignore`.
 
 ## What is trusted
 

@@ -36,14 +36,14 @@ COMPILED = {"postinst": ("configure", "py3compile -p python3-byte-unit"),
 TESTS = Path(__file__).parent / "autopkgtest"
 TESTS_README = """# The tests of the packages for Debian
 
-As root, in the folder of the packages, for the program autopkgtest:
+As root, in the folder of the packages, this installs and tries them all by the program autopkgtest:
 
 ```sh
 tar -xzf {top}.tar.gz
 autopkgtest *.deb {top}/ -- null
 ```
 
-installs and tries them all. Each file in `debian/tests` but `control` is a script for the package of its name, which
+Each file in `debian/tests` but `control` is a script for the package of its name, which
 `sh` runs once that is installed; the package has it as `/usr/share/doc/NAME/examples/try`.
 """
 SCRIPT = """#!/bin/sh

@@ -77,8 +77,8 @@ class SizeError(ByteUnitError):
     def position(self) -> "int | None":
         """The index in `text` of the first wrong character, which no size, or unit, can have there.
 
-        If the text ends too early, it is the index of its end, before white space there. It is `None` if only the size
-        is too large, and for `not_utf8`. In `bytes` it is the index of a byte.
+        If the text ends too early, it is the index of its end, before white space there; of white space alone, its
+        length. It is `None` if only the size is too large, and for `not_utf8`. In `bytes` it is the index of a byte.
         """
         import byte_unit._native  # which imports this module
 

@@ -9,7 +9,7 @@ use byte_unit_base::position;
 impl Bit {
     /// Returns the index in bytes of the first wrong character of a string that [`Bit::parse_str`] rejects: up to
     /// there the string, without the white space at its ends, begins a size, and with that character it begins none.
-    /// If it ends too early, the index is that of its end, before white space there.
+    /// If it ends too early, the index is that of its end, before white space there; of white space alone, its length.
     ///
     /// Returns `None` if the string is accepted, or if only its size is too large. If the number is
     /// too long, it is the index of the digit which makes it so.

@@ -8,7 +8,7 @@ use byte_unit_base::position;
 impl Byte {
     /// Returns the index in bytes of the first wrong character of a string that [`Byte::parse_str`] rejects: up to
     /// there the string, without the white space at its ends, begins a size, and with that character it begins none.
-    /// If it ends too early, the index is that of its end, before white space there.
+    /// If it ends too early, the index is that of its end, before white space there; of white space alone, its length.
     ///
     /// Returns `None` if the string is accepted, or if only its size is too large. The index does not depend on
     /// `ignore_case`. If the number is too long, it is that of the digit which makes it so.

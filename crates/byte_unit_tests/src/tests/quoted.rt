@@ -49,7 +49,7 @@ const CHARACTERS_OF_A_UNIT: &[(char, &[char], bool, &str)] = &rows! {
     ('\'', &['B', 'b'], true, "the character '\\'' is incorrect ('B' or 'b' or no character is expected)"),
 };
 
-/// The same.
+/// The columns are as in `CHARACTERS_OF_A_UNIT`.
 const EXPECTED_CHARACTERS_IN_MESSAGES: &[(char, &[char], bool, &str)] = &rows! {
     ('x', &['\n', '\'', 'é'], false, "the character 'x' is incorrect ('\\n', '\\'' or 'é' is expected)"),
     ('\u{1F600}', &[], false, "the character '\u{1F600}' is incorrect (no character is expected)"),
