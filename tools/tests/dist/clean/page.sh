@@ -1,14 +1,14 @@
 # Tries: how-a-size-is-read.html
 # Needs: chromium chromium-sandbox
-mkdir -p /home/user
-cp /dist/how-a-size-is-read.html /home/user
-chown -R 1000:1000 /home/user
+home=$(mktemp -d)
+cp /dist/how-a-size-is-read.html "$home"
+chown -R 1000:1000 "$home"
 
 # Prints the page at an address, once a user without rights has opened it.
 opened() {
-    setpriv --reuid=1000 --regid=1000 --clear-groups env HOME=/home/user \
-        chromium --headless=new --virtual-time-budget=10000 --dump-dom "file:///home/user/$1" 2> /tmp/said ||
-        { cat /tmp/said; exit 1; }
+    setpriv --reuid=1000 --regid=1000 --clear-groups env HOME="$home" \
+        chromium --headless=new --virtual-time-budget=10000 --dump-dom "file://$home/$1" 2> "$home/said" ||
+        { cat "$home/said"; exit 1; }
 }
 
 # Opens an address that has to show $2.
@@ -20,4 +20,4 @@ shows() {
 shows how-a-size-is-read.html "Exactly 12.5 MB"
 shows "$(grep -o 'how-a-size-is-read[.]html#[^`]*' /dist/RELEASE.md)" "Exactly 1.5 KiB"
 shows "how-a-size-is-read.html#bytes=1%20x" "Not a size: The character 'x' is incorrect"
-rm -r /home/user
+rm -r "$home"

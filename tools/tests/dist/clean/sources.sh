@@ -4,11 +4,12 @@
 PATH=$KIT/bin:$PATH
 tar -xzf /dist/byte-unit-*-rattle.tar.gz
 cd byte-unit-*-rattle
-sed -n '/^## A first program$/,/^## In the shell$/p' README.md > /tmp/page
-eval "$(first_of sh < /tmp/page)"
-first_of rust < /tmp/page > crates/quota/src/main.rt
-said=$(eval "$(grep '^cd crates/quota' /tmp/page)")
-first_of text < /tmp/page | while read -r line; do
+page=$(mktemp)
+sed -n '/^## A first program$/,/^## In the shell$/p' README.md > "$page"
+eval "$(first_of sh < "$page")"
+first_of rust < "$page" > crates/quota/src/main.rt
+said=$(eval "$(grep '^cd crates/quota' "$page")")
+first_of text < "$page" | while read -r line; do
     case $said in *"$line"*) ;; *) echo "$said"; exit 1 ;; esac
 done
 cd crates/quota
@@ -19,4 +20,5 @@ rm -r crates/byte_unit*
 sed -i '/^byte_unit/d' crates.txt
 test "$(cat crates.txt)" = "quota: byte_unit anyhow"
 cd /root
+rm "$page"
 rm -rf sizes byte-unit-*-rattle "${KIT%/*}/rattle-kept"
