@@ -47,20 +47,20 @@ unfolding lib.Count.count_trailing_zeros
 known_zeros = (refl, refl)
 
 -- a size in bits has the exponents of the size in its kind, that of 2 greater by three for bytes
-pub in_bits_powers : (size divisor a b : ℕ) → (divisor ≡ 8) ⊎ (divisor ≡ 1) → IsTwoFive size a b
-    → IsTwoFive (size * divisor) (a + trailing_zeros w128 divisor) b
-in_bits_powers size divisor a b (inl e) h = rw (e, known_zeros.0) (eight_times size a b h)
-in_bits_powers size divisor a b (inr e) h =
+pub in_bits_powers : (size own_bits a b : ℕ) → (own_bits ≡ 8) ⊎ (own_bits ≡ 1) → IsTwoFive size a b
+    → IsTwoFive (size * own_bits) (a + trailing_zeros w128 own_bits) b
+in_bits_powers size own_bits a b (inl e) h = rw (e, known_zeros.0) (eight_times size a b h)
+in_bits_powers size own_bits a b (inr e) h =
     let once : size * 1 ≡ size = omega arith in
     let none : a + 0 ≡ a = omega arith in
     rw (e, known_zeros.1, once, none) h
 
 -- a size in bits is 2 and 5 to its exponents times the factor that is left, as the size in its kind is
-pub in_bits_product : (size divisor left a b : ℕ) → (divisor ≡ 8) ⊎ (divisor ≡ 1) → left * (2 ^ a * 5 ^ b) ≡ size
-    → left * (2 ^ (a + trailing_zeros w128 divisor) * 5 ^ b) ≡ size * divisor
-in_bits_product size divisor left a b (inl e) h =
+pub in_bits_product : (size own_bits left a b : ℕ) → (own_bits ≡ 8) ⊎ (own_bits ≡ 1) → left * (2 ^ a * 5 ^ b) ≡ size
+    → left * (2 ^ (a + trailing_zeros w128 own_bits) * 5 ^ b) ≡ size * own_bits
+in_bits_product size own_bits left a b (inl e) h =
     rw (e, known_zeros.0, pow-add 2 a 3) (omega (arith, ap (λ n. n * 8) h))
-in_bits_product size divisor left a b (inr e) h =
+in_bits_product size own_bits left a b (inr e) h =
     let none : a + 0 ≡ a = omega arith in
     rw (e, known_zeros.1, none) (h ∙ omega arith)
 
@@ -109,12 +109,12 @@ exact_by_row {most = most} unit room same powers h =
     rw same (exact_of_powers most (omega (arith, room)) powers unit h).exact
 
 -- with at most five digits after the point, a size divided by a unit stays below the limit of a whole part
-pub count_fits : {row : ShapeRow} (size divisor places : ℕ) → IsMultiple row → (divisor ≡ 8) ⊎ (divisor ≡ 1)
-    → size < current.size_limit → places ≤ 5 → size * divisor * 10 ^ places < whole_limit * row.bits
-count_fits {row} size divisor places multiple kind small few =
+pub count_fits : {row : ShapeRow} (size own_bits places : ℕ) → IsMultiple row → (own_bits ≡ 8) ⊎ (own_bits ≡ 1)
+    → size < current.size_limit → places ≤ 5 → size * own_bits * 10 ^ places < whole_limit * row.bits
+count_fits {row} size own_bits places multiple kind small few =
     let tens = pow-le-pow_right {n = 10} (omega arith) {i = places} {j = 5} few in
-    let scaled = mul-le-mul_left {m = 10 ^ places} {n = 10 ^ 5} (size * divisor) tens in
-    let in_bits : size * divisor ≤ 8 * current.size_limit =
+    let scaled = mul-le-mul_left {m = 10 ^ places} {n = 10 ^ 5} (size * own_bits) tens in
+    let in_bits : size * own_bits ≤ 8 * current.size_limit =
     ⊎_elim (λ e. omega (arith, ap (λ d. size * d) e, small)) (λ e. omega (arith, ap (λ d. size * d) e, small)) kind in
     omega (arith, scaled, in_bits, multiple.large)
 

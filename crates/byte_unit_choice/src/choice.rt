@@ -1,9 +1,7 @@
 //! The choice of a unit for a size.
 
-ghost use Rattle.std.specs.Prelude.{◌≡◌, ◌↔◌, ℕ, ◌+◌, ◌*◌, ◌^◌, ◌<◌, ◌≤◌, ◌⊎◌, IsTrue, IfSome, IfNone};
-ghost use Rattle.byte_unit_math.specs.Bounds.{scale, places_of_decimal, size_limit};
-ghost use Rattle.byte_unit_math.specs.Exact.{IsLeastPlaces};
-ghost use Rattle.byte_unit_math.specs.Factored.{product_of};
+ghost use Rattle.std.specs.Prelude.{◌≡◌, ◌+◌, ◌*◌, ◌<◌, ◌≤◌, ◌⊎◌, IfSome, IfNone};
+ghost use Rattle.byte_unit_math.specs.Bounds.{scale, size_limit};
 ghost use Rattle.byte_unit_math.specs.Steps.{saturating_add};
 ghost use Rattle.byte_unit_base.specs.Shape.{bits};
 ghost use Rattle.byte_unit_base.specs.Kinds.{bits_in};
@@ -23,9 +21,10 @@ const FEW_PLACES: u32 = 5;
 /// Chooses the largest unit of the unit set, not above the size, in which the size is exact within `places` decimal
 /// places. Returns the number and the unit. Returns `None` if no unit of the set is such.
 ///
-/// The size is in bytes if the divisor is 8, and in bits if it is 1. More than 28 places count as 28.
+/// The bits of the size's own unit are `own_bits`: 8 for a size in bytes, and 1 for a size in bits. More than 28 places
+/// count as 28.
 ///
-/// Preconditions (proved at every call): `size < 10^30`; the divisor is 8 or 1.
+/// Preconditions (proved at every call): `size < 10^30`; `own_bits` is 8 or 1.
 ///
 /// `steps` is raised as by `two_five` for the size as it is given, and by one for each place of the number: by at most
 /// 116 for a size in bytes, as for `7 << 87` at 27 places, and by at most 119 for a size in bits, as for `7 << 90` at
@@ -43,29 +42,29 @@ const FEW_PLACES: u32 = 5;
 pub fn choose_unit(
     size: u128,
     family: Family,
-    divisor: u128,
+    own_bits: u128,
     places: usize,
     steps: &mut Steps,
 ) -> Option<(Decimal, Unit)>
-    requires divisor { (divisor ≡ 8) ⊎ (divisor ≡ 1) }
+    requires own_bits { (own_bits ≡ 8) ⊎ (own_bits ≡ 1) }
     requires small { size < size_limit }
     ensures chosen { IfSome result
-        (λ c. IsChosen family (size * divisor) places (shape_of c.1) c.0) }
-    ensures none { IfNone result (NoneHas (IsExactUnit family (size * divisor) places)) }
-    ensures exact { IfSome result (λ c. c.0 * bits (shape_of c.1) ≡ size * divisor * scale) }
+        (λ c. IsChosen family (size * own_bits) places (shape_of c.1) c.0) }
+    ensures none { IfNone result (NoneHas (IsExactUnit family (size * own_bits) places)) }
+    ensures exact { IfSome result (λ c. c.0 * bits (shape_of c.1) ≡ size * own_bits * scale) }
     ensures steps { IfSome result (λ c. CountsChoice size c.0 steps.old steps.new) }
     ensures steps_of_none { IfNone result (CountsChoice size 0 steps.old steps.new) }
-    ensures few_steps { (kind : Kind) → divisor ≡ bits_in kind
+    ensures few_steps { (kind : Kind) → own_bits ≡ bits_in kind
         → steps.new ≤ saturating_add steps.old (most_steps kind) }
 {
     if size == 0 {
         return None;
     }
     let most = places.min(DECIMAL_PLACES as usize) as u32;
-    let in_bits = size * divisor;
+    let in_bits = size * own_bits;
     let Factors { left, twos, fives } = factors_of(size, steps);
     // The exponent of 2 of the size in bits.
-    let twos = twos + divisor.trailing_zeros();
+    let twos = twos + own_bits.trailing_zeros();
     let most_twos = twos + most;
     let most_fives = fives + most;
     // A unit of the n-th prefix has an exponent of 2 of 10 n or more, or one of 5 of 3 n. For most sizes that leaves
@@ -92,9 +91,9 @@ pub fn choose_unit(
 /// Returns the largest unit of the unit set and of the type that is not above the size. Returns `None` if there is
 /// none.
 ///
-/// The size is in bytes if the divisor is 8, and in bits if it is 1.
+/// The bits of the size's own unit are `own_bits`: 8 for a size in bytes, and 1 for a size in bits.
 ///
-/// Precondition (proved at every call): the divisor is 8 or 1.
+/// Precondition (proved at every call): `own_bits` is 8 or 1.
 ///
 /// # Examples
 /// ```rust
@@ -102,14 +101,14 @@ pub fn choose_unit(
 /// assert_eq!(rt; largest_unit(1000, Family::Bytes, UnitType::Binary, 8), None);
 /// ```
 #[inline(always)]
-pub fn largest_unit(size: u128, family: Family, unit_type: UnitType, divisor: u128) -> Option<Unit>
-    requires { (divisor ≡ 8) ⊎ (divisor ≡ 1) }
+pub fn largest_unit(size: u128, family: Family, unit_type: UnitType, own_bits: u128) -> Option<Unit>
+    requires { (own_bits ≡ 8) ⊎ (own_bits ≡ 1) }
     ensures found { IfSome result (λ unit.
-        IsLargest (IsEligibleUnit family unit_type (size * divisor)) (shape_of unit)) }
-    ensures none { IfNone result (NoneHas (IsEligibleUnit family unit_type (size * divisor))) }
+        IsLargest (IsEligibleUnit family unit_type (size * own_bits)) (shape_of unit)) }
+    ensures none { IfNone result (NoneHas (IsEligibleUnit family unit_type (size * own_bits))) }
 {
     // Every unit is far below `u128::MAX`, so saturation changes nothing.
-    let in_bits = size.saturating_mul(divisor);
+    let in_bits = size.saturating_mul(own_bits);
     // The largest unit is first. Prefixes that are surely too large are left out, and others may be too large.
     for row in family.multiples_within(in_bits, PREFIXES as u32) {
         if row.bits <= in_bits && unit_type.takes(row.unit.is_binary_multiples()) {

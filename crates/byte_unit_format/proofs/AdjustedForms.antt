@@ -5,8 +5,9 @@ use Rattle.std.proofs.Math.Nat.{div-add-mod', mod-eq_of_lt, pow-le-pow_right}
 use Rattle.std.proofs.lemmas.Nat.{pow-add, mul-pow, mod_below}
 use Rattle.std.proofs.lemmas.Bool.{cases_lt}
 use Rattle.byte_unit_math.specs.Bounds.{size_limit}
-use Rattle.byte_unit_math.specs.Finite.{Finite, ulps_of}
+use Rattle.byte_unit_math.specs.Finite.{Finite, IsExpansion, ulps_of}
 use Rattle.byte_unit_math.specs.Nearest.{IsNearest}
+use Rattle.byte_unit_math.specs.Padded.{pad_of}
 use Rattle.byte_unit_math.specs.Digits.{at_places, trim_expansion, last_digits}
 use Rattle.byte_unit_math.specs.Numeral.{text_of, numeral, short_numeral, fraction_text}
 use Rattle.byte_unit_math.specs.declared.expansion.Ties.{Ties}
@@ -23,7 +24,7 @@ use Rattle.byte_unit_choice.proofs.Choosing.{some_bits}
 use Rattle.byte_unit_base.specs.declared.kind.Kind.{Kind}
 use Rattle.byte_unit_format.specs.declared.spec.FormatSpec.{FormatSpec}
 use Rattle.byte_unit_base.specs.Kinds.{bits_in}
-use Rattle.byte_unit_format.specs.Layout.{layout}
+use Rattle.byte_unit_format.specs.Layout.{layout, layout_of}
 use Rattle.byte_unit_format.specs.Adjusted.{Rule, full, round_to, short_to, IsNumeralBy, rule_of, IsAdjustedFormIn, IsAdjustedForm}
 use Rattle.byte_unit_format.specs.Rounding.{rule_from, IsRoundingOf}
 use Rattle.byte_unit_format.specs.declared.adjusted.Rounding.{Rounding}
@@ -133,3 +134,15 @@ pub adjusted_by_rounding :
     → IsNumeralBy (rule_from rounding) (size * bits_in kind) (bits (shape_of unit)) number
     → IsAdjustedForm kind size unit spec (layout number (unit_name unit) spec)
 adjusted_by_rounding number by numeral = record { number = number; number_is = rw by.rule numeral; text_is = refl }
+
+-- The expansion of the size in the unit, rounded as the spec says and laid out with the unit, is the adjusted text.
+pub adjusted_by_expansion :
+    {kind : Kind} {size : ℕ} {unit : UnitName} {spec : FormatSpec} {rounding : Rounding} {exact : Finite}
+    (number : Finite) (places : ℕ) → IsRoundingOf unit spec rounding
+    → ((num den : ℕ) → 1 ≤ den → IsExpansion num den exact
+    → IsNumeralBy (rule_from rounding) num den (text_of (pad_of places number)))
+    → IsExpansion (size * bits_in kind) (bits (shape_of unit)) exact
+    → IsAdjustedForm kind size unit spec (layout_of number places unit spec)
+adjusted_by_expansion {kind} {size} {unit} number places by text expansion =
+    adjusted_by_rounding (text_of (pad_of places number)) by
+    (text (size * bits_in kind) (bits (shape_of unit)) (some_bits (shape_of unit)) expansion)

@@ -1,22 +1,18 @@
 -- The string that a size is stored as for the binary reading is read as the size.
-use Rattle.std.proofs.Common.{◌≡◌, ◌≢◌, ◌*◌, ◌<◌, ℕ, nat_lt, List, Bool, true, false, if◌then◌else◌, refl, sym, subst, ◌∙◌, ap}
+use Rattle.std.proofs.Common.{◌≡◌, ◌≢◌, ◌<◌, ℕ, nat_lt, List, Bool, true, false, if◌then◌else◌, refl, sym, ◌∙◌, ap}
 use Rattle.std.proofs.Common.{arith}
-use Rattle.byte_unit_math.specs.Bounds.{scale}
 use Rattle.byte_unit_base.specs.Shape.{Shape, shape}
 use Rattle.byte_unit_base.specs.Version.{current}
 use Rattle.byte_unit_base.specs.BinaryReading.{binary_of, IsBinaryAccepted}
-use Rattle.byte_unit_base.specs.Kinds.{own_unit}
-use Rattle.byte_unit_base.specs.LeastOfKind.{IsLeastOf}
 use Rattle.byte_unit_choice.specs.Choice.{IsRecoveredIn}
 use Rattle.byte_unit_base.specs.declared.kind.Kind.{Kind}
 use Rattle.byte_unit_format.specs.Forms.{IsText, IsSizeForm, default_precision}
 use Rattle.byte_unit_format.specs.NamedSpecs.{plain_spec, alternate_spec}
-use Rattle.byte_unit_format.specs.Plain.{plain}
 use Rattle.byte_unit_format.specs.declared.spec.Sign.TheVariants.{Unset, Plus}
 use Rattle.byte_unit_format.specs.BinaryString.{has_binary_prefix, BothReadingsAccept, BinaryStringReadsBack}
 use Rattle.byte_unit_format.proofs.WrittenForms.{recovered_unit_unique}
-use Rattle.byte_unit_format.proofs.ReadBack.{form_is_size, size_form_reads_back, digits_are_size, plain_form_reads_back}
-use Rattle.byte_unit_format.proofs.ReadBack.{IsLeastOf-exact, IsLeastOf-own}
+use Rattle.byte_unit_format.proofs.ReadBack.{accepted_as, digits_accepted, form_is_size, size_form_reads_back}
+use Rattle.byte_unit_format.proofs.ReadBack.{plain_form_reads_back}
 
 by_power : (some : Bool) (unit : Shape) → (if some then unit.binary else false) ≡ true
     → (if some then shape unit.power true unit.bit else unit) ≡ unit
@@ -36,32 +32,8 @@ binary_form_accepted :
     → (form : IsSizeForm kind size alternate_spec text) → has_binary_prefix form.unit ≡ true
     → IsBinaryAccepted kind ignore_case text size
 binary_form_accepted kind ignore_case size text below form prefix =
-    let unit = form.unit in
-    let exact = IsLeastOf-exact kind form.number size unit form.number_is in
-    record {
-      number = form.number;
-      is_read = record {
-        unit = unit;
-        is_size = form_is_size kind size alternate_spec ignore_case text below form;
-        is_least = subst (λ unit. IsLeastOf kind form.number unit size)
-            (sym (itself unit prefix)) exact;
-      };
-      below = below;
-    }
-
--- Its digits are read as the size.
-binary_digits_accepted :
-    (kind : Kind) (ignore_case : Bool) (size : ℕ) → size < current.size_limit
-    → IsBinaryAccepted kind ignore_case (plain size plain_spec) size
-binary_digits_accepted kind ignore_case size below = record {
-  number = size * scale;
-  is_read = record {
-    unit = own_unit kind;
-    is_size = digits_are_size kind size plain_spec ignore_case below not_plus;
-    is_least = IsLeastOf-own kind size;
-  };
-  below = below;
-}
+    accepted_as binary_of kind ignore_case text form.number size form.unit (itself form.unit prefix)
+    (form_is_size kind size alternate_spec ignore_case text below form) form.number_is below
 
 by_prefix :
     (kind : Kind) (ignore_case : Bool) (size : ℕ) (text : List ℕ) → size < current.size_limit → (unit : Shape)
@@ -76,7 +48,7 @@ by_prefix kind ignore_case size text below unit recovered true prefix form =
       usual = size_form_reads_back kind size alternate_spec ignore_case text below form;
     }
 by_prefix kind ignore_case size text below unit recovered false prefix digits = rw digits (record {
-  binary = binary_digits_accepted kind ignore_case size below;
+  binary = digits_accepted binary_of kind ignore_case size plain_spec refl below not_plus;
   usual = plain_form_reads_back kind size plain_spec ignore_case below not_plus;
 })
 

@@ -31,11 +31,11 @@ use Rattle.byte_unit_format.specs.declared.spec.Sign.{Sign}
 use Rattle.byte_unit_format.specs.declared.spec.Sign.TheVariants.{Plus}
 use Rattle.byte_unit_choice.specs.Family.{HasKind, own_family}
 use Rattle.byte_unit_choice.specs.Choice.{IsRecoveredIn}
-use Rattle.byte_unit_choice.proofs.Choosing.{some_bits, own_bits}
+use Rattle.byte_unit_choice.proofs.Choosing.{some_bits, own_number}
 use Rattle.byte_unit_base.proofs.Names.{IsKnown, SaysKind, name_spells, name_ascii, name_end, unit_known}
 use Rattle.byte_unit_base.specs.Kinds.{bits_in, counts_bits, own_unit, flags_for}
 use Rattle.byte_unit_base.specs.LeastOfKind.{IsLeastOf}
-use Rattle.byte_unit_base.specs.Accepted.{IsAccepted, IsRejected}
+use Rattle.byte_unit_base.specs.Accepted.{IsAccepted, IsAcceptedAs, IsRejected, as_written}
 use Rattle.byte_unit_format.specs.Layout.{layout, layout_padding, layout_left_padding, gap_of}
 use Rattle.byte_unit_format.specs.Forms.{places_of, IsSizeForm}
 use Rattle.byte_unit_format.specs.FormLaws.{SizeFormReadsBack, PlainFormReadsBack, AdjustedStringReadsBack, FitsDecimal}
@@ -102,10 +102,27 @@ pub case_counts : (kind : Kind) → (flags_for kind false).ignore_case ≡ false
 case_counts kind = grind arith
 
 -- The size that a number of units is exactly is the least one.
-pub IsLeastOf-exact : (kind : Kind) (number size : ℕ) (unit : Shape) → number * bits unit ≡ size * bits_in kind * scale
+IsLeastOf-exact : (kind : Kind) (number size : ℕ) (unit : Shape) → number * bits unit ≡ size * bits_in kind * scale
     → IsLeastOf kind number unit size
 IsLeastOf-exact kind number size unit exact =
     record { has = grind (arith, exact); least = λ other covers. grind (arith, exact, covers) }
+
+-- What is read as this number of a unit, and means the same unit, is accepted as the size.
+pub accepted_as :
+    (meant : Shape → Shape) (kind : Kind) (ignore_case : Bool) (text : List ℕ) (number size : ℕ) (unit : Shape)
+    → meant unit ≡ unit → IsSizeText current (flags_for kind ignore_case) (trim_of text) number unit
+    → number * bits unit ≡ size * bits_in kind * scale → size < current.size_limit
+    → IsAcceptedAs meant current kind ignore_case text size
+accepted_as meant kind ignore_case text number size unit itself is_size exact below = record {
+  number = number;
+  is_read = record {
+    unit = unit;
+    is_size = is_size;
+    is_least = subst (λ unit. IsLeastOf kind number unit size) (sym itself)
+        (IsLeastOf-exact kind number size unit exact);
+  };
+  below = below;
+}
 
 -- Spaces, number, spaces and unit of a layout, as one text with spaces before it and none after it.
 layout_regrouped :
@@ -163,15 +180,10 @@ pub layout_accepted :
     → length e.digits ≤ places_of_decimal → IsKnown unit → SaysKind (flags_for kind ignore_case) unit.bit
     → fixed_point_of e.whole e.digits * bits unit ≡ size * bits_in kind * scale → size < current.size_limit
     → IsAccepted kind ignore_case (layout (text_of e) (unit_name_in current unit) spec) size
-layout_accepted kind ignore_case size spec e unit bounded few known says exact below = record {
-  number = fixed_point_of e.whole e.digits;
-  is_read = record {
-    unit = unit;
-    is_size = layout_is_size kind ignore_case spec e unit bounded few known says;
-    is_least = IsLeastOf-exact kind (fixed_point_of e.whole e.digits) size unit exact;
-  };
-  below = below;
-}
+layout_accepted kind ignore_case size spec e unit bounded few known says exact below =
+    accepted_as as_written kind ignore_case (layout (text_of e) (unit_name_in current unit) spec)
+    (fixed_point_of e.whole e.digits) size unit refl
+    (layout_is_size kind ignore_case spec e unit bounded few known says) exact below
 
 -- A size has fewer than 8 * 10^30 bits.
 pub bits_of_size_bound : (kind : Kind) (size : ℕ) → size < current.size_limit → size * bits_in kind < bits_limit
@@ -215,15 +227,9 @@ form_is_size kind size spec ignore_case text below form =
 
 -- A size formatted with a unit is read as the size.
 pub size_form_reads_back : SizeFormReadsBack
-size_form_reads_back kind size spec ignore_case text below form = record {
-  number = form.number;
-  is_read = record {
-    unit = form.unit;
-    is_size = form_is_size kind size spec ignore_case text below form;
-    is_least = IsLeastOf-exact kind form.number size form.unit form.number_is;
-  };
-  below = below;
-}
+size_form_reads_back kind size spec ignore_case text below form =
+    accepted_as as_written kind ignore_case text form.number size form.unit refl
+    (form_is_size kind size spec ignore_case text below form) form.number_is below
 
 -- A sign other than `Plus` writes nothing before the digits.
 no_plus : (sign : Sign) → sign ≢ Plus → plus_of sign ≡ []
@@ -252,7 +258,7 @@ no_unit Byte ignore_case = inl record { count_is = inl (refl, refl); power_is = 
 no_unit Bit ignore_case = inl record { count_is = inl (refl, refl); power_is = refl; binary_is = refl }
 
 -- A size formatted as digits without a plus sign is the text of that number of the base unit.
-pub digits_are_size :
+digits_are_size :
     (kind : Kind) (size : ℕ) (spec : FormatSpec) (ignore_case : Bool) → size < current.size_limit → spec.sign ≢ Plus
     → IsSizeText current (flags_for kind ignore_case) (trim_of (plain size spec)) (size * scale) (own_unit kind)
 digits_are_size kind size spec ignore_case below sign =
@@ -273,23 +279,19 @@ digits_are_size kind size spec ignore_case below sign =
       unit_is = no_unit kind ignore_case;
     }
 
--- A number of the base unit is that size.
-pub IsLeastOf-own : (kind : Kind) (size : ℕ) → IsLeastOf kind (size * scale) (own_unit kind) size
-IsLeastOf-own kind size =
-    let own = ap (λ bits. (size * scale) * bits) (own_bits kind) in
-    IsLeastOf-exact kind (size * scale) size (own_unit kind) (omega (arith, own))
+-- A size formatted as digits without a plus sign is read as the size, if its own unit means the same unit.
+pub digits_accepted :
+    (meant : Shape → Shape) (kind : Kind) (ignore_case : Bool) (size : ℕ) (spec : FormatSpec)
+    → meant (own_unit kind) ≡ own_unit kind → size < current.size_limit → spec.sign ≢ Plus
+    → IsAcceptedAs meant current kind ignore_case (plain size spec) size
+digits_accepted meant kind ignore_case size spec own below sign =
+    accepted_as meant kind ignore_case (plain size spec) (size * scale) size (own_unit kind) own
+    (digits_are_size kind size spec ignore_case below sign) (own_number kind size (size * scale) (own_unit kind) refl refl)
+    below
 
--- A size formatted as digits without a plus sign is read as the size.
 pub plain_form_reads_back : PlainFormReadsBack
-plain_form_reads_back kind size spec ignore_case below sign = record {
-  number = size * scale;
-  is_read = record {
-    unit = own_unit kind;
-    is_size = digits_are_size kind size spec ignore_case below sign;
-    is_least = IsLeastOf-own kind size;
-  };
-  below = below;
-}
+plain_form_reads_back kind size spec ignore_case below sign =
+    digits_accepted as_written kind ignore_case size spec refl below sign
 
 whole_not_above : (num den : ℕ) (e : Finite) → 1 ≤ den → IsExpansion num den e → e.whole ≤ num
 whole_not_above num den e some expansion = le_of_mul-le-mul_right {k = 10 ^ length e.digits}

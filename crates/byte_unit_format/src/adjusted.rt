@@ -74,7 +74,8 @@ pub fn adjusted_len(size: u128, kind: Kind, unit: Unit, spec: FormatSpec) -> usi
     match short_parts(size, kind, unit, rounding, spec) {
         Some(parts) => parts.len,
         None => {
-            let (number, places) = expanded(size, kind, unit, rounding);
+            let mut number = number_in_unit(size, kind, unit);
+            let places = round(&mut number, rounding);
             layout_len(&number, places, unit, spec)
         }
     }
@@ -113,7 +114,8 @@ pub fn append_adjusted<A: Allocator>(
     match short_parts(size, kind, unit, rounding, spec) {
         Some(parts) => parts.append(text),
         None => {
-            let (number, places) = expanded(size, kind, unit, rounding);
+            let mut number = number_in_unit(size, kind, unit);
+            let places = round(&mut number, rounding);
             append_layout(&number, places, unit, spec, text)
         }
     }
@@ -207,18 +209,9 @@ fn write_expanded(
     ensures written { WritesForm (IsAdjustedForm kind size unit spec) out.old out.new result }
     ensures bound { result < text_limit }
 {
-    let exact = number_in_unit(size, kind, unit);
-    // Not by `expanded`: a number that both arms of a `match` make is copied.
-    match rounding {
-        Rounding::Exact => write_layout(&exact, exact.places(), unit, spec, out),
-        Rounding::To(places) => {
-            write_layout(&exact.rounded(places, Ties::Even), places, unit, spec, out)
-        }
-        Rounding::AtMost(places) => {
-            let number = exact.rounded(places, Ties::Up);
-            write_layout(&number, number.places(), unit, spec, out)
-        }
-    }
+    let mut number = number_in_unit(size, kind, unit);
+    let places = round(&mut number, rounding);
+    write_layout(&number, places, unit, spec, out)
 }
 
 /// Returns how the spec rounds a number in the unit.
@@ -298,31 +291,25 @@ fn scaled_size(size: u128, kind: Kind, places: u32) -> Option<u128>
     (scaled < 1 << 127).then_some(scaled)
 }
 
-/// Returns the size in the unit, rounded, and how many digits after the point are shown.
-fn expanded(size: u128, kind: Kind, unit: Unit, rounding: Rounding) -> (Expansion, u32)
-    requires size { size < size_limit }
-    requires fits { FitsRounding rounding }
-    ensures number { let unit = shape_of unit in
-        IsNumeralBy (rule_from rounding) (size * bits_in kind) (bits unit)
-        (text_of (pad_of result.1 result.0)) }
-    ensures bound { result.1 < 2 ^ 16 }
+/// Rounds a number, and returns how many of its digits after the point are shown.
+#[inline(always)]
+fn round(number: &mut Expansion, rounding: Rounding) -> u32
+    requires { FitsRounding rounding }
+    ensures text { (num den : ℕ) → 1 ≤ den → IsExpansion num den number.old
+        → IsNumeralBy (rule_from rounding) num den (text_of (pad_of result number.new)) }
+    ensures bound { result < 2 ^ 16 }
 {
-    let number = number_in_unit(size, kind, unit);
     match rounding {
-        Rounding::Exact => with_all_places(number),
-        Rounding::To(places) => (number.rounded(places, Ties::Even), places),
-        Rounding::AtMost(places) => with_all_places(number.rounded(places, Ties::Up)),
+        Rounding::Exact => number.places(),
+        Rounding::To(places) => {
+            number.round(places, Ties::Even);
+            places
+        }
+        Rounding::AtMost(places) => {
+            number.round(places, Ties::Up);
+            number.places()
+        }
     }
-}
-
-/// Returns a decimal and the number of its digits after the point.
-#[tactic(auto, using(crate::proofs::WrittenForms::all_places))]
-fn with_all_places(number: Expansion) -> (Expansion, u32)
-    ensures text { text_of (pad_of result.1 result.0) ≡ text_of number }
-    ensures bound { result.1 < 2 ^ 16 }
-{
-    let places = number.places();
-    (number, places)
 }
 
 /// Returns the size in the unit times 10^places, rounded to a whole number, ties to even.

@@ -1,7 +1,8 @@
 //! Writing into the spare capacity of a string.
 
-ghost use Rattle.std.specs.Prelude.{◌≡◌, ◌+◌, ◌≤◌, ◌<◌, [], ◌∷◌, ◌++◌, length, replicate, OnOk, OnErr, IsAscii};
+ghost use Rattle.std.specs.Prelude.{◌≡◌, ◌≤◌, ◌<◌, [], ◌∷◌, length, replicate, OnOk, OnErr, IsAscii};
 ghost use Rattle.std.specs.String.{string_bytes};
+ghost use Rattle.byte_unit_format.specs.Pushed.{IsPushed};
 ghost use Rattle.byte_unit_format.specs.Room.{spare_capacity, AppendsForm};
 
 use std::alloc::{AllocError, Allocator};
@@ -26,8 +27,7 @@ pub(crate) fn reserve<A: Allocator>(text: &mut String<A>, len: usize) -> Result<
 pub(crate) fn push_ascii<A: Allocator>(text: &mut String<A>, ascii: &[u8])
     requires ascii { IsAscii ascii.now }
     requires room { length ascii.now ≤ spare_capacity text.old }
-    ensures bytes { string_bytes text.new ≡ string_bytes text.old ++ ascii.now }
-    ensures spare { spare_capacity text.old ≤ spare_capacity text.new + length ascii.now }
+    ensures { IsPushed ascii.now text.old text.new }
 {
     text.push_str(unsafe { str::from_utf8_unchecked(ascii) })
         .unwrap();
@@ -50,8 +50,7 @@ pub(crate) fn append_ascii<A: Allocator>(
 pub(crate) fn push<A: Allocator>(text: &mut String<A>, c: char)
     requires ascii { c < 128 }
     requires room { 1 ≤ spare_capacity text.old }
-    ensures bytes { string_bytes text.new ≡ string_bytes text.old ++ c ∷ [] }
-    ensures spare { spare_capacity text.old ≤ spare_capacity text.new + 1 }
+    ensures { IsPushed (c ∷ []) text.old text.new }
 {
     text.push(c).unwrap();
 }
@@ -60,8 +59,7 @@ pub(crate) fn push<A: Allocator>(text: &mut String<A>, c: char)
 pub(crate) fn push_run<A: Allocator>(text: &mut String<A>, byte: u8, count: usize)
     requires ascii { byte < 128 }
     requires room { count ≤ spare_capacity text.old }
-    ensures bytes { string_bytes text.new ≡ string_bytes text.old ++ replicate count byte }
-    ensures spare { spare_capacity text.old ≤ spare_capacity text.new + count }
+    ensures { IsPushed (replicate count byte) text.old text.new }
 {
     if count == 0 {
         return;

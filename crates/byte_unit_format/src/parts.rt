@@ -1,11 +1,12 @@
 //! The parts of a formatted text, and how they are written.
 
-ghost use Rattle.std.specs.Prelude.{◌≡◌, ◌+◌, ◌^◌, ◌<◌, ◌≤◌, ◌++◌, length, drop, IsAscii};
-ghost use Rattle.std.specs.String.{string_bytes};
+ghost use Rattle.std.specs.Prelude.{◌≡◌, ◌+◌, ◌^◌, ◌<◌, ◌≤◌, length, IsAscii};
 ghost use Rattle.byte_unit_math.specs.Bounds.{places_of_number};
 ghost use Rattle.byte_unit_math.specs.Digits.{last_digits};
 ghost use Rattle.byte_unit_math.specs.Numeral.{fraction_text};
 ghost use Rattle.byte_unit_math.specs.Padded.{pad_of};
+ghost use Rattle.byte_unit_math.specs.PutBefore.{IsPutBefore};
+ghost use Rattle.byte_unit_format.specs.Pushed.{IsPushed};
 ghost use Rattle.byte_unit_format.specs.Room.{spare_capacity, AppendsForm};
 ghost use Rattle.byte_unit_format.specs.TextParts.{fraction_of, places_in, FitsPlaces, IsReady, parts_text};
 ghost use Rattle.byte_unit_format.specs.Written.{WritesForm};
@@ -79,9 +80,7 @@ impl TextParts<'_> {
         requires few { length (parts_text self.now) ≤ BUFFER_LEN }
         requires ready { IsReady self.now }
         requires room { length (parts_text self.now) ≤ spare_capacity text.old }
-        ensures bytes { string_bytes text.new ≡ string_bytes text.old ++ parts_text self.now }
-        ensures spare { spare_capacity text.old
-            ≤ spare_capacity text.new + length (parts_text self.now) }
+        ensures { IsPushed (parts_text self.now) text.old text.new }
     {
         let mut bytes = [0; BUFFER_LEN];
         let start = self.put(&mut bytes, BUFFER_LEN);
@@ -92,9 +91,7 @@ impl TextParts<'_> {
     fn push_parts<A: Allocator>(&self, text: &mut String<A>)
         requires ready { IsReady self.now }
         requires room { length (parts_text self.now) ≤ spare_capacity text.old }
-        ensures bytes { string_bytes text.new ≡ string_bytes text.old ++ parts_text self.now }
-        ensures spare { spare_capacity text.old
-            ≤ spare_capacity text.new + length (parts_text self.now) }
+        ensures { IsPushed (parts_text self.now) text.old text.new }
     {
         push_run(text, b' ', self.before);
         text.push_str(self.sign).unwrap();
@@ -111,8 +108,7 @@ impl TextParts<'_> {
         requires room { length (parts_text self.now) ≤ end }
         requires within { end ≤ length out.old }
         requires ready { IsReady self.now }
-        ensures begins { result + length (parts_text self.now) ≡ end }
-        ensures bytes { drop result out.new ≡ parts_text self.now ++ drop end out.old }
+        ensures put { IsPutBefore (parts_text self.now) end out.old out.new result }
         ensures ascii { IsAscii (parts_text self.now) }
     {
         let name = put_short(self.name.as_bytes(), out, end);
@@ -143,9 +139,7 @@ impl Fraction<'_> {
     fn push<A: Allocator>(&self, text: &mut String<A>)
         requires short { FitsPlaces self.now }
         requires room { length (fraction_of self.now) ≤ spare_capacity text.old }
-        ensures bytes { string_bytes text.new ≡ string_bytes text.old ++ fraction_of self.now }
-        ensures spare { spare_capacity text.old
-            ≤ spare_capacity text.new + length (fraction_of self.now) }
+        ensures { IsPushed (fraction_of self.now) text.old text.new }
     {
         match self {
             Fraction::Last(digits, places) => push_last(text, *digits, *places),
@@ -159,8 +153,7 @@ impl Fraction<'_> {
         requires room { length (fraction_of self.now) ≤ end }
         requires within { end ≤ length out.old }
         requires short { FitsPlaces self.now }
-        ensures begins { result + length (fraction_of self.now) ≡ end }
-        ensures bytes { drop result out.new ≡ fraction_of self.now ++ drop end out.old }
+        ensures put { IsPutBefore (fraction_of self.now) end out.old out.new result }
         ensures ascii { IsAscii (fraction_of self.now) }
     {
         match self {
@@ -175,9 +168,8 @@ impl Fraction<'_> {
 fn put_first(e: &Expansion, places: u32, out: &mut [u8], end: usize) -> usize
     requires room { length (fraction_text (pad_of places e.now).digits) ≤ end }
     requires within { end ≤ length out.old }
-    ensures begins { result + length (fraction_text (pad_of places e.now).digits) ≡ end }
-    ensures bytes { drop result out.new
-        ≡ fraction_text (pad_of places e.now).digits ++ drop end out.old }
+    ensures put { let text = fraction_text (pad_of places e.now).digits in
+        IsPutBefore text end out.old out.new result }
     ensures ascii { IsAscii (fraction_text (pad_of places e.now).digits) }
 {
     if places == 0 {
@@ -194,10 +186,7 @@ fn put_first(e: &Expansion, places: u32, out: &mut [u8], end: usize) -> usize
 fn push_last<A: Allocator>(text: &mut String<A>, digits: u128, places: u32)
     requires short { (places ≤ places_of_number) × (digits < 10 ^ places) }
     requires room { length (fraction_text (last_digits places digits)) ≤ spare_capacity text.old }
-    ensures bytes { string_bytes text.new
-        ≡ string_bytes text.old ++ fraction_text (last_digits places digits) }
-    ensures spare { spare_capacity text.old
-        ≤ spare_capacity text.new + length (fraction_text (last_digits places digits)) }
+    ensures { IsPushed (fraction_text (last_digits places digits)) text.old text.new }
 {
     let mut bytes = [0; BUFFER_LEN];
     let start = put_fraction(digits, places, &mut bytes, BUFFER_LEN);
@@ -208,10 +197,7 @@ fn push_last<A: Allocator>(text: &mut String<A>, digits: u128, places: u32)
 #[tactic(auto, using(crate::proofs::WrittenForms::fraction_length))]
 fn push_first<A: Allocator>(text: &mut String<A>, e: &Expansion, places: u32)
     requires room { length (fraction_text (pad_of places e.now).digits) ≤ spare_capacity text.old }
-    ensures bytes { string_bytes text.new
-        ≡ string_bytes text.old ++ fraction_text (pad_of places e.now).digits }
-    ensures spare { spare_capacity text.old
-        ≤ spare_capacity text.new + length (fraction_text (pad_of places e.now).digits) }
+    ensures { IsPushed (fraction_text (pad_of places e.now).digits) text.old text.new }
 {
     if places > 0 {
         let shown = places.min(e.places()) as usize;

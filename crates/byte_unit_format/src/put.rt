@@ -1,6 +1,7 @@
 //! Writing backwards into a buffer.
 
 ghost use Rattle.std.specs.Prelude.{◌≡◌, ◌+◌, ◌≤◌, ◌++◌, length, take, drop, replicate};
+ghost use Rattle.byte_unit_math.specs.PutBefore.{IsPutBefore};
 
 /// Writes bytes so that they end before the index `end`, and returns the index where they begin.
 #[inline(always)]
@@ -21,8 +22,7 @@ pub(crate) fn put(bytes: &[u8], out: &mut [u8], end: usize) -> usize
 pub(crate) fn put_run(byte: u8, count: usize, out: &mut [u8], end: usize) -> usize
     requires room { count ≤ end }
     requires within { end ≤ length out.old }
-    ensures begins { result + count ≡ end }
-    ensures bytes { drop result out.new ≡ replicate count byte ++ drop end out.old }
+    ensures { IsPutBefore (replicate count byte) end out.old out.new result }
 {
     let start = end - count;
     out[start..end].fill(byte);
@@ -36,8 +36,7 @@ pub(crate) fn put_short(bytes: &[u8], out: &mut [u8], end: usize) -> usize
     requires short { length bytes.now ≤ 3 }
     requires room { length bytes.now ≤ end }
     requires within { end ≤ length out.old }
-    ensures begins { result + length bytes.now ≡ end }
-    ensures bytes { drop result out.new ≡ bytes.now ++ drop end out.old }
+    ensures { IsPutBefore bytes.now end out.old out.new result }
 {
     let len = bytes.len();
     if len == 0 {

@@ -252,6 +252,15 @@ product_is rest count few =
     powers_from_at 5 49 1 count (omega (arith, few)) ∙ omega arith in
     ap (λ n. rest * n) entry
 
+-- The next group of digits is below 10^16.
+pub next_group_small :
+    (rest left : ℕ) → 0 < left → rest < 2 ^ left
+    → rest * get_or (powers_from 5 49 1) ((left - 1) % 16 + 1) 0 / 2 ^ (left - ((left - 1) % 16 + 1)) < 10 ^ 16
+next_group_small rest left some below =
+    let count = (left - 1) % 16 + 1 in
+    let same = ap (λ n. n / 2 ^ (left - count)) (product_is rest count (omega arith)) in
+    omega (arith, same, group_small rest left count (left - count) (omega (arith, some)) below (omega arith))
+
 -- Sixteen bytes that are stored in place of others.
 pub group_stored : (end : ℕ) (groups values : List ℕ) → length groups ≡ 112 → end ≤ 80 → length values ≡ 16
     → put_mid end (end + 16 - end) groups (put_chunk 0 (mid_of end (end + 16 - end) groups) values)

@@ -2,14 +2,14 @@
 -- the trailing zeros or nines.
 use Rattle.std.proofs.Common.{◌≢◌, ◌≡◌, ◌+◌, ◌-◌, ◌*◌, ◌^◌, ◌%◌, ◌<◌, ◌≤◌, ℕ, List, length, take, drop, get_or, arith}
 use Rattle.std.proofs.Common.{ap, sym, ◌∙◌, add-one, length-take-le, take-append-drop, length-drop, drop-cons, Bool}
-use Rattle.std.proofs.Common.{true, false, ltb, nat_eq, zero, suc, [], ◌++◌, set, replicate, refl}
+use Rattle.std.proofs.Common.{true, false, ltb, nat_eq, zero, suc, [], ◌++◌, set, replicate}
 use Rattle.std.specs.List.{All, fold}
 use Rattle.std.proofs.lemmas.List.{get_or-take, get_or-drop, length-take, take_more, take_more_set, length-set}
-use Rattle.std.proofs.lemmas.List.{length-replicate, get_or-set_same}
-use Rattle.std.proofs.lemmas.List.Elements.{All-take, All-get_or, All-drop, All-nil, All-replicate, All-set}
+use Rattle.std.proofs.lemmas.List.{length-append, length-replicate, get_or-set_same, take-take, take_at, drop_at, drop-set-lt}
+use Rattle.std.proofs.lemmas.List.Elements.{All-take, All-get_or, All-drop, All-nil, All-replicate, All-set, All-append}
 use Rattle.std.proofs.lemmas.Nat.{pow-add}
 use Rattle.std.proofs.Math.Nat.{pow-succ', mul-le-mul_right, mul-lt-mul_of_pos_right}
-use Rattle.byte_unit_math.specs.Bounds.{expansion_places}
+use Rattle.byte_unit_math.specs.Bounds.{expansion_places, whole_limit}
 use Rattle.byte_unit_math.specs.Finite.{Finite, value_of_digits, ulps_of, cut_after, IsExpansion}
 use Rattle.byte_unit_math.specs.Nearest.{IsNearest}
 use Rattle.byte_unit_math.specs.declared.expansion.Ties.{Ties}
@@ -23,7 +23,6 @@ use Rattle.std.proofs.lemmas.Bool.Decides.{nat_tests}
 use Rattle.byte_unit_math.proofs.Nearest.{LiesAbove, nearest_down, nearest_up, tie_up_next, tie_even_next}
 use Rattle.byte_unit_math.proofs.Nearest.{tie_even_this}
 use Rattle.byte_unit_math.proofs.Expanding.{expansion_of_digits, value_by_last_digit, expansion_of_first_digits}
-use Rattle.byte_unit_math.proofs.Expanding.{zeros_after_set}
 use Rattle.byte_unit_math.proofs.Scales.{pow10_split, power_of_sum}
 use Rattle.std.proofs.lemmas.Grind.{common_steps}
 use Rattle.std.proofs.lemmas.List.Sums.{fold-append}
@@ -179,11 +178,27 @@ pub record EndsInRunOf (e : Finite) (p kept digit : ℕ) : Type 0 where
   pub same : take p e.digits ≡ take kept e.digits ++ replicate (p - kept) digit
   pub stops : 0 < kept → get_or e.digits (kept - 1) 0 ≢ digit
 
--- An array of 93 digits begins with the first `kept` digits of `e`.
+-- An array of 93 digits begins with the first `kept` digits of `e`, and zeros follow.
 pub record BeginsWith (e : Finite) (kept : ℕ) (ds : List ℕ) : Type 0 where
   pub size : length ds ≡ expansion_places
   pub front : take kept ds ≡ take kept e.digits
   pub small : All (λ d. d < 10) ds
+  pub rest : drop kept ds ≡ replicate (expansion_places - kept) 0
+
+-- The digits of the fields, from the index `kept` on set to 0, begin so.
+pub cleared : (i : Inside) (e : Finite) (kept : ℕ) (ds : List ℕ) → IsNormalizedExpansion i → expansion_view i ≡ e
+    → kept ≤ length e.digits → ds ≡ take kept i.digits ++ replicate (expansion_places - kept) 0 → BeginsWith e kept ds
+cleared i e kept ds h v few is =
+    let within : kept ≤ length i.digits = grind (arith, length-take-le) in
+    let size = length-take-le kept i.digits within in
+    let front : take kept e.digits ≡ take kept i.digits = grind (arith, take-take, length-take-le) in
+    rw is (record {
+      size = grind (arith, length-append, length-replicate, size, within);
+      front = take_at (take kept i.digits) (replicate (expansion_places - kept) 0) kept size ∙ sym front;
+      small = All-append (λ d. d < 10) (take kept i.digits) (replicate (expansion_places - kept) 0)
+          (All-take (λ d. d < 10) kept i.digits h.small) (All-replicate (λ d. d < 10) (expansion_places - kept) 0 (omega arith));
+      rest = drop_at (take kept i.digits) (replicate (expansion_places - kept) 0) kept size;
+    })
 
 scaled_cut : (e : Finite) (p : ℕ) → p ≤ length e.digits
     → ulps_of (cut_after p e) ≡ e.whole * 10 ^ p + value_of_digits (take p e.digits)
@@ -251,6 +266,35 @@ pub next_whole_is_expansion :
 next_whole_is_expansion e p kept h none =
     grind (arith, All-nil, expansion_of_digits, fold_nines, one_le_pow10, pow10_split, scaled_cut, scaled_nines)
 
+-- If nines follow the digits that are kept, the last of those is less.
+pub last_kept_less :
+    (e : Finite) (p kept : ℕ) (ds : List ℕ) → EndsInRunOf e p kept 9 → BeginsWith e kept ds → 0 < kept
+    → get_or ds (kept - 1) 0 + 1 < 10
+last_kept_less e p kept ds h array some =
+    let fits : kept - 1 < length ds = omega (arith, some, kept_fits e p kept 9 ds h array) in
+    let small = All-get_or (λ d. d < 10) ds (kept - 1) 0 fits array.small in
+    let other = h.stops some in
+    omega (arith, small, same_last_digit e kept ds array some, other)
+
+-- The fields with one more in the last digit that is kept satisfy the invariant.
+pub next_digit_normalized :
+    (e : Finite) (p kept whole : ℕ) (ds : List ℕ) → EndsInRunOf e p kept 9 → BeginsWith e kept ds → 0 < kept
+    → kept ≤ expansion_places → whole < whole_limit
+    → IsNormalizedExpansion (record { whole = whole; digits = set ds (kept - 1) (get_or ds (kept - 1) 0 + 1); places = kept })
+next_digit_normalized e p kept whole ds h array some few below =
+    let last : ℕ = kept - 1 in
+    let digit : ℕ = get_or ds last 0 + 1 in
+    let fits : last < length ds = omega (arith, some, kept_fits e p kept 9 ds h array) in
+    record {
+      size = length-set ds last digit ∙ array.size;
+      few = few;
+      small = All-set (λ d. d < 10) ds last digit (last_kept_less e p kept ds h array some) array.small;
+      rest = drop-set-lt kept ds last digit (omega (arith, some)) ∙ array.rest;
+      last = λ _. let at = get_or-set_same ds last digit 0 fits in omega (arith, at);
+      bound = omega (arith, below);
+      room = λ _. below;
+    }
+
 -- An array in which the last digit kept is one more represents one more.
 value_one_more :
     (e : Finite) (kept : ℕ) (ds : List ℕ) → BeginsWith e kept ds → 0 < kept → kept ≤ length ds
@@ -271,9 +315,7 @@ next_digit_is_expansion e p kept ds h array some =
     let count = e.whole * 10 ^ kept + (value_of_digits (take kept e.digits) + 1) in
     let scaled = ap (λ n. n * 10 ^ kept) (scaled_nines e p kept h) in
     let power = ap (λ n. count * n) (pow10_split kept p h.few) in
-    let small : digit < 10 = All-get_or (λ d. d < 10) ds last 0 fits array.small in
-    let other = h.stops some in
-    let nine : digit + 1 < 10 = omega (arith, small, same_last_digit e kept ds array some, other) in
+    let nine = last_kept_less e p kept ds h array some in
     expansion_of_first_digits (ulps_of (cut_after p e) + 1) (10 ^ p) e.whole kept (set ds last (digit + 1))
     (one_le_pow10 p)
     (record {
@@ -282,26 +324,3 @@ next_digit_is_expansion e p kept ds h array some =
       exact = rw (value_one_more e kept ds array some (omega (arith, fits))) (omega (arith, scaled, power));
       last = λ _. let at = get_or-set_same ds last (digit + 1) 0 fits in omega (arith, at);
     })
-
--- The first i digits of `ds` are those of `es`, and the rest of its 93 digits are zeros.
-pub record IsCopied (ds es : List ℕ) (i : ℕ) : Type 0 where
-  pub size : length ds ≡ expansion_places
-  pub front : take i ds ≡ take i es
-  pub rest : drop i ds ≡ replicate (expansion_places - i) 0
-  pub small : All (λ d. d < 10) ds
-
--- An array of zeros has no digit of another copied.
-pub no_digits_copied : (es : List ℕ) → IsCopied (replicate expansion_places 0) es 0
-no_digits_copied es = record {
-  size = length-replicate {A = ℕ} expansion_places 0;
-  front = refl;
-  rest = refl;
-  small = All-replicate (λ d. d < 10) expansion_places 0 (omega arith);
-}
-
--- After the digit at index i is copied, i + 1 digits are.
-pub one_more_digit_copied :
-    (ds es : List ℕ) (i d : ℕ) → IsCopied ds es i → i < expansion_places → i < length es
-    → d ≡ get_or es (i + 1 - 1) 0 → d < 10 → IsCopied (set ds i d) es (i + 1)
-one_more_digit_copied ds es i d h room within is small =
-    grind (arith, common_steps, All-set, length-set, take_more, take_more_set, zeros_after_set)

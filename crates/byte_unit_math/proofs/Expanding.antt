@@ -239,14 +239,15 @@ IsDividing-ended num den whole rest places digits h none =
     grind (arith, All-get_or, All-take, expansion_of_digits, get_or-take, length-take-le, value_by_last_digit)
 
 -- If 2^a * 5^b is at most 2^93, so are 2^a and 5^b.
-pub factors_within_limit : (a b : ℕ) → 2 ^ a * 5 ^ b ≤ unit_limit → (2 ^ a ≤ unit_limit) × (5 ^ b ≤ unit_limit)
+factors_within_limit : (a b : ℕ) → 2 ^ a * 5 ^ b ≤ unit_limit → (2 ^ a ≤ unit_limit) × (5 ^ b ≤ unit_limit)
 factors_within_limit a b h = grind (arith, mul-le, one-le-pow)
 
-pub exponents_within_places : (a b : ℕ) → 2 ^ a * 5 ^ b ≤ unit_limit → (a ≤ expansion_places) × (b ≤ expansion_places)
+-- If 2^a * 5^b is at most 2^93, a is at most 93, and b at most 40.
+pub exponents_within_places : (a b : ℕ) → 2 ^ a * 5 ^ b ≤ unit_limit → (a ≤ expansion_places) × (b ≤ 40)
 exponents_within_places a b h =
     let small = factors_within_limit a b h in (
       exponent_at_most 2 expansion_places a (unit_limit + 1) (omega arith) (omega (arith, small.0)) (omega arith),
-      exponent_at_most 5 expansion_places b (unit_limit + 1) (omega arith) (omega (arith, small.1)) (omega arith),
+      exponent_at_most 5 40 b (unit_limit + 1) (omega arith) (omega (arith, small.1)) (omega arith),
     )
 
 -- If 2^a * 5^b is at most 2^93, each fraction over it is exact with 93 digits after the point.
@@ -264,7 +265,7 @@ pub product_positive : (a b : ℕ) → 1 ≤ 2 ^ a * 5 ^ b
 product_positive a b = mul-le 1 1 (2 ^ a) (5 ^ b) (one-le-pow a 2 (omega arith)) (one-le-pow b 5 (omega arith))
 
 -- The facts about a denominator 2^a * 5^b that the proofs of expansions use.
-pub ruleset powers = (factors_within_limit, product_positive, powers_are_exact)
+pub ruleset powers = (exponents_within_places, product_positive, powers_are_exact)
 
 -- A fraction over 10^28 is exact with 93 digits after the point.
 pub decimal_is_exact : (num : ℕ) → IsExactAt num (scale) expansion_places

@@ -8,6 +8,7 @@ pub mod Finite
 pub mod Digits
 pub mod Numeral
 pub mod Padded
+pub mod PutBefore
 pub mod Nearest
 pub mod Powers
 pub mod Factored

@@ -1,10 +1,11 @@
 //! The decimal digits of a number, as ASCII.
 
-ghost use Rattle.std.specs.Prelude.{◌≡◌, ◌+◌, ◌^◌, ◌≤◌, ◌<◌, ◌++◌, length, drop, IsAscii, Some};
+ghost use Rattle.std.specs.Prelude.{◌≡◌, ◌^◌, ◌≤◌, ◌<◌, length, IsAscii, Some};
 ghost use Rattle.std.specs.Fmt.{decimal, DisplaysOnOk, DisplaysStyledOnOk};
 ghost use Rattle.byte_unit_math.specs.Bounds.{places_of_number};
 ghost use Rattle.byte_unit_math.specs.Digits.{last_digits};
 ghost use Rattle.byte_unit_math.specs.Numeral.{fraction_text, glyphs};
+ghost use Rattle.byte_unit_math.specs.PutBefore.{IsPutBefore};
 
 use crate::dividing::split_last_18_digits;
 use crate::lanes::{TEN_POW_16, put_16_digits};
@@ -176,8 +177,7 @@ fn decimal_len_u64(n: u64) -> usize
 pub fn put_u128(n: u128, bytes: &mut [u8], end: usize) -> usize
     requires room { length (decimal n) ≤ end }
     requires within { end ≤ length bytes.old }
-    ensures begins { result + length (decimal n) ≡ end }
-    ensures digits { drop result bytes.new ≡ decimal n ++ drop end bytes.old }
+    ensures put { IsPutBefore (decimal n) end bytes.old bytes.new result }
     ensures ascii { IsAscii (decimal n) }
 {
     if n <= u128::from(u64::MAX) {
@@ -206,9 +206,8 @@ pub fn put_fraction(digits: u128, places: u32, bytes: &mut [u8], end: usize) -> 
     requires below { digits < 10 ^ places }
     requires room { length (fraction_text (last_digits places digits)) ≤ end }
     requires within { end ≤ length bytes.old }
-    ensures begins { result + length (fraction_text (last_digits places digits)) ≡ end }
-    ensures digits { drop result bytes.new
-        ≡ fraction_text (last_digits places digits) ++ drop end bytes.old }
+    ensures put { let text = fraction_text (last_digits places digits) in
+        IsPutBefore text end bytes.old bytes.new result }
     ensures ascii { IsAscii (fraction_text (last_digits places digits)) }
 {
     if places == 0 {
@@ -226,8 +225,7 @@ pub fn put_fraction(digits: u128, places: u32, bytes: &mut [u8], end: usize) -> 
 fn put_u128_wide(n: u128, bytes: &mut [u8], end: usize) -> usize
     requires room { length (decimal n) ≤ end }
     requires within { end ≤ length bytes.old }
-    ensures begins { result + length (decimal n) ≡ end }
-    ensures digits { drop result bytes.new ≡ decimal n ++ drop end bytes.old }
+    ensures { IsPutBefore (decimal n) end bytes.old bytes.new result }
 {
     let mut start = end;
     let mut rest = n;
@@ -246,8 +244,7 @@ fn put_18_digits(n: u64, bytes: &mut [u8], end: usize) -> usize
     requires below { n < 10 ^ 18 }
     requires room { 18 ≤ end }
     requires within { end ≤ length bytes.old }
-    ensures begins { result + 18 ≡ end }
-    ensures digits { drop result bytes.new ≡ glyphs (last_digits 18 n) ++ drop end bytes.old }
+    ensures { IsPutBefore (glyphs (last_digits 18 n)) end bytes.old bytes.new result }
 {
     let middle = put_16_digits(n % TEN_POW_16, bytes, end);
     put_2_digits((n / TEN_POW_16) as u32, bytes, middle)
@@ -259,8 +256,7 @@ fn put_18_digits(n: u64, bytes: &mut [u8], end: usize) -> usize
 fn put_u64(n: u64, bytes: &mut [u8], end: usize) -> usize
     requires room { length (decimal n) ≤ end }
     requires within { end ≤ length bytes.old }
-    ensures begins { result + length (decimal n) ≡ end }
-    ensures digits { drop result bytes.new ≡ decimal n ++ drop end bytes.old }
+    ensures { IsPutBefore (decimal n) end bytes.old bytes.new result }
 {
     let mut start = end;
     let mut rest = n;
@@ -287,8 +283,7 @@ fn put_4_digits(n: u32, bytes: &mut [u8], end: usize) -> usize
     requires below { n < 10 ^ 4 }
     requires room { 4 ≤ end }
     requires within { end ≤ length bytes.old }
-    ensures begins { result + 4 ≡ end }
-    ensures digits { drop result bytes.new ≡ glyphs (last_digits 4 n) ++ drop end bytes.old }
+    ensures { IsPutBefore (glyphs (last_digits 4 n)) end bytes.old bytes.new result }
 {
     let middle = put_2_digits(n % 100, bytes, end);
     put_2_digits(n / 100, bytes, middle)
@@ -300,8 +295,7 @@ fn put_2_digits(n: u32, bytes: &mut [u8], end: usize) -> usize
     requires below { n < 10 ^ 2 }
     requires room { 2 ≤ end }
     requires within { end ≤ length bytes.old }
-    ensures begins { result + 2 ≡ end }
-    ensures digits { drop result bytes.new ≡ glyphs (last_digits 2 n) ++ drop end bytes.old }
+    ensures { IsPutBefore (glyphs (last_digits 2 n)) end bytes.old bytes.new result }
 {
     let start = end - 2;
     let pair = n as usize * 2;

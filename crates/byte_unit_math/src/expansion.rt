@@ -1,7 +1,6 @@
 //! Terminating decimal expansions: a whole part and at most 93 digits after the point.
-ghost use Rattle.std.specs.Prelude.{◌≡◌, ◌≢◌, ◌+◌, ◌-◌, ◌*◌, ◌%◌, ◌^◌, ◌≤◌, ◌<◌, ◌++◌, ℕ, length, take, drop};
+ghost use Rattle.std.specs.Prelude.{◌≡◌, ◌≢◌, ◌+◌, ◌-◌, ◌*◌, ◌%◌, ◌^◌, ◌≤◌, ◌<◌, ◌++◌, ℕ, length, take};
 ghost use Rattle.std.specs.Prelude.{replicate, slice_index, IsAscii, Some};
-ghost use Rattle.std.specs.List.{All};
 ghost use Rattle.std.specs.Bool.{MatchBool};
 ghost use Rattle.std.specs.Fmt.{DisplaysOnOk, DisplaysStyledOnOk};
 ghost use Rattle.byte_unit_math.specs.Bounds.{bits_limit, expansion_places, scale, unit_limit, whole_limit};
@@ -170,12 +169,31 @@ impl Expansion {
             × IsNearest (ulps_of self.now) (10 ^ length self.now.digits) places ties q
             × IsExpansion q (10 ^ places) result }
     {
+        let mut rounded = *self;
+        rounded.round(places, ties);
+        rounded
+    }
+
+    /// Rounds in place, as `rounded` does.
+    ///
+    /// # Examples
+    /// ```rust
+    /// let mut e = Expansion::new(9_996, 3, 3);
+    /// e.round(2, Ties::Even);
+    /// assert_eq!(rt; (e.whole(), e.places()), (10, 0));
+    /// ```
+    pub fn round(&mut self, places: u32, ties: Ties)
+        ensures { (q : ℕ)
+            × IsNearest (ulps_of self.old) (10 ^ length self.old.digits) places ties q
+            × IsExpansion q (10 ^ places) self.new }
+    {
         if self.places <= places {
-            *self
-        } else if self.rounds_up(places, ties) {
-            self.ceil_to(places)
+            return;
+        }
+        if self.rounds_up(places, ties) {
+            self.ceil_to(places);
         } else {
-            self.floor_to(places)
+            self.floor_to(places);
         }
     }
 
@@ -232,61 +250,41 @@ impl Expansion {
         kept
     }
 
-    /// Returns the first `places` digits, and then zeros.
-    #[tactic(auto, using(crate::proofs::Cut::one_more_digit_copied, std::proofs::lemmas::Grind::common_steps))]
-    fn leading_digits(&self, places: u32) -> [u8; EXPANSION_PLACES]
-        requires { places ≤ length self.now.digits }
-        ensures size { length result ≡ expansion_places }
-        ensures front { take places result ≡ take places self.now.digits }
-        ensures rest { drop places result ≡ replicate (expansion_places - places) 0 }
-        ensures bound { All (λ d. d < 10) result }
-    {
-        let count = self.places();
-        prove!(places <= count);
-        let mut digits = [0u8; EXPANSION_PLACES];
-        for i in 0..places {
-            digits[i as usize] = self.digit(i + 1);
-        }
-        digits
-    }
-
     /// Rounds down to `places` digits after the point.
-    fn floor_to(&self, places: u32) -> Expansion
-        requires { places ≤ length self.now.digits }
-        ensures { IsExpansion (ulps_of (cut_after places self.now)) (10 ^ places) result }
+    fn floor_to(&mut self, places: u32)
+        requires { places ≤ length self.old.digits }
+        ensures { IsExpansion (ulps_of (cut_after places self.old)) (10 ^ places) self.new }
     {
         let kept = self.trim_end_len(places, 0);
-        Expansion {
-            whole: self.whole,
-            digits: self.leading_digits(kept),
-            places: kept,
-        }
+        clear_from(&mut self.digits, kept);
+        self.places = kept;
     }
 
     /// Rounds up to `places` digits after the point, of which the number has more.
     #[tactic(auto, using(crate::proofs::Cut::next_whole_is_expansion))]
-    fn ceil_to(&self, places: u32) -> Expansion
-        requires { places < length self.now.digits }
-        ensures { IsExpansion (ulps_of (cut_after places self.now) + 1) (10 ^ places) result }
+    fn ceil_to(&mut self, places: u32)
+        requires { places < length self.old.digits }
+        ensures { IsExpansion (ulps_of (cut_after places self.old) + 1) (10 ^ places) self.new }
     {
         // The carry turns trailing nines into zeros, and adds one to the digit before them.
         let kept = self.trim_end_len(places, 9);
-        let mut digits = self.leading_digits(kept);
+        clear_from(&mut self.digits, kept);
+        self.places = kept;
         if kept == 0 {
-            Expansion {
-                whole: self.whole + 1,
-                digits,
-                places: 0,
-            }
+            self.whole += 1;
         } else {
-            digits[kept as usize - 1] += 1;
-            Expansion {
-                whole: self.whole,
-                digits,
-                places: kept,
-            }
+            self.digits[kept as usize - 1] += 1;
         }
     }
+}
+
+/// Sets the digits from the index `kept` on to 0.
+#[inline(always)]
+fn clear_from(digits: &mut [u8; EXPANSION_PLACES], kept: u32)
+    requires { kept ≤ expansion_places }
+    ensures { digits.new ≡ take kept digits.old ++ replicate (expansion_places - kept) 0 }
+{
+    digits[kept as usize..].fill(0);
 }
 
 /// Writes the whole part and, if there are digits after the point, a point and these.

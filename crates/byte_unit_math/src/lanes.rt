@@ -4,6 +4,7 @@ ghost use Rattle.std.specs.Prelude.{◌≡◌, ◌+◌, ◌-◌, ◌/◌, ◌%�
 ghost use Rattle.std.specs.Fmt.{decimal};
 ghost use Rattle.byte_unit_math.specs.Digits.{last_digits};
 ghost use Rattle.byte_unit_math.specs.Numeral.{glyphs, padded_digits};
+ghost use Rattle.byte_unit_math.specs.PutBefore.{IsPutBefore};
 
 use crate::decimal_digits::{decimal_len, put_u128};
 use crate::dividing::div_rem_by_inverse;
@@ -104,8 +105,7 @@ pub(crate) fn put_16_digits(n: u64, bytes: &mut [u8], end: usize) -> usize
     requires below { n < 10 ^ 16 }
     requires room { 16 ≤ end }
     requires within { end ≤ length bytes.old }
-    ensures begins { result + 16 ≡ end }
-    ensures digits { drop result bytes.new ≡ glyphs (last_digits 16 n) ++ drop end bytes.old }
+    ensures { IsPutBefore (glyphs (last_digits 16 n)) end bytes.old bytes.new result }
 {
     let start = end - 16;
     bytes[start..end].copy_from_slice(&last_16_digits(n).to_array());

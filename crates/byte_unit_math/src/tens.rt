@@ -1,6 +1,6 @@
 //! Powers of 10, of 5 and of 2.
 ghost use Rattle.std.specs.Prelude.{◌≡◌, ◌^◌, ◌≤◌};
-ghost use Rattle.byte_unit_math.specs.Bounds.{unit_limit};
+ghost use Rattle.byte_unit_math.specs.Bounds.{expansion_places};
 
 /// The powers of 10 that fit 128 bits.
 const POWERS: [u128; 39] = [
@@ -64,15 +64,15 @@ pub fn power_of_ten(exponent: u32) -> u128
 
 /// Returns `2^exponent`.
 pub(crate) fn power_of_two(exponent: u32) -> u128
-    requires { 2 ^ exponent ≤ unit_limit }
+    requires { exponent ≤ expansion_places }
     ensures { result ≡ 2 ^ exponent }
 {
     1 << exponent
 }
 
-/// Returns `5^exponent`.
+/// Returns `5^exponent`, from a table.
 pub(crate) fn power_of_five(exponent: u32) -> u128
-    requires { 5 ^ exponent ≤ unit_limit }
+    requires { exponent ≤ 48 }
     ensures { result ≡ 5 ^ exponent }
 {
     POWERS_OF_FIVE[exponent as usize]

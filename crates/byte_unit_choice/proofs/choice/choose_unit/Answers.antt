@@ -17,12 +17,12 @@ use Rattle.byte_unit_choice.proofs.choice.choose_unit.Goals.{then-places-gt-FEW_
 
 pub returns-then-size-eq0-clause-none : goal.returns-then-size-eq0-clause-none
 returns-then-size-eq0-clause-none c = λ unit s.
-    let zero = ap (λ n. n * c.args.divisor) c.if-size-eq0.true in
+    let zero = ap (λ n. n * c.args.own_bits) c.if-size-eq0.true in
     omega (arith, some_bits unit, s.not_above, zero)
 
 pub loop-row-init : goal.loop-row-init
 loop-row-init c =
-    let in_bits = c.args.size * c.args.divisor in
+    let in_bits = c.args.size * c.args.own_bits in
     let few = HasPowers c.args.family in_bits _ _ in
     record {
       remain = search_start few c.args.family in_bits _ c.multiples_within-row-items.result.now
@@ -35,7 +35,7 @@ loop-row-init c =
 
 pub loop-row-preserved : goal.loop-row-preserved
 loop-row-preserved c =
-    let in_bits = c.args.size * c.args.divisor in
+    let in_bits = c.args.size * c.args.own_bits in
     let rows = c.multiples_within-row-items.result.now in
     let i = c.loop-row.row-index in
     let is_row = row_at_is_row no_row c.multiples_within-row-items.ensures c.loop-row-test.true in
@@ -52,28 +52,28 @@ exact_number-number-requires-clause-den c =
 
 pub exact_number-number-requires-clause-exact : goal.exact_number-number-requires-clause-exact
 exact_number-number-requires-clause-exact c =
-    let in_bits = c.args.size * c.args.divisor in
+    let in_bits = c.args.size * c.args.own_bits in
     let is_row = row_at_is_row no_row c.multiples_within-row-items.ensures c.loop-row-test.true in
     let has = row_powers in_bits _ _ is_row c.if-row-in_bits.true in
-    let powers = in_bits_powers c.args.size c.args.divisor _ _ c.requires.divisor c.factors_of-left.ensures.powers in
+    let powers = in_bits_powers c.args.size c.args.own_bits _ _ c.requires.own_bits c.factors_of-left.ensures.powers in
     subst (λ unit. IsExactAt in_bits unit (min c.min-most.result places_of_decimal)) (row_multiple is_row).powers
     (exact_by_row _ (omega (arith, c.min-most.ensures)) is_row.bits_are powers has)
 
 pub factored_quotient-number-requires-clause-small : goal.factored_quotient-number-requires-clause-small
 factored_quotient-number-requires-clause-small c =
     let multiple = row_multiple (row_at_is_row no_row c.multiples_within-row-items.ensures c.loop-row-test.true) in
-    let product = in_bits_product c.args.size c.args.divisor _ _ _ c.requires.divisor
+    let product = in_bits_product c.args.size c.args.own_bits _ _ _ c.requires.own_bits
     c.factors_of-left.ensures.product in
     let few = c.max-places.result in
-    let fits = count_fits c.args.size c.args.divisor few multiple c.requires.divisor c.requires.small (omega arith) in
+    let fits = count_fits c.args.size c.args.own_bits few multiple c.requires.own_bits c.requires.small (omega arith) in
     omega (arith, fits, ap (λ n. n * 10 ^ few) product, ap (λ n. whole_limit * n) multiple.powers)
 
 pub returns-then-row-in_bits-clause-exact : goal.returns-then-row-in_bits-clause-exact
 returns-then-row-in_bits-clause-exact c =
-    let in_bits = c.args.size * c.args.divisor in
+    let in_bits = c.args.size * c.args.own_bits in
     let is_row = row_at_is_row no_row c.multiples_within-row-items.ensures c.loop-row-test.true in
     let multiple = row_multiple is_row in
-    let product = in_bits_product c.args.size c.args.divisor _ _ _ c.requires.divisor
+    let product = in_bits_product c.args.size c.args.own_bits _ _ _ c.requires.own_bits
     c.factors_of-left.ensures.product in
     ap (λ n. c.if-places-gt-FEW_PLACES.number * n) (sym is_row.bits_are) ∙
     elim c.if-places-gt-FEW_PLACES.branch [
@@ -88,12 +88,12 @@ returns-then-row-in_bits-clause-exact c =
 
 pub returns-then-row-in_bits-clause-chosen : goal.returns-then-row-in_bits-clause-chosen
 returns-then-row-in_bits-clause-chosen c =
-    let in_bits = c.args.size * c.args.divisor in
+    let in_bits = c.args.size * c.args.own_bits in
     let listed = c.multiples_within-row-items.ensures in
     let i = c.loop-row.row-index in
     let has = row_powers in_bits _ _ (row_at_is_row no_row listed c.loop-row-test.true) c.if-row-in_bits.true in
     let found = unit_found _ i no_row listed c.loop-row.invariant.remain c.loop-row-test.true has in
-    let powers = in_bits_powers c.args.size c.args.divisor _ _ c.requires.divisor c.factors_of-left.ensures.powers in
+    let powers = in_bits_powers c.args.size c.args.own_bits _ _ c.requires.own_bits c.factors_of-left.ensures.powers in
     let exact = exact_by_row _ (omega (arith, c.min-most.ensures)) refl powers has in
     let quotient = quotient_of_product _ _ _ _ (some_bits _) (omega arith)
     (returns-then-row-in_bits-clause-exact c) exact in
@@ -128,7 +128,7 @@ returns-then-row-in_bits-clause-few_steps c = λ kind same.
 
 pub returns-clause-none : goal.returns-clause-none
 returns-clause-none c =
-    let powers = in_bits_powers c.args.size c.args.divisor _ _ c.requires.divisor c.factors_of-left.ensures.powers in
+    let powers = in_bits_powers c.args.size c.args.own_bits _ _ c.requires.own_bits c.factors_of-left.ensures.powers in
     none_by_powers c.args.places c.min-most.ensures powers
     (none_found _ c.multiples_within-row-items.result.now c.loop-row.row-index c.loop-row-test.false
     c.loop-row.invariant.remain)

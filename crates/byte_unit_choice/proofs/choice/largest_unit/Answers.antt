@@ -12,7 +12,7 @@ use Rattle.byte_unit_choice.proofs.choice.largest_unit.Goals.{else-row-in_bits-v
 
 pub loop-row-init : goal.loop-row-init
 loop-row-init c =
-    let fit = IsEligibleUnit c.args.family c.args.unit_type (c.args.size * c.args.divisor) in
+    let fit = IsEligibleUnit c.args.family c.args.unit_type (c.args.size * c.args.own_bits) in
     search_start fit c.args.family c.saturating_mul-in_bits.result _ c.multiples_within-row-items.result.now
     c.multiples_within-row-items.ensures
     (λ unit h. (
@@ -23,7 +23,7 @@ loop-row-init c =
 
 pub loop-row-preserved : goal.loop-row-preserved
 loop-row-preserved c =
-    let fit = IsEligibleUnit c.args.family c.args.unit_type (c.args.size * c.args.divisor) in
+    let fit = IsEligibleUnit c.args.family c.args.unit_type (c.args.size * c.args.own_bits) in
     let rows = c.multiples_within-row-items.result.now in
     let i = c.loop-row.row-index in
     let is_row = row_at_is_row no_row c.multiples_within-row-items.ensures c.loop-row-test.true in
@@ -40,7 +40,7 @@ loop-row-preserved c =
 
 pub returns-then-takes-clause-found : goal.returns-then-takes-clause-found
 returns-then-takes-clause-found c =
-    let in_bits = c.args.size * c.args.divisor in
+    let in_bits = c.args.size * c.args.own_bits in
     let i = c.loop-row.row-index in
     let listed = c.multiples_within-row-items.ensures in
     let is_row = row_at_is_row no_row listed c.loop-row-test.true in

@@ -1,10 +1,8 @@
 -- The parts, or the number and its unit, are the adjusted text, so they have its length.
 use Rattle.std.proofs.Common.{ap, sym, length, arith, ◌∙◌}
-use Rattle.byte_unit_math.specs.Numeral.{text_of}
-use Rattle.byte_unit_math.specs.Padded.{pad_of}
 use Rattle.byte_unit_format.specs.Layout.{layout_of}
 use Rattle.byte_unit_format.specs.TextParts.{parts_text}
-use Rattle.byte_unit_format.proofs.AdjustedForms.{adjusted_by_rounding, adjusted_form_unique}
+use Rattle.byte_unit_format.proofs.AdjustedForms.{adjusted_by_expansion, adjusted_form_unique}
 use Rattle.byte_unit_format.proofs.AdjustedLengths.{adjusted_narrow}
 use Rattle.byte_unit_format.proofs.adjusted.adjusted_len.Goals as goal
 
@@ -14,9 +12,9 @@ returns-in-Some-clause-exact c = λ other is_other.
 
 pub returns-in-None-clause-exact : goal.returns-in-None-clause-exact
 returns-in-None-clause-exact c = λ other is_other.
-    let number = c.expanded-number.result in
-    let form = adjusted_by_rounding (text_of (pad_of number.1 number.0)) c.rounding_of-rounding.ensures
-    c.expanded-number.ensures.number in
+    let places = c.round-places in
+    let form = adjusted_by_expansion places.new.number places.result c.rounding_of-rounding.ensures places.ensures.text
+    c.number_in_unit-number.ensures in
     c.layout_len.ensures.exact ∙ sym (ap length (adjusted_form_unique is_other form))
 
 pub returns-in-Some-clause-narrow : goal.returns-in-Some-clause-narrow
@@ -27,9 +25,9 @@ returns-in-Some-clause-narrow c =
 
 pub returns-in-None-clause-narrow : goal.returns-in-None-clause-narrow
 returns-in-None-clause-narrow c =
-    let number = c.expanded-number.result in
-    let form = adjusted_by_rounding (text_of (pad_of number.1 number.0)) c.rounding_of-rounding.ensures
-    c.expanded-number.ensures.number in
+    let places = c.round-places in
+    let form = adjusted_by_expansion places.new.number places.result c.rounding_of-rounding.ensures places.ensures.text
+    c.number_in_unit-number.ensures in
     let narrow = adjusted_narrow c.args.kind c.args.size c.args.unit c.args.spec
-    (layout_of number.0 number.1 c.args.unit c.args.spec) c.requires form in
+    (layout_of places.new.number places.result c.args.unit c.args.spec) c.requires form in
     omega (arith, c.layout_len.ensures.exact, narrow)

@@ -1,11 +1,9 @@
 -- The parts, or the number and its unit, are the adjusted text.
 use Rattle.std.proofs.Common.{ap, length}
-use Rattle.byte_unit_math.specs.Numeral.{text_of}
-use Rattle.byte_unit_math.specs.Padded.{pad_of}
 use Rattle.byte_unit_format.specs.Layout.{layout_of}
 use Rattle.byte_unit_format.specs.TextParts.{parts_text}
 use Rattle.byte_unit_format.proofs.TextParts.{appends_form}
-use Rattle.byte_unit_format.proofs.AdjustedForms.{adjusted_by_rounding, adjusted_form_unique}
+use Rattle.byte_unit_format.proofs.AdjustedForms.{adjusted_by_expansion, adjusted_form_unique}
 use Rattle.byte_unit_format.proofs.adjusted.append_adjusted.Goals as goal
 
 pub returns-in-Some : goal.returns-in-Some
@@ -16,8 +14,8 @@ returns-in-Some g c =
 
 pub returns-in-None : goal.returns-in-None
 returns-in-None g c =
-    let number = c.expanded-number.result in
-    let form = adjusted_by_rounding (text_of (pad_of number.1 number.0)) c.rounding_of-rounding.ensures
-    c.expanded-number.ensures.number in
-    appends_form (layout_of number.0 number.1 c.args.unit c.args.spec) form
+    let places = c.round-places in
+    let form = adjusted_by_expansion places.new.number places.result c.rounding_of-rounding.ensures places.ensures.text
+    c.number_in_unit-number.ensures in
+    appends_form (layout_of places.new.number places.result c.args.unit c.args.spec) form
     (λ other is_other. ap length (adjusted_form_unique is_other form)) c.append_layout.ensures

@@ -3,16 +3,19 @@ use Rattle.std.proofs.Common.{◌-◌, ℕ, arith, append_assoc, subst}
 use Rattle.std.specs.Str.{IsAscii}
 use Rattle.std.proofs.lemmas.Str.{IsAscii-take, IsAscii-append}
 use Rattle.std.proofs.lemmas.Str.Ascii.{IsAscii-cons}
-use Rattle.byte_unit_format.proofs.TextParts.{fraction_text_of_shown, run_ascii}
+use Rattle.byte_unit_format.proofs.TextParts.{fraction_text_of_shown, run_ascii, first_digits_put}
 use Rattle.byte_unit_format.proofs.parts.put_first.Goals as goal
 
-pub returns-clause-bytes : goal.returns-clause-bytes
-returns-clause-bytes c =
+pub returns-clause-put : goal.returns-clause-put
+returns-clause-put c =
     let text = fraction_text_of_shown c.args.places c.min-shown.result c.args.e.now.digits c.glyphs_of.result
     (omega (arith, c.if-places-eq0.false)) (omega (arith, c.min-shown.ensures, c.places.ensures.exact))
     c.glyphs_of.ensures.front in
-    rw (← text, c.put_run.ensures.bytes, c.put-digits.ensures.bytes, c.put_run-zeros.ensures.bytes)
-    (simp (append_assoc {A = ℕ}))
+    record {
+      begins = grind (arith, first_digits_put);
+      bytes = rw (← text, c.put_run.ensures.bytes, c.put-digits.ensures.bytes, c.put_run-zeros.ensures.bytes)
+          (simp (append_assoc {A = ℕ}));
+    }
 
 pub returns-clause-ascii : goal.returns-clause-ascii
 returns-clause-ascii c =

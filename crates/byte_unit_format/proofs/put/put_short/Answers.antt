@@ -3,7 +3,10 @@ use Rattle.std.proofs.Common.{◌++◌, drop, ap, sym, arith}
 use Rattle.std.proofs.lemmas.List.{nil_from_length}
 use Rattle.byte_unit_format.proofs.put.put_short.Goals as goal
 
-pub returns-then-len-eq0-clause-bytes : goal.returns-then-len-eq0-clause-bytes
-returns-then-len-eq0-clause-bytes c =
+pub returns-then-len-eq0 : goal.returns-then-len-eq0
+returns-then-len-eq0 c =
     let none = nil_from_length c.args.bytes.now (omega (arith, c.if-len-eq0.true)) in
-    ap (λ bytes. bytes ++ drop c.args.end c.args.out.now) (sym none)
+    record {
+      begins = omega (arith, c.if-len-eq0.true);
+      bytes = ap (λ bytes. bytes ++ drop c.args.end c.args.out.now) (sym none);
+    }

@@ -8,7 +8,7 @@ use Rattle.byte_unit_math.proofs.Digits.{length_last_digits}
 use Rattle.byte_unit_math.proofs.Scales.{powers_from}
 use Rattle.byte_unit_math.proofs.ShortExpansions.{masked_rest}
 use Rattle.byte_unit_math.proofs.BinaryDigits.{IsGrouped, IsGrouped-start, IsGrouped-room, IsGrouped-more, product_is}
-use Rattle.byte_unit_math.proofs.BinaryDigits.{product_fits, group_small, group_stored, copied_front, copied_zeros}
+use Rattle.byte_unit_math.proofs.BinaryDigits.{product_fits, next_group_small, group_stored, copied_front, copied_zeros}
 use Rattle.byte_unit_math.proofs.binary.binary_digits.Goals.{After-copy_from_slice}
 use Rattle.byte_unit_math.proofs.binary.binary_digits.Goals as goal
 
@@ -26,21 +26,11 @@ overflow_mul-product c =
 
 pub overflow_cast-product-in-loop-left : goal.overflow_cast-product-in-loop-left
 overflow_cast-product-in-loop-left c =
-    let left = c.loop-left.left in
-    let count = (left - 1) % 16 + 1 in
-    let same = ap (λ n. n / 2 ^ (left - count)) (product_is c.loop-left.rest count (omega arith)) in
-    let small = group_small c.loop-left.rest left count (left - count) (omega arith) c.loop-left.invariant.below
-    (omega arith) in
-    omega (arith, same, small)
+    omega (arith, next_group_small c.loop-left.rest c.loop-left.left c.loop-left-test.true c.loop-left.invariant.below)
 
 pub last_16_values-requires : goal.last_16_values-requires
 last_16_values-requires c =
-    let left = c.loop-left.left in
-    let count = (left - 1) % 16 + 1 in
-    let same = ap (λ n. n / 2 ^ (left - count)) (product_is c.loop-left.rest count (omega arith)) in
-    let small = group_small c.loop-left.rest left count (left - count) (omega arith) c.loop-left.invariant.below
-    (omega arith) in
-    omega (arith, same, small)
+    next_group_small c.loop-left.rest c.loop-left.left c.loop-left-test.true c.loop-left.invariant.below
 
 pub loop-left-preserved : goal.loop-left-preserved
 loop-left-preserved c =
@@ -84,12 +74,10 @@ pub returns-clause-digits : goal.returns-clause-digits
 returns-clause-digits c =
     let start = (goal.at.returns-clause-digits c).After-copy_from_slice in
     ap (λ l. take c.args.places l) (copied_are start)
-    ∙ copied_front c.args.numerator c.args.places c.loop-left.rest c.loop-left.end c.loop-left.groups (all_groups start)
-    c.requires.few c.requires.below
+    ∙ copied_front _ _ _ _ _ (all_groups start) c.requires.few c.requires.below
 
 pub returns-clause-zeros : goal.returns-clause-zeros
 returns-clause-zeros c =
     let start = (goal.at.returns-clause-zeros c).After-copy_from_slice in
     ap (λ l. drop c.args.places l) (copied_are start)
-    ∙ copied_zeros c.args.numerator c.args.places c.loop-left.rest c.loop-left.end c.loop-left.groups (all_groups start)
-    c.requires.few c.requires.below
+    ∙ copied_zeros _ _ _ _ _ (all_groups start) c.requires.few c.requires.below

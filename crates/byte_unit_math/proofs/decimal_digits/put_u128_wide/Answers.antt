@@ -14,6 +14,6 @@ loop-rest-preserved c =
       within = omega arith;
       place = omega (arith, more, ap (λ n. length (decimal n)) parts.ensures.quotient);
       digits =
-          rw (parts.ensures.quotient, put.ensures.digits, parts.ensures.rest)
+          rw (parts.ensures.quotient, put.ensures.bytes, parts.ensures.rest)
           (sym (digits_before 18 l.rest (drop l.start l.bytes) (omega arith) (omega arith)) ∙ l.invariant.digits);
     }

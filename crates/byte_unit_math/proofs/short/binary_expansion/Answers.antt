@@ -1,6 +1,5 @@
 -- The digits of the remainder are it times a power of five.
 use Rattle.std.proofs.Common.{◌≡◌, ℕ, ◌-◌, ◌*◌, ◌%◌, ◌^◌, ◌<◌, bit_and, arith, refl}
-use Rattle.std.proofs.Math.Nat.{pow-le-pow_right}
 use Rattle.byte_unit_math.proofs.Scales.{pow10_fits}
 use Rattle.byte_unit_math.proofs.ShortExpansions.{masked_rest, rest_below_ten_power, binary_is_expansion}
 use Rattle.byte_unit_math.proofs.short.binary_expansion.Goals.{After-power_of_five}
@@ -18,13 +17,6 @@ digits_are c =
 
 digits_below : (c : After-power_of_five) → digits_of c < 10 ^ c.args.places
 digits_below c = rw (digits_are c) (rest_below_ten_power c.args.numerator c.args.places)
-
-pub power_of_five-requires : goal.power_of_five-requires
-power_of_five-requires c =
-    omega (
-      arith,
-      pow-le-pow_right {n = 5} (omega arith) {i = c.args.places} {j = 38} (omega (arith, c.if-places-gt-MOST_PLACES.false)),
-    )
 
 pub overflow_mul-result : goal.overflow_mul-result
 overflow_mul-result c =

@@ -1,5 +1,5 @@
 -- The scaled number is split at the point.
-use Rattle.std.proofs.Common.{◌≡◌, ℕ, ◌+◌, ◌*◌, ◌/◌, ◌^◌, ◌<◌, ◌≤◌, arith, ap, ◌∙◌}
+use Rattle.std.proofs.Common.{◌≡◌, ℕ, ◌+◌, ◌*◌, ◌^◌, ◌<◌, ◌≤◌, arith, ap, ◌∙◌}
 use Rattle.std.proofs.Math.Nat.{pow-le-pow_right, mul-le-mul_left, one-le-pow, div-le_self}
 use Rattle.std.proofs.lemmas.Nat.{mod_below, mul-le}
 use Rattle.byte_unit_math.specs.Bounds.{bits_limit, places_of_decimal, scale}
@@ -21,13 +21,6 @@ scaled_small c =
     let power : 5 ^ c.args.twos ≤ 125 =
     pow-le-pow_right {n = 5} (omega arith) {i = c.args.twos} {j = 3} c.if-twos-gt-BYTE_TWOS.false in
     omega (arith, scaled_is c, mul-le-mul_left c.args.numerator power, c.requires)
-
-pub power_of_five-requires : goal.power_of_five-requires
-power_of_five-requires c =
-    omega (
-      arith,
-      pow-le-pow_right {n = 5} (omega arith) {i = c.args.twos} {j = 3} (omega (arith, c.if-twos-gt-BYTE_TWOS.false)),
-    )
 
 pub overflow_mul-scaled : goal.overflow_mul-scaled
 overflow_mul-scaled c = omega (arith, scaled_small (goal.at.overflow_mul-scaled c).After-power_of_five)

@@ -2,11 +2,8 @@
 use Rattle.std.proofs.Common.{◌≡◌, ◌*◌, ◌^◌, arith, subst}
 use Rattle.std.proofs.Math.Nat.{pow-zero}
 use Rattle.byte_unit_math.specs.Finite.{IsExpansion}
-use Rattle.byte_unit_math.proofs.Expanding.{exponents_within_places, new_is_exact}
+use Rattle.byte_unit_math.proofs.Expanding.{new_is_exact}
 use Rattle.byte_unit_math.proofs.expansion.Expansion.new.Goals as goal
-
-pub binary-requires-clause-few : goal.binary-requires-clause-few
-binary-requires-clause-few c = (exponents_within_places c.args.twos c.args.fives c.requires.den).0
 
 pub returns-then-fives-eq0 : goal.returns-then-fives-eq0
 returns-then-fives-eq0 c =
