@@ -55,7 +55,8 @@ const CALLS: &[Call] = &rows! {
     (&["bit"], Some(Kind::Bit), (READS, WRITES), Ending::Done, b"8000 = 8 Kb\n", b""),
     (&["bit"], Some(Kind::Bit), (Pace { step: 5, calls: 1, then: Then::Fail }, WRITES),
         Ending::Failed(RunError::Read), b"8000 = 8 Kb\n", b""),
-    (&["bit"], Some(Kind::Bit), (READS, Pace { step: 20, calls: 0, then: Then::Fail }), Ending::Failed(RunError::Write), b"", b""),
+    (&["bit"], Some(Kind::Bit), (READS, Pace { step: 20, calls: 0, then: Then::Fail }),
+        Ending::Failed(RunError::Write), b"", b""),
 };
 
 #[test]
