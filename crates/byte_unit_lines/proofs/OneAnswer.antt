@@ -46,7 +46,7 @@ module _ (texts : TextsAreAcceptedOrRejected) (forms : SizeHasOneForm) (kind : K
       → (said : List ℕ) × IsMessageFor kind text said
   text_has_message text is_text (inl (number, is_accepted)) =
       let says = size_has_message number in (says.0, size number is_text is_accepted says.1)
-  text_has_message text is_text (inr (fault, is_refused)) = (words_of fault, rejected fault is_text is_refused refl)
+  text_has_message text is_text (inr (fault, is_rejected)) = (words_of fault, rejected fault is_text is_rejected refl)
 
   -- each line has a message
   line_has_message : (line : List ℕ) → (said : List ℕ) × IsMessageFor kind line said
@@ -71,13 +71,13 @@ module _ (texts : TextsAreAcceptedOrRejected) (forms : SizeHasOneForm) (kind : K
   line_has_one_message line said other (size number _ is_accepted says) (size other_number _ other_accepted also) =
       let same = (texts kind false line).one_meaning number other_number is_accepted other_accepted in
       size_has_one_message other_number said other (subst (λ meant. ShowsSize kind meant said) same says) also
-  line_has_one_message line said other (size number _ is_accepted _) (rejected fault _ is_refused _) =
-      absurd ((texts kind false line).not_both number fault is_accepted is_refused)
+  line_has_one_message line said other (size number _ is_accepted _) (rejected fault _ is_rejected _) =
+      absurd ((texts kind false line).not_both number fault is_accepted is_rejected)
   line_has_one_message line said other (rejected _ is_text _ _) (not_text not _) = absurd (not is_text)
-  line_has_one_message line said other (rejected fault _ is_refused _) (size number _ is_accepted _) =
-      absurd ((texts kind false line).not_both number fault is_accepted is_refused)
-  line_has_one_message line said other (rejected fault _ is_refused is_said) (rejected other_fault _ other_refused also) =
-      is_said ∙ ap words_of ((texts kind false line).one_fault fault other_fault is_refused other_refused) ∙ sym also
+  line_has_one_message line said other (rejected fault _ is_rejected _) (size number _ is_accepted _) =
+      absurd ((texts kind false line).not_both number fault is_accepted is_rejected)
+  line_has_one_message line said other (rejected fault _ is_rejected is_said) (rejected other_fault _ other_rejected also) =
+      is_said ∙ ap words_of ((texts kind false line).one_fault fault other_fault is_rejected other_rejected) ∙ sym also
 
   -- a line has at most one answer
   line_has_one_answer : (line answer other : List ℕ) → IsAnswer kind line answer → IsAnswer kind line other → answer ≡ other

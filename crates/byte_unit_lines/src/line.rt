@@ -9,26 +9,27 @@ ghost use Rattle.byte_unit_lines.specs.Capacity.{answer_max};
 ghost use Rattle.byte_unit_lines.specs.Lines.{line_end};
 ghost use Rattle.byte_unit_lines.specs.Answered.{AddsAnswer};
 
-use byte_unit::{Bit, Byte, Kind, ParseError, ValueParseError};
+use byte_unit::{Kind, ParseError, ValueParseError};
+use byte_unit_base::size;
 use byte_unit_format::write_with_digits;
 use std::alloc::{AllocError, Allocator};
 
 /// The maximum length in bytes of an answer: two strings of at most 37 bytes, ` = ` between them, and the line end.
 pub(crate) const ANSWER_MAX: usize = 78;
 
-/// Appends the answer to a line that was parsed as a size of this kind. Two functions use it, since one over the kind
-/// takes more instructions.
+/// Parses a line as a size of this kind, and appends its message and a line end. A macro, since one function over the
+/// kind takes more instructions than two. Rejected lines take more if the arm for errors comes after that for sizes.
 macro_rules! answer {
-    ($parsed:expr, $kind:expr, $out:expr) => {
-        match $parsed {
+    ($bytes:expr, $len:expr, $kind:expr, $out:expr) => {
+        match size::parse_line($bytes, $len, false, $kind) {
+            None => $out.extend_from_slice(b"not text\n"),
+            Some(Err(error)) => $out.extend_from_slice(fault_line_of(&error)),
             Some(Ok(size)) => {
                 let mut answer = [0; ANSWER_MAX];
-                let end = write_with_digits(size.as_u128(), $kind, *b" = ", &mut answer);
+                let end = write_with_digits(size, $kind, *b" = ", &mut answer);
                 answer[end] = b'\n';
                 $out.extend_from_slice(&answer[..end + 1])
             }
-            Some(Err(error)) => $out.extend_from_slice(fault_line_of(&error)),
-            None => $out.extend_from_slice(b"not text\n"),
         }
     };
 }
@@ -73,7 +74,7 @@ fn answer_bytes<A: Allocator>(
     ensures len { vec_len out.new ≤ vec_len out.old + answer_max }
     ensures capacity { vec_capacity out.old ≤ vec_capacity out.new }
 {
-    answer!(Byte::parse_line(bytes, len, false), Kind::Byte, out)
+    answer!(bytes, len, Kind::Byte, out)
 }
 
 /// Appends the answer to a line, parsed as a size in bits. The errors are those of [`add_answer`].
@@ -89,7 +90,7 @@ fn answer_bits<A: Allocator>(
     ensures len { vec_len out.new ≤ vec_len out.old + answer_max }
     ensures capacity { vec_capacity out.old ≤ vec_capacity out.new }
 {
-    answer!(Bit::parse_line(bytes, len), Kind::Bit, out)
+    answer!(bytes, len, Kind::Bit, out)
 }
 
 /// Returns the message for a parse error, with the line end.

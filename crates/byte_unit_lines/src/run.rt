@@ -51,7 +51,8 @@ impl From<AllocError> for RunError {
 
 /// Reads the whole input, and writes the answer to each line.
 ///
-/// On `Ok` the report on the whole input has been written.
+/// On `Ok` the report on the whole input has been written. A line may have any length: that `Memory` is returned only
+/// if an allocation fails is tested, not proved.
 ///
 /// # Errors
 /// - `Read` if a read fails. The answers to all lines that ended before have been written.
@@ -72,44 +73,21 @@ pub fn run<R: Read, W: Write>(
     ensures write_failed { IsErrOf result RunError.Write → IsTrue (writing_failed writer.new) }
 {
     let mut buffer = [0u8; CHUNK];
-    run_in(&alloc, &mut buffer, reader, writer, kind)
-}
-
-/// Does what [`run`] does, with any allocator, and with reads of at most the length of `buffer`.
-///
-/// It sets no limit on lines: that `Memory` is returned only if an allocation fails is tested, not proved.
-///
-/// Precondition (proved at every call): `buffer` is not empty.
-pub fn run_in<A: Allocator, R: Read, W: Write>(
-    alloc: &A,
-    buffer: &mut [u8],
-    reader: &mut FusedReader<R>,
-    writer: &mut FusedWriter<W>,
-    kind: Kind,
-) -> Result<(), RunError>
-    requires { 0 < length buffer.old }
-    ensures run { (read written : List ℕ)
-        × HasRead R.remaining reader.old reader.new read
-        × HasWritten W.contents writer.old writer.new written
-        × IsWritten kind read result written }
-    ensures end { OnOk result (HasReadAll R.remaining reader.new) }
-    ensures read_failed { IsErrOf result RunError.Read → IsTrue (reading_failed reader.new) }
-    ensures write_failed { IsErrOf result RunError.Write → IsTrue (writing_failed writer.new) }
-{
     let mut line = Vec::new(alloc);
     let mut waiting = Vec::new(alloc);
     run_with_buffers(
         &mut line,
         &mut waiting,
         usize::MAX,
-        buffer,
+        &mut buffer,
         reader,
         writer,
         kind,
     )
 }
 
-/// Does what [`run_in`] does, for lines of at most `longest` bytes, without an allocation after the start.
+/// Does what [`run`] does, with any allocator, for lines of at most `longest` bytes, in reads of at most the length of
+/// `buffer`, and without an allocation after the start.
 ///
 /// At the start it allocates `longest` bytes and 79 times the length of `buffer`.
 ///
@@ -166,7 +144,7 @@ pub fn run_with_capacity<A: Allocator, R: Read, W: Write>(
     ))
 }
 
-/// Does what [`run_in`] does, for lines of at most `longest` bytes, in the caller's buffers.
+/// Does what [`run`] does, for lines of at most `longest` bytes, in the caller's buffers; it reads into `buffer`.
 ///
 /// `line` is for the part that was read of a line without a line end so far, and `waiting` for the answers that are not
 /// written yet.
@@ -204,13 +182,18 @@ pub fn run_with_buffers<A: Allocator, R: Read, W: Write>(
     ensures read_failed { IsErrOf result RunError.Read → IsTrue (reading_failed reader.new) }
     ensures write_failed { IsErrOf result RunError.Write → IsTrue (writing_failed writer.new) }
 {
-    // For the proof: if a write fails, the report that was begun has an answer to each unanswered line too.
-    each_line_has_an_answer();
     'reads: loop {
         match reader.read(buffer) {
             None => return Err(RunError::Read),
             Some(0) => break 'reads,
-            Some(n) => answer_piece(line, &buffer[..n], kind, waiting, writer)?,
+            Some(n) => match answer_piece(line, &buffer[..n], kind, waiting, writer) {
+                Ok(()) => {}
+                Err(error) => {
+                    // For the proof: a report that was begun has an answer to each unanswered line too.
+                    each_line_has_an_answer();
+                    return Err(error);
+                }
+            },
         }
         if line.len() > longest {
             return Err(RunError::Memory);

@@ -1,52 +1,76 @@
 //! A reader and a writer in memory that go in steps and change their behavior after some calls, for tests.
 
+ghost use Rattle.std.specs.Prelude.{◌≡◌};
+
 use std::io::{self, Error, ErrorKind, Read, Write};
 
 /// Each call transfers all bytes.
-pub const AT_ONCE: Pace = Pace(0, 0, Then::All);
+pub const AT_ONCE: Pace = Pace {
+    step: 0,
+    calls: 0,
+    then: Then::AtMost(usize::MAX),
+};
 
 /// Each call transfers one byte.
-pub const BYTE_BY_BYTE: Pace = Pace(0, 0, Then::ByteByByte);
+pub const BYTE_BY_BYTE: Pace = Pace {
+    step: 0,
+    calls: 0,
+    then: Then::AtMost(1),
+};
 
 /// Each call transfers all bytes but one, and at least one.
-pub const ALL_BUT_ONE: Pace = Pace(0, 0, Then::AllButOne);
+pub const ALL_BUT_ONE: Pace = Pace {
+    step: 0,
+    calls: 0,
+    then: Then::AllButOne,
+};
 
 /// What a stream does after a number of calls.
 #[derive(Clone, Copy)]
 pub enum Then {
     /// Each call fails.
     Fail,
-    /// Each call transfers nothing: a write accepts no byte, and a read is at the end of the input.
-    TakeNothing,
-    /// Each call transfers one byte.
-    ByteByByte,
+    /// Each call transfers at most this many bytes. If it is 0, a write accepts no byte, and a read is at the end of
+    /// the input.
+    AtMost(usize),
     /// Each call transfers all bytes but one, and at least one.
     AllButOne,
-    /// Each call transfers all bytes.
-    All,
 }
 
-/// The number of bytes that a call transfers at most, for a number of calls, and what the stream does after these.
+/// The numbers of bytes that the calls of a stream transfer.
 #[derive(Clone, Copy)]
-pub struct Pace(pub usize, pub usize, pub Then);
+pub struct Pace {
+    /// The most bytes that each of the first calls transfers.
+    pub step: usize,
+    /// The number of these calls.
+    pub calls: usize,
+    /// What the stream does after them.
+    pub then: Then,
+}
 
 impl Pace {
+    /// Creates the pace of a stream that transfers at most `step` bytes in each of the first `calls` calls.
+    pub fn new(step: usize, calls: usize, then: Then) -> Pace
+        ensures step { result.step ≡ step }
+        ensures calls { result.calls ≡ calls }
+        ensures then { result.then ≡ then }
+    {
+        Pace { step, calls, then }
+    }
+
     /// Returns the most bytes that the next call transfers, if it asks for `asked`, and counts the call.
     ///
     /// # Errors
     /// Returns an error if the call fails.
     fn next(&mut self, asked: usize) -> io::Result<usize> {
-        let Pace(step, calls, then) = *self;
-        if calls > 0 {
-            *self = Pace(step, calls - 1, then);
-            return Ok(step);
+        if self.calls > 0 {
+            self.calls -= 1;
+            return Ok(self.step);
         }
-        match then {
+        match self.then {
             Then::Fail => Err(Error::from(ErrorKind::Other)),
-            Then::TakeNothing => Ok(0),
-            Then::ByteByByte => Ok(1),
+            Then::AtMost(most) => Ok(most),
             Then::AllButOne => Ok(asked.saturating_sub(1).max(1)),
-            Then::All => Ok(asked),
         }
     }
 }

@@ -15,7 +15,7 @@ use std::io::Read;
 /// ```rust
 /// use byte_unit_stream::FusedReader;
 /// use byte_unit_stream::paced::{MemoryReader, Pace, Then};
-/// let inner = MemoryReader { rest: b"1 KiB\n", pace: Pace(4, 1, Then::Fail) };
+/// let inner = MemoryReader { rest: b"1 KiB\n", pace: Pace::new(4, 1, Then::Fail) };
 /// let mut reader = FusedReader::new(inner);
 /// let mut buffer = [0; 16];
 /// assert_eq!(rt; reader.read(&mut buffer), Some(4));

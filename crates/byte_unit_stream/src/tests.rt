@@ -17,7 +17,7 @@ fn writer(rt: &(impl Abort + AllocGlobal), pace: Pace) -> FusedWriter<MemoryWrit
 
 #[test]
 fn each_pace_of_reads(rt: HostRuntime) {
-    let three = Pace(3, 100, Then::All);
+    let three = Pace::new(3, 100, Then::AtMost(usize::MAX));
     for (number, pace) in [AT_ONCE, BYTE_BY_BYTE, ALL_BUT_ONE, three]
         .iter()
         .enumerate()
@@ -41,30 +41,28 @@ fn each_pace_of_reads(rt: HostRuntime) {
     }
 }
 
-/// The pace of a writer, the bytes that it takes of `BYTES`, and whether all of them are written.
-const WRITES: &[(Pace, &[u8], bool)] = &[
-    (AT_ONCE, BYTES, true),
-    (BYTE_BY_BYTE, BYTES, true),
-    (ALL_BUT_ONE, BYTES, true),
-    (Pace(3, 0, Then::Fail), b"", false),
-    (Pace(3, 0, Then::TakeNothing), b"", false),
-    (Pace(3, 1, Then::Fail), b"012", false),
-    (Pace(3, 1, Then::TakeNothing), b"012", false),
-    (Pace(3, 3, Then::Fail), b"012345678", false),
-    (Pace(3, 3, Then::TakeNothing), b"012345678", false),
-    (Pace(3, 4, Then::Fail), BYTES, true),
-    (Pace(3, 4, Then::TakeNothing), BYTES, true),
-];
+/// The numbers of writes of three bytes, before one that fails or accepts no byte, and the bytes of `BYTES` that are
+/// written.
+const WRITES: &[(usize, &[u8])] = &[(0, b""), (1, b"012"), (3, b"012345678"), (4, BYTES)];
+
+/// Asserts the bytes of `BYTES` that are written at this pace, and that the call succeeds if these are all.
+fn expect_written(rt: &(impl Abort + AllocGlobal), pace: Pace, written: &[u8]) {
+    let mut writer = writer(rt, pace);
+    let result = write_whole(&mut writer, BYTES, "failed");
+    let is_whole = written == BYTES;
+    let wanted = if is_whole { Ok(()) } else { Err("failed") };
+    assert_eq!(rt; (result, writer.failed()), (wanted, !is_whole));
+    assert_eq!(rt; writer.into_inner().taken.as_slice(), written);
+}
 
 #[test]
 fn each_pace_of_writes(rt: HostRuntime) {
-    for (number, (pace, taken, is_whole)) in WRITES.iter().enumerate() {
-        let mut writer = writer(&rt, *pace);
-        let result = write_whole(&mut writer, BYTES, "failed");
-        let wanted = if *is_whole { Ok(()) } else { Err("failed") };
-        let found = (result, writer.failed(), writer.into_inner().taken);
-        let found = (found.0, found.1, found.2.as_slice());
-        assert_eq!(rt; found, (wanted, !*is_whole, *taken), "row {number}");
+    for pace in [AT_ONCE, BYTE_BY_BYTE, ALL_BUT_ONE] {
+        expect_written(&rt, pace, BYTES);
+    }
+    for (calls, written) in WRITES {
+        expect_written(&rt, Pace::new(3, *calls, Then::Fail), written);
+        expect_written(&rt, Pace::new(3, *calls, Then::AtMost(0)), written);
     }
 }
 
@@ -73,7 +71,7 @@ fn a_failure_is_remembered(rt: HostRuntime) {
     let mut buffer = [0u8; 8];
     let mut reader = FusedReader::new(MemoryReader {
         rest: BYTES,
-        pace: Pace(1, 1, Then::Fail),
+        pace: Pace::new(1, 1, Then::Fail),
     });
     let first = (reader.read(&mut buffer), reader.failed());
     let second = (reader.read(&mut buffer), reader.failed());
@@ -82,7 +80,7 @@ fn a_failure_is_remembered(rt: HostRuntime) {
     inner.pace = BYTE_BY_BYTE;
     assert_eq!(rt; inner.read(&mut buffer).ok(), Some(1));
 
-    let mut writer = writer(&rt, Pace(usize::MAX, 1, Then::Fail));
+    let mut writer = writer(&rt, Pace::new(usize::MAX, 1, Then::Fail));
     let first = (writer.write(b"12"), writer.failed());
     let second = (writer.write(b"34"), writer.failed());
     assert_eq!(rt; [first, second], [(Some(2), false), (None, true)]);
@@ -116,7 +114,7 @@ fn only_a_broken_pipe_closes(rt: HostRuntime) {
         let found = (before, writer.write(b"1"), writer.failed(), writer.closed());
         assert_eq!(rt; found, (false, None, true, closed), "{kind:?}");
     }
-    let mut writer = writer(&rt, Pace(0, 0, Then::TakeNothing));
+    let mut writer = writer(&rt, Pace::new(0, 0, Then::AtMost(0)));
     assert_eq!(rt;
         (writer.write(b"1"), writer.failed(), writer.closed()),
         (None, true, false)

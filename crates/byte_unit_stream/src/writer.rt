@@ -14,7 +14,7 @@ use std::io::{ErrorKind, Write};
 /// ```rust
 /// use byte_unit_stream::FusedWriter;
 /// use byte_unit_stream::paced::{MemoryWriter, Pace, Then};
-/// let inner = MemoryWriter { taken: Vec::new(alloc), pace: Pace(4, 1, Then::Fail) };
+/// let inner = MemoryWriter { taken: Vec::new(alloc), pace: Pace::new(4, 1, Then::Fail) };
 /// let mut writer = FusedWriter::new(inner);
 /// assert_eq!(rt; writer.write(b"1 KiB\n"), Some(4));
 /// assert_eq!(rt; (writer.write(b"B\n"), writer.failed(), writer.closed()), (None, true, false));

@@ -96,19 +96,19 @@ pub fn adjusted_unit() -> AdjustedBit
     "20 Mbit".parse().unwrap()
 }
 
+/// Returns 1.5 GB. White space around a size is ignored, also beyond ASCII: here a no-break space and an em space.
+pub fn spaces() -> Byte
+    ensures { result ≡ 1500000000 }
+{
+    Byte::parse_str(" \u{a0}1.5 GB\u{2003}", false).unwrap()
+}
+
 /// Returns a number and its unit, with nothing rounded.
 pub fn number_and_unit() -> (Decimal, Unit)
     ensures number { result.0 * 2 ≡ 3 * scale }
     ensures unit { result.1 ≡ Unit.KiB }
 {
     read_size("1.5 KiB", false, true).unwrap()
-}
-
-/// Returns 1.5 GB. White space around a size is ignored, also beyond ASCII: here a no-break space and an em space.
-pub fn spaces() -> Byte
-    ensures { result ≡ 1500000000 }
-{
-    Byte::parse_str(" \u{a0}1.5 GB\u{2003}", false).unwrap()
 }
 
 /// Returns 1 YiB and a byte: a number has 28 digits after the point, and the product is rounded up.

@@ -41,7 +41,7 @@ fn each_failing_stream(rt: HostRuntime) {
         let read = calls.saturating_mul(CHUNK).min(input.len());
         let front = first_lines(&report, finished(&input[..read]));
         // Three reads return the input, and a fourth returns 0 for its end.
-        let reads = [(Pace(usize::MAX, calls, Then::Fail), AT_ONCE)];
+        let reads = [(Pace::new(usize::MAX, calls, Then::Fail), AT_ONCE)];
         let ended = if calls < 4 {
             Err(RunError::Read)
         } else {
@@ -50,8 +50,8 @@ fn each_failing_stream(rt: HostRuntime) {
         check(&rt, &input, &reads, (ended, front), "reads before", calls);
         // The answers to a chunk are written by one call.
         let writes = [
-            (AT_ONCE, Pace(usize::MAX, calls, Then::Fail)),
-            (AT_ONCE, Pace(usize::MAX, calls, Then::TakeNothing)),
+            (AT_ONCE, Pace::new(usize::MAX, calls, Then::Fail)),
+            (AT_ONCE, Pace::new(usize::MAX, calls, Then::AtMost(0))),
         ];
         let ended = if calls < 3 {
             Err(RunError::Write)
@@ -69,7 +69,12 @@ fn each_failing_part_of_a_write(rt: HostRuntime) {
     let mut least = 0;
     // The report has about 300,000 bytes.
     for calls in 0..100 {
-        let ended = ran(rt.alloc(), &input, AT_ONCE, Pace(40_000, calls, Then::Fail));
+        let ended = ran(
+            rt.alloc(),
+            &input,
+            AT_ONCE,
+            Pace::new(40_000, calls, Then::Fail),
+        );
         let taken = ended.taken.len();
         assert_is(&rt, taken >= least, true, "more is written");
         if ended.result.is_ok() {

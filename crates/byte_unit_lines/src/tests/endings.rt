@@ -21,10 +21,18 @@ fn words(alloc: Global, words: &[&str]) -> Result<Vec<String>, AllocError> {
 const OPEN: (Pace, Pace) = (AT_ONCE, AT_ONCE);
 
 /// One read of the whole input, one of its end, and then reads that fail.
-const READS: Pace = Pace(5, 2, Then::Fail);
+const READS: Pace = Pace {
+    step: 5,
+    calls: 2,
+    then: Then::Fail,
+};
 
 /// One write of the whole output, and then writes that fail.
-const WRITES: Pace = Pace(20, 1, Then::Fail);
+const WRITES: Pace = Pace {
+    step: 20,
+    calls: 1,
+    then: Then::Fail,
+};
 
 /// A call: its arguments and the kind that they ask for, the paces of its streams, its ending, the output, and what is
 /// left of the input.
@@ -45,9 +53,10 @@ const CALLS: &[Call] = &rows! {
     (&["bit", "bit"], None, OPEN, Ending::Usage, b"", INPUT),
     // No call of a stream is made after these; then a read fails after the input, and the write of the output fails.
     (&["bit"], Some(Kind::Bit), (READS, WRITES), Ending::Done, b"8000 = 8 Kb\n", b""),
-    (&["bit"], Some(Kind::Bit), (Pace(5, 1, Then::Fail), WRITES),
+    (&["bit"], Some(Kind::Bit), (Pace { step: 5, calls: 1, then: Then::Fail }, WRITES),
         Ending::Failed(RunError::Read), b"8000 = 8 Kb\n", b""),
-    (&["bit"], Some(Kind::Bit), (READS, Pace(20, 0, Then::Fail)), Ending::Failed(RunError::Write), b"", b""),
+    (&["bit"], Some(Kind::Bit), (READS, Pace { step: 20, calls: 0, then: Then::Fail }),
+        Ending::Failed(RunError::Write), b"", b""),
 };
 
 #[test]

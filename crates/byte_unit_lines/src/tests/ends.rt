@@ -26,15 +26,15 @@ const PAIRS: [(Pace, Pace); 9] = [
 /// Returns paces by a number: that number of bytes in each call or in the first, and byte by byte after that number of
 /// calls, of reads and then of writes.
 fn paces_by(number: usize, len: usize) -> [(Pace, Pace); 7] {
-    let steps = Pace(number, usize::MAX, Then::Fail);
+    let steps = Pace::new(number, usize::MAX, Then::Fail);
     [
         (steps, AT_ONCE),
-        (Pace(number, 1, Then::All), AT_ONCE),
-        (Pace(2, number, Then::ByteByByte), AT_ONCE),
+        (Pace::new(number, 1, Then::AtMost(usize::MAX)), AT_ONCE),
+        (Pace::new(2, number, Then::AtMost(1)), AT_ONCE),
         (AT_ONCE, steps),
-        (AT_ONCE, Pace(1, number, Then::ByteByByte)),
-        (AT_ONCE, Pace(7, number, Then::ByteByByte)),
-        (AT_ONCE, Pace(len, number, Then::ByteByByte)),
+        (AT_ONCE, Pace::new(1, number, Then::AtMost(1))),
+        (AT_ONCE, Pace::new(7, number, Then::AtMost(1))),
+        (AT_ONCE, Pace::new(len, number, Then::AtMost(1))),
     ]
 }
 
@@ -60,7 +60,7 @@ fn each_failing_read(rt: &(impl Abort + AllocGlobal), input: &[u8], report: &[u8
         if read > input.len() {
             return;
         }
-        let paces = [(Pace(step, calls, Then::Fail), AT_ONCE)];
+        let paces = [(Pace::new(step, calls, Then::Fail), AT_ONCE)];
         let front = first_lines(report, finished(&input[..read]));
         check(
             rt,
@@ -76,12 +76,12 @@ fn each_failing_read(rt: &(impl Abort + AllocGlobal), input: &[u8], report: &[u8
 /// Asserts what is written if a write of the report fails or accepts nothing: of its bytes, and of its lines, since
 /// each answer is written by its own call if the input is read byte by byte.
 fn each_failing_write(rt: &(impl Abort + AllocGlobal), input: &[u8], report: &[u8]) {
-    let reads = Pace(1, usize::MAX, Then::Fail);
+    let reads = Pace::new(1, usize::MAX, Then::Fail);
     let failed = Err(RunError::Write);
     for calls in 0..report.len() {
         let bytes = [
-            (AT_ONCE, Pace(1, calls, Then::Fail)),
-            (AT_ONCE, Pace(1, calls, Then::TakeNothing)),
+            (AT_ONCE, Pace::new(1, calls, Then::Fail)),
+            (AT_ONCE, Pace::new(1, calls, Then::AtMost(0))),
         ];
         check(
             rt,
@@ -94,8 +94,8 @@ fn each_failing_write(rt: &(impl Abort + AllocGlobal), input: &[u8], report: &[u
     }
     for calls in 0..finished(report) {
         let lines = [
-            (reads, Pace(usize::MAX, calls, Then::Fail)),
-            (reads, Pace(usize::MAX, calls, Then::TakeNothing)),
+            (reads, Pace::new(usize::MAX, calls, Then::Fail)),
+            (reads, Pace::new(usize::MAX, calls, Then::AtMost(0))),
         ];
         let front = first_lines(report, calls);
         check(rt, input, &lines, (failed, front), "lines before", calls);
@@ -141,7 +141,7 @@ fn each_end_of_the_input(rt: HostRuntime) {
     for calls in 0..=INPUT.len() {
         let lines = first_lines(OUTPUT, finished(&INPUT[..calls]));
         let report = repeated(&rt, lines, 1, LAST[calls]);
-        let paces = [(Pace(1, calls, Then::TakeNothing), AT_ONCE)];
+        let paces = [(Pace::new(1, calls, Then::AtMost(0)), AT_ONCE)];
         check(
             &rt,
             INPUT,
@@ -155,12 +155,12 @@ fn each_end_of_the_input(rt: HostRuntime) {
 
 #[test]
 fn failing_after_a_piece(rt: HostRuntime) {
-    let reads = [(Pace(6, 1, Then::Fail), AT_ONCE)];
+    let reads = [(Pace::new(6, 1, Then::Fail), AT_ONCE)];
     let wanted = (Err(RunError::Read), b"1000 = 1 KB\n".as_slice());
     check(&rt, b"1KB\n2K", &reads, wanted, "a read", 1);
     let writes = [
-        (AT_ONCE, Pace(5, 1, Then::Fail)),
-        (AT_ONCE, Pace(5, 1, Then::TakeNothing)),
+        (AT_ONCE, Pace::new(5, 1, Then::Fail)),
+        (AT_ONCE, Pace::new(5, 1, Then::AtMost(0))),
     ];
     let wanted = (Err(RunError::Write), b"1000 ".as_slice());
     check(&rt, b"1KB", &writes, wanted, "a write", 1);

@@ -64,9 +64,9 @@ fn many_lines(rt: HostRuntime) {
 /// The pace of writes of a report of 2,700,000 bytes, all given to one read; the result, and the number of bytes that
 /// are written. All are written in one call, and in several.
 const BY_WRITES: &[(Pace, Result<(), RunError>, usize)] = &rows! {
-    (Pace(usize::MAX, 1, Then::Fail), Ok(()), 2_700_000),
-    (Pace(1_000_000, 3, Then::Fail), Ok(()), 2_700_000),
-    (Pace(1_000_000, 2, Then::TakeNothing), Err(RunError::Write), 2_000_000),
+    (Pace { step: usize::MAX, calls: 1, then: Then::Fail }, Ok(()), 2_700_000),
+    (Pace { step: 1_000_000, calls: 3, then: Then::Fail }, Ok(()), 2_700_000),
+    (Pace { step: 1_000_000, calls: 2, then: Then::AtMost(0) }, Err(RunError::Write), 2_000_000),
 };
 
 #[test]
@@ -93,9 +93,9 @@ fn many_reads(rt: HostRuntime) {
     let input = repeated(&rt, b"1KB\nx\n\n12\n", 20_000, b"");
     let report = b"1000 = 1 KB\nnot a number\nno value\n12 = 12 B\n";
     let report = repeated(&rt, report, 20_000, b"");
-    let reads = [(Pace(1, 200_001, Then::Fail), AT_ONCE)];
+    let reads = [(Pace::new(1, 200_001, Then::Fail), AT_ONCE)];
     check(&rt, &input, &reads, (Ok(()), &report), "reads", 200_001);
-    let reads = [(Pace(1, 200_000, Then::Fail), AT_ONCE)];
+    let reads = [(Pace::new(1, 200_000, Then::Fail), AT_ONCE)];
     let wanted = (Err(RunError::Read), report.as_slice());
     check(&rt, &input, &reads, wanted, "reads", 200_000);
 }

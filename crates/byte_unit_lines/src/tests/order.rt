@@ -9,7 +9,11 @@ use std::io::{self, Read, Write};
 const INPUT: &[u8] = b"1KB\n2KB\n3KB\n";
 
 /// Reads that give one line each.
-const BY_LINE: Pace = Pace(4, usize::MAX, Then::Fail);
+const BY_LINE: Pace = Pace {
+    step: 4,
+    calls: usize::MAX,
+    then: Then::Fail,
+};
 
 /// A reader that records at each call how many bytes a writer has accepted so far.
 #[derive(Drop)]
@@ -78,8 +82,13 @@ fn expect_failing_write(
     written: &[u8],
     left: &[u8],
 ) {
-    for then in [Then::Fail, Then::TakeNothing] {
-        let ended = ran(rt.alloc(), INPUT, BY_LINE, Pace(usize::MAX, calls, then));
+    for then in [Then::Fail, Then::AtMost(0)] {
+        let ended = ran(
+            rt.alloc(),
+            INPUT,
+            BY_LINE,
+            Pace::new(usize::MAX, calls, then),
+        );
         ended.expect(rt, Err(RunError::Write), written, "writes before", &[calls]);
         assert_is(rt, ended.left, left, "left");
     }

@@ -28,12 +28,12 @@ fn expect_each_failed(rt: &(impl Abort + AllocGlobal), reads: Pace) {
     assert_is(rt, next > 1, true, "an allocation");
     let heap = Refusing::new(rt.alloc(), next, u64::MAX);
     let ended = ran_in(rt.alloc(), &heap, &mut [0u8; 80], INPUT, reads, AT_ONCE);
-    ended.expect(rt, Ok(()), REPORT, "bytes a read", &[reads.0]);
+    ended.expect(rt, Ok(()), REPORT, "bytes a read", &[reads.step]);
 }
 
 #[test]
 fn each_failed_allocation(rt: HostRuntime) {
     for step in [1, 2, 3, 8, INPUT.len()] {
-        expect_each_failed(&rt, Pace(step, usize::MAX, Then::Fail));
+        expect_each_failed(&rt, Pace::new(step, usize::MAX, Then::Fail));
     }
 }

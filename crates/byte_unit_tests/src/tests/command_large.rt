@@ -36,7 +36,7 @@ fn many_reads(rt: HostRuntime) {
             &rt,
             &PLAIN,
             &input,
-            (Pace(1, reads, Then::Fail), AT_ONCE),
+            (Pace::new(1, reads, Then::Fail), AT_ONCE),
             (result, output.as_slice(), b"".as_slice()),
             ("reads", reads),
         );

@@ -15,13 +15,13 @@ const ROWS: &[(Pace, Pace, Result<Tally, RunError>, &[u8])] = &rows! {
     (BYTE_BY_BYTE, BYTE_BY_BYTE, sum!(100_002_567), OUTPUT),
     (ALL_BUT_ONE, ALL_BUT_ONE, sum!(100_002_567), OUTPUT),
     // Reads of five bytes, before one that fails.
-    (Pace(5, 0, Then::Fail), AT_ONCE, Err(RunError::Read), b""),
-    (Pace(5, 2, Then::Fail), AT_ONCE, Err(RunError::Read), b"1 KiB\n"),
-    (Pace(5, 3, Then::Fail), AT_ONCE, Err(RunError::Read), b"1 KiB\n1.5 KiB\n"),
-    (Pace(5, 4, Then::Fail), AT_ONCE, Err(RunError::Read), b"1 KiB\n1.5 KiB\n100 MB\n"),
+    (Pace { step: 5, calls: 0, then: Then::Fail }, AT_ONCE, Err(RunError::Read), b""),
+    (Pace { step: 5, calls: 2, then: Then::Fail }, AT_ONCE, Err(RunError::Read), b"1 KiB\n"),
+    (Pace { step: 5, calls: 3, then: Then::Fail }, AT_ONCE, Err(RunError::Read), b"1 KiB\n1.5 KiB\n"),
+    (Pace { step: 5, calls: 4, then: Then::Fail }, AT_ONCE, Err(RunError::Read), b"1 KiB\n1.5 KiB\n100 MB\n"),
     // Writes of three bytes, before one that fails or accepts no byte.
-    (AT_ONCE, Pace(3, 0, Then::Fail), Err(RunError::Write), b""),
-    (AT_ONCE, Pace(3, 3, Then::TakeNothing), Err(RunError::Write), b"1 KiB\n1.5"),
+    (AT_ONCE, Pace { step: 3, calls: 0, then: Then::Fail }, Err(RunError::Write), b""),
+    (AT_ONCE, Pace { step: 3, calls: 3, then: Then::AtMost(0) }, Err(RunError::Write), b"1 KiB\n1.5"),
 };
 
 #[test]

@@ -1,5 +1,5 @@
 -- Each read is served: the answers to the lines that end in it are written, and the line that it has begun waits.
--- Memory is not the answer while the lines are no longer than the limit.
+-- `Memory` is not returned while the lines are no longer than the limit.
 use Rattle.std.proofs.Common.{◌≡◌, ◌≢◌, ◌+◌, ◌≤◌, [], ◌++◌, refl, sym, ap, subst, ◌∙◌, take, length, vec_len, arith, rules}
 use Rattle.std.proofs.lemmas.List.{length-take, take_all}
 use Rattle.std.proofs.lemmas.Result.{on_ok_weaker}
@@ -8,12 +8,11 @@ use Rattle.byte_unit_lines.specs.Answer.{IsAnswer}
 use Rattle.byte_unit_lines.specs.declared.run.RunError.TheVariants.{Memory, Write}
 use Rattle.byte_unit_lines.proofs.Runs.{Course, IsServed, course_of, HasServed-piece, finished_lines_answered}
 use Rattle.byte_unit_lines.proofs.Runs.{IsWritten-piece, IsWritten-error, IsWritten-last_line}
-use Rattle.byte_unit_lines.proofs.Runs.{report_without_last_line, first_lines_answered}
+use Rattle.byte_unit_lines.proofs.Runs.{report_without_last_line, first_lines_answered, HasServed-at_end, longest_line-below}
 use Rattle.byte_unit_lines.specs.Lines.{line_end}
 use Rattle.byte_unit_stream.specs.Chunks.{begun_record}
-use Rattle.byte_unit_stream.proofs.Bytes.{Consumes-at_end, IsWrittenBy}
+use Rattle.byte_unit_stream.proofs.Bytes.{IsWrittenBy}
 use Rattle.byte_unit_stream.proofs.Longest.{longest_of-ended_records-append, longest_record-unfinished}
-use Rattle.byte_unit_stream.proofs.Longest.{longest_record-below}
 use Rattle.byte_unit_stream.proofs.ChunkRecords.{begun_record-append, empty_from_length, nonempty_from_length}
 use Rattle.byte_unit_lines.proofs.run.run_with_buffers.Goals as goal
 
@@ -50,7 +49,7 @@ reads-preserved g c =
     let so_far = c.reads.invariant.0 in
     let within = c.reads.invariant.1 in
     let piece = take c.in-Some.n c.read.new.buf in
-    let fed = c.in_ok-answer_piece-in-Some.ensures in
+    let fed = c.in-Ok.ensures in
     let answers = fed.written in
     let line = c.answer_piece.new.line in
     let begun : length (begun_record line_end [] so_far.read) ≤ c.args.longest =
@@ -72,7 +71,7 @@ pub returns-then-len-longest-clause-run : goal.returns-then-len-longest-clause-r
 returns-then-len-longest-clause-run g c =
     let so_far = c.reads.invariant.0 in
     let piece = take c.in-Some.n c.read.new.buf in
-    let fed = c.in_ok-answer_piece-in-Some.ensures in
+    let fed = c.in-Ok.ensures in
     let answers = fed.written in
     let next = HasServed-piece so_far _ _ piece answers.0 c.answer_piece.new.line.items c.answer_piece.new.waiting.items
     c.in-Some.ensures.came answers.1 answers.2 fed.line fed.waiting in
@@ -84,7 +83,7 @@ returns-then-len-longest-clause-memory g c = λ _ _.
     let piece = take c.in-Some.n c.read.new.buf in
     let read = so_far.read ++ piece in
     let line = c.answer_piece.new.line in
-    let fed = c.in_ok-answer_piece-in-Some.ensures in
+    let fed = c.in-Ok.ensures in
     let begun : line.items ≡ begun_record line_end [] read =
     rw (fed.line, so_far.served.begun, begun_record-append line_end [] so_far.read piece) refl in
     let long = longest_record-unfinished line_end read line.items begun in (
@@ -96,48 +95,31 @@ returns-then-len-longest-clause-memory g c = λ _ _.
 pub returns-then-is_empty-clause-bound : goal.returns-then-is_empty-clause-bound
 returns-then-is_empty-clause-bound g c =
     let so_far = c.reads.invariant.0 in
-    let within = c.reads.invariant.1 in
-    let end = c.in-Some-eq0 in
-    let line = c.reads.line in
-    let bound = c.args.longest + length c.args.buffer.now in (
+    let end = c.in-Some-eq0 in (
       so_far.read,
-      Consumes-at_end _ _ _ so_far.read (take end.field-0 c.read.new.buf) so_far.gave end.ensures.came
-          (ap (λ count. take count c.read.new.buf) end.field-0-test),
-      longest_record-below line_end so_far.read line.items bound so_far.served.begun within.finished
-          (omega (arith, within.unfinished, line.ok.0, c.requires.buffer)),
+      HasServed-at_end so_far _ c.read.new.buf end.ensures.came end.field-0-test,
+      longest_line-below c.args.longest _ _ _ c.reads.line _ so_far c.reads.invariant.1 c.requires.buffer,
     )
 
 pub returns-in_ok-add_answer-clause-bound : goal.returns-in_ok-add_answer-clause-bound
 returns-in_ok-add_answer-clause-bound g c =
     let so_far = c.reads.invariant.0 in
-    let within = c.reads.invariant.1 in
     let end = c.in-Some-eq0 in
-    let line = c.reads.line in
-    let bound = c.args.longest + length c.args.buffer.now in
-    on_ok_weaker c.write_whole.result (λ _. (
-      so_far.read,
-      Consumes-at_end _ _ _ so_far.read (take end.field-0 c.read.new.buf) so_far.gave end.ensures.came
-          (ap (λ count. take count c.read.new.buf) end.field-0-test),
-      longest_record-below line_end so_far.read line.items bound so_far.served.begun within.finished
-          (omega (arith, within.unfinished, line.ok.0, c.requires.buffer)),
-    )) c.write_whole.ensures.ok
+    let gave = HasServed-at_end so_far _ c.read.new.buf end.ensures.came end.field-0-test in
+    let below = longest_line-below c.args.longest _ _ _ c.reads.line _ so_far c.reads.invariant.1 c.requires.buffer in
+    on_ok_weaker c.write_whole.result (λ _. (so_far.read, gave, below)) c.write_whole.ensures.ok
 
-pub returns-in_err-answer_piece-in-Some-clause-run : goal.returns-in_err-answer_piece-in-Some-clause-run
-returns-in_err-answer_piece-in-Some-clause-run g c =
+pub returns-in-Err-clause-run : goal.returns-in-Err-clause-run
+returns-in-Err-clause-run g c =
     let each = c.each_line_has_an_answer.ensures in
     let so_far = c.reads.invariant.0 in
     let piece = take c.in-Some.n c.read.new.buf in
-    let failed = c.in_err-answer_piece-in-Some in
-    let error = failed.field-0.0 in
-    let answers = failed.ensures.written in
-    let read = so_far.read ++ piece in
-    let written = so_far.written ++ answers.0 in
-    let at = IsWritten-piece each c.args.kind (course_of so_far) so_far.served piece error answers.0 answers.2 in (
-      read,
-      written,
+    let answers = c.in-Err.ensures.written in (
+      so_far.read ++ piece,
+      so_far.written ++ answers.0,
       Consumes-trans _ _ _ so_far.read piece so_far.gave c.in-Some.ensures.came,
       Appends-trans _ _ _ so_far.written answers.0 so_far.took answers.1,
-      IsWritten-error c.args.kind read written c.from_residual.result error c.from_residual.ensures.1 at,
+      IsWritten-piece each c.args.kind (course_of so_far) so_far.served piece c.in-Err.error answers.0 answers.2,
     )
 
 pub returns-then-is_empty-clause-run : goal.returns-then-is_empty-clause-run
@@ -147,8 +129,7 @@ returns-then-is_empty-clause-run g c =
     let empty = empty_from_length c.reads.line.items (vec_len c.reads.line) c.reads.line.ok.0 c.if-is_empty.ensures in (
       so_far.read,
       so_far.written,
-      Consumes-at_end _ _ _ so_far.read (take end.field-0 c.read.new.buf) so_far.gave end.ensures.came
-          (ap (λ count. take count c.read.new.buf) end.field-0-test),
+      HasServed-at_end so_far _ c.read.new.buf end.ensures.came end.field-0-test,
       so_far.took,
       report_without_last_line c.args.kind (course_of so_far) so_far.served empty,
     )
@@ -157,12 +138,11 @@ pub returns-in_err-add_answer-clause-run : goal.returns-in_err-add_answer-clause
 returns-in_err-add_answer-clause-run g c =
     let so_far = c.reads.invariant.0 in
     let end = c.in-Some-eq0 in
-    let error = c.from_residual-in_err-add_answer in
+    let error = c.from_residual in
     let at = first_lines_answered c.args.kind (course_of so_far) so_far.served in (
       so_far.read,
       so_far.written,
-      Consumes-at_end _ _ _ so_far.read (take end.field-0 c.read.new.buf) so_far.gave end.ensures.came
-          (ap (λ count. take count c.read.new.buf) end.field-0-test),
+      HasServed-at_end so_far _ c.read.new.buf end.ensures.came end.field-0-test,
       so_far.took,
       IsWritten-error c.args.kind so_far.read so_far.written error.result Memory error.ensures.1 at,
     )
@@ -189,8 +169,7 @@ returns-in_ok-add_answer-clause-run g c =
     let answer = IsWritten-last_line c.args.kind course served some bytes is_answer c.write_whole.result by in (
       so_far.read,
       so_far.written ++ answer.0,
-      Consumes-at_end _ _ _ so_far.read (take end.field-0 c.read.new.buf) so_far.gave end.ensures.came
-          (ap (λ count. take count c.read.new.buf) end.field-0-test),
+      HasServed-at_end so_far _ c.read.new.buf end.ensures.came end.field-0-test,
       Appends-trans _ _ _ so_far.written answer.0 so_far.took answer.1,
       answer.2,
     )

@@ -1,0 +1,13 @@
+-- The size at the key is what the string that is found there is parsed as.
+use Rattle.std.proofs.Common.{◌∙◌, None}
+use Rattle.byte_unit.specs.declared.Kind.TheVariants.{Byte}
+use Rattle.example_limits.proofs.Sizes.{found_at, parsed_at}
+use Rattle.example_limits.proofs.defaults.byte_at.Goals as goal
+
+pub returns-in-None : goal.returns-in-None
+returns-in-None c = found_at Byte c.args.key.now c.args.table.now.entries None c.in-None.ensures.value
+
+pub returns-in-Some : goal.returns-in-Some
+returns-in-Some c =
+    c.ok.ensures.value ∙ parsed_at Byte c.args.key.now c.args.table.now.entries c.in-Some.value c.in-Some.ensures.value _
+    c.byte_from_toml.ensures
