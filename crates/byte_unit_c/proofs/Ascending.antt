@@ -1,6 +1,7 @@
 -- Offsets that ascend.
 use Rattle.std.proofs.Common.{◌≡◌, ℕ, zero, suc, ◌+◌, ◌<◌, ◌≤◌, true, false, ℤ, pos, negsuc, ◌≤ℤ◌, List, [], ◌∷◌, length, get_or, drop}
-use Rattle.std.proofs.Common.{arith, IsTrue, leb, sym, subst, refl, add-one, ◌↔◌}
+use Rattle.std.proofs.Common.{arith, IsTrue, leb, sym, subst, refl, add-one, ◌↔◌, ◌∙◌, SFits, w64, to_z, of_z}
+use Rattle.std.proofs.lemmas.Int.{to_z-of_z}
 use Rattle.std.proofs.lemmas.Int.{ints}
 use Rattle.std.proofs.lemmas.Bool.Decides.{nat_tests}
 use Rattle.std.proofs.Math.IntN.{nat_abs}
@@ -26,6 +27,17 @@ between low high (x ∷ xs) zero a within = (a.0, ends x high xs a.1)
 between low high (x ∷ xs) (suc i) a within =
     let rest = between x high xs i a.1 (omega arith) in
     (through low x (get_or xs i (pos 0)) a.0 rest.0, rest.1)
+
+-- an offset as it is read, from its 64 bits
+pub as_read : (z offset : ℤ) → SFits w64 z → z ≡ offset → to_z w64 (of_z w64 z) ≡ offset
+as_read z offset fits is = to_z-of_z w64 z fits ∙ is
+
+-- an offset is a position
+pub is_position : (z high : ℤ) (xs : List ℤ) (i : ℕ) → SFits w64 z → z ≡ get_or xs i (pos 0) → Ascends (pos 0) high xs
+    → i < length xs → pos 0 ≤ℤ to_z w64 (of_z w64 z)
+is_position z high xs i fits is a within =
+    let F : ℤ → Type 0 = λ offset. pos 0 ≤ℤ offset in
+    subst F (sym (as_read z (get_or xs i (pos 0)) fits is)) (between (pos 0) high xs i a within).0
 
 -- no offset is below the one before it
 rises_suc : (low high : ℤ) (xs : List ℤ) (i : ℕ) → Ascends low high xs → suc i < length xs

@@ -2,3 +2,4 @@ mod Zeros
 mod Ascending
 mod Written
 mod Positions
+mod Escapes

@@ -2,9 +2,11 @@
 use Rattle.std.specs.Prelude.{◌≡◌, ℕ, ◌+◌, ◌-◌, ◌<◌, ℤ, pos, negsuc, ◌≤ℤ◌, Bool, List, [], ◌∷◌, length}
 use Rattle.std.specs.Prelude.{slice_index, slice_index_or, slice_range, Option, Some, None, Result, Ok, Err}
 use Rattle.std.specs.Prelude.{IfSome, IfNone}
+use Rattle.byte_unit_base.specs.Accepted.{as_written}
+use Rattle.byte_unit_base.specs.BinaryReading.{binary_of}
 use Rattle.byte_unit_base.specs.Errors.{size_fault}
-use Rattle.byte_unit_base.specs.SizeReading.{IsBytesReading}
-use Rattle.byte_unit_base.specs.BinaryReading.{IsBinaryBytesReading}
+use Rattle.byte_unit_base.specs.Shape.{Shape}
+use Rattle.byte_unit_base.specs.SizeReading.{IsBytesReadingAs}
 use Rattle.byte_unit_base.specs.declared.errors.ParseError.{ParseError}
 use Rattle.byte_unit_base.specs.declared.kind.Kind.{Kind}
 use Rattle.byte_unit_c.specs.declared.offsets.Offsets.{Offsets}
@@ -47,16 +49,10 @@ IsCoded None code size = (code ≡ not_utf8) × (size ≡ 0)
 IsCoded (Some (Ok n)) code size = (code ≡ ok) × (size ≡ n)
 IsCoded (Some (Err e)) code size = (code ≡ code_of (size_fault e)) × (size ≡ 0)
 
--- the code and the size are those of parsing the bytes
-abbrev pub IsParsed : Kind → Bool → List ℕ → ℕ → Number → Type 0
-IsParsed kind ignore_case bytes code size =
-    (answer : Option (Result ℕ ParseError)) × IsBytesReading kind ignore_case bytes answer
-    × IsCoded answer code (number_of size)
-
--- the same, if decimal prefixes mean binary ones
-abbrev pub IsBinaryParsed : Kind → Bool → List ℕ → ℕ → Number → Type 0
-IsBinaryParsed kind ignore_case bytes code size =
-    (answer : Option (Result ℕ ParseError)) × IsBinaryBytesReading kind ignore_case bytes answer
+-- the code and the size are those of parsing the bytes, with units that mean others
+abbrev pub IsParsed : (Shape → Shape) → Kind → Bool → List ℕ → ℕ → Number → Type 0
+IsParsed meant kind ignore_case bytes code size =
+    (answer : Option (Result ℕ ParseError)) × IsBytesReadingAs meant kind ignore_case bytes answer
     × IsCoded answer code (number_of size)
 
 -- the number zero
@@ -64,17 +60,10 @@ abbrev pub zero_number : Number
 zero_number = record { low = 0; high = 0 }
 
 -- each of the first n texts has its code and its size
-abbrev pub AreParsed : Kind → Bool → List ℕ → List ℤ → ℕ → List ℕ → List Number → Type 0
-AreParsed kind ignore_case bytes offsets n codes sizes =
+abbrev pub AreParsed : (Shape → Shape) → Kind → Bool → List ℕ → List ℤ → ℕ → List ℕ → List Number → Type 0
+AreParsed meant kind ignore_case bytes offsets n codes sizes =
     (i : ℕ) → i < n
-    → IsParsed kind ignore_case (text_of bytes offsets i) (slice_index codes i) (slice_index_or sizes i zero_number)
-
--- the same, if decimal prefixes mean binary ones
-abbrev pub AreBinaryParsed : Kind → Bool → List ℕ → List ℤ → ℕ → List ℕ → List Number → Type 0
-AreBinaryParsed kind ignore_case bytes offsets n codes sizes =
-    (i : ℕ) → i < n
-    → IsBinaryParsed kind ignore_case (text_of bytes offsets i) (slice_index codes i)
-    (slice_index_or sizes i zero_number)
+    → IsParsed meant kind ignore_case (text_of bytes offsets i) (slice_index codes i) (slice_index_or sizes i zero_number)
 
 -- the call is rejected: an argument is invalid, and nothing is written
 abbrev pub IsRejectedCall : ℕ → List Number → List Number → List ℕ → List ℕ → Type 0
@@ -86,10 +75,10 @@ pub record AreManyReturned
     : Type 0 where
   pub parsed : IfSome (parse_flags_at flags) (λ asked.
       IsLayout (length bytes) offsets (length sizes) (length codes)
-      → (code ≡ ok) × AreParsed asked.kind asked.ignore_case bytes offsets (length codes) codes' sizes')
+      → (code ≡ ok) × AreParsed as_written asked.kind asked.ignore_case bytes offsets (length codes) codes' sizes')
   pub binary : IfSome (binary_flags_at flags) (λ asked.
       IsLayout (length bytes) offsets (length sizes) (length codes)
-      → (code ≡ ok) × AreBinaryParsed asked.kind asked.ignore_case bytes offsets (length codes) codes' sizes')
+      → (code ≡ ok) × AreParsed binary_of asked.kind asked.ignore_case bytes offsets (length codes) codes' sizes')
   pub unknown_flag : IfNone (parse_flags_at flags) (IfNone (binary_flags_at flags)
       (IsRejectedCall code sizes sizes' codes codes'))
   pub no_layout : ¬ IsLayout (length bytes) offsets (length sizes) (length codes)

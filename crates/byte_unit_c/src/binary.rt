@@ -3,13 +3,13 @@
 //! The calls without the flag are compiled apart from these, so that it costs them no instruction.
 
 ghost use Rattle.std.specs.Prelude.{◌≡◌, ℕ, ◌≤◌, length, Option, Result, IfSome, IfNone};
-ghost use Rattle.byte_unit_base.specs.BinaryReading.{IsBinaryBytesReading};
+ghost use Rattle.byte_unit_base.specs.BinaryReading.{binary_of, IsBinaryBytesReading};
 ghost use Rattle.byte_unit_base.specs.Kinds.{flags_for};
 ghost use Rattle.byte_unit_base.specs.PartsReading.{IsStopAt};
 ghost use Rattle.byte_unit_base.specs.declared.errors.ParseError.{ParseError};
 ghost use Rattle.byte_unit_c.specs.Flags.{binary_flags_at};
 ghost use Rattle.byte_unit_c.specs.Error.{ok, invalid_argument};
-ghost use Rattle.byte_unit_c.specs.Many.{offsets_of, IsLayout, IsBinaryParsed, AreBinaryParsed};
+ghost use Rattle.byte_unit_c.specs.Many.{offsets_of, IsLayout, IsParsed, AreParsed};
 ghost use Rattle.byte_unit_c.specs.Parse.{IsReturned, IsExplanation};
 
 use crate::error::{Error, INVALID_ARGUMENT, NOT_UTF8, OK};
@@ -108,7 +108,7 @@ pub fn explain_binary(text: &[u8], asked: ParseFlags, out: &mut [u8]) -> usize
 /// lengths do not fit.
 #[cold]
 #[inline(never)]
-pub fn parse_many_flagged(
+pub fn parse_many_binary(
     data: &[u8],
     offsets: Offsets<'_>,
     flags: u32,
@@ -119,7 +119,7 @@ pub fn parse_many_flagged(
         IsLayout (length «data».now) (offsets_of offsets.entry) (length sizes.old)
         (length codes.old)
         → (result ≡ ok)
-        × AreBinaryParsed asked.kind asked.ignore_case «data».now (offsets_of offsets.entry)
+        × AreParsed binary_of asked.kind asked.ignore_case «data».now (offsets_of offsets.entry)
         (length codes.old)
         codes.new sizes.new) }
     ensures unknown_flag { IfNone (binary_flags_at flags)
@@ -150,7 +150,7 @@ fn parse_each(
 )
     requires { IsLayout (length «data».now) (offsets_of offsets) (length sizes.old)
         (length codes.old) }
-    ensures { AreBinaryParsed asked.kind asked.ignore_case «data».now (offsets_of offsets.entry)
+    ensures { AreParsed binary_of asked.kind asked.ignore_case «data».now (offsets_of offsets.entry)
         (length codes.old)
         codes.new sizes.new }
 {
@@ -163,7 +163,7 @@ fn parse_each(
 
 /// Parses one text, whose decimal prefixes mean binary ones, to its code and its size, which is 0 if there is none.
 fn parse_one(text: &[u8], asked: ParseFlags) -> (u8, Number)
-    ensures { IsBinaryParsed asked.kind asked.ignore_case text.now result.0 result.1 }
+    ensures { IsParsed binary_of asked.kind asked.ignore_case text.now result.0 result.1 }
 {
     match binary::parse_bytes(text, asked.ignore_case, asked.kind) {
         Some(Ok(size)) => (OK as u8, Number::new(size)),

@@ -67,37 +67,21 @@ impl Error {
         ensures details { IsErrorOf (value_fault error) result.1 }
         ensures position { result.1.position ≡ position }
     {
+        let base = Error {
+            position,
+            ..Error::NONE
+        };
         match error {
-            ValueParseError::ExceededBounds(number) => (
-                EXCEEDED_BOUNDS,
-                Error {
-                    number: DecimalParts::new(number),
-                    position,
-                    ..Error::NONE
-                },
-            ),
-            ValueParseError::NotNumber(c) => (
-                NOT_NUMBER,
-                Error {
-                    character: c as u32,
-                    position,
-                    ..Error::NONE
-                },
-            ),
-            ValueParseError::NoValue => (
-                NO_VALUE,
-                Error {
-                    position,
-                    ..Error::NONE
-                },
-            ),
-            ValueParseError::NumberTooLong => (
-                NUMBER_TOO_LONG,
-                Error {
-                    position,
-                    ..Error::NONE
-                },
-            ),
+            ValueParseError::ExceededBounds(number) => {
+                let number = DecimalParts::new(number);
+                (EXCEEDED_BOUNDS, Error { number, ..base })
+            }
+            ValueParseError::NotNumber(c) => {
+                let character = c as u32;
+                (NOT_NUMBER, Error { character, ..base })
+            }
+            ValueParseError::NoValue => (NO_VALUE, base),
+            ValueParseError::NumberTooLong => (NUMBER_TOO_LONG, base),
         }
     }
 

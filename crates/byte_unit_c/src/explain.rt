@@ -13,7 +13,7 @@ ghost use Rattle.byte_unit_c.specs.Flags.{parse_flags_at, binary_flags_at, prefe
 ghost use Rattle.byte_unit_c.specs.Parse.{IsUnitBytesReading, IsExplanation, IsUnitExplanation};
 
 use crate::binary::explain_binary;
-use crate::flags::{binary_flags_at, parse_flags_at};
+use crate::flags::{ParseFlags, binary_flags_at, parse_flags_at};
 use crate::message::{write_message, write_not_utf8, write_unit_message, write_unknown_flag};
 use crate::parse::read_unit;
 use byte_unit_base::size::Outcome;
@@ -122,19 +122,19 @@ pub extern "C" fn byte_unit_explain_unit(text: &[u8], flags: u32, out: &mut [u8]
     ensures bound { result ≤ 256 }
 {
     match parse_flags_at(flags) {
-        Some(asked) => explain_unit_as(text, asked.kind, asked.ignore_case, out),
+        Some(asked) => explain_unit_as(text, asked, out),
         None => write_unknown_flag(out),
     }
 }
 
 /// Explains as `byte_unit_explain_unit` does, with known flags.
-fn explain_unit_as(text: &[u8], kind: Kind, ignore_case: bool, out: &mut [u8]) -> usize
+fn explain_unit_as(text: &[u8], asked: ParseFlags, out: &mut [u8]) -> usize
     ensures reading { (answer : Option (Result UnitName UnitParseError))
-        × IsUnitBytesReading ignore_case (prefers_byte kind) text.now answer
+        × IsUnitBytesReading asked.ignore_case (prefers_byte asked.kind) text.now answer
         × IsUnitExplanation answer out.old out.new result }
     ensures bound { result ≤ 256 }
 {
-    match read_unit(text, kind, ignore_case) {
+    match read_unit(text, asked.kind, asked.ignore_case) {
         Some(Ok(_)) => 0,
         Some(Err(rejected)) => write_message(&ParseError::Unit(rejected.0), out),
         None => write_not_utf8(out),

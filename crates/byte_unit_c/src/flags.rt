@@ -21,8 +21,6 @@ const BINARY_PREFIXES: u32 = 8;
 /// The greatest flags word of a parsing call without the flag `BINARY_PREFIXES`.
 pub const MOST_PLAIN: u32 = BITS | IGNORE_CASE;
 
-const BITS_EITHER_KIND: u32 = BITS | EITHER_KIND;
-
 /// The decoded flags of a parsing call.
 #[derive(Clone, Copy)]
 pub struct ParseFlags {
@@ -115,11 +113,11 @@ pub fn binary_flags_at(flags: u32) -> Option<ParseFlags>
 pub fn choice_flags_at(flags: u32) -> Option<ChoiceFlags>
     ensures { result ≡ choice_flags_at flags }
 {
-    match flags {
-        0 => Some(ChoiceFlags::new(Kind::Byte, false)),
-        BITS => Some(ChoiceFlags::new(Kind::Bit, false)),
-        EITHER_KIND => Some(ChoiceFlags::new(Kind::Byte, true)),
-        BITS_EITHER_KIND => Some(ChoiceFlags::new(Kind::Bit, true)),
-        _ => None,
-    }
+    let of_either = flags >= EITHER_KIND;
+    let kind = kind_at(if of_either {
+        flags - EITHER_KIND
+    } else {
+        flags
+    })?;
+    Some(ChoiceFlags::new(kind, of_either))
 }

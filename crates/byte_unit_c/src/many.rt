@@ -1,11 +1,12 @@
 //! Parsing of many texts in one call.
 
 ghost use Rattle.std.specs.Prelude.{◌≡◌, ◌↔◌, IsTrue, length};
+ghost use Rattle.byte_unit_base.specs.Accepted.{as_written};
 ghost use Rattle.byte_unit_base.specs.Errors.{size_fault};
 ghost use Rattle.byte_unit_c.specs.Error.{code_of};
 ghost use Rattle.byte_unit_c.specs.Many.{offsets_of, IsLayout, IsParsed, AreParsed, AreManyReturned};
 
-use crate::binary::parse_many_flagged;
+use crate::binary::parse_many_binary;
 use crate::error::{Error, INVALID_ARGUMENT, NOT_UTF8, OK, UNIT};
 use crate::flags::{MOST_PLAIN, ParseFlags, plain_flags};
 use crate::offsets::Offsets;
@@ -61,7 +62,7 @@ fn parse_many(
         codes.old codes.new }
 {
     if flags > MOST_PLAIN {
-        return parse_many_flagged(data, offsets, flags, sizes, codes);
+        return parse_many_binary(data, offsets, flags, sizes, codes);
     }
     let asked = plain_flags(flags);
     if !is_layout(data, offsets, sizes.len(), codes.len()) {
@@ -92,7 +93,7 @@ fn parse_each(
 )
     requires { IsLayout (length «data».now) (offsets_of offsets) (length sizes.old)
         (length codes.old) }
-    ensures { AreParsed asked.kind asked.ignore_case «data».now (offsets_of offsets.entry)
+    ensures { AreParsed as_written asked.kind asked.ignore_case «data».now (offsets_of offsets.entry)
         (length codes.old) codes.new
         sizes.new }
 {
@@ -106,7 +107,7 @@ fn parse_each(
 /// Parses one text to its code and its size, which is 0 if there is none.
 #[inline(always)]
 fn parse_one(text: &[u8], asked: ParseFlags) -> (u8, Number)
-    ensures { IsParsed asked.kind asked.ignore_case text.now result.0 result.1 }
+    ensures { IsParsed as_written asked.kind asked.ignore_case text.now result.0 result.1 }
 {
     match size::parse_bytes(text, asked.ignore_case, asked.kind) {
         Some(Ok(size)) => (OK as u8, Number::new(size)),

@@ -91,6 +91,7 @@ fn is_plain(c: char) -> bool
 }
 
 /// Returns the rest of the message of an error in the unit, after its character.
+#[tactic(auto, using(crate::proofs::Escapes::letter))]
 fn rest_of_message(expected: Expected) -> &'static [u8]
     ensures text { Some result.now
         ≡ Some (codes "' is incorrect")

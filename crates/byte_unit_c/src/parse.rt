@@ -21,7 +21,7 @@ ghost use Rattle.byte_unit_c.specs.Parse.{IsReturned, IsUnitBytesReading, IsUnit
 
 use crate::codes::code_of;
 use crate::error::{Error, INVALID_ARGUMENT, NOT_UTF8, OK, UNIT, bytes_of};
-use crate::flags::parse_flags_at;
+use crate::flags::{ParseFlags, parse_flags_at};
 use crate::position;
 use crate::values::Number;
 use byte_unit_base::position::parse_unit;
@@ -234,24 +234,18 @@ pub extern "C" fn byte_unit_parse_unit_to(
         ((result ≡ invalid_argument) × (unit.new ≡ unit.old) × (error.new ≡ error.old)) }
 {
     match parse_flags_at(flags) {
-        Some(asked) => parse_unit_as(text, asked.kind, asked.ignore_case, unit, error),
+        Some(asked) => parse_unit_as(text, asked, unit, error),
         None => INVALID_ARGUMENT,
     }
 }
 
 /// Parses as `byte_unit_parse_unit_to` does, with known flags.
-fn parse_unit_as(
-    text: &[u8],
-    kind: Kind,
-    ignore_case: bool,
-    unit: &mut u32,
-    errors: &mut [Error],
-) -> u32
+fn parse_unit_as(text: &[u8], asked: ParseFlags, unit: &mut u32, errors: &mut [Error]) -> u32
     ensures { (answer : Option (Result UnitName UnitParseError))
-        × IsUnitBytesReading ignore_case (prefers_byte kind) text.now answer
+        × IsUnitBytesReading asked.ignore_case (prefers_byte asked.kind) text.now answer
         × IsUnitReturned text.now answer result unit.old unit.new errors.old errors.new }
 {
-    match read_unit(text, kind, ignore_case) {
+    match read_unit(text, asked.kind, asked.ignore_case) {
         Some(Ok(found)) => {
             *unit = code_of(found);
             OK

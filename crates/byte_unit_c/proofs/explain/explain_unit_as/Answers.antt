@@ -7,13 +7,13 @@ use Rattle.byte_unit_c.proofs.explain.explain_unit_as.Goals as goal
 
 pub returns-in-Some-Ok-clause-reading : goal.returns-in-Some-Ok-clause-reading
 returns-in-Some-Ok-clause-reading c =
-    let flags = flags_of c.args.ignore_case (prefers_byte c.args.kind) in
+    let flags = flags_of c.args.asked.ignore_case (prefers_byte c.args.asked.kind) in
     let placed = subst (IsPlacedUnitReading flags c.args.text.now) c.in-Some-Ok.field-0-is c.in-Some-Ok.ensures.1 in
     (Some (Ok c.in-Some-Ok.field-0-0), (c.in-Some-Ok.ensures.0, placed), (refl, refl))
 
 pub returns-in-Some-Err-clause-reading : goal.returns-in-Some-Err-clause-reading
 returns-in-Some-Err-clause-reading c =
     let rejected = c.in-Some-Err.rejected in
-    let flags = flags_of c.args.ignore_case (prefers_byte c.args.kind) in
+    let flags = flags_of c.args.asked.ignore_case (prefers_byte c.args.asked.kind) in
     let placed = subst (IsPlacedUnitReading flags c.args.text.now) c.in-Some-Err.field-0-is c.in-Some-Err.ensures.1 in
     (Some (Err rejected.0), (c.in-Some-Err.ensures.0, placed.0), (c.write_message.ensures.some, c.write_message.ensures.text))

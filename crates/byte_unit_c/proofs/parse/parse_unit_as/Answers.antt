@@ -7,14 +7,14 @@ use Rattle.byte_unit_c.proofs.parse.parse_unit_as.Goals as goal
 
 pub returns-in-Some-Ok : goal.returns-in-Some-Ok
 returns-in-Some-Ok c =
-    let flags = flags_of c.args.ignore_case (prefers_byte c.args.kind) in
+    let flags = flags_of c.args.asked.ignore_case (prefers_byte c.args.asked.kind) in
     let placed = subst (IsPlacedUnitReading flags c.args.text.now) c.in-Some-Ok.field-0-is c.in-Some-Ok.ensures.1 in
     (Some (Ok c.in-Some-Ok.found), (c.in-Some-Ok.ensures.0, placed), (refl, c.code_of.ensures, refl))
 
 pub returns-in-Some-Err : goal.returns-in-Some-Err
 returns-in-Some-Err c =
     let rejected = c.in-Some-Err.rejected in
-    let flags = flags_of c.args.ignore_case (prefers_byte c.args.kind) in
+    let flags = flags_of c.args.asked.ignore_case (prefers_byte c.args.asked.kind) in
     let placed = subst (IsPlacedUnitReading flags c.args.text.now) c.in-Some-Err.field-0-is c.in-Some-Err.ensures.1 in
     let is = c.of_unit.ensures in (
       Some (Err rejected.0),

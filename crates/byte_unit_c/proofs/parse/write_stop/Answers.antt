@@ -14,7 +14,6 @@ use Rattle.byte_unit_c.proofs.parse.write_stop.Goals as goal
 
 pub returns-in-InUnit-clause-some : goal.returns-in-InUnit-clause-some
 returns-in-InUnit-clause-some c =
-    let bytes = c.args.text.now in
     let at_start = nat_eq c.args.place 0 in
     let next = c.in_ok-next.next in
     let stops = c.in_ok-next.ensures c.args.kind c.args.ignore_case c.args.reason c.requires in
@@ -28,7 +27,7 @@ returns-in-InUnit-clause-some c =
     let details : IsErrorOf (unit_fault error) c.of_unit_parts.result =
     rw (← c.error.view_is)
     (c.of_unit_parts.ensures.details c.error.inside.expected_characters.now (rw (← c.error.view_is) at bytes_are)) in
-    let position = subst (IsPositionOfStop bytes c.args.place) c.in-InUnit.is stops.1 in (
+    let position = subst (IsPositionOfStop c.args.text.now c.args.place) c.in-InUnit.is stops.1 in (
       UnitError error,
       (λ meant. (is.0, is.1 meant)),
       refl,

@@ -15,7 +15,7 @@ tells error is details e given = subst (λ x. IsErrorOf (value_fault x) details)
 pub returns-in-ExceededBounds-clause-details : goal.returns-in-ExceededBounds-clause-details
 returns-in-ExceededBounds-clause-details c =
     tells c.args.error _ _ c.in-ExceededBounds.is
-    (record { character_is = refl; expected_is = refl; may_end_is = refl; number_is = c.new.ensures })
+    (record { character_is = refl; expected_is = refl; may_end_is = refl; number_is = c.new-number.ensures })
 
 pub returns-in-NotNumber-clause-details : goal.returns-in-NotNumber-clause-details
 returns-in-NotNumber-clause-details c =

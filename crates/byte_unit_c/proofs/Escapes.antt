@@ -1,0 +1,9 @@
+-- Characters that `Debug` writes as they are.
+use Rattle.std.proofs.Common.{◌≡◌, ◌≢◌, ℕ, ◌≤◌, [], ◌∷◌, arith}
+use Rattle.std.proofs.lemmas.Bool.Decides.{nat_tests}
+use Rattle.std.specs.Fmt.{debug_escape}
+
+-- a letter is written as it is
+pub letter : (c : ℕ) → 65 ≤ c → c ≤ 122 → c ≢ 92 → debug_escape 39 c ≡ c ∷ []
+unfolding debug_escape
+letter c low high no_backslash = grind (arith, nat_tests)
