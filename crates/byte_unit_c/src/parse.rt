@@ -266,6 +266,7 @@ fn parse_unit_as(
 
 /// Parses a unit from bytes, as `parse_unit` does from a string. A unit with no suffix is of this kind. Returns
 /// `None` if the bytes are not UTF-8.
+#[inline(always)]
 pub(crate) fn read_unit(
     bytes: &[u8],
     kind: Kind,
