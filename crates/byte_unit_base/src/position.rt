@@ -75,6 +75,7 @@ impl Unit {
 /// assert!(rt; matches!(position::parse_unit("KiB", false, true), Ok(Unit::KiB)));
 /// assert!(rt; matches!(position::parse_unit(" Kix", false, true), Err((_, 3))));
 /// ```
+#[inline(always)]
 pub fn parse_unit(
     s: &str,
     ignore_case: bool,

@@ -260,6 +260,7 @@ fn parse_unit_as(text: &[u8], asked: ParseFlags, unit: &mut u32, errors: &mut [E
 
 /// Parses a unit from bytes, as `parse_unit` does from a string. A unit with no suffix is of this kind. Returns
 /// `None` if the bytes are not UTF-8.
+#[inline(always)]
 pub(crate) fn read_unit(
     bytes: &[u8],
     kind: Kind,
