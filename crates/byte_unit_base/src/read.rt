@@ -53,7 +53,7 @@ pub fn read_size(
     };
     let text = trimmed(s);
     let bytes = text.as_bytes();
-    match read_parts(bytes, bytes, flags) {
+    match read_parts::<true>(bytes, bytes, flags) {
         Ok(found) => Ok((found.1, found.0)),
         Err(stop) => {
             let next = first_char(&text[stop.place..]);

@@ -162,7 +162,7 @@ pub fn parse_line(
 {
     let line = &bytes[..len];
     let flags = flags_for(kind, ignore_case);
-    match read_parts(line, bytes, flags) {
+    match read_parts::<false>(line, bytes, flags) {
         Ok(found) => Some(size_of((found.1, found.0), kind)),
         Err(stop) => {
             if is_visible_ascii(line, stop.place) {
@@ -203,7 +203,7 @@ pub enum Outcome {
 pub fn read_bytes(bytes: &[u8], ignore_case: bool, kind: Kind) -> Outcome
     ensures { IsOutcome kind ignore_case bytes.now result }
 {
-    match read_parts(bytes, bytes, flags_for(kind, ignore_case)) {
+    match read_parts::<true>(bytes, bytes, flags_for(kind, ignore_case)) {
         Ok(found) => Outcome::Accepted(found.0, found.1),
         Err(stop) => Outcome::Stopped(stop.reason, stop.place),
     }

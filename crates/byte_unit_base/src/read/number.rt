@@ -39,14 +39,21 @@ const PAIR_OF_FOUR_BYTES: u64 = 0x0000_00ff_0000_00ff;
 /// Parses a number and a unit from a line, which is not trimmed. Returns the unit and the number. The line is at the
 /// beginning of `bytes`: eight of them are loaded at once, past the end of the line too.
 ///
+/// `ALONE` says that the line is all of `bytes`, and changes nothing but the code: fewer than eight bytes, which are
+/// then not loaded at once, are read by a loop.
+///
 /// # Errors
 /// Returns where it stops.
 #[inline(always)]
-pub fn read_parts(line: &[u8], bytes: &[u8], flags: Flags) -> Result<(Unit, Decimal), Stop>
+pub fn read_parts<const ALONE: bool>(
+    line: &[u8],
+    bytes: &[u8],
+    flags: Flags,
+) -> Result<(Unit, Decimal), Stop>
     requires { IsLineOf line.now bytes.now }
     ensures { IsPartsReading flags line.now result }
 {
-    match read_number(line, bytes) {
+    match read_number::<ALONE>(line, bytes) {
         Ok(found) => {
             let (end, number) = found;
             let start = end + leading_spaces(&line[end..]);
@@ -82,11 +89,11 @@ pub fn leading_spaces(bytes: &[u8]) -> usize
 /// Returns where the parser stops: `NoDigit` or `TooLong`.
 #[tactic(auto, using(crate::proofs::NumberBytes::digits_of_run))]
 #[inline(always)]
-fn read_number(line: &[u8], bytes: &[u8]) -> Result<(usize, Decimal), Stop>
+fn read_number<const ALONE: bool>(line: &[u8], bytes: &[u8]) -> Result<(usize, Decimal), Stop>
     requires { IsLineOf line.now bytes.now }
     ensures { IsNumberEnd line.now result }
 {
-    let (end, value) = leading_digits(line, bytes, 0);
+    let (end, value) = leading_digits::<ALONE>(line, bytes, 0);
     if end == 0 {
         return Err(Stop {
             place: 0,
@@ -104,7 +111,7 @@ fn read_number(line: &[u8], bytes: &[u8]) -> Result<(usize, Decimal), Stop>
         return Ok((end, Decimal::from_digits(whole, 0, 0)));
     }
     let start = end + 1;
-    let (stop, value) = leading_digits(line, bytes, start);
+    let (stop, value) = leading_digits::<ALONE>(line, bytes, start);
     let places = stop - start;
     if places == 0 {
         return Err(Stop {
@@ -178,15 +185,18 @@ fn long_value(digits: &[u8], last_bits: u64) -> u128
 
 /// Parses the digits of a line from an index on. Returns where they end, and the last 64 bits of their value.
 ///
-/// The line is at the beginning of `bytes`.
+/// The line is at the beginning of `bytes`, or all of them (`ALONE`).
 #[inline(always)]
-fn leading_digits(line: &[u8], bytes: &[u8], from: usize) -> (usize, u64)
+fn leading_digits<const ALONE: bool>(line: &[u8], bytes: &[u8], from: usize) -> (usize, u64)
     requires line { IsLineOf line.now bytes.now }
     requires from { from ≤ length line.now }
     ensures end { result.0 ≡ from + digits_len (drop from line.now) }
     ensures bound { result.0 ≤ length line.now }
     ensures value { result.1 ≡ digits_value 10 (slice_range line.now from result.0) % 2 ^ 64 }
 {
+    if ALONE && bytes.len() - from < 8 {
+        return few_digits(line, from);
+    }
     let mut start = from;
     let mut value = 0;
     if bytes.len() - from >= 8 {
@@ -199,6 +209,28 @@ fn leading_digits(line: &[u8], bytes: &[u8], from: usize) -> (usize, u64)
         value = first;
     }
     read_digits(line, start, value)
+}
+
+/// Parses the digits of a line from an index on, one by one. Returns where they end, and the last 64 bits of their
+/// value.
+#[inline(always)]
+fn few_digits(line: &[u8], from: usize) -> (usize, u64)
+    requires { from ≤ length line.now }
+    ensures end { result.0 ≡ from + digits_len (drop from line.now) }
+    ensures bound { result.0 ≤ length line.now }
+    ensures value { result.1 ≡ digits_value 10 (slice_range line.now from result.0) % 2 ^ 64 }
+{
+    let mut end = from;
+    let mut value = 0u64;
+    'digits: while end < line.len() {
+        let digit = line[end].wrapping_sub(b'0');
+        if digit > 9 {
+            break;
+        }
+        value = value.wrapping_mul(10).wrapping_add(u64::from(digit));
+        end += 1;
+    }
+    (end, value)
 }
 
 /// Returns how many of eight bytes are digits, from the first on, and the number that they write.

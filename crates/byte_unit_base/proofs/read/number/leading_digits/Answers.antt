@@ -4,12 +4,13 @@ use Rattle.byte_unit_base.proofs.Lines.{HasDigits, digits_of_word, no_digits, va
 use Rattle.byte_unit_base.proofs.read.number.leading_digits.Goals.{Joined-bytes-from-ge8, After-up_to_eight-count}
 use Rattle.byte_unit_base.proofs.read.number.leading_digits.Goals.{then-bytes-from-ge8+else-count-lt8}
 use Rattle.byte_unit_base.proofs.read.number.leading_digits.Goals.{else-bytes-from-ge8}
+use Rattle.byte_unit_base.proofs.read.number.leading_digits.Given.{Over}
 use Rattle.byte_unit_base.proofs.read.number.leading_digits.Goals as goal
 
 -- before the digits that are left
-so_far : (c : Joined-bytes-from-ge8)
+so_far : (g : Over) (c : Joined-bytes-from-ge8 g)
     → HasDigits c.args.line.now c.args.from c.if-bytes-from-ge8.start c.if-bytes-from-ge8.value
-so_far c =
+so_far g c =
     let line = c.args.line.now in
     let from = c.args.from in
     elim c.if-bytes-from-ge8.branch [
@@ -28,7 +29,7 @@ so_far c =
     ]
 
 pub returns-then-count-lt8 : goal.returns-then-count-lt8
-returns-then-count-lt8 c =
+returns-then-count-lt8 g c =
     let count = c.up_to_eight-count in
     let found = digits_of_word c.args.line.now c.args.bytes.now c.args.from _ _ _ c.requires.line c.requires.from
     c.if-bytes-from-ge8.true (λ k. (c.type_inv.bytes k).fits) c.load_eight.ensures count.ensures.bound
@@ -41,16 +42,16 @@ returns-then-count-lt8 c =
     }
 
 pub read_digits-requires : goal.read_digits-requires
-read_digits-requires c = (so_far c).within
+read_digits-requires g c = (so_far g c).within
 
 pub returns-clause-end : goal.returns-clause-end
-returns-clause-end c =
-    let digits = so_far (goal.at.returns-clause-end c).Joined-bytes-from-ge8 in
+returns-clause-end g c =
+    let digits = so_far g (goal.at.returns-clause-end g c).Joined-bytes-from-ge8 in
     omega (arith, c.read_digits.ensures.end, digits.more, digits.after)
 
 pub returns-clause-value : goal.returns-clause-value
-returns-clause-value c =
-    let digits = so_far (goal.at.returns-clause-value c).Joined-bytes-from-ge8 in
+returns-clause-value g c =
+    let digits = so_far g (goal.at.returns-clause-value g c).Joined-bytes-from-ge8 in
     let run = c.read_digits in
     run.ensures.value ∙ ap (λ n. n % 2 ^ 64)
     (value_of_more _ _ _ _ run.result.0 digits (omega (arith, run.ensures.end)) run.ensures.within)

@@ -9,15 +9,15 @@ use Rattle.byte_unit_base.proofs.read.number.read_number.Goals.{then-end-line-vi
 use Rattle.byte_unit_base.proofs.read.number.read_number.Goals as goal
 
 pub returns-then-end-eq0 : goal.returns-then-end-eq0
-returns-then-end-eq0 c =
+returns-then-end-eq0 g c =
     stops_at_start c.args.line.now (omega (arith, c.if-end-eq0.true, c.leading_digits-end.ensures.end))
 
 pub returns-then-whole-ge-WHOLE_LIMIT : goal.returns-then-whole-ge-WHOLE_LIMIT
-returns-then-whole-ge-WHOLE_LIMIT c = stops_in_whole c.args.line.now _ c.leading_digits-end.ensures.end
+returns-then-whole-ge-WHOLE_LIMIT g c = stops_in_whole c.args.line.now _ c.leading_digits-end.ensures.end
     (c.value_of-whole.ensures.large (omega (arith, c.if-whole-ge-WHOLE_LIMIT.true)))
 
 pub returns-then-end-line : goal.returns-then-end-line
-returns-then-end-line c =
+returns-then-end-line g c =
     let run = c.leading_digits-end in
     let bytes = c.args.line.now in
     let other : run.result.0 < length bytes → get_or bytes run.result.0 0 ≢ point = elim c.then-end-line.branch [
@@ -29,26 +29,26 @@ returns-then-end-line c =
     (omega (arith, c.from_digits.ensures))
 
 pub returns-then-places-eq0 : goal.returns-then-places-eq0
-returns-then-places-eq0 c =
+returns-then-places-eq0 g c =
     stops_after_point _ _ _ c.leading_digits-end.ensures.end c.leading_digits-end.ensures.bound c.if-end-eq0.false
     c.if-whole-ge-WHOLE_LIMIT.false c.value_of-whole.ensures.exact c.if-end-line.false c.if-line-end-ne46.false
     (omega (arith, c.if-places-eq0.true, c.leading_digits-stop.ensures.end))
 
 pub returns-then-places : goal.returns-then-places
-returns-then-places c =
+returns-then-places g c =
     stops_in_fraction _ _ _ c.leading_digits-end.ensures.end c.leading_digits-end.ensures.bound c.if-end-eq0.false
     c.if-whole-ge-WHOLE_LIMIT.false c.value_of-whole.ensures.exact c.if-end-line.false c.if-line-end-ne46.false
     _ c.leading_digits-stop.ensures.end c.leading_digits-stop.ensures.bound (omega (arith, c.if-places.true))
 
 pub from_digits-number-requires-clause-digits : goal.from_digits-number-requires-clause-digits
-from_digits-number-requires-clause-digits c =
+from_digits-number-requires-clause-digits g c =
     fraction_below _ _ _ c.leading_digits-end.ensures.end c.leading_digits-end.ensures.bound c.if-end-eq0.false
     c.if-whole-ge-WHOLE_LIMIT.false c.value_of-whole.ensures.exact c.if-end-line.false c.if-line-end-ne46.false
     _ c.leading_digits-stop.ensures.end c.leading_digits-stop.ensures.bound _
     (c.value_of-digits.ensures.few (search rules))
 
 pub returns : goal.returns
-returns c =
+returns g c =
     leading_precise _ _ _ c.leading_digits-end.ensures.end c.leading_digits-end.ensures.bound c.if-end-eq0.false
     c.if-whole-ge-WHOLE_LIMIT.false c.value_of-whole.ensures.exact c.if-end-line.false c.if-line-end-ne46.false
     _ c.leading_digits-stop.ensures.end c.leading_digits-stop.ensures.bound _ _ c.if-places-eq0.false

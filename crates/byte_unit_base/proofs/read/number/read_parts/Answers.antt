@@ -5,7 +5,7 @@ use Rattle.byte_unit_base.proofs.NumberEnds.{stops_in_unit}
 use Rattle.byte_unit_base.proofs.read.number.read_parts.Goals as goal
 
 pub returns-in-Err-read_unit : goal.returns-in-Err-read_unit
-returns-in-Err-read_unit c =
+returns-in-Err-read_unit g c =
     let line = c.args.line.now in
     let end = c.in-Ok.found.0 in
     let spaces = c.leading_spaces in
