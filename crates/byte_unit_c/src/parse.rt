@@ -1,7 +1,6 @@
 //! Parsing of sizes and of units.
 
-ghost use Rattle.std.specs.Prelude.{◌≡◌, ℕ, Bool, ◌<◌, ◌≤◌, length, Option, Some, Result, Err, IfSome, IfNone};
-ghost use Rattle.std.specs.Prelude.{MatchOption, codes};
+ghost use Rattle.std.specs.Prelude.{◌≡◌, ℕ, Bool, Option, Some, Result, Err, IfSome, IfNone, MatchOption};
 ghost use Rattle.std.specs.Str.{IsUtf8};
 ghost use Rattle.byte_unit_base.specs.Errors.{size_fault};
 ghost use Rattle.byte_unit_base.specs.ErrorPosition.{IsSizePosition};
@@ -53,36 +52,54 @@ pub extern "C" fn byte_unit_parse_to(
         ((result ≡ invalid_argument) × (size.new ≡ size.old) × (error.new ≡ error.old)) }
 {
     match parse_flags_at(flags) {
-        Some(asked) => parse_as(text, asked.kind, asked.ignore_case, size, error),
+        Some(asked) => parse_as(text, asked, size, error),
         None => INVALID_ARGUMENT,
     }
 }
 
 /// Parses as `byte_unit_parse_to` does, with known flags.
 #[inline(always)]
-fn parse_as(
-    text: &[u8],
-    kind: Kind,
-    ignore_case: bool,
-    size: &mut Number,
-    errors: &mut [Error],
-) -> u32
+fn parse_as(text: &[u8], asked: ParseFlags, size: &mut Number, errors: &mut [Error]) -> u32
     ensures { (answer : Option (Result ℕ ParseError))
-        × IsBytesReading kind ignore_case text.now answer
+        × IsBytesReading asked.kind asked.ignore_case text.now answer
         × IsReturned text.now answer result size.old size.new errors.old errors.new }
 {
-    match size::read_bytes(text, ignore_case, kind) {
+    match size::read_bytes(text, asked.ignore_case, asked.kind) {
         Outcome::Accepted(unit, number) => {
-            let answer = Some(size::size_of((number, unit), kind));
+            let answer = Some(size::size_of((number, unit), asked.kind));
             write_result(text, answer, size, errors)
         }
         Outcome::Stopped(reason, place) => {
-            parse_stopped(text, place, reason, kind, ignore_case, size, errors)
+            parse_rejected(text, place, reason, asked, size, errors)
         }
     }
 }
 
 /// Parses as `parse_as` does, from bytes in which the parser stops at this place and for this reason.
+///
+/// One call for each reason is compiled for that reason, and does not look at it again.
+#[inline(always)]
+fn parse_rejected(
+    text: &[u8],
+    place: usize,
+    reason: Reason,
+    asked: ParseFlags,
+    size: &mut Number,
+    errors: &mut [Error],
+) -> u32
+    requires { IsStopAt (flags_for asked.kind asked.ignore_case) text.now place reason }
+    ensures { (answer : Option (Result ℕ ParseError))
+        × IsBytesReading asked.kind asked.ignore_case text.now answer
+        × IsReturned text.now answer result size.old size.new errors.old errors.new }
+{
+    match reason {
+        Reason::InUnit(_) => parse_stopped(text, place, reason, asked, size, errors),
+        Reason::NoDigit => parse_stopped(text, place, reason, asked, size, errors),
+        Reason::TooLong => parse_too_long(text, place, reason, asked, size, errors),
+    }
+}
+
+/// Writes the error of a parser that stops at this place and for this reason, or parses the string that the bytes are.
 ///
 /// `#[inline(always)]`: a call would cost a rejected text 30 instructions.
 #[inline(always)]
@@ -90,37 +107,49 @@ fn parse_stopped(
     text: &[u8],
     place: usize,
     reason: Reason,
-    kind: Kind,
-    ignore_case: bool,
+    asked: ParseFlags,
     size: &mut Number,
     errors: &mut [Error],
 ) -> u32
-    requires { IsStopAt (flags_for kind ignore_case) text.now place reason }
+    requires { IsStopAt (flags_for asked.kind asked.ignore_case) text.now place reason }
     ensures { (answer : Option (Result ℕ ParseError))
-        × IsBytesReading kind ignore_case text.now answer
+        × IsBytesReading asked.kind asked.ignore_case text.now answer
         × IsReturned text.now answer result size.old size.new errors.old errors.new }
 {
-    match write_stop(text, place, reason, kind, ignore_case, errors) {
+    match write_stop(text, place, reason, asked.kind, asked.ignore_case, errors) {
         Some(code) => code,
-        None => parse_as_string(text, kind, ignore_case, size, errors),
+        None => parse_as_string(text, asked, size, errors),
     }
+}
+
+/// Parses as `parse_stopped` does, apart from it: seldom is a number too long.
+#[cold]
+#[inline(never)]
+fn parse_too_long(
+    text: &[u8],
+    place: usize,
+    reason: Reason,
+    asked: ParseFlags,
+    size: &mut Number,
+    errors: &mut [Error],
+) -> u32
+    requires { IsStopAt (flags_for asked.kind asked.ignore_case) text.now place reason }
+    ensures { (answer : Option (Result ℕ ParseError))
+        × IsBytesReading asked.kind asked.ignore_case text.now answer
+        × IsReturned text.now answer result size.old size.new errors.old errors.new }
+{
+    parse_stopped(text, place, reason, asked, size, errors)
 }
 
 /// Parses as `parse_as` does, from the string that the bytes are.
 #[cold]
 #[inline(never)]
-fn parse_as_string(
-    text: &[u8],
-    kind: Kind,
-    ignore_case: bool,
-    size: &mut Number,
-    errors: &mut [Error],
-) -> u32
+fn parse_as_string(text: &[u8], asked: ParseFlags, size: &mut Number, errors: &mut [Error]) -> u32
     ensures { (answer : Option (Result ℕ ParseError))
-        × IsBytesReading kind ignore_case text.now answer
+        × IsBytesReading asked.kind asked.ignore_case text.now answer
         × IsReturned text.now answer result size.old size.new errors.old errors.new }
 {
-    let answer = size::parse_text(text, ignore_case, kind);
+    let answer = size::parse_text(text, asked.ignore_case, asked.kind);
     write_result(text, answer, size, errors)
 }
 

@@ -6,8 +6,8 @@ use Rattle.byte_unit_c.proofs.parse.parse_as.Goals as goal
 pub returns-in-Accepted : goal.returns-in-Accepted
 returns-in-Accepted c =
     let found = c.in-Accepted.ensures in
-    let reading = c.size_of.ensures.reading c.args.ignore_case c.args.text.now found.1 in (
+    let reading = c.size_of.ensures.reading c.args.asked.ignore_case c.args.text.now found.1 in (
       Some c.size_of.result,
       (found.0, reading),
-      c.write_result.ensures as_written c.args.kind c.args.ignore_case (found.0, reading),
+      c.write_result.ensures as_written c.args.asked.kind c.args.asked.ignore_case (found.0, reading),
     )

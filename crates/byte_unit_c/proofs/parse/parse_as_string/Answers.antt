@@ -5,4 +5,4 @@ use Rattle.byte_unit_c.proofs.parse.parse_as_string.Goals as goal
 pub returns : goal.returns
 returns c =
     let reading = c.parse_text-answer.ensures.reading in
-    (c.parse_text-answer.result, reading, c.write_result.ensures as_written c.args.kind c.args.ignore_case reading)
+    (c.parse_text-answer.result, reading, c.write_result.ensures as_written c.args.asked.kind c.args.asked.ignore_case reading)
