@@ -2,10 +2,7 @@
 
 ghost use Rattle.byte_unit_base.specs.Spelling.{flags_of};
 
-use crate::read::number::read_unit;
-use crate::read::stop::first_char;
-use crate::unit::scan::Flags;
-use crate::{Unit, UnitParseError};
+use crate::{Unit, UnitParseError, position};
 use std::str::FromStr;
 
 impl Unit {
@@ -32,15 +29,9 @@ impl Unit {
     pub fn parse_str(s: &str, ignore_case: bool, prefer_byte: bool) -> Result<Unit, UnitParseError>
         ensures { IsUnitReading (flags_of ignore_case prefer_byte) s.now result }
     {
-        let flags = Flags {
-            ignore_case,
-            prefer_byte,
-        };
-        let text = s.trim();
-        let bytes = text.as_bytes();
-        match read_unit(bytes, bytes, 0, flags) {
+        match position::parse_unit(s, ignore_case, prefer_byte) {
             Ok(unit) => Ok(unit),
-            Err(stop) => Err(stop.0.error_before(first_char(&text[stop.1..]), flags)),
+            Err(rejected) => Err(rejected.0),
         }
     }
 }
