@@ -49,7 +49,7 @@ IsCoded None code size = (code ≡ not_utf8) × (size ≡ 0)
 IsCoded (Some (Ok n)) code size = (code ≡ ok) × (size ≡ n)
 IsCoded (Some (Err e)) code size = (code ≡ code_of (size_fault e)) × (size ≡ 0)
 
--- the code and the size are those of parsing the bytes, with units that mean others
+-- the code and the size are those of parsing the bytes, where a unit `u` that is read counts as `meant u`
 abbrev pub IsParsed : (Shape → Shape) → Kind → Bool → List ℕ → ℕ → Number → Type 0
 IsParsed meant kind ignore_case bytes code size =
     (answer : Option (Result ℕ ParseError)) × IsBytesReadingAs meant kind ignore_case bytes answer
@@ -59,11 +59,12 @@ IsParsed meant kind ignore_case bytes code size =
 abbrev pub zero_number : Number
 zero_number = record { low = 0; high = 0 }
 
--- each of the first n texts has its code and its size
+-- each of the first n texts has its code and its size, by the same `meant`
 abbrev pub AreParsed : (Shape → Shape) → Kind → Bool → List ℕ → List ℤ → ℕ → List ℕ → List Number → Type 0
 AreParsed meant kind ignore_case bytes offsets n codes sizes =
     (i : ℕ) → i < n
-    → IsParsed meant kind ignore_case (text_of bytes offsets i) (slice_index codes i) (slice_index_or sizes i zero_number)
+    → IsParsed meant kind ignore_case (text_of bytes offsets i) (slice_index codes i)
+    (slice_index_or sizes i zero_number)
 
 -- the call is rejected: an argument is invalid, and nothing is written
 abbrev pub IsRejectedCall : ℕ → List Number → List Number → List ℕ → List ℕ → Type 0

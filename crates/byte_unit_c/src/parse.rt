@@ -11,6 +11,7 @@ ghost use Rattle.byte_unit_base.specs.Shape.{Shape};
 ghost use Rattle.byte_unit_base.specs.SizeReading.{IsBytesReading, IsBytesReadingAs};
 ghost use Rattle.byte_unit_base.specs.Spelling.{flags_of};
 ghost use Rattle.byte_unit_base.specs.declared.errors.ParseError.{ParseError};
+ghost use Rattle.byte_unit_base.specs.declared.read.stop.Reason.TheVariants.{TooLong};
 ghost use Rattle.byte_unit_base.specs.declared.errors.UnitParseError.{UnitParseError};
 ghost use Rattle.byte_unit_base.specs.declared.unit.Unit.{Unit as UnitName};
 ghost use Rattle.byte_unit_c.specs.Flags.{parse_flags_at, prefers_byte};
@@ -77,7 +78,7 @@ fn parse_as(text: &[u8], asked: ParseFlags, size: &mut Number, errors: &mut [Err
 
 /// Parses as `parse_as` does, from bytes in which the parser stops at this place and for this reason.
 ///
-/// One call for each reason is compiled for that reason, and does not look at it again.
+/// Each reason has a call of its own, which does not test it again.
 #[inline(always)]
 fn parse_rejected(
     text: &[u8],
@@ -95,13 +96,14 @@ fn parse_rejected(
     match reason {
         Reason::InUnit(_) => parse_stopped(text, place, reason, asked, size, errors),
         Reason::NoDigit => parse_stopped(text, place, reason, asked, size, errors),
-        Reason::TooLong => parse_too_long(text, place, reason, asked, size, errors),
+        Reason::TooLong => parse_too_long(text, place, asked, size, errors),
     }
 }
 
-/// Writes the error of a parser that stops at this place and for this reason, or parses the string that the bytes are.
+/// Writes the error of a parser that stops at this place and for this reason. If the next character is not visible to
+/// it (not ASCII, or trimmed), parses the string that the bytes are.
 ///
-/// `#[inline(always)]`: a call would cost a rejected text 30 instructions.
+/// `#[inline(always)]`: a call costs a rejected text some 30 instructions.
 #[inline(always)]
 fn parse_stopped(
     text: &[u8],
@@ -122,23 +124,22 @@ fn parse_stopped(
     }
 }
 
-/// Parses as `parse_stopped` does, apart from it: seldom is a number too long.
+/// Does what `parse_stopped` does for a number that is too long, in a function that is not inlined, since that is rare.
 #[cold]
 #[inline(never)]
 fn parse_too_long(
     text: &[u8],
     place: usize,
-    reason: Reason,
     asked: ParseFlags,
     size: &mut Number,
     errors: &mut [Error],
 ) -> u32
-    requires { IsStopAt (flags_for asked.kind asked.ignore_case) text.now place reason }
+    requires { IsStopAt (flags_for asked.kind asked.ignore_case) text.now place TooLong }
     ensures { (answer : Option (Result ℕ ParseError))
         × IsBytesReading asked.kind asked.ignore_case text.now answer
         × IsReturned text.now answer result size.old size.new errors.old errors.new }
 {
-    parse_stopped(text, place, reason, asked, size, errors)
+    parse_stopped(text, place, Reason::TooLong, asked, size, errors)
 }
 
 /// Parses as `parse_as` does, from the string that the bytes are.

@@ -1,6 +1,7 @@
 //! The choice of a unit for a size: the largest of a unit set in which the size is exact, or that is not above it.
 //!
-//! A size is a number here, and bytes or bits are the [`Kind`](byte_unit_base::Kind), or its bits, 8 or 1.
+//! A size is a number here. Whether it counts bytes or bits is given by the [`Kind`](byte_unit_base::Kind), or by the
+//! number of bits of its own unit, 8 or 1.
 #![tactic(auto)]
 
 pub use crate::choice::{choose_unit, largest_unit};

@@ -107,7 +107,8 @@ IsLeastOf-exact : (kind : Kind) (number size : ℕ) (unit : Shape) → number * 
 IsLeastOf-exact kind number size unit exact =
     record { has = grind (arith, exact); least = λ other covers. grind (arith, exact, covers) }
 
--- What is read as this number of a unit, and means the same unit, is accepted as the size.
+-- A text that is read as a number of a unit is accepted as the size, if that number of the unit is exactly the size and
+-- `meant` leaves the unit as it is.
 pub accepted_as :
     (meant : Shape → Shape) (kind : Kind) (ignore_case : Bool) (text : List ℕ) (number size : ℕ) (unit : Shape)
     → meant unit ≡ unit → IsSizeText current (flags_for kind ignore_case) (trim_of text) number unit
@@ -289,6 +290,7 @@ digits_accepted meant kind ignore_case size spec own below sign =
     (digits_are_size kind size spec ignore_case below sign) (own_number kind size (size * scale) (own_unit kind) refl refl)
     below
 
+-- A size formatted as digits without a plus sign is read as the size.
 pub plain_form_reads_back : PlainFormReadsBack
 plain_form_reads_back kind size spec ignore_case below sign =
     digits_accepted as_written kind ignore_case size spec refl below sign

@@ -52,7 +52,7 @@ impl From<AllocError> for RunError {
 /// Reads the whole input, and writes the answer to each line.
 ///
 /// On `Ok` the report on the whole input has been written. A line may have any length: that `Memory` is returned only
-/// if an allocation fails is tested, not proved.
+/// if an allocation fails is tested, through [`run_with_buffers`], not proved.
 ///
 /// # Errors
 /// - `Read` if a read fails. The answers to all lines that ended before have been written.

@@ -185,7 +185,7 @@ pub record BeginsWith (e : Finite) (kept : ℕ) (ds : List ℕ) : Type 0 where
   pub small : All (λ d. d < 10) ds
   pub rest : drop kept ds ≡ replicate (expansion_places - kept) 0
 
--- The digits of the fields, from the index `kept` on set to 0, begin so.
+-- If the digits from the index `kept` on are set to 0, the array begins with the first `kept` digits.
 pub cleared : (i : Inside) (e : Finite) (kept : ℕ) (ds : List ℕ) → IsNormalizedExpansion i → expansion_view i ≡ e
     → kept ≤ length e.digits → ds ≡ take kept i.digits ++ replicate (expansion_places - kept) 0 → BeginsWith e kept ds
 cleared i e kept ds h v few is =

@@ -174,7 +174,7 @@ impl Expansion {
         rounded
     }
 
-    /// Rounds in place, as `rounded` does.
+    /// Rounds the number in place, to what [`rounded`](Expansion::rounded) returns.
     ///
     /// # Examples
     /// ```rust

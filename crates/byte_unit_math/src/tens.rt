@@ -71,6 +71,8 @@ pub(crate) fn power_of_two(exponent: u32) -> u128
 }
 
 /// Returns `5^exponent`, from a table.
+///
+/// Precondition (proved at every call): `exponent <= 48`, the last of the table.
 pub(crate) fn power_of_five(exponent: u32) -> u128
     requires { exponent ≤ 48 }
     ensures { result ≡ 5 ^ exponent }

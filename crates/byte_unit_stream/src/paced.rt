@@ -49,7 +49,8 @@ pub struct Pace {
 }
 
 impl Pace {
-    /// Creates the pace of a stream that transfers at most `step` bytes in each of the first `calls` calls.
+    /// Creates the pace of a stream that transfers at most `step` bytes in each of the first `calls` calls, and then
+    /// does what `then` says.
     pub fn new(step: usize, calls: usize, then: Then) -> Pace
         ensures step { result.step ≡ step }
         ensures calls { result.calls ≡ calls }

@@ -45,7 +45,8 @@ fn each_pace_of_reads(rt: HostRuntime) {
 /// written.
 const WRITES: &[(usize, &[u8])] = &[(0, b""), (1, b"012"), (3, b"012345678"), (4, BYTES)];
 
-/// Asserts the bytes of `BYTES` that are written at this pace, and that the call succeeds if these are all.
+/// Asserts the bytes of `BYTES` that are written at this pace, and that the call succeeds exactly if these are all of
+/// them.
 fn expect_written(rt: &(impl Abort + AllocGlobal), pace: Pace, written: &[u8]) {
     let mut writer = writer(rt, pace);
     let result = write_whole(&mut writer, BYTES, "failed");

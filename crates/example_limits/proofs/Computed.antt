@@ -9,6 +9,7 @@ use Rattle.example_limits.specs.Sizes.{limits_in}
 use Rattle.example_limits.specs.declared.Limits.{Limits}
 use Rattle.example_limits.specs.declared.defaults.TheConstants.{DEFAULTS}
 
+-- the default limits
 abbrev pub defaults : Limits
 defaults = record {
   file = 20 * 10 ^ 6;
@@ -18,6 +19,7 @@ defaults = record {
   rate = 10 ^ 6;
 }
 
+-- the text is parsed as a table with these limits
 computed : option_and_then limits_in (parse_document DEFAULTS.now) ≡ Some defaults
 unfolding toml_on_literals byte_unit_on_literals limits_in
 computed = refl

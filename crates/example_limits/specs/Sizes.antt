@@ -12,7 +12,7 @@ abbrev pub size_at : Kind → List ℕ → Members → Option ℕ
 size_at kind key table =
     option_and_then result_ok (option_map (parsed_size kind false) (option_and_then as_str (get_member key table)))
 
--- the limits, if each of them is there
+-- the limits, if the table has a size at each key
 unfoldable pub limits_in : Members → Option Limits
 limits_in table =
     option_and_then (λ file. option_and_then (λ total. option_and_then (λ cache. option_and_then (λ disk. option_map

@@ -41,7 +41,7 @@ pub fn default_limits(alloc: Global) -> Result<Limits, Error>
     }
 }
 
-/// Returns the limits in a table, or `None` if one of them is missing.
+/// Returns the limits in a table. Returns `None` if one of them is missing or is not a size.
 #[tactic(auto, unfolding(crate::specs::Sizes::limits_in))]
 fn limits_in(table: &Table) -> Option<Limits>
     ensures { result ≡ limits_in (table_view table.now) }
@@ -55,7 +55,7 @@ fn limits_in(table: &Table) -> Option<Limits>
     })
 }
 
-/// Returns the size in bytes at a key of a table.
+/// Returns the size in bytes at a key of a table. Returns `None` if the key is missing or its value is not a size.
 fn byte_at(table: &Table, key: &str) -> Option<Byte>
     ensures { result ≡ size_at InBytes key.now (table_view table.now) }
 {
@@ -65,7 +65,7 @@ fn byte_at(table: &Table, key: &str) -> Option<Byte>
     }
 }
 
-/// Returns the size in bits at a key of a table.
+/// Returns the size in bits at a key of a table. Returns `None` if the key is missing or its value is not a size.
 fn bit_at(table: &Table, key: &str) -> Option<Bit>
     ensures { result ≡ size_at InBits key.now (table_view table.now) }
 {

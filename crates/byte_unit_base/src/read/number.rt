@@ -1,5 +1,4 @@
-//! Parses a number and a unit from a line. Digits are loaded eight bytes at a time, as a number of 64 bits whose lowest
-//! byte is the first.
+//! Parses a number and a unit from a line. Digits are loaded eight bytes at a time.
 
 ghost use Rattle.std.specs.Prelude.{◌≡◌, ◌≢◌, ℕ, Bool, List, Some, ◌+◌, ◌%◌, ◌^◌, ◌<◌, ◌≤◌};
 ghost use Rattle.std.specs.Prelude.{length, take, drop, replicate, slice_range};
@@ -14,8 +13,9 @@ ghost use Rattle.byte_unit_base.specs.Units.{shape_of};
 ghost use Rattle.byte_unit_base.specs.UnitScan.{count_of, multiple_shape};
 ghost use Rattle.byte_unit_base.specs.UnitWord.{multiple_of, letters_of, word_of, bits_len};
 ghost use Rattle.byte_unit_base.specs.PartsReading.{IsFirst, IsLineOf, IsNoSpace, IsNumberEnd, IsUnitEnd};
-ghost use Rattle.byte_unit_base.specs.PartsReading.{IsPartsReading, first_eight};
+ghost use Rattle.byte_unit_base.specs.PartsReading.{IsPartsReading};
 
+use crate::read::loads::{eight_at, load_eight};
 use crate::read::stop::{Reason, Stop};
 use crate::unit::Unit;
 use crate::unit::scan::{Flags, UnitStop, Word};
@@ -37,10 +37,10 @@ const NINETEEN_DIGITS: u128 = 10_000_000_000_000_000_000;
 const PAIR_OF_FOUR_BYTES: u64 = 0x0000_00ff_0000_00ff;
 
 /// Parses a number and a unit from a line, which is not trimmed. Returns the unit and the number. The line is at the
-/// beginning of `bytes`: eight of them are loaded at once, past the end of the line too.
+/// beginning of `bytes`: eight of them are loaded at once where eight are left, past the end of the line too.
 ///
-/// `ALONE` says that the line is all of `bytes`, and changes nothing but the code: fewer than eight bytes, which are
-/// then not loaded at once, are read by a loop.
+/// `ALONE` is true if the line is all of `bytes`. The result is the same either way; if it is true, a loop reads the
+/// digits where fewer than eight bytes are left.
 ///
 /// # Errors
 /// Returns where it stops.
@@ -356,63 +356,6 @@ fn letters(length: usize) -> Word
         2 => Word::Bi,
         3 => Word::Bit,
         _ => Word::Bits,
-    }
-}
-
-/// Returns the first eight bytes from an index on. After the end of the bytes they are 0.
-#[inline(always)]
-#[tactic(auto, using(crate::proofs::Lines::last_bytes))]
-fn eight_at(bytes: &[u8], from: usize) -> u64
-    requires { from ≤ length bytes.now }
-    ensures { result ≡ number_l 256 (first_eight (drop from bytes.now)) }
-{
-    if bytes.len() - from >= 8 {
-        return load_eight(bytes, from);
-    }
-    if bytes.len() < 8 || from == bytes.len() {
-        return few_bytes(&bytes[from..]);
-    }
-    let start = bytes.len() - 8;
-    load_eight(bytes, start) >> (8 * (from - start))
-}
-
-/// Returns the eight bytes at an index.
-#[inline(always)]
-#[tactic(auto, using(crate::proofs::Lines::loaded_eight))]
-fn load_eight(bytes: &[u8], from: usize) -> u64
-    requires { from + 8 ≤ length bytes.now }
-    ensures { result ≡ number_l 256 (first_eight (drop from bytes.now)) }
-{
-    u64x1::from_le_bytes(u8x8::from_slice(&bytes[from..])).to_array()[0]
-}
-
-/// Returns the four bytes at an index.
-#[inline(always)]
-#[tactic(auto, using(crate::proofs::Lines::loaded_four))]
-fn load_four(bytes: &[u8], from: usize) -> u64
-    requires { from + 4 ≤ length bytes.now }
-    ensures { result ≡ number_l 256 (take 4 (drop from bytes.now)) }
-{
-    u64::from(u32x1::from_le_bytes(u8x4::from_slice(&bytes[from..])).to_array()[0])
-}
-
-/// Returns fewer than eight bytes as a number, in which the missing bytes are 0. If there are four or more, the first
-/// four and the last four are loaded.
-#[inline(always)]
-fn few_bytes(bytes: &[u8]) -> u64
-    requires { length bytes.now < 8 }
-    ensures { result ≡ number_l 256 (first_eight bytes.now) }
-{
-    let len = bytes.len();
-    if len >= 4 {
-        let after_four = load_four(bytes, len - 4) >> (8 * (8 - len));
-        return load_four(bytes, 0) + (after_four << 32);
-    }
-    match bytes {
-        [] => 0,
-        [a] => u64::from(*a),
-        [a, b] => u64::from(*a) + u64::from(*b) * 256,
-        [a, b, c, ..] => u64::from(*a) + u64::from(*b) * 256 + u64::from(*c) * 65536,
     }
 }
 

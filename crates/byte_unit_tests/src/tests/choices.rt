@@ -19,12 +19,12 @@ fn chosen(
     rt: &impl Abort,
     size: u128,
     family: Family,
-    divisor: u128,
+    own_bits: u128,
     places: usize,
 ) -> (Option<(u128, u128, Unit)>, u64) {
-    assert!(rt; size < LIMIT && (divisor == 8 || divisor == 1));
+    assert!(rt; size < LIMIT && (own_bits == 8 || own_bits == 1));
     let mut steps = Steps::new();
-    let choice = choose_unit(size, family, divisor, places, &mut steps);
+    let choice = choose_unit(size, family, own_bits, places, &mut steps);
     (parts(choice), steps.count())
 }
 
@@ -62,8 +62,8 @@ const STEP_COUNTS: &[(u128, usize, Option<(u128, u128, Unit)>, u64)] = &rows! {
 
 #[test]
 fn chosen_units_and_step_counts(rt: HostRuntime) {
-    for (size, family, divisor, places) in SIZES_EXACT_IN_NO_UNIT {
-        let (choice, _) = chosen(&rt, *size, *family, *divisor, *places);
+    for (size, family, own_bits, places) in SIZES_EXACT_IN_NO_UNIT {
+        let (choice, _) = chosen(&rt, *size, *family, *own_bits, *places);
         assert_is(&rt, (*size, choice), (*size, None));
     }
     for (size, places, choice, count) in STEP_COUNTS {
@@ -100,9 +100,9 @@ const LARGEST_UNITS: &[(u128, Family, UnitType, u128, Option<Unit>)] = &rows! {
 
 #[test]
 fn largest_unit_not_above_the_size(rt: HostRuntime) {
-    for (size, family, kind, divisor, unit) in LARGEST_UNITS {
-        assert!(rt; *divisor == 8 || *divisor == 1);
-        let found = largest_unit(*size, *family, *kind, *divisor);
+    for (size, family, kind, own_bits, unit) in LARGEST_UNITS {
+        assert!(rt; *own_bits == 8 || *own_bits == 1);
+        let found = largest_unit(*size, *family, *kind, *own_bits);
         assert_is(&rt, (*size, found), (*size, *unit));
     }
 }

@@ -22,6 +22,7 @@ unreachable-requires c =
     let other : IsMemory c.in-Err.error → ⊥ = λ is. let t = c.if-is_memory.ensures.1 is in cc in
     is_document (parse_document DEFAULTS.now) refl (c.in-Err.ensures.refused other)
 
+-- the default limits break no rule
 no_rule_is_broken : (rule : Rule) → ¬ IsBroken defaults rule
 no_rule_is_broken FileInTotal = λ broken. omega (arith, broken)
 no_rule_is_broken AllOnDisk = λ broken. omega (arith, broken)

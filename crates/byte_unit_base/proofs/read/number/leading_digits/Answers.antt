@@ -1,7 +1,7 @@
 -- The digits among the first eight bytes, and, if all of these are digits or there are fewer bytes, those after them.
 use Rattle.std.proofs.Common.{◌≡◌, ◌<◌, ◌≤◌, ◌+◌, ◌-◌, ◌%◌, ◌^◌, length, ap, subst, sym, ◌∙◌, arith}
 use Rattle.byte_unit_base.proofs.Lines.{HasDigits, digits_of_word, no_digits, value_of_more}
-use Rattle.byte_unit_base.proofs.read.number.leading_digits.Goals.{Joined-bytes-from-ge8, After-up_to_eight-count}
+use Rattle.byte_unit_base.proofs.read.number.leading_digits.Goals.{Joined-bytes-from-ge8}
 use Rattle.byte_unit_base.proofs.read.number.leading_digits.Goals.{then-bytes-from-ge8+else-count-lt8}
 use Rattle.byte_unit_base.proofs.read.number.leading_digits.Goals.{else-bytes-from-ge8}
 use Rattle.byte_unit_base.proofs.read.number.leading_digits.Given.{Over}
