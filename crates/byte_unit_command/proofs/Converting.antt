@@ -1,7 +1,6 @@
 -- Lemmas: what is appended for a field, a record, and records one after another.
 use Rattle.std.proofs.Common.{◌≡◌, ℕ, suc, ◌-◌, Bool, true, false, ◌||◌, List, [], ◌∷◌, ◌++◌, length, Some, None}
-use Rattle.std.proofs.Common.{Result, Ok, Err, OnOk, refl, sym, ap, subst, ◌∙◌, arith, append_assoc, append-nil, inl}
-use Rattle.std.specs.Prelude.{⊤}
+use Rattle.std.proofs.Common.{refl, sym, ap, subst, ◌∙◌, arith, append_assoc, append-nil, inl}
 use Rattle.std.proofs.lemmas.List.{length-append}
 use Rattle.byte_unit_command.specs.Field.{Found, IsPlaced, IsSize, IsNoSize, other, size, rejected}
 use Rattle.byte_unit_command.specs.Fields.{IsChosen, fields_by, fields_of, splits_at_blanks}
@@ -122,30 +121,23 @@ module _ (options : Options) (number : ℕ) (field : List ℕ) (old new : State)
     new_is = new_is;
   }
 
--- a call that copies a rejected field and counts it, unless it aborts
-pub AddsField-rejected : {E : Type 0} (options : Options) (number : ℕ) (field : List ℕ) (old : State)
-    (result : Result ⊤ E)
-    (messages new_messages out : List ℕ) (tally : Tally) → IsChosen options.fields.now number → IsNoSize options field
-    → AreFieldMessages options old.word old.place number field true messages
-    → new_messages ≡ old.messages ++ messages → OnOk result (¬ (options.invalid ≡ Abort))
-    → OnOk result (out ≡ old.out ++ field) → OnOk result (tally ≡ tally_with options old.tally None)
-    → OnOk result (AddsField options number field old (record old
-    { tally = tally; out = out; messages = new_messages }))
-AddsField-rejected options number field old (Err _) messages new_messages out tally chosen none are messages_are
-    goes_on out_is tally_is =
-    tt
-AddsField-rejected options number field old (Ok _) messages new_messages out tally chosen none are messages_are
-    goes_on out_is tally_is =
-    let With : List ℕ → State = λ messages. record old { tally = tally; messages = messages } in record {
-      text = field;
-      messages = messages;
-      found = None ∷ [];
-      is_field = rejected chosen none refl refl;
-      are_messages = are;
-      passes = λ abort. absurd (goes_on abort);
-      new_is = after-is options old (With new_messages) field messages (None ∷ []) tally (ap With messages_are)
-          tally_is out out_is;
-    }
+  -- a rejected field was copied and counted
+  pub AddsField-rejected : (messages new_messages out : List ℕ) → IsChosen options.fields.now number
+      → IsNoSize options field → AreFieldMessages options old.word old.place number field true messages
+      → new_messages ≡ old.messages ++ messages → ¬ (options.invalid ≡ Abort) → out ≡ old.out ++ field
+      → new ≡ record old { tally = tally_with options old.tally None; out = out; messages = new_messages }
+      → AddsField options number field old new
+  AddsField-rejected messages new_messages out chosen none are messages_are goes_on out_is new_is =
+      let With : List ℕ → List ℕ → State = λ out messages. record old
+      { tally = tally_with options old.tally None; out = out; messages = messages } in record {
+        text = field;
+        messages = messages;
+        found = None ∷ [];
+        is_field = rejected chosen none refl refl;
+        are_messages = are;
+        passes = λ abort. absurd (goes_on abort);
+        new_is = new_is ∙ ap (With out) messages_are ∙ ap (λ out. With out (old.messages ++ messages)) out_is;
+      }
 
 -- a record without a delimiter is one field
 pub fields_of-whole : (options : Options) (bytes : List ℕ) → options.delimiter ≡ None

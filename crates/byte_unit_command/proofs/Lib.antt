@@ -19,7 +19,6 @@ pub mod Texts
 pub mod Items
 pub mod Joining
 pub mod Paddings
-pub mod Wrongs
 pub mod Rules
 pub mod Untold
 pub mod Rooms

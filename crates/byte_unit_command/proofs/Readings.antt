@@ -5,9 +5,19 @@ use Rattle.byte_unit.specs.Errors.{size_fault}
 use Rattle.byte_unit.specs.Fault.{Fault}
 use Rattle.byte_unit.specs.declared.Kind.{Kind}
 use Rattle.byte_unit.specs.declared.ParseError.{ParseError}
+use Rattle.byte_unit_base.specs.Accepted.{as_written}
+use Rattle.byte_unit_base.specs.BinaryReading.{binary_of}
+use Rattle.byte_unit_base.proofs.SizeOrFault.{accepted_or_refused}
+use Rattle.byte_unit_command.specs.Laws.{TextsAreSizesOrNot}
 use Rattle.byte_unit_command.specs.Field.{IsNoSizeText, ignores_case}
 use Rattle.byte_unit_command.specs.declared.options.Options.{Options}
 use Rattle.byte_unit_command.specs.Prefixes.{IsAcceptedBy, IsRejectedBy, IsReadingBy, IsBytesReadingBy}
+
+-- each text is a size or not, and has one size or one error: by the library's law of the unit that is written, and of
+-- its binary unit
+pub sizes_or_not : TextsAreSizesOrNot
+sizes_or_not true = accepted_or_refused binary_of
+sizes_or_not false = accepted_or_refused as_written
 
 -- the result that is in `Some` is that of a string
 pub reading-of : (binary : Bool) (kind : Kind) (ignore_case : Bool) (field : List ℕ)

@@ -56,13 +56,6 @@ split_room-cut room rest count some fits =
     let cut = subst Fits same step in
     omega (arith, cut, some)
 
--- one field more fits
-pub split_room-last : (room rest : ℕ) → room + rest ≤ split_room room rest
-split_room-last room rest =
-    let one : room * 1 ≡ room = mul-one room in
-    let texts : room * 1 + room * rest ≤ room * (rest + 1) = times-le room 1 rest (rest + 1) (omega arith) in
-    omega (arith, one, texts)
-
 -- the room of the records that end in a read, but for the end of the input
 abbrev pub feed_room : Options → ℕ → ℕ → ℕ
 feed_room options part rest = text_room options * read_fields_max options.delimiter part rest + part + rest

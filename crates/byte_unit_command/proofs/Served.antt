@@ -33,9 +33,9 @@ pub record HasServed {R W E A : Type 0} (remaining : R → Option (List ℕ)) (c
 abbrev pub HasServed-start : {R W E A : Type 0} (remaining : R → Option (List ℕ)) (contents : W → Option (List ℕ))
     (tells : E → Option (List ℕ)) (options : Options) (streams : Streams R W E) (buffers : Buffers A)
     → buffers.part.items ≡ [] → buffers.converter.waiting.items ≡ [] → messages_of buffers.converter.notices ≡ []
-    → buffers.converter.progress.header ≡ options.header
-    → buffers.converter.progress.place.word.now ≡ streams.word.now → buffers.converter.progress.place.number ≡ 0
-    → buffers.converter.progress.tally ≡ no_tally → HasServed remaining contents tells options streams streams buffers
+    → buffers.converter.header ≡ options.header
+    → buffers.converter.place.word.now ≡ streams.word.now → buffers.converter.place.number ≡ 0
+    → buffers.converter.tally ≡ no_tally → HasServed remaining contents tells options streams streams buffers
 HasServed-start remaining contents tells options streams buffers none none_waits none_untold header_is word_is place_is
     tally_is = record {
       course = record {

@@ -3,7 +3,7 @@ use Rattle.std.proofs.Common.{◌≡◌, ℕ, ◌+◌, ◌-◌, Bool, true, fals
 use Rattle.std.proofs.Common.{refl, sym, ap, subst, ◌∙◌, arith}
 use Rattle.byte_unit_command.specs.Field.{IsSize, IsNoSize, ignores_case, without_suffix}
 use Rattle.byte_unit_command.specs.Fields.{IsChosen}
-use Rattle.byte_unit_command.specs.Laws.{TextsAreSizesOrNot}
+use Rattle.byte_unit_command.proofs.Readings.{sizes_or_not}
 use Rattle.byte_unit_command.specs.Messages.{AreFieldMessages, AreLimitMessages, AreMessagesOfFields, AreRecordMessages}
 use Rattle.byte_unit_command.specs.Messages.{AreMessages, IsMessage, IsMessageIf, other, size, rejected, ignored}
 use Rattle.byte_unit_command.specs.Messages.{last_place, next_place, tells_rejected}
@@ -19,12 +19,12 @@ append-empty [] back none = (refl, sym none)
 append-empty (byte ∷ front) back none = cc
 
 -- no size is rejected too
-no_size_is_rejected : TextsAreSizesOrNot → (options : Options) (field : List ℕ) (n : ℕ) → IsSize options field n
+no_size_is_rejected : (options : Options) (field : List ℕ) (n : ℕ) → IsSize options field n
     → IsNoSize options field → ⊥
-no_size_is_rejected law options field n is (inl no_text) = no_text is.0
-no_size_is_rejected law options field n is (inr rejects) =
-    (law options.binary options.kind (ignores_case options.kind options.ignore_case) (without_suffix options.suffix.now
-    field)).not_both n rejects.1.0 is.1 rejects.1.1
+no_size_is_rejected options field n is (inl no_text) = no_text is.0
+no_size_is_rejected options field n is (inr rejects) =
+    (sizes_or_not options.binary options.kind (ignores_case options.kind options.ignore_case)
+    (without_suffix options.suffix.now field)).not_both n rejects.1.0 is.1 rejects.1.1
 
 module _ (options : Options) (word : List ℕ) (place number : ℕ) (field : List ℕ) where
   -- a message is not empty
@@ -45,28 +45,28 @@ module _ (options : Options) (word : List ℕ) (place number : ℕ) (field : Lis
       above_told) ∙ IsMessageIf-none (is_below options.min n) Below below empty.1 below_told
 
   -- a chosen size about which there is no message is beyond no limit
-  pub within-untold : TextsAreSizesOrNot → (n : ℕ) (is_rejected : Bool) → IsChosen options.fields.now number
+  pub within-untold : (n : ℕ) (is_rejected : Bool) → IsChosen options.fields.now number
       → IsSize options field n → AreFieldMessages options word place number field is_rejected [] → is_beyond options n
       ≡ false
-  within-untold law n is_rejected chosen is (other not _ _) = absurd (not chosen)
-  within-untold law n is_rejected chosen is (size same _ also _ messages) =
-      let answer = law options.binary options.kind (ignores_case options.kind options.ignore_case)
+  within-untold n is_rejected chosen is (other not _ _) = absurd (not chosen)
+  within-untold n is_rejected chosen is (size same _ also _ messages) =
+      let answer = sizes_or_not options.binary options.kind (ignores_case options.kind options.ignore_case)
       (without_suffix options.suffix.now field) in
       let one = answer.one_meaning same n also.1 is.1 in
       subst (λ n. is_beyond options n ≡ false) one (limits-none same messages)
-  within-untold law n is_rejected chosen is (rejected reason _ _ _ _ message) = absurd (IsMessage-some reason message)
-  within-untold law n is_rejected chosen is (ignored _ none _ _ _) =
-      absurd (no_size_is_rejected law options field n is none)
+  within-untold n is_rejected chosen is (rejected reason _ _ _ _ message) = absurd (IsMessage-some reason message)
+  within-untold n is_rejected chosen is (ignored _ none _ _ _) =
+      absurd (no_size_is_rejected options field n is none)
 
   -- a rejected field about which there is no message is ignored
-  pub ignored-untold : TextsAreSizesOrNot → (is_rejected : Bool) → IsChosen options.fields.now number
+  pub ignored-untold : (is_rejected : Bool) → IsChosen options.fields.now number
       → IsNoSize options field → AreFieldMessages options word place number field is_rejected []
       → tells_rejected options.invalid ≡ false
-  ignored-untold law is_rejected chosen none (other not _ _) = absurd (not chosen)
-  ignored-untold law is_rejected chosen none (size n _ is _ _) =
-      absurd (no_size_is_rejected law options field n is none)
-  ignored-untold law is_rejected chosen none (rejected reason _ _ _ _ message) = absurd (IsMessage-some reason message)
-  ignored-untold law is_rejected chosen none (ignored _ _ _ is _) = is
+  ignored-untold is_rejected chosen none (other not _ _) = absurd (not chosen)
+  ignored-untold is_rejected chosen none (size n _ is _ _) =
+      absurd (no_size_is_rejected options field n is none)
+  ignored-untold is_rejected chosen none (rejected reason _ _ _ _ message) = absurd (IsMessage-some reason message)
+  ignored-untold is_rejected chosen none (ignored _ _ _ is _) = is
 
 module _ (options : Options) (word : List ℕ) where
   -- of fields about which there is no message, there is none about the first, nor about the others

@@ -2,8 +2,6 @@
 use Rattle.std.specs.Prelude.{◌≡◌, ℕ, ◌≤◌, ⊤, ◌⊎◌, Bool, true, false, if◌then◌else◌, List, [], Option, None, Some}
 use Rattle.std.specs.Prelude.{MatchOption, unwrap_or, is_some, codes}
 use Rattle.std.specs.Borrow.{Bor}
-use Rattle.byte_unit.specs.declared.Kind.{Kind}
-use Rattle.byte_unit.specs.declared.Kind.TheVariants.{Byte, Bit}
 use Rattle.byte_unit.specs.declared.UnitType.TheVariants.{Both}
 use Rattle.byte_unit_command.specs.Meaning.{IsFrom, IsNoFrom, IsShownForm}
 use Rattle.byte_unit_command.specs.Meaning.{IsForm, IsNoForm, IsDelimiter, IsNoDelimiter, IsPadding, IsNoPadding}
@@ -19,10 +17,6 @@ use Rattle.byte_unit_command.specs.declared.wrong.ValueError.{ValueError}
 use Rattle.byte_unit_command.specs.declared.wrong.ValueError.TheVariants.{NoUnit, Precision, NoDelimiter}
 use Rattle.byte_unit_command.specs.declared.wrong.Wrong.{Wrong}
 
--- the kind of the sizes: bits with `--bits`, and bytes without it
-abbrev pub kind_of : Bool → Kind
-kind_of bits = if bits then Bit else Byte
-
 -- the form without `--to`: `-H` means `--to=auto -p 1`, but for what `--to` and `-p` say
 abbrev pub form_without : Bool → Form
 form_without human_readable = if human_readable then Largest Both else Exact
@@ -35,7 +29,7 @@ precision_of human_readable (Some precision) = Some precision
 -- the form that the values ask for
 abbrev pub IsFormOf : Values → Form → Type 0
 IsFormOf values form =
-    IsForm (form_without values.human_readable) (kind_of values.bits) values.ignore_case (text_of values.to) form
+    IsForm (form_without values.human_readable) values.kind values.ignore_case (text_of values.to) form
 
 -- the byte between two fields, by the delimiter that is given: with `--blanks` a space, in place of any blank
 abbrev pub separator_of : Bool → Option ℕ → Option ℕ
@@ -44,7 +38,7 @@ separator_of blanks delimiter = if blanks then Some 32 else delimiter
 -- the options of a call with these values and fields. Operands are records that end with a zero byte, and none of them
 -- is a header
 pub record AreOptions (values : Values) (ranges : List FieldRange) (options : Options) : Type 0 where
-  pub kind : options.kind ≡ kind_of values.bits
+  pub kind : options.kind ≡ values.kind
   pub ignore_case : options.ignore_case ≡ values.ignore_case
   pub binary : IsFrom (text_of values.from) options.binary
   pub form : (given : Form) × IsFormOf values given × IsShownForm values.no_unit given options.form
@@ -60,8 +54,8 @@ pub record AreOptions (values : Values) (ranges : List FieldRange) (options : Op
   pub header : options.header ≡ (if values.has_operands then 0 else unwrap_or values.header 0)
   pub invalid : IsMode (text_of values.invalid) options.invalid
   pub total : options.total ≡ values.total
-  pub max : IsLimit options.binary (kind_of values.bits) values.ignore_case (text_of values.max) options.max
-  pub min : IsLimit options.binary (kind_of values.bits) values.ignore_case (text_of values.min) options.min
+  pub max : IsLimit options.binary values.kind values.ignore_case (text_of values.max) options.max
+  pub min : IsLimit options.binary values.kind values.ignore_case (text_of values.min) options.min
 
 -- the option with this name has this value, which is wrong
 abbrev pub IsWrongOf : List ℕ → Option (Bor (List ℕ)) → (List ℕ → ValueError → Type 0) → Wrong → Type 0
@@ -125,7 +119,7 @@ ModeIsRight values = PaddingIsRight values × ((invalid : Invalid) × IsMode (te
 pub data IsFirstWrong (values : Values) (wrong : Wrong) : Type 0 where
   wrong_from : IsWrongOf (codes "--from") values.from IsNoFrom wrong → IsFirstWrong values wrong
   wrong_to : (binary : Bool) → IsFrom (text_of values.from) binary
-      → IsWrongOf (codes "--to") values.to (IsNoForm (kind_of values.bits) values.ignore_case) wrong
+      → IsWrongOf (codes "--to") values.to (IsNoForm values.kind values.ignore_case) wrong
       → IsFirstWrong values wrong
   wrong_precision : (binary : Bool) → IsFrom (text_of values.from) binary → (form : Form) → IsFormOf values form
       → IsWrongPrecision form values.precision wrong → IsFirstWrong values wrong
@@ -141,9 +135,9 @@ pub data IsFirstWrong (values : Values) (wrong : Wrong) : Type 0 where
   wrong_invalid : (binary : Bool) → IsFrom (text_of values.from) binary → PaddingIsRight values
       → IsWrongOf (codes "--invalid") values.invalid IsNoMode wrong → IsFirstWrong values wrong
   wrong_max : (binary : Bool) → IsFrom (text_of values.from) binary → ModeIsRight values
-      → IsWrongOf (codes "--max") values.max (IsNoLimit binary (kind_of values.bits) values.ignore_case) wrong
+      → IsWrongOf (codes "--max") values.max (IsNoLimit binary values.kind values.ignore_case) wrong
       → IsFirstWrong values wrong
   wrong_min : (binary : Bool) → IsFrom (text_of values.from) binary → ModeIsRight values
-      → (max : Option ℕ) → IsLimit binary (kind_of values.bits) values.ignore_case (text_of values.max) max
-      → IsWrongOf (codes "--min") values.min (IsNoLimit binary (kind_of values.bits) values.ignore_case) wrong
+      → (max : Option ℕ) → IsLimit binary values.kind values.ignore_case (text_of values.max) max
+      → IsWrongOf (codes "--min") values.min (IsNoLimit binary values.kind values.ignore_case) wrong
       → IsFirstWrong values wrong

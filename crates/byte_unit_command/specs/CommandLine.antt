@@ -1,6 +1,6 @@
 -- The command line, as clap's parser reads it: the options by name and letter, and what each takes.
 use Rattle.std.specs.Prelude.{◌≡◌, ℕ, true, false, List, [], ◌∷◌, Some, pos, codes}
-use Rattle.clap.specs.Words.{App, Rule, new_app, new_rule, rule_of}
+use Rattle.clap.specs.Words.{App, Rule, new_app, new_rule, rule_of, with_rule}
 use Rattle.clap.specs.declared.builder.ArgAction.TheVariants.{SetTrue}
 use Rattle.clap.specs.declared.builder.Arg.{Arg}
 use Rattle.clap.specs.declared.builder.ValueParser.TheVariants.{Signed, Unsigned}
@@ -68,15 +68,26 @@ operands = record (new_rule (codes "SIZE")) {
   range = Some (record { start_inclusive = 0; end_inclusive = 18446744073709551615 });
 }
 
--- all of them, in the order of the help
-abbrev pub rules : List Rule
-rules =
+-- the options that say how a size is read and shown
+abbrev pub size_rules : List Rule
+size_rules =
     flag (codes "bits") ∷ ignore_case ∷ value (codes "from") ∷ value (codes "to") ∷ flag (codes "no-unit")
-    ∷ suffix ∷ precision ∷ human_readable ∷ delimiter ∷ blanks ∷ fields ∷ header ∷ padding ∷ value (codes "invalid")
-    ∷ flag (codes "total") ∷ value (codes "max") ∷ value (codes "min") ∷ zero_terminated ∷ operands ∷ []
+    ∷ suffix ∷ precision ∷ human_readable ∷ []
+
+-- those that say what is converted, and what a run does with what it finds; and the operands
+abbrev pub record_rules : List Rule
+record_rules =
+    delimiter ∷ blanks ∷ fields ∷ header ∷ padding ∷ value (codes "invalid") ∷ flag (codes "total")
+    ∷ value (codes "max") ∷ value (codes "min") ∷ zero_terminated ∷ operands ∷ []
+
+-- a command with these arguments more
+abbrev pub with_rules : App → List Rule → App
+with_rules app [] = app
+with_rules app (rule ∷ rules) = with_rules (with_rule app rule) rules
 
 -- the command, which has a version. The last of an option that is given more than once holds
 abbrev pub command_line : App
 command_line =
     let start = new_app (codes "byte-unit") in
-    record start { top = record start.top { has_version = true; args_override_self = true; rules = rules } }
+    let empty : App = record start { top = record start.top { has_version = true; args_override_self = true } } in
+    with_rules (with_rules empty size_rules) record_rules

@@ -1,6 +1,7 @@
 -- Private but for `no_tally`, `messages_of`: how far a run has come.
 use Rattle.std.specs.Prelude.{◌≡◌, ℕ, ◌+◌, ◌-◌, ◌≤◌, min, true, false, ◌||◌, List, [], ◌∷◌, ◌++◌, Option, Some, None}
-use Rattle.std.specs.Prelude.{vec_capacity, vec_len, length, ◌<◌, ◌⊎◌, Bool, MatchBool, IsTrue, Result, Ok, Err, ⊤}
+use Rattle.std.specs.Prelude.{vec_capacity, vec_len, length, ◌<◌, ◌⊎◌, Bool, MatchBool, IsTrue, IfErr}
+use Rattle.std.specs.Prelude.{Result, Ok, Err, ⊤}
 use Rattle.std.specs.declared.vec.Vec.{Vec}
 use Rattle.byte_unit.specs.Bounds.{size_limit}
 use Rattle.byte_unit_command.specs.Field.{Found, IsField, IsNoSize}
@@ -55,10 +56,10 @@ pub record State : Type 0 where
 -- the state of a run
 abbrev pub state_of : {A : Type 0} → Converter A → State
 state_of converter = record {
-  header = converter.progress.header;
-  word = converter.progress.place.word.now;
-  place = converter.progress.place.number;
-  tally = converter.progress.tally;
+  header = converter.header;
+  word = converter.place.word.now;
+  place = converter.place.number;
+  tally = converter.tally;
   out = converter.waiting.items;
   messages = messages_of converter.notices;
 }
@@ -122,6 +123,10 @@ pub record Aborts (options : Options) (bytes : List ℕ) (old : State) (new_mess
   pub messages : List ℕ
   pub to_rejected : AreMessagesToRejected options old.word old.place 1 (fields_of options bytes) messages
   pub messages_are : new_messages ≡ old.messages ++ messages
+
+-- if a call stops, it is out of memory, or at a rejected field
+abbrev pub StopsEarly : Result ⊤ RunError → Type 0
+StopsEarly result = IfErr result (λ error. (error ≡ Memory) ⊎ (error ≡ Rejected))
 
 -- there is no message about the field with this number
 abbrev pub FieldHasNoMessage : Options → ℕ → List ℕ → State → Type 0

@@ -1,10 +1,17 @@
 -- The values of options, by what clap has parsed.
 use Rattle.std.specs.Prelude.{◌≡◌, ℕ, ◌<◌, ◌^◌, Bool, true, false, List, Option, None, Some, is_some, option_map, codes}
+use Rattle.std.specs.Prelude.{if◌then◌else◌}
 use Rattle.std.specs.Borrow.{Bor}
 use Rattle.std.specs.Str.Parse.{IsNumeral, digits_value, without_leading_plus}
+use Rattle.byte_unit.specs.declared.Kind.{Kind}
+use Rattle.byte_unit.specs.declared.Kind.TheVariants.{Byte, Bit}
 use Rattle.clap.specs.Words.{found_of, first_value, matched_of, one_text}
 use Rattle.clap.specs.declared.parser.matches.ArgMatches.{ArgMatches}
 use Rattle.byte_unit_command.specs.declared.values.Values.{Values}
+
+-- the kind of the sizes: bits with `--bits`, and bytes without it
+abbrev pub kind_of : Bool → Kind
+kind_of bits = if bits then Bit else Byte
 
 -- the text of a value
 abbrev pub text_of : Option (Bor (List ℕ)) → Option (List ℕ)
@@ -30,7 +37,7 @@ IsNumberValue bits (Some text) (Some number) = IsUnsigned bits text number
 
 -- these are the values of the options that clap has parsed
 pub record HasValues (matches : ArgMatches) (values : Values) : Type 0 where
-  pub bits : IsFlag matches (codes "bits") values.bits
+  pub kind : (bits : Bool) × IsFlag matches (codes "bits") bits × (values.kind ≡ kind_of bits)
   pub ignore_case : IsFlag matches (codes "ignore-case") values.ignore_case
   pub human_readable : IsFlag matches (codes "human-readable") values.human_readable
   pub from : text_of values.from ≡ first_value (found_of matches) (codes "from")

@@ -57,37 +57,65 @@ Exit status:
 pub fn command<'a>(alloc: Global) -> Result<Command<'a>, AllocError>
     ensures { IfOk result (λ command. app_of command ≡ line.command_line) }
 {
-    let modes = "what a rejected field does: abort, fail, warn or ignore";
     let command = Command::new(alloc, "byte-unit")
         .version("3.0.0")
         .about("Converts sizes in bytes or bits, exactly: operands, or standard input.")
         .override_usage("byte-unit [OPTION].. [SIZE]..")
         .after_help(AFTER_HELP)
         .args_override_self(true);
+    let with_sizes = with_size_options(alloc, command)?;
+    with_record_options(alloc, with_sizes)
+}
+
+/// Adds the options that say how a size is read and shown.
+///
+/// # Errors
+///
+/// Returns `AllocError` if allocation fails.
+fn with_size_options<'a>(alloc: Global, command: Command<'a>) -> Result<Command<'a>, AllocError>
+    ensures { IfOk result (λ more. app_of more ≡ line.with_rules (app_of command.entry) line.size_rules) }
+{
+    let ignore_case = flag(alloc, "ignore-case", "ignore case; b then means bytes")
+        .short('i')
+        .conflicts_with("bits")?;
+    let from = "iec: K, M, .. in sizes are powers of 1024";
+    let suffix = "text after sizes, as /s; not needed in the input";
     command
         .arg(flag(alloc, "bits", "sizes are bits, not bytes"))?
-        .arg(ignore_case(alloc)?)?
-        .arg(value(
-            alloc,
-            "from",
-            "PREFIXES",
-            "iec: K, M, .. in sizes are powers of 1024",
-        ))?
+        .arg(ignore_case)?
+        .arg(value(alloc, "from", "PREFIXES", from))?
         .arg(value(alloc, "to", "UNIT", "convert to this unit or form"))?
         .arg(flag(alloc, "no-unit", "with a unit in --to, its number alone"))?
-        .arg(suffix(alloc))?
+        .arg(value(alloc, "suffix", "TEXT", suffix).allow_hyphen_values(true))?
         .arg(precision(alloc))?
-        .arg(human_readable(alloc))?
-        .arg(delimiter(alloc))?
-        .arg(blanks(alloc)?)?
-        .arg(fields(alloc))?
+        .arg(flag(alloc, "human-readable", "as --to=auto -p 1").short('H'))
+}
+
+/// Adds the options that say what is converted, and what a run does with what it finds; and the operands.
+///
+/// # Errors
+///
+/// Returns `AllocError` if allocation fails.
+fn with_record_options<'a>(alloc: Global, command: Command<'a>) -> Result<Command<'a>, AllocError>
+    ensures { IfOk result (λ more. app_of more ≡ line.with_rules (app_of command.entry) line.record_rules) }
+{
+    let delimiter = "fields are separated by this character";
+    let blanks = "fields are separated by blanks, as in ls -l";
+    let field = "convert these fields [default: 1]";
+    let padding = "columns of a size; left-aligned if negative";
+    let invalid = "what a rejected field does: abort, fail, warn or ignore";
+    let zero_terminated = "records end with a zero byte, not a line end";
+    command
+        .arg(value(alloc, "delimiter", "C", delimiter).short('d'))?
+        .arg(flag(alloc, "blanks", blanks).conflicts_with("delimiter")?)?
+        .arg(value(alloc, "field", "FIELDS", field).allow_hyphen_values(true))?
         .arg(header(alloc))?
-        .arg(padding(alloc))?
-        .arg(value(alloc, "invalid", "MODE", modes))?
+        .arg(value(alloc, "padding", "N", padding).allow_hyphen_values(true))?
+        .arg(value(alloc, "invalid", "MODE", invalid))?
         .arg(flag(alloc, "total", "a last line has the sum of all sizes"))?
         .arg(value(alloc, "max", "SIZE", "status 3 if a size is above it"))?
         .arg(value(alloc, "min", "SIZE", "status 3 if a size is below it"))?
-        .arg(zero_terminated(alloc))?
+        .arg(flag(alloc, "zero-terminated", zero_terminated).short('z'))?
         .arg(operands(alloc))
 }
 
@@ -111,27 +139,6 @@ fn value<'a>(alloc: Global, name: &'a str, value: &'a str, help: &'a str) -> Arg
         .help(help)
 }
 
-/// Returns the option that ignores case.
-///
-/// # Errors
-///
-/// Returns `AllocError` if allocation fails.
-fn ignore_case<'a>(alloc: Global) -> Result<Arg<'a>, AllocError>
-    ensures { IfOk result (line.IsArg line.ignore_case) }
-{
-    flag(alloc, "ignore-case", "ignore case; b then means bytes")
-        .short('i')
-        .conflicts_with("bits")
-}
-
-/// Returns the option for the suffix.
-fn suffix<'a>(alloc: Global) -> Arg<'a>
-    ensures { line.IsArg line.suffix result }
-{
-    let help = "text after sizes, as /s; not needed in the input";
-    value(alloc, "suffix", "TEXT", help).allow_hyphen_values(true)
-}
-
 /// Returns the option for the number of digits after the point.
 fn precision<'a>(alloc: Global) -> Arg<'a>
     ensures { line.IsArg line.precision result }
@@ -139,49 +146,6 @@ fn precision<'a>(alloc: Global) -> Arg<'a>
     value(alloc, "precision", "N", "digits after the point")
         .short('p')
         .value_parser(value_parser!(u16))
-}
-
-/// Returns the option for sizes that people read.
-fn human_readable<'a>(alloc: Global) -> Arg<'a>
-    ensures { line.IsArg line.human_readable result }
-{
-    flag(alloc, "human-readable", "as --to=auto -p 1").short('H')
-}
-
-/// Returns the option for the delimiter.
-fn delimiter<'a>(alloc: Global) -> Arg<'a>
-    ensures { line.IsArg line.delimiter result }
-{
-    let help = "fields are separated by this character";
-    value(alloc, "delimiter", "C", help).short('d')
-}
-
-/// Returns the option that separates fields by blanks.
-///
-/// # Errors
-///
-/// Returns `AllocError` if allocation fails.
-fn blanks<'a>(alloc: Global) -> Result<Arg<'a>, AllocError>
-    ensures { IfOk result (line.IsArg line.blanks) }
-{
-    let help = "fields are separated by blanks, as in ls -l";
-    flag(alloc, "blanks", help).conflicts_with("delimiter")
-}
-
-/// Returns the option for the fields.
-fn fields<'a>(alloc: Global) -> Arg<'a>
-    ensures { line.IsArg line.fields result }
-{
-    let help = "convert these fields [default: 1]";
-    value(alloc, "field", "FIELDS", help).allow_hyphen_values(true)
-}
-
-/// Returns the option for the width.
-fn padding<'a>(alloc: Global) -> Arg<'a>
-    ensures { line.IsArg line.padding result }
-{
-    let help = "columns of a size; left-aligned if negative";
-    value(alloc, "padding", "N", help).allow_hyphen_values(true)
 }
 
 /// Returns the option for header records.
@@ -193,14 +157,6 @@ fn header<'a>(alloc: Global) -> Arg<'a>
         .require_equals(true)
         .default_missing_value("1")
         .value_parser(value_parser!(u64))
-}
-
-/// Returns the option for zero bytes in place of line ends.
-fn zero_terminated<'a>(alloc: Global) -> Arg<'a>
-    ensures { line.IsArg line.zero_terminated result }
-{
-    let help = "records end with a zero byte, not a line end";
-    flag(alloc, "zero-terminated", help).short('z')
 }
 
 /// Returns the operands.

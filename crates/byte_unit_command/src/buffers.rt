@@ -1,15 +1,15 @@
 //! The buffers of a run.
 
-ghost use Rattle.std.specs.Prelude.{◌≡◌, ◌+◌, ◌*◌, ◌<◌, ◌≤◌, max, IfOk, IfSome, IfNone};
+ghost use Rattle.std.specs.Prelude.{◌≡◌, ◌+◌, ◌*◌, ◌^◌, ◌<◌, ◌≤◌, max, IfOk, IfSome, IfNone};
 ghost use Rattle.byte_unit_command.specs.Capacity.{AreEmpty, HaveCapacity, texts_max};
 ghost use Rattle.byte_unit_command.specs.Capacity.{form_max as most_of_form};
 ghost use Rattle.byte_unit_command.specs.Capacity.{message_room as room_of_messages, read_room as room_of_read};
 ghost use Rattle.byte_unit_command.specs.Capacity.{read_max as most_of_read, text_max as most_of_text};
-ghost use Rattle.byte_unit_command.specs.Capacity.{text_room as room_of_text};
 
-use crate::converter::{Converter, Progress};
-use crate::notice::Notices;
+use crate::converter::Converter;
+use crate::notice::{Notices, Place};
 use crate::options::{Form, Invalid, Options};
+use crate::tally::Tally;
 use crate::text::AT_ONCE;
 use std::alloc::{AllocError, Allocator};
 
@@ -44,9 +44,18 @@ impl<A: Allocator + Copy> Buffers<A> {
         Buffers {
             part: Vec::new(alloc),
             converter: Converter {
-                progress: Progress::new(0, ""),
+                header: 0,
+                tally: Tally::new(),
+                place: Place {
+                    word: "",
+                    number: 0,
+                },
                 waiting: Vec::new(alloc),
-                notices: Notices::new(alloc),
+                notices: Notices {
+                    messages: Vec::new(alloc),
+                    line: String::new(alloc),
+                    words: String::new(alloc),
+                },
             },
         }
     }
@@ -84,20 +93,8 @@ pub(crate) fn read_max(options: &Options, len: usize) -> usize
     ensures bound { result ≤ len }
     ensures some { 0 < len → 0 < result }
 {
-    match counted(options) {
-        Some(field) => len.min((TEXTS_MAX / field).max(1)),
-        None => len.min(1),
-    }
-}
-
-/// Returns the bytes that are counted for the text of a size and the messages about its field, or `None` if they exceed
-/// `usize::MAX`.
-fn counted(options: &Options) -> Option<usize>
-    ensures some { IfSome result (λ field. (field ≡ most_of_text options.now + room_of_messages options.now)
-        × (0 < field)) }
-    ensures none { IfNone result (usize.MAX < most_of_text options.now + room_of_messages options.now) }
-{
-    text_max(options)?.checked_add(message_room(options))
+    let field = text_max(options) + message_room(options);
+    len.min((TEXTS_MAX / field).max(1))
 }
 
 /// Returns the bytes that are counted for the messages about a field: none if a run has at most one message.
@@ -125,28 +122,22 @@ fn read_room(options: &Options, longest: usize, chunk: usize) -> Option<usize>
         None => chunk,
         Some(_) => longest.checked_add(chunk)?,
     };
-    let texts = text_room(options)?.checked_mul(fields.checked_add(1)?)?;
+    let text = AT_ONCE.max(text_max(options));
+    let texts = text.checked_mul(fields.checked_add(1)?)?;
     texts
         .checked_add(longest)?
         .checked_add(chunk)?
         .checked_add(1)
 }
 
-/// Returns the most bytes that the text of a size takes while it is appended, or `None` if they exceed `usize::MAX`.
-fn text_room(options: &Options) -> Option<usize>
-    ensures { IfSome result (λ room. room ≡ room_of_text options.now) }
+/// Returns the most bytes of the text of a size with the suffix.
+fn text_max(options: &Options) -> usize
+    ensures most { result ≡ most_of_text options.now }
+    ensures bound { result < 2 ^ 63 + 65573 }
+    ensures positive { 0 < result }
 {
-    Some(AT_ONCE.max(text_max(options)?))
-}
-
-/// Returns the most bytes of the text of a size with the suffix, or `None` if they exceed `usize::MAX`.
-fn text_max(options: &Options) -> Option<usize>
-    ensures some { IfSome result (λ most. (most ≡ most_of_text options.now) × (0 < most)) }
-    ensures none { IfNone result (usize.MAX < most_of_text options.now) }
-{
-    let form = form_max(options.form, options.precision);
-    let text = form.checked_add(options.suffix.len())?;
-    Some((options.width as usize).max(text))
+    let text = form_max(options.form, options.precision) + options.suffix.len();
+    text.max(options.width as usize)
 }
 
 /// Returns the most bytes of the text of a size in a form, without padding.

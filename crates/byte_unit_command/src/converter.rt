@@ -1,59 +1,36 @@
 //! Converts records, field by field.
 
-ghost use Rattle.std.specs.Prelude.{◌≡◌, ◌≤◌, ◌⊎◌, ◌∷◌, ◌++◌, [], Some, None, length};
-ghost use Rattle.std.specs.Prelude.{OnOk, OnErr, IsOk, IfErr, IsErrOf, IsTrue, IsFalse, false, vec_capacity};
+ghost use Rattle.std.specs.Prelude.{◌≡◌, ◌≤◌, ◌∷◌, [], Some, length};
+ghost use Rattle.std.specs.Prelude.{OnOk, OnErr, IsOk, IsErrOf, IsTrue, IsFalse, vec_capacity};
 ghost use Rattle.byte_unit.specs.Forms.{text_limit};
 ghost use Rattle.byte_unit_command.specs.Capacity.{field_room, fields_room, record_room};
 ghost use Rattle.byte_unit_command.specs.Field.{IsNoSize};
 ghost use Rattle.byte_unit_command.specs.Fields.{IsChosen, at_blanks};
 ghost use Rattle.byte_unit_command.specs.RunState.{AddsField, AddsFields, AddsRecords, Grows, HasRoom};
-ghost use Rattle.byte_unit_command.specs.RunState.{Aborts, IsRejectedField};
+ghost use Rattle.byte_unit_command.specs.RunState.{Aborts, IsRejectedField, StopsEarly};
 ghost use Rattle.byte_unit_command.specs.RunState.{FieldHasNoMessage, FieldsHaveNoMessage, RecordHasNoMessage};
-ghost use Rattle.byte_unit_command.specs.RunState.{at_next, messages_of, no_tally, state_of, tally_with};
+ghost use Rattle.byte_unit_command.specs.RunState.{at_next, messages_of, state_of};
 ghost use Rattle.byte_unit_stream.specs.Prefix.{IsPrefix};
 
-use crate::blanks::{add_placed, between, end_of_first};
+use crate::blanks::{between, end_of_first};
 use crate::error::RunError;
 use crate::field::{is_chosen, is_in_one, is_in_order, ranges_from};
-use crate::laws::texts_are_sizes_or_not;
 use crate::notice::{Notices, Place, add_limit_notice, add_reject_notice};
 use crate::options::{Invalid, Options};
 use crate::size::accepted;
 use crate::tally::Tally;
+use crate::text::add_placed;
 use std::alloc::Allocator;
 
-/// How far a run has come.
-#[derive(Debug, Clone, Copy)]
-pub(crate) struct Progress {
+/// Converts records. Keeps how far the run has come, and what is not written yet.
+#[derive(Drop)]
+pub(crate) struct Converter<A: Allocator> {
     /// The number of header records that are still to come.
     pub header: u64,
     /// What was counted so far.
     pub tally: Tally,
     /// The number of the record, and what a record is called.
     pub place: Place,
-}
-
-impl Progress {
-    /// Creates the progress of a run that has not begun, with this number of header records.
-    pub(crate) fn new(header: u64, word: &'static str) -> Progress
-        ensures header { result.header ≡ header }
-        ensures tally { result.tally ≡ no_tally }
-        ensures word { result.place.word.now ≡ word.now }
-        ensures number { result.place.number ≡ 0 }
-    {
-        Progress {
-            header,
-            tally: Tally::new(),
-            place: Place { word, number: 0 },
-        }
-    }
-}
-
-/// Converts records. Keeps how far the run has come, and what is not written yet.
-#[derive(Drop)]
-pub(crate) struct Converter<A: Allocator> {
-    /// How far the run has come.
-    pub progress: Progress,
     /// Whole texts that are not written yet.
     pub waiting: Vec<u8, A>,
     /// Messages that are not written yet.
@@ -84,11 +61,10 @@ impl<A: Allocator> Converter<A> {
         ensures err { OnErr result (self.new.waiting.items ≡ self.old.waiting.items) }
         ensures memory { IsErrOf result RunError.Memory
             → messages_of self.new.notices ≡ messages_of self.old.notices }
-        ensures rejected { IsErrOf result RunError.Rejected → (self.old.progress.header ≡ 0)
+        ensures rejected { IsErrOf result RunError.Rejected → (self.old.header ≡ 0)
             × Aborts options.now bytes.now (at_next (state_of self.old))
             (messages_of self.new.notices) }
-        ensures error { IfErr result
-            (λ error. (error ≡ RunError.Memory) ⊎ (error ≡ RunError.Rejected)) }
+        ensures error { StopsEarly result }
         ensures succeeds { HasRoom self.old.waiting (record_room options.now (length bytes.now))
             → RecordHasNoMessage options.now bytes.now (state_of self.old) → IsOk result }
         ensures len { Grows self.old.waiting self.new.waiting
@@ -96,7 +72,7 @@ impl<A: Allocator> Converter<A> {
         ensures capacity { vec_capacity self.old.waiting ≤ vec_capacity self.new.waiting }
     {
         let len = self.waiting.len();
-        let messages = self.notices.len();
+        let messages = self.notices.messages.len();
         match self.append_record(options, bytes, digits) {
             Ok(()) => Ok(()),
             Err(error) => {
@@ -121,20 +97,19 @@ impl<A: Allocator> Converter<A> {
         ensures kept { IsPrefix self.old.waiting.items self.new.waiting.items }
         ensures kept_messages { IsPrefix (messages_of self.old.notices)
             (messages_of self.new.notices) }
-        ensures rejected { IsErrOf result RunError.Rejected → (self.old.progress.header ≡ 0)
+        ensures rejected { IsErrOf result RunError.Rejected → (self.old.header ≡ 0)
             × Aborts options.now bytes.now (at_next (state_of self.old))
             (messages_of self.new.notices) }
-        ensures error { IfErr result
-            (λ error. (error ≡ RunError.Memory) ⊎ (error ≡ RunError.Rejected)) }
+        ensures error { StopsEarly result }
         ensures succeeds { HasRoom self.old.waiting (record_room options.now (length bytes.now))
             → RecordHasNoMessage options.now bytes.now (state_of self.old) → IsOk result }
         ensures len { Grows self.old.waiting self.new.waiting
             (record_room options.now (length bytes.now)) }
         ensures capacity { vec_capacity self.old.waiting ≤ vec_capacity self.new.waiting }
     {
-        self.progress.place.number = self.progress.place.number.saturating_add(1);
-        if self.progress.header > 0 {
-            self.progress.header -= 1;
+        self.place.number = self.place.number.saturating_add(1);
+        if self.header > 0 {
+            self.header -= 1;
             self.waiting.extend_from_slice(bytes)?;
         } else {
             self.add_fields(options, bytes, digits)?;
@@ -166,8 +141,7 @@ impl<A: Allocator> Converter<A> {
             (messages_of self.new.notices) }
         ensures rejected { IsErrOf result RunError.Rejected
             → Aborts options.now bytes.now (state_of self.old) (messages_of self.new.notices) }
-        ensures error { IfErr result
-            (λ error. (error ≡ RunError.Memory) ⊎ (error ≡ RunError.Rejected)) }
+        ensures error { StopsEarly result }
         ensures succeeds { HasRoom self.old.waiting (fields_room options.now (length bytes.now))
             → FieldsHaveNoMessage options.now bytes.now (state_of self.old) → IsOk result }
         ensures len { Grows self.old.waiting self.new.waiting
@@ -177,7 +151,7 @@ impl<A: Allocator> Converter<A> {
         match options.delimiter {
             None => {
                 let chosen = is_in_one(options.fields, 1);
-                self.add_field::<false>(options, 1, chosen, bytes, digits)
+                self.add_field(options, 1, bytes, chosen, false, digits)
             }
             Some(delimiter) if options.blanks => {
                 self.add_split::<true>(options, delimiter, bytes, digits)
@@ -208,8 +182,7 @@ impl<A: Allocator> Converter<A> {
             (messages_of self.new.notices) }
         ensures rejected { IsErrOf result RunError.Rejected
             → Aborts options.now bytes.now (state_of self.old) (messages_of self.new.notices) }
-        ensures error { IfErr result
-            (λ error. (error ≡ RunError.Memory) ⊎ (error ≡ RunError.Rejected)) }
+        ensures error { StopsEarly result }
         ensures succeeds { HasRoom self.old.waiting (fields_room options.now (length bytes.now))
             → FieldsHaveNoMessage options.now bytes.now (state_of self.old) → IsOk result }
         ensures len { Grows self.old.waiting self.new.waiting
@@ -221,13 +194,13 @@ impl<A: Allocator> Converter<A> {
         let in_order = is_in_order(options.fields);
         let fields = ranges_from(options.fields, 1);
         let mark = [delimiter];
-        let between = between::<BLANKS>(options, delimiter, &mark);
+        let between = between(options, BLANKS, delimiter, &mark);
         let mut ranges = fields;
         let mut rest = bytes;
         let mut number = 1u64;
-        while let Some(n) = end_of_first::<BLANKS>(options, delimiter, rest) {
+        while let Some(n) = end_of_first(options, BLANKS, delimiter, rest) {
             let chosen = is_chosen(ranges, in_order, number);
-            self.add_field::<BLANKS>(options, number, chosen, &rest[..n], digits)?;
+            self.add_field(options, number, &rest[..n], chosen, BLANKS, digits)?;
             self.waiting.extend_from_slice(between)?;
             rest = &rest[n + between.len()..];
             number += 1;
@@ -238,29 +211,30 @@ impl<A: Allocator> Converter<A> {
             }
         }
         let chosen = is_chosen(ranges, in_order, number);
-        self.add_field::<BLANKS>(options, number, chosen, rest, digits)
+        self.add_field(options, number, rest, chosen, BLANKS, digits)
     }
 
     /// Appends what is written for the field with this number, and counts what is found in it.
     ///
-    /// Preconditions (proved at every call): `chosen` says whether the field with this number is chosen, and `digits`
-    /// has capacity for the text of any size.
+    /// Preconditions (proved at every call): `chosen` says whether the field is chosen, `blanks` whether fields are
+    /// between blanks, and `digits` has capacity for the text of any size.
     ///
     /// # Errors
     ///
     /// - `Rejected` if the field is not a size, in the mode `abort`.
     /// - `Memory` if allocation fails.
     #[inline(always)]
-    fn add_field<const BLANKS: bool>(
+    fn add_field(
         &mut self,
         options: &Options,
         number: u64,
-        chosen: bool,
         field: &[u8],
+        chosen: bool,
+        blanks: bool,
         digits: &mut [u8],
     ) -> Result<(), RunError>
         requires capacity { text_limit ≤ length digits.old }
-        requires blanks { at_blanks options.now ≡ BLANKS }
+        requires blanks { at_blanks options.now ≡ blanks }
         requires yes { IsTrue chosen → IsChosen options.now.fields.now number }
         requires no { IsFalse chosen → ¬ IsChosen options.now.fields.now number }
         ensures ok { OnOk result
@@ -270,8 +244,7 @@ impl<A: Allocator> Converter<A> {
             (messages_of self.new.notices) }
         ensures rejected { IsErrOf result RunError.Rejected → IsRejectedField
             options.now number field.now (state_of self.old) (messages_of self.new.notices) }
-        ensures error { IfErr result
-            (λ error. (error ≡ RunError.Memory) ⊎ (error ≡ RunError.Rejected)) }
+        ensures error { StopsEarly result }
         ensures succeeds { HasRoom self.old.waiting (field_room options.now (length field.now))
             → FieldHasNoMessage options.now number field.now (state_of self.old) → IsOk result }
         ensures len { Grows self.old.waiting self.new.waiting
@@ -285,19 +258,24 @@ impl<A: Allocator> Converter<A> {
         let Some(size) = accepted(options, field) else {
             return self.add_rejected(options, number, field);
         };
-        // For the proof: no text has two sizes, or is both a size and rejected.
-        texts_are_sizes_or_not();
-        if self.progress.tally.add(options, size) {
-            let place = &self.progress.place;
-            add_limit_notice(options, place, number, field, size, &mut self.notices)?;
+        if self.tally.add(options, size) {
+            add_limit_notice(options, &self.place, number, field, size, &mut self.notices)?;
         }
-        add_placed::<BLANKS, A>(options, number, field, size, digits, &mut self.waiting)?;
+        add_placed(
+            options,
+            blanks,
+            number,
+            field,
+            size,
+            digits,
+            &mut self.waiting,
+        )?;
         Ok(())
     }
 
     /// Does what [`add_field`](Converter::add_field) does, for a field that is not a size.
     ///
-    /// Preconditions (proved at every call): the field with this number is chosen, and it is not a size.
+    /// Preconditions (proved at every call): the field is chosen, and it is not a size.
     #[cold]
     #[inline(never)]
     fn add_rejected(&mut self, options: &Options, number: u64, field: &[u8]) -> Result<(), RunError>
@@ -310,50 +288,19 @@ impl<A: Allocator> Converter<A> {
             (messages_of self.new.notices) }
         ensures rejected { IsErrOf result RunError.Rejected → IsRejectedField
             options.now number field.now (state_of self.old) (messages_of self.new.notices) }
-        ensures error { IfErr result
-            (λ error. (error ≡ RunError.Memory) ⊎ (error ≡ RunError.Rejected)) }
+        ensures error { StopsEarly result }
         ensures succeeds { HasRoom self.old.waiting (field_room options.now (length field.now))
             → FieldHasNoMessage options.now number field.now (state_of self.old) → IsOk result }
         ensures len { Grows self.old.waiting self.new.waiting
             (field_room options.now (length field.now)) }
         ensures capacity { vec_capacity self.old.waiting ≤ vec_capacity self.new.waiting }
     {
-        // For the proof: no text is both a size and rejected.
-        texts_are_sizes_or_not();
-        let place = &self.progress.place;
-        add_reject_notice(options, place, number, field, &mut self.notices)?;
-        copy_rejected(options, field, &mut self.progress.tally, &mut self.waiting)
+        add_reject_notice(options, &self.place, number, field, &mut self.notices)?;
+        if options.invalid == Invalid::Abort {
+            return Err(RunError::Rejected);
+        }
+        self.tally.rejected = true;
+        self.waiting.extend_from_slice(field)?;
+        Ok(())
     }
-}
-
-/// Copies a rejected field to `text`, and counts it.
-///
-/// # Errors
-///
-/// - `Rejected` in the mode `abort`.
-/// - `Memory` if allocation fails.
-fn copy_rejected<A: Allocator>(
-    options: &Options,
-    field: &[u8],
-    tally: &mut Tally,
-    text: &mut Vec<u8, A>,
-) -> Result<(), RunError>
-    ensures mode { OnOk result (¬ (options.now.invalid ≡ Invalid.Abort)) }
-    ensures text { OnOk result (text.new.items ≡ text.old.items ++ field.now) }
-    ensures kept { IsPrefix text.old.items text.new.items }
-    ensures tally { OnOk result (tally.new ≡ tally_with options.now tally.old None) }
-    ensures rejected { IsErrOf result RunError.Rejected → options.now.invalid ≡ Invalid.Abort }
-    ensures error { IfErr result
-        (λ error. (error ≡ RunError.Memory) ⊎ (error ≡ RunError.Rejected)) }
-    ensures succeeds { HasRoom text.old (length field.now)
-        → ¬ (options.now.invalid ≡ Invalid.Abort) → IsOk result }
-    ensures len { Grows text.old text.new (length field.now) }
-    ensures capacity { vec_capacity text.old ≤ vec_capacity text.new }
-{
-    if options.invalid == Invalid::Abort {
-        return Err(RunError::Rejected);
-    }
-    tally.reject(options);
-    text.extend_from_slice(field)?;
-    Ok(())
 }

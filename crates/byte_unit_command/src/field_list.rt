@@ -3,10 +3,10 @@
 ghost use Rattle.std.specs.Prelude.{◌↔◌, ℕ, List, Option, MatchOption, IfOk, codes, option_map, unwrap_or};
 ghost use Rattle.byte_unit_command.specs.FieldList.{IsFirst, IsLast, IsRange, IsListReading};
 ghost use Rattle.byte_unit_command.specs.Fields.{IsChosen, IsInOrder};
+ghost use Rattle.byte_unit_command.specs.Positive.{IsPositive};
 ghost use Rattle.byte_unit_command.specs.declared.options.FieldRange.{FieldRange};
 
 use crate::options::FieldRange;
-use crate::positive::positive_of;
 use std::alloc::{AllocError, Global};
 
 /// Returns the fields that are converted: those of a list, or the first without one. Returns `None` if the list is
@@ -23,10 +23,14 @@ pub fn fields_of(alloc: Global, list: Option<&str>) -> Result<Option<Vec<FieldRa
         (unwrap_or (option_map (λ list. list.now) list.entry) (codes "1"))
         (option_map (λ fields. fields.items) found)) }
 {
-    match list {
-        Some(list) => ranges_of(alloc, list),
-        None => ranges_of(alloc, "1"),
+    let mut fields = Vec::new(alloc);
+    for item in list.unwrap_or("1").split(',') {
+        match range_of(item) {
+            Some(range) => fields.push(range)?,
+            None => return Ok(None),
+        }
     }
+    Ok(Some(fields))
 }
 
 /// Brings ranges into the order in which they begin. The same fields are in them.
@@ -37,25 +41,6 @@ pub fn sort_fields(fields: &mut Vec<FieldRange>)
     ensures in_order { IsInOrder fields.new.items }
 {
     fields.sort_unstable_by_key(|range| range.first);
-}
-
-/// Returns the ranges of a list of fields, or `None` if it is wrong.
-///
-/// # Errors
-///
-/// Returns `AllocError` if allocation fails.
-fn ranges_of(alloc: Global, list: &str) -> Result<Option<Vec<FieldRange>>, AllocError>
-    ensures { IfOk result
-        (λ found. IsListReading list.now (option_map (λ fields. fields.items) found)) }
-{
-    let mut fields = Vec::new(alloc);
-    for item in list.split(',') {
-        match range_of(item) {
-            Some(range) => fields.push(range)?,
-            None => return Ok(None),
-        }
-    }
-    Ok(Some(fields))
 }
 
 /// Returns the range that one item of a list is, or `None` if it is none.
@@ -102,4 +87,15 @@ fn last_of(after: &str, first: u64) -> Option<Option<u64>>
         return None;
     }
     Some(Some(last))
+}
+
+/// Parses a number from 1 to 2^64 - 1: decimal digits, without a sign. Returns `None` if the text is no such number.
+pub(crate) fn positive_of(text: &str) -> Option<u64>
+    ensures { MatchOption result ((number : ℕ) → ¬ IsPositive text.now number)
+        (IsPositive text.now) }
+{
+    match text.parse::<u64>() {
+        Ok(number) if number > 0 && !text.starts_with('+') => Some(number),
+        _ => None,
+    }
 }

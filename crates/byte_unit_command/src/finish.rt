@@ -1,11 +1,11 @@
 //! The end of a run: the last record, and the total.
 
-ghost use Rattle.std.specs.Prelude.{◌≡◌, ◌+◌, ◌≤◌, ◌⊎◌, ◌∷◌, ℕ, List, [], length, true};
-ghost use Rattle.std.specs.Prelude.{OnOk, OnErr, IfErr, IsOk, IsErrOf, IsTrue, vec_capacity};
+ghost use Rattle.std.specs.Prelude.{◌≡◌, ◌+◌, ◌≤◌, ◌∷◌, ℕ, List, [], length, true};
+ghost use Rattle.std.specs.Prelude.{OnOk, OnErr, IsOk, IsErrOf, IsTrue, vec_capacity};
 ghost use Rattle.byte_unit.specs.Forms.{text_limit};
 ghost use Rattle.byte_unit_command.specs.Capacity.{end_room, record_room, text_room};
 ghost use Rattle.byte_unit_command.specs.RunState.{AddsRecords, Aborts, IsFinished, IsTotalWritten, WritesAndTells};
-ghost use Rattle.byte_unit_command.specs.RunState.{Grows, HasRoom, RecordsHaveNoMessage};
+ghost use Rattle.byte_unit_command.specs.RunState.{Grows, HasRoom, RecordsHaveNoMessage, StopsEarly};
 ghost use Rattle.byte_unit_command.specs.RunState.{at_next, idle, messages_of, state_of};
 ghost use Rattle.byte_unit_stream.specs.Prefix.{IsPrefix};
 ghost use Rattle.byte_unit_stream.specs.Chunks.{nonempty_record};
@@ -53,7 +53,7 @@ impl<A: Allocator> Converter<A> {
         let added = self.add_last(options, part, digits);
         self.notices.tell(errors);
         added?;
-        let tally = self.progress.tally;
+        let tally = self.tally;
         let waiting = &mut self.waiting;
         if options.total {
             write_with_total(options, tally.total, digits, waiting, writer)?;
@@ -82,12 +82,11 @@ impl<A: Allocator> Converter<A> {
             (state_of self.old) (state_of self.new)) }
         ensures memory { IsErrOf result RunError.Memory
             → messages_of self.new.notices ≡ messages_of self.old.notices }
-        ensures rejected { IsErrOf result RunError.Rejected → (self.old.progress.header ≡ 0)
+        ensures rejected { IsErrOf result RunError.Rejected → (self.old.header ≡ 0)
             × Aborts options.now part.now (at_next (state_of self.old))
             (messages_of self.new.notices)
             × (nonempty_record part.now ≡ part.now ∷ []) }
-        ensures error { IfErr result
-            (λ error. (error ≡ RunError.Memory) ⊎ (error ≡ RunError.Rejected)) }
+        ensures error { StopsEarly result }
         ensures succeeds { HasRoom self.old.waiting (record_room options.now (length part.now))
             → RecordsHaveNoMessage options.now (nonempty_record part.now) (state_of self.old)
             → IsOk result }

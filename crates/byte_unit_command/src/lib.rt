@@ -15,7 +15,6 @@ pub mod meaning;
 mod notice;
 pub mod operands;
 pub mod options;
-mod positive;
 mod quote;
 pub mod run;
 mod size;

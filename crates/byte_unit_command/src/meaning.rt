@@ -1,9 +1,8 @@
 //! What the values of the options of a call mean.
 
-ghost use Rattle.std.specs.Prelude.{◌≡◌, ℕ, Bool, [], MatchOption, MatchResult, IfOk, IfErr, codes};
-ghost use Rattle.std.specs.Prelude.{unwrap_or, if◌then◌else◌};
-ghost use Rattle.byte_unit_command.specs.CallOptions.{AreOptions, IsFirstWrong, IsWrongOf, kind_of};
-ghost use Rattle.byte_unit_command.specs.CallOptions.{form_without, precision_of, IsWithinExact, IsWrongPrecision};
+ghost use Rattle.std.specs.Prelude.{◌≡◌, ℕ, Bool, MatchOption, MatchResult, IfOk, IfErr, codes};
+ghost use Rattle.byte_unit_command.specs.CallOptions.{AreOptions, IsFirstWrong, IsWrongOf};
+ghost use Rattle.byte_unit_command.specs.CallOptions.{form_without, IsWithinExact, IsWrongPrecision};
 ghost use Rattle.byte_unit_command.specs.CallOptions.{IsWrongNoUnit, AreFieldsSeparated, IsWrongField};
 ghost use Rattle.byte_unit_command.specs.CallOptions.{separator_of as separator_in};
 ghost use Rattle.byte_unit_command.specs.Field.{ignores_case};
@@ -14,8 +13,8 @@ ghost use Rattle.byte_unit_command.specs.Meaning.{IsMode, IsNoMode, IsLimit, IsN
 ghost use Rattle.byte_unit_command.specs.Prefixes.{IsReadingBy};
 ghost use Rattle.byte_unit_command.specs.Values.{text_of};
 
+use crate::field_list::positive_of;
 use crate::options::{FieldRange, Form, Invalid, Kind, Options, Unit, UnitType};
-use crate::positive::positive_of;
 use crate::size::ignores_case;
 use crate::values::Values;
 use crate::wrong::{ValueError, Wrong};
@@ -37,45 +36,42 @@ pub fn options_of<'a>(
     ensures ok { IfOk result (AreOptions values.now fields.now) }
     ensures err { IfErr result (IsFirstWrong values.now) }
 {
-    let kind = kind_of(values.bits);
+    let kind = values.kind;
     let binary = from_of(values.from)?;
     let given = form_of(values.to, values.human_readable, kind, values.ignore_case)?;
     exact_precision(given, values.precision)?;
     let form = shown_form(values.no_unit, given)?;
-    let delimiter = delimiter_of(values.delimiter)?;
-    separated_fields(values)?;
+    let mark = delimiter_of(values.delimiter)?;
+    let delimiter = separator_of(values, mark)?;
     let (width, align_left) = padding_of(values.padding)?;
     let invalid = invalid_of(values.invalid)?;
     let max = limit_of("--max", values.max, binary, kind, values.ignore_case)?;
     let min = limit_of("--min", values.min, binary, kind, values.ignore_case)?;
+    let header = values.header.unwrap_or(0);
     let output_end = if values.zero_terminated { 0 } else { b'\n' };
     Ok(Options {
         kind,
         ignore_case: values.ignore_case,
         binary,
         form,
-        precision: precision_of(values.human_readable, values.precision),
-        suffix: suffix_of(values.suffix),
+        precision: match values.precision {
+            Some(precision) => Some(precision),
+            None => { if values.human_readable { Some(1) } else { None } }
+        },
+        suffix: values.suffix.unwrap_or("").as_bytes(),
         width,
         align_left,
-        delimiter: separator_of(values.blanks, delimiter),
+        delimiter,
         blanks: values.blanks,
         fields,
         record_end: if values.has_operands { 0 } else { output_end },
         output_end,
-        header: header_of(values.header, values.has_operands),
+        header: if values.has_operands { 0 } else { header },
         invalid,
         total: values.total,
         max,
         min,
     })
-}
-
-/// Returns the kind of the sizes.
-pub(crate) fn kind_of(bits: bool) -> Kind
-    ensures { result ≡ kind_of bits }
-{
-    if bits { Kind::Bit } else { Kind::Byte }
 }
 
 /// Returns whether a decimal prefix in a size means the binary one.
@@ -149,16 +145,6 @@ fn form_without(human_readable: bool) -> Form
     }
 }
 
-/// Returns the number of digits after the point.
-fn precision_of(human_readable: bool, value: Option<u16>) -> Option<u16>
-    ensures { result ≡ precision_of human_readable value }
-{
-    match value {
-        Some(precision) => Some(precision),
-        None => { if human_readable { Some(1) } else { None } }
-    }
-}
-
 /// Checks that the exact form can have the number of digits after the point that is asked for.
 ///
 /// # Errors
@@ -204,16 +190,6 @@ fn shown_form<'a>(no_unit: bool, given: Form) -> Result<Form, Wrong<'a>>
     }
 }
 
-/// Returns the suffix; nothing for none.
-fn suffix_of<'a>(value: Option<&'a str>) -> &'a [u8]
-    ensures { result.now ≡ unwrap_or (text_of value.entry) [] }
-{
-    match value {
-        Some(suffix) => suffix.as_bytes(),
-        None => b"",
-    }
-}
-
 /// Returns the unit that a value spells. White space alone, which the library parses as the unit without a prefix, is
 /// not a unit here.
 fn unit_of(value: &str, kind: Kind, ignore_case: bool) -> Result<Unit, ValueError>
@@ -231,13 +207,6 @@ fn unit_of(value: &str, kind: Kind, ignore_case: bool) -> Result<Unit, ValueErro
         Ok(unit) => Ok(unit),
         Err(error) => Err(ValueError::Unit(error)),
     }
-}
-
-/// Returns the byte between two fields: a space if they are between blanks, and else the delimiter.
-fn separator_of(blanks: bool, delimiter: Option<u8>) -> Option<u8>
-    ensures { result ≡ separator_in blanks delimiter }
-{
-    if blanks { Some(b' ') } else { delimiter }
 }
 
 /// Returns the delimiter.
@@ -264,23 +233,27 @@ fn delimiter_of(value: Option<&str>) -> Result<Option<u8>, Wrong<'_>>
     }
 }
 
-/// Checks that something separates the fields that `--field` names.
+/// Returns the byte between two fields: a space if they are between blanks, and else the delimiter.
 ///
 /// # Errors
 ///
-/// Returns an error if neither a delimiter nor blanks do.
-fn separated_fields<'a>(values: &Values<'a>) -> Result<(), Wrong<'a>>
-    ensures ok { IfOk result (λ _. AreFieldsSeparated values.now) }
+/// Returns an error if nothing separates the fields that `--field` names.
+fn separator_of<'a>(values: &Values<'a>, delimiter: Option<u8>) -> Result<Option<u8>, Wrong<'a>>
+    ensures ok { IfOk result (λ separator. AreFieldsSeparated values.now
+        × (separator ≡ separator_in values.now.blanks delimiter)) }
     ensures err { IfErr result (IsWrongField values.now) }
 {
-    if values.field.is_some() && values.delimiter.is_none() && !values.blanks {
+    if values.blanks {
+        return Ok(Some(b' '));
+    }
+    if values.field.is_some() && values.delimiter.is_none() {
         return Err(Wrong {
             option: "--field",
             value: values.field,
             reason: ValueError::NoDelimiter,
         });
     }
-    Ok(())
+    Ok(delimiter)
 }
 
 /// Returns the width, and whether sizes are aligned to the left.
@@ -389,11 +362,4 @@ fn parse_size(text: &str, binary: bool, kind: Kind, ignore_case: bool) -> Result
     } else {
         size::parse(text, ignore_case, kind)
     }
-}
-
-/// Returns the number of header records. Operands have none.
-fn header_of(value: Option<u64>, has_operands: bool) -> u64
-    ensures { result ≡ (if has_operands then 0 else unwrap_or value 0) }
-{
-    if has_operands { 0 } else { value.unwrap_or(0) }
 }

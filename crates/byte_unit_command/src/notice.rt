@@ -13,7 +13,6 @@ ghost use Rattle.byte_unit_stream.specs.Prefix.{IsPrefix};
 ghost use Rattle.byte_unit_stream.specs.Streams.{HasWritten, writing_failed};
 
 use crate::error::RunError;
-use crate::laws::texts_are_sizes_or_not;
 use crate::options::{Invalid, Options};
 use crate::quote::add_quoted;
 use crate::size::{parse, without_suffix};
@@ -34,38 +33,27 @@ pub(crate) struct Place {
     pub number: u64,
 }
 
+/// A field of a record.
+#[derive(Debug, Clone, Copy)]
+struct Field<'a> {
+    /// Its number, counted from 1.
+    number: u64,
+    /// What it is.
+    bytes: &'a [u8],
+}
+
 /// Messages that are not written yet.
 #[derive(Drop)]
 pub(crate) struct Notices<A: Allocator> {
     /// The messages, each whole.
-    messages: Vec<u8, A>,
+    pub messages: Vec<u8, A>,
     /// A buffer for one message.
-    line: String<A>,
+    pub line: String<A>,
     /// A buffer for the message of a parse error.
-    words: String<A>,
-}
-
-impl<A: Allocator + Copy> Notices<A> {
-    /// Creates an empty list of messages.
-    pub(crate) fn new(alloc: A) -> Notices<A>
-        ensures { messages_of result ≡ [] }
-    {
-        Notices {
-            messages: Vec::new(alloc),
-            line: String::new(alloc),
-            words: String::new(alloc),
-        }
-    }
+    pub words: String<A>,
 }
 
 impl<A: Allocator> Notices<A> {
-    /// Returns the number of bytes of the messages.
-    pub(crate) fn len(&self) -> usize
-        ensures { result ≡ length (messages_of self.now) }
-    {
-        self.messages.len()
-    }
-
     /// Forgets all messages but those in the first `len` bytes, if a call has stopped since it was out of memory.
     pub(crate) fn undo(&mut self, len: usize, error: RunError)
         ensures memory { error ≡ RunError.Memory
@@ -108,7 +96,7 @@ enum FieldError {
 
 /// Appends a message that a field is not a size, unless rejected fields are ignored. Parses the field for the error.
 ///
-/// Preconditions (proved at every call): the field with this number is chosen, and it is not a size.
+/// Preconditions (proved at every call): the field is chosen, and it is not a size.
 ///
 /// # Errors
 ///
@@ -136,7 +124,11 @@ pub(crate) fn add_reject_notice<A: Allocator>(
         return Ok(());
     }
     let reason = reason_of(options, field);
-    add_message(options, place, number, field, &reason, notices)
+    let field = Field {
+        number,
+        bytes: field,
+    };
+    add_message(options, place, field, &reason, notices)
 }
 
 /// Returns `true` if there are messages about rejected fields.
@@ -156,8 +148,6 @@ fn reason_of(options: &Options, field: &[u8]) -> FieldError
     requires { IsNoSize options.now field.now }
     ensures { IsFieldError options.now field.now result }
 {
-    // For the proof: no text is both accepted and rejected.
-    texts_are_sizes_or_not();
     match parse(options, field) {
         Some(Err(error)) => FieldError::Rejected(error),
         Some(Ok(_)) => FieldError::NotUtf8,
@@ -191,17 +181,8 @@ pub(crate) fn add_limit_notice<A: Allocator>(
         number,
         bytes: field,
     };
-    add_message_if(above, options, place, &field, &FieldError::Above, notices)?;
-    add_message_if(below, options, place, &field, &FieldError::Below, notices)
-}
-
-/// A field that a message is about.
-#[derive(Drop)]
-struct Field<'a> {
-    /// Its number.
-    number: u64,
-    /// What it is.
-    bytes: &'a [u8],
+    add_message_if(above, options, place, field, &FieldError::Above, notices)?;
+    add_message_if(below, options, place, field, &FieldError::Below, notices)
 }
 
 /// Appends a message if it is to be told.
@@ -213,18 +194,18 @@ fn add_message_if<A: Allocator>(
     told: bool,
     options: &Options,
     place: &Place,
-    field: &Field,
+    field: Field,
     reason: &FieldError,
     notices: &mut Notices<A>,
 ) -> Result<(), AllocError>
     ensures ok { OnOk result ((text : List ℕ)
         × IsMessageIf told options.now place.now.word.now place.now.number
-        field.now.number field.now.bytes.now
+        field.entry.number field.entry.bytes.now
         reason.now text × (messages_of notices.new ≡ messages_of notices.old ++ text)) }
     ensures kept { IsPrefix (messages_of notices.old) (messages_of notices.new) }
 {
     if told {
-        add_message(options, place, field.number, field.bytes, reason, notices)
+        add_message(options, place, field, reason, notices)
     } else {
         Ok(())
     }
@@ -238,24 +219,24 @@ fn add_message_if<A: Allocator>(
 fn add_message<A: Allocator>(
     options: &Options,
     place: &Place,
-    number: u64,
-    field: &[u8],
+    field: Field,
     reason: &FieldError,
     notices: &mut Notices<A>,
 ) -> Result<(), AllocError>
     ensures ok { OnOk result ((text : List ℕ)
-        × IsMessage options.now place.now.word.now place.now.number number field.now reason.now text
+        × IsMessage options.now place.now.word.now place.now.number
+        field.entry.number field.entry.bytes.now reason.now text
         × (messages_of notices.new ≡ messages_of notices.old ++ text)) }
     ensures kept { IsPrefix (messages_of notices.old) (messages_of notices.new) }
 {
     notices.line.clear();
-    add_place(options, place, number, &mut notices.line)?;
-    add_quoted(field, &mut notices.line)?;
+    add_place(options, place, field.number, &mut notices.line)?;
+    add_quoted(field.bytes, &mut notices.line)?;
     notices.line.push_str(": ")?;
     add_words(reason, &mut notices.words, &mut notices.line)?;
     add_character(
         reason,
-        without_suffix(options.suffix, field),
+        without_suffix(options.suffix, field.bytes),
         &mut notices.line,
     )?;
     notices.line.push_str("\n")?;

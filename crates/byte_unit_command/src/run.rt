@@ -13,8 +13,8 @@ ghost use Rattle.byte_unit_stream.specs.Chunks.{ended_records, begun_record};
 ghost use Rattle.byte_unit_stream.specs.Streams.{reading_failed, writing_failed};
 
 use crate::buffers::{Buffers, read_max};
-use crate::converter::Progress;
 use crate::error::RunError;
+use crate::notice::Place;
 use crate::options::Options;
 use crate::streams::Streams;
 use crate::tally::Tally;
@@ -145,42 +145,13 @@ pub fn run_with_buffers<A: Allocator, R: Read, W: Write, E: Write>(
         → IsTrue (writing_failed streams.new.writer) }
 {
     let most = read_max(options, buffer.len());
-    run_reads(
-        buffers,
-        options,
-        longest,
-        &mut buffer[..most],
-        digits,
-        streams,
-    )
-}
-
-/// Does what [`run_with_buffers`] does, in reads of at most the length of `chunk`.
-fn run_reads<A: Allocator, R: Read, W: Write, E: Write>(
-    buffers: &mut Buffers<A>,
-    options: &Options,
-    longest: usize,
-    chunk: &mut [u8],
-    digits: &mut [u8],
-    streams: &mut Streams<R, W, E>,
-) -> Result<Tally, RunError>
-    requires empty { AreEmpty buffers.old }
-    requires some { 0 < length chunk.old }
-    requires capacity { text_limit ≤ length digits.old }
-    ensures run { IsRunOf R.remaining W.contents E.contents options.now streams.old streams.new result }
-    ensures memory { SufficeFor options.now longest (length chunk.old)
-        buffers.old.part buffers.old.converter.waiting
-        → IsErrOf result RunError.Memory
-        → IsMemoryDue R.remaining options.now longest streams.old streams.new }
-    ensures bound { OnOk result
-        (AreRecordsBelow R.remaining options.now
-        (longest + length chunk.old) streams.old streams.new) }
-    ensures read_failed { IsErrOf result RunError.Read
-        → IsTrue (reading_failed streams.new.reader) }
-    ensures write_failed { IsErrOf result RunError.Write
-        → IsTrue (writing_failed streams.new.writer) }
-{
-    buffers.converter.progress = Progress::new(options.header, streams.word);
+    let chunk = &mut buffer[..most];
+    buffers.converter.header = options.header;
+    buffers.converter.tally = Tally::new();
+    buffers.converter.place = Place {
+        word: streams.word,
+        number: 0,
+    };
     'reads: loop {
         match streams.reader.read(chunk) {
             None => return Err(RunError::Read),

@@ -44,13 +44,6 @@ impl Tally {
         }
         beyond
     }
-
-    /// Counts a rejected field.
-    pub(crate) fn reject(&mut self, options: &Options)
-        ensures { self.new ≡ tally_with options.now self.old None }
-    {
-        self.rejected = true;
-    }
 }
 
 /// Returns `true` if the size is above the maximum.

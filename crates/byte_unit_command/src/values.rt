@@ -1,14 +1,16 @@
 //! The values of the options of a call.
 
-ghost use Rattle.byte_unit_command.specs.Values.{HasValues};
+ghost use Rattle.std.specs.Prelude.{◌≡◌};
+ghost use Rattle.byte_unit_command.specs.Values.{HasValues, kind_of};
 
+use crate::options::Kind;
 use clap::ArgMatches;
 
 /// The values of the options of a call.
 #[derive(Debug, Clone, Copy, Drop)]
 pub struct Values<'a> {
-    /// Whether `--bits` is given.
-    pub bits: bool,
+    /// The kind of the sizes: bits if `--bits` is given.
+    pub kind: Kind,
     /// Whether `--ignore-case` is given.
     pub ignore_case: bool,
     /// Whether `--human-readable` is given.
@@ -52,18 +54,18 @@ pub fn values_of<'a>(matches: &ArgMatches<'a>) -> Values<'a>
     ensures { HasValues matches.now result }
 {
     Values {
-        bits: matches.get_flag("bits"),
+        kind: kind_of(matches.get_flag("bits")),
+        precision: matches.get_one::<u16>("precision"),
+        header: matches.get_one::<u64>("header"),
         ignore_case: matches.get_flag("ignore-case"),
         human_readable: matches.get_flag("human-readable"),
         from: matches.get_str("from"),
         to: matches.get_str("to"),
         no_unit: matches.get_flag("no-unit"),
         suffix: matches.get_str("suffix"),
-        precision: matches.get_one::<u16>("precision"),
         delimiter: matches.get_str("delimiter"),
         blanks: matches.get_flag("blanks"),
         field: matches.get_str("field"),
-        header: matches.get_one::<u64>("header"),
         padding: matches.get_str("padding"),
         invalid: matches.get_str("invalid"),
         total: matches.get_flag("total"),
@@ -72,4 +74,11 @@ pub fn values_of<'a>(matches: &ArgMatches<'a>) -> Values<'a>
         zero_terminated: matches.get_flag("zero-terminated"),
         has_operands: matches.contains_id("SIZE"),
     }
+}
+
+/// Returns the kind of the sizes.
+pub(crate) fn kind_of(bits: bool) -> Kind
+    ensures { result ≡ kind_of bits }
+{
+    if bits { Kind::Bit } else { Kind::Byte }
 }

@@ -33,10 +33,10 @@ ends-first options bytes split mark n fields_are between some fits first =
     )
 
 pub returns-then-blanks-clause-some : goal.returns-then-blanks-clause-some
-returns-then-blanks-clause-some g c =
+returns-then-blanks-clause-some c =
     let options = c.args.options.now in
     let bytes = c.args.bytes.now in
-    let at : at_blanks options ≡ true = c.requires.blanks ∙ sym c.value_of-blanks.ensures ∙ c.if-blanks.true in
+    let at : at_blanks options ≡ true = c.requires.blanks ∙ c.if-blanks.true in
     IfSome-map (λ n ends.
     let same : n ≡ n + 0 = omega arith in
     ends-first options bytes blank_fields [] n (fields_of-blanks options at) (between_of-blanks options at)
@@ -45,18 +45,18 @@ returns-then-blanks-clause-some g c =
     c.end_of_field.result c.end_of_field.ensures.some
 
 pub returns-then-blanks-clause-none : goal.returns-then-blanks-clause-none
-returns-then-blanks-clause-none g c =
+returns-then-blanks-clause-none c =
     let options = c.args.options.now in
-    let at : at_blanks options ≡ true = c.requires.blanks ∙ sym c.value_of-blanks.ensures ∙ c.if-blanks.true in
+    let at : at_blanks options ≡ true = c.requires.blanks ∙ c.if-blanks.true in
     IfNone-map (λ one. fields_of-blanks options at c.args.bytes.now ∙ one) c.end_of_field.result
     c.end_of_field.ensures.none
 
 pub returns-clause-some : goal.returns-clause-some
-returns-clause-some g c =
+returns-clause-some c =
     let options = c.args.options.now in
     let bytes = c.args.bytes.now in
     let delimiter = c.args.delimiter in
-    let at : at_blanks options ≡ false = c.requires.blanks ∙ sym c.value_of-blanks.ensures ∙ c.if-blanks.false in
+    let at : at_blanks options ≡ false = c.requires.blanks ∙ c.if-blanks.false in
     let fields_are = λ (bytes : List ℕ). fields_of-split options bytes delimiter c.requires.delimiter at in
     IfSome-map (λ n ends. ends-first options bytes (parts delimiter) (delimiter ∷ []) n fields_are
     (between_of-split options delimiter c.requires.delimiter at) (omega arith) (omega (arith, ends.0))
@@ -64,9 +64,9 @@ returns-clause-some g c =
     c.end_of.result c.end_of.ensures.some
 
 pub returns-clause-none : goal.returns-clause-none
-returns-clause-none g c =
+returns-clause-none c =
     let options = c.args.options.now in
-    let at : at_blanks options ≡ false = c.requires.blanks ∙ sym c.value_of-blanks.ensures ∙ c.if-blanks.false in
+    let at : at_blanks options ≡ false = c.requires.blanks ∙ c.if-blanks.false in
     IfNone-map (λ unbroken. fields_of-split options c.args.bytes.now c.args.delimiter c.requires.delimiter at
     ∙ parts-IsUnbroken c.args.delimiter c.args.bytes.now unbroken)
     c.end_of.result c.end_of.ensures.none

@@ -4,13 +4,6 @@ use Rattle.std.proofs.Common.{◌≡◌, ℕ, zero, suc, ◌*◌, ◌/◌, ◌�
 use Rattle.std.proofs.Math.Nat.{mul-le-mul_left, mul-le-mul_right, mul-div-le, mul-one}
 use Rattle.byte_unit_command.specs.Capacity.{texts_max}
 
--- one text, or none
-one-fits : (text count : ℕ) → count ≤ 1 → text * count ≤ max texts_max text
-one-fits text count few =
-    let one : text * 1 ≡ text = mul-one text in
-    let most : text * count ≤ text * 1 = mul-le-mul_left text few in
-    omega (arith, most, one)
-
 -- the quotient, or 1, times the divisor or less
 quotient-fits : (text field count : ℕ) → text ≤ field → count ≤ max (texts_max / field) 1
     → text * count ≤ max texts_max text

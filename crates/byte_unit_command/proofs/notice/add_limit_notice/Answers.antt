@@ -3,7 +3,6 @@ use Rattle.std.proofs.Common.{◌++◌, refl, ap, subst, ◌∙◌, append_assoc
 use Rattle.byte_unit_command.specs.Messages.{IsMessageIf}
 use Rattle.byte_unit_command.specs.RunState.{messages_of}
 use Rattle.byte_unit_command.specs.declared.notice.FieldError.TheVariants.{Above, Below}
-use Rattle.byte_unit_stream.proofs.Prefixes.{IsPrefix-trans}
 use Rattle.std.proofs.lemmas.Result.{on_ok_weaker}
 use Rattle.byte_unit_command.proofs.notice.add_limit_notice.Goals as goal
 
@@ -29,8 +28,3 @@ returns-clause-ok g c =
       ),
       below.2 ∙ ap (λ messages. messages ++ below.0) above.2 ∙ append_assoc before above.0 below.0,
     )) c.add_message_if-2.ensures.ok
-
-pub returns-clause-kept : goal.returns-clause-kept
-returns-clause-kept g c =
-    IsPrefix-trans (messages_of c.args.notices.now) (messages_of c.add_message_if.new.notices)
-    (messages_of c.add_message_if-2.new.notices) c.in_ok-add_message_if.ensures.kept c.add_message_if-2.ensures.kept

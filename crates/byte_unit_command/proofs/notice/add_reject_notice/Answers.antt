@@ -1,7 +1,6 @@
 -- The message is told unless rejected fields are ignored.
-use Rattle.std.proofs.Common.{[], ◌∙◌, refl, sym, append-nil}
-use Rattle.byte_unit_command.specs.Messages.{rejected, ignored}
-use Rattle.byte_unit_command.specs.RunState.{messages_of}
+use Rattle.std.proofs.Common.{◌∙◌, refl, sym}
+use Rattle.byte_unit_command.specs.Messages.{rejected}
 use Rattle.std.proofs.lemmas.Result.{on_ok_weaker}
 use Rattle.byte_unit_command.proofs.notice.add_reject_notice.Goals as goal
 
@@ -13,10 +12,3 @@ returns-clause-ok g c =
           (sym c.tells_rejected-told.ensures ∙ c.if-not-told.false) added.1,
       added.2,
     )) c.add_message.ensures.ok
-
-pub returns-then-not-told-clause-ok : goal.returns-then-not-told-clause-ok
-returns-then-not-told-clause-ok g c = (
-  [],
-  ignored c.requires.chosen c.requires.none refl (sym c.tells_rejected-told.ensures ∙ c.if-not-told.true) refl,
-  sym (append-nil (messages_of c.args.notices.now)),
-)

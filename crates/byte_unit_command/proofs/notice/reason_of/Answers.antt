@@ -1,7 +1,7 @@
 -- A field that the parser accepts is a size.
 use Rattle.std.proofs.Common.{inl, inr}
 use Rattle.byte_unit_command.specs.Field.{ignores_case, without_suffix}
-use Rattle.byte_unit_command.proofs.Readings.{reading-of, found-of, fault-of}
+use Rattle.byte_unit_command.proofs.Readings.{reading-of, found-of, sizes_or_not}
 use Rattle.byte_unit_command.proofs.notice.reason_of.Goals as goal
 
 pub returns-in-Some-Ok : goal.returns-in-Some-Ok
@@ -11,17 +11,8 @@ returns-in-Some-Ok c =
     let ignore_case = ignores_case kind c.args.options.now.ignore_case in
     let field = without_suffix c.args.options.now.suffix.now c.args.field.now in
     let read = reading-of binary kind ignore_case field c.in-Some-Ok.is c.in-Some-Ok.field-0-is c.parse.ensures in
-    let law = c.texts_are_sizes_or_not.ensures binary kind ignore_case field in
+    let law = sizes_or_not binary kind ignore_case field in
     elim c.requires [
       | inl no_text ↦ absurd (no_text read.0)
       | inr rejected ↦ absurd (law.not_both _ rejected.1.0 (found-of binary _ _ _ _ read.1) rejected.1.1)
     ]
-
-pub returns-in-Some-Err : goal.returns-in-Some-Err
-returns-in-Some-Err c =
-    let kind = c.args.options.now.kind in
-    let binary = c.args.options.now.binary in
-    let read = reading-of binary kind (ignores_case kind c.args.options.now.ignore_case)
-    (without_suffix c.args.options.now.suffix.now c.args.field.now)
-    c.in-Some-Err.is c.in-Some-Err.field-0-is c.parse.ensures in
-    (read.0, fault-of binary _ _ _ _ read.1)

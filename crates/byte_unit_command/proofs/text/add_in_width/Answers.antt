@@ -1,5 +1,5 @@
 -- What is appended is the text that `write_size` wrote, with its suffix, padded to the width.
-use Rattle.std.proofs.Common.{◌≡◌, ℕ, List, ◌++◌, ap, sym, ◌∙◌, refl}
+use Rattle.std.proofs.Common.{ℕ, List, ◌++◌, ap, sym, ◌∙◌, refl}
 use Rattle.byte_unit_command.specs.Shown.{padded}
 use Rattle.std.proofs.lemmas.Result.{on_ok_weaker}
 use Rattle.byte_unit_command.proofs.Texts.{padded-none}

@@ -1,11 +1,8 @@
 -- What was written is the text, and in a given unit it has no more bytes than its digits, the point, a space and the
 -- unit allow.
-use Rattle.std.proofs.Common.{◌≤◌, ℕ, sym, subst, arith}
+use Rattle.std.proofs.Common.{◌≤◌, sym, subst}
 use Rattle.byte_unit_command.specs.Capacity.{form_max}
-use Rattle.byte_unit_command.specs.CallOptions.{kind_of}
-use Rattle.byte_unit_command.specs.Shown.{BeginsWithForm, IsFormText}
 use Rattle.byte_unit_command.proofs.Lengths.{adjusted-narrow}
-use Rattle.byte_unit_command.proofs.Numbers.{begins_with}
 use Rattle.byte_unit_command.proofs.text.write_as.Goals as goal
 
 pub returns-in-InUnit-clause-narrow : goal.returns-in-InUnit-clause-narrow

@@ -69,6 +69,6 @@ pub returns-in_err-add_limit_notice-clause-succeeds : goal.returns-in_err-add_li
 returns-in_err-add_limit_notice-clause-succeeds g c = λ _ untold.
     let old : State = state_of c.args.self.now in
     let within = within-untold c.args.options.now old.word old.place c.args.number c.args.field.now
-    c.texts_are_sizes_or_not.ensures c.in-Some.size untold.0 (c.requires.yes c.if-not-chosen.false)
+    c.in-Some.size untold.0 (c.requires.yes c.if-not-chosen.false)
     c.in-Some.ensures.some untold.1 in
     absurd (true≢false (sym c.if-add.true ∙ c.add.ensures.beyond ∙ within))

@@ -23,7 +23,8 @@ returns-in-Err-clause-memory g c = λ is.
     let before = messages_of c.args.self.now.notices in
     let after = messages_of c.append_record.new.self.notices in
     let error = error-passed (Err c.in-Err.error) c.in-Err.error Memory refl is in
-    c.undo.ensures.memory error ∙ ap (λ count. take count after) c.len-messages.ensures
+    c.undo.ensures.memory error ∙ ap (λ count. take count after)
+    (omega (arith, c.len-messages.ensures, c.args.self.now.notices.messages.ok.0))
     ∙ take-IsPrefix before after c.in-Err.ensures.kept_messages
 
 pub returns-in-Err-clause-rejected : goal.returns-in-Err-clause-rejected

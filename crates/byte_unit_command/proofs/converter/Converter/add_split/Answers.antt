@@ -12,7 +12,6 @@ use Rattle.byte_unit_command.specs.declared.error.RunError.TheVariants.{Rejected
 use Rattle.std.proofs.lemmas.Result.{on_ok_weaker}
 use Rattle.byte_unit_command.proofs.Results.{error-passed}
 use Rattle.byte_unit_command.proofs.Rooms.{IsSplitWithin-first, IsSplitWithin-fits, split_len-step, split_room-cut}
-use Rattle.byte_unit_command.proofs.Rooms.{split_room-last}
 use Rattle.byte_unit_command.proofs.Untold.{others-untold}
 use Rattle.byte_unit_command.proofs.Splitting.{EndsFirst, IsSplitting, IsSplitting-at, IsSplitting-start, Aborts-first}
 use Rattle.byte_unit_command.proofs.Splitting.{AddsFields-last, AddsFields-copied, FieldHasNoMessage-now, fields_copied}
@@ -144,32 +143,3 @@ returns-in_err-add_field-clause-succeeds g c = λ room untold.
     let step = split_room-cut (text_room options) (length rest) (place + gap) ends.0 ends.1 in
     let here = FieldHasNoMessage-now c.loop-n.invariant.0 field first in
     absurd (true≢false (sym (c.in_err-add_field.ensures.succeeds (omega (arith, fits, step, taken)) here)))
-
-pub returns-in_err-extend_from_slice-clause-succeeds : goal.returns-in_err-extend_from_slice-clause-succeeds
-returns-in_err-extend_from_slice-clause-succeeds g c = λ room untold.
-    let options = c.args.options.now in
-    let rest = c.loop-n.rest.now in
-    let place = c.in-Some.n in
-    let gap = length (between_of options) in
-    let ends = c.in-Some.ensures.some in
-    let fits = IsSplitWithin-fits c.loop-n.invariant.1 c.args.delimiter c.requires.delimiter room in
-    let taken : length (take place rest) ≡ place = length-take-le place rest (omega (arith, ends.1)) in
-    let step = split_room-cut (text_room options) (length rest) (place + gap) ends.0 ends.1 in
-    let gap_is = ap length c.between-between.ensures in
-    absurd (true≢false (sym (c.in_err-extend_from_slice.ensures.succeeds (omega (
-      arith,
-      fits,
-      step,
-      taken,
-      gap_is,
-      c.in_ok-add_field.ensures.len,
-      c.in_ok-add_field.ensures.capacity,
-    )))))
-
-pub returns-clause-succeeds : goal.returns-clause-succeeds
-returns-clause-succeeds g c = λ room untold.
-    let rest = c.loop-n.rest.now in
-    let first = IsSplitWithin-first c.loop-n.invariant.1 rest [] c.in_default.ensures.none untold in
-    let fits = IsSplitWithin-fits c.loop-n.invariant.1 c.args.delimiter c.requires.delimiter room in
-    c.add_field-2.ensures.succeeds (omega (arith, fits, split_room-last (text_room c.args.options.now) (length rest)))
-    (FieldHasNoMessage-now c.loop-n.invariant.0 rest first)

@@ -1,12 +1,20 @@
 -- The items of the loop are the parts of the list between its commas.
-use Rattle.std.proofs.Common.{◌≡◌, ℕ, List, ◌++◌, [], ◌∷◌, map, length, sym, subst, lit<, Bor}
+use Rattle.std.proofs.Common.{◌≡◌, ℕ, List, ◌++◌, [], ◌∷◌, map, length, ap, sym, subst, lit<, Bor, Option}
+use Rattle.std.proofs.Common.{None, Some}
+use Rattle.std.specs.Prelude.{option_map, unwrap_or}
 use Rattle.std.proofs.lemmas.List.{map-append}
 use Rattle.std.proofs.lemmas.Iterator.Consumers.{YieldsList-turn, YieldsList-end}
 use Rattle.std.proofs.lemmas.Iterator.Splits.{YieldsList-from_str_split}
-use Rattle.byte_unit_command.specs.FieldList.{IsRange, AreRanges}
+use Rattle.byte_unit_command.specs.FieldList.{IsListReading, IsRange, AreRanges}
 use Rattle.byte_unit_command.specs.declared.options.FieldRange.{FieldRange}
 use Rattle.byte_unit_command.proofs.Items.{AreRanges-append, AreRanges-at}
-use Rattle.byte_unit_command.proofs.field_list.ranges_of.Goals as goal
+use Rattle.byte_unit_command.proofs.field_list.fields_of.Goals as goal
+
+-- the list that is read: the one that is given, or the default
+list_text : (list : Option (Bor (List ℕ))) (default read : Bor (List ℕ)) → read ≡ unwrap_or list default
+    → read.now ≡ unwrap_or (option_map (λ list. list.now) list) default.now
+list_text None default read is = ap (λ list. list.now) is
+list_text (Some list) default read is = ap (λ list. list.now) is
 
 -- one more item, which is one more range
 with_item : (items : List (Bor (List ℕ))) (item : Bor (List ℕ)) (ranges more : List FieldRange) (range : FieldRange)
@@ -25,15 +33,18 @@ loop-item-preserved c =
 
 pub returns-in-None-range_of : goal.returns-in-None-range_of
 returns-in-None-range_of c =
-    let parts = YieldsList-from_str_split 44 c.args.list.now (lit< tt) (cc) (cc) (cc) in
+    let parts = YieldsList-from_str_split 44 c.unwrap_or.result.now (lit< tt) (cc) (cc) (cc) in
     let turn = YieldsList-turn parts c.loop-item.yielded _ c.loop-item.yielded_by _ _ c.in-Some.item c.in-Some.is
     c.next.ensures.steps in
-    λ ranges are.
+    let text = list_text c.args.list _ c.unwrap_or.result c.unwrap_or.ensures in
+    subst (λ text. IsListReading text None) text (λ ranges are.
     let range = AreRanges-at _ ranges c.in-Some.item.now (length c.loop-item.yielded) are turn.0 turn.1 in
-    c.in-None-range_of.ensures range.0 range.1
+    c.in-None-range_of.ensures range.0 range.1)
 
 pub returns : goal.returns
 returns c =
-    let parts = YieldsList-from_str_split 44 c.args.list.now (lit< tt) (cc) (cc) (cc) in
+    let parts = YieldsList-from_str_split 44 c.unwrap_or.result.now (lit< tt) (cc) (cc) (cc) in
     let end = YieldsList-end parts c.loop-item.yielded _ c.loop-item.yielded_by _ _ c.in-None.is c.next.ensures.steps in
-    subst (λ texts. AreRanges texts c.loop-item.fields.items) end.0 c.loop-item.invariant
+    let text = list_text c.args.list _ c.unwrap_or.result c.unwrap_or.ensures in
+    subst (λ text. IsListReading text (Some c.loop-item.fields.items)) text
+    (subst (λ texts. AreRanges texts c.loop-item.fields.items) end.0 c.loop-item.invariant)

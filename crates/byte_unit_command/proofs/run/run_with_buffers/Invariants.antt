@@ -1,15 +1,14 @@
 -- What was read so far is served, nothing waits, and the record that was begun is within the limit; each read leaves
 -- fewer reads.
-use Rattle.std.specs.Prelude.{length}
 use Rattle.byte_unit_command.proofs.Served.{HasServed}
 use Rattle.byte_unit_stream.specs.Streams.{reads_left}
 use Rattle.byte_unit_stream.proofs.Longest.{IsWithin}
-use Rattle.byte_unit_command.proofs.run.run_reads.Given as goal
+use Rattle.byte_unit_command.proofs.run.run_with_buffers.Given as goal
 
 abbrev pub invariant-reads : goal.invariant-reads
 invariant-reads g l =
     (so_far : HasServed g.R.Read.remaining g.W.Write.contents g.E.Write.contents l.options l.initial.streams l.streams
-    l.buffers) × IsWithin l.options.record_end l.longest (length l.initial.chunk) l.initial.buffers.part
+    l.buffers) × IsWithin l.options.record_end l.longest l.most l.initial.buffers.part
     l.initial.buffers.converter.waiting so_far.course.read l.buffers.part l.buffers.converter.waiting
 
 abbrev pub decreases-reads : goal.decreases-reads

@@ -1,11 +1,11 @@
 -- Each read is served: the records that end in it are written, and the record that it has begun is kept. Memory is not
 -- the answer while no record is longer than the limit and there is no message.
-use Rattle.std.proofs.Common.{◌≡◌, ◌+◌, ◌≤◌, [], ◌++◌, sym, ap, subst, ◌∙◌, take, length, Err, Result, rules, arith}
-use Rattle.std.proofs.Common.{inl, inr, vec_len}
-use Rattle.std.proofs.lemmas.List.{length-take}
+use Rattle.std.proofs.Common.{◌≡◌, ◌+◌, ◌≤◌, [], ◌++◌, sym, ap, subst, ◌∙◌, take, length, Err, Result, arith}
+use Rattle.std.proofs.Common.{inl, inr, vec_len, refl}
+use Rattle.std.proofs.lemmas.List.{length-take, length-take-le}
 use Rattle.std.specs.Prelude.{vec_capacity}
 use Rattle.std.specs.Io.KnownBytes.{IsAtEnd}
-use Rattle.byte_unit_command.specs.Capacity.{end_room}
+use Rattle.byte_unit_command.specs.Capacity.{SufficeFor, end_room}
 use Rattle.byte_unit_command.specs.RunState.{IsAnswered, IsFinished, idle, state_of}
 use Rattle.byte_unit_command.specs.declared.error.RunError.{RunError}
 use Rattle.byte_unit_command.specs.declared.error.RunError.TheVariants.{Memory, Read}
@@ -19,20 +19,19 @@ use Rattle.byte_unit_stream.specs.Chunks.{begun_record, ended_records}
 use Rattle.byte_unit_stream.specs.Streams.{reader_of}
 use Rattle.byte_unit_stream.proofs.Longest.{longest_of-ended_records-append, longest_record-unfinished}
 use Rattle.byte_unit_stream.proofs.Longest.{longest_record-below}
-use Rattle.byte_unit_command.proofs.run.run_reads.Goals as goal
+use Rattle.byte_unit_command.proofs.run.run_with_buffers.Goals as goal
 
 pub reads-init : goal.reads-init
-reads-init g c =
-    let progress = c.new-buffers.ensures in (
-      HasServed-start _ _ _ c.args.options.now _ _ c.requires.empty.0 c.requires.empty.1 c.requires.empty.2
-          progress.header progress.word progress.number progress.tally,
-      record {
-        finished = omega (arith, c.requires.some);
-        unfinished = omega (arith, c.args.buffers.now.part.ok.0, ap length c.requires.empty.0);
-        part_capacity = omega arith;
-        waiting_capacity = omega arith;
-      },
-    )
+reads-init g c = (
+  HasServed-start _ _ _ c.args.options.now _ _ c.requires.empty.0 c.requires.empty.1 c.requires.empty.2 refl refl refl
+      c.new-buffers.ensures,
+  record {
+    finished = omega (arith, c.read_max-most.ensures.some c.requires.some);
+    unfinished = omega (arith, c.args.buffers.now.part.ok.0, ap length c.requires.empty.0);
+    part_capacity = omega arith;
+    waiting_capacity = omega arith;
+  },
+)
 
 pub reads-preserved : goal.reads-preserved
 reads-preserved g c =
@@ -43,13 +42,19 @@ reads-preserved g c =
     let answered = c.in_ok-answer_piece-in-Some.ensures in
     let begun : length (begun_record options.record_end [] so_far.course.read) ≤ c.args.longest =
     omega (arith, ap length so_far.served.begun, c.reads.buffers.part.ok.0, within.unfinished) in
-    let short : length piece ≤ length c.args.chunk.now =
-    omega (arith, length-take c.in-Some.n c.read.new.buf, c.read.auto.buf, c.reads.auto.chunk) in (
+    let short : length piece ≤ c.read_max-most.result =
+    omega (
+      arith,
+      length-take c.in-Some.n c.read.new.buf,
+      c.read.auto.buf,
+      c.reads.auto.chunk,
+      length-take-le c.read_max-most.result c.args.buffer.now c.read_max-most.ensures.bound,
+    ) in (
       HasServed-piece so_far _ _ piece c.in-Some.ensures.came answered.written answered.part answered.waiting
           answered.notices,
       record {
         finished = longest_of-ended_records-append options.record_end so_far.course.read piece
-            (c.args.longest + length c.args.chunk.now) within.finished (omega (arith, begun, short));
+            (c.args.longest + c.read_max-most.result) within.finished (omega (arith, begun, short));
         unfinished = omega (arith, c.if-len-longest.false, c.len.ensures);
         part_capacity = omega (arith, within.part_capacity, answered.part_capacity);
         waiting_capacity = omega (arith, within.waiting_capacity, answered.waiting_capacity);
@@ -75,7 +80,12 @@ pub returns-clause-run : goal.returns-clause-run
 returns-clause-run g c =
     let end = c.in-Some-eq0 in
     IsRunOf-finished c.reads.invariant.0 _ (take end.field-0 c.read.new.buf) c.deref.result.now end.ensures.came
-    (ap (λ count. take count c.read.new.buf) end.field-0-test) (end.ensures.end end.field-0-test (search rules))
+    (ap (λ count. take count c.read.new.buf) end.field-0-test) (end.ensures.end end.field-0-test (omega (
+      arith,
+      c.reads.auto.chunk,
+      length-take-le c.read_max-most.result c.args.buffer.now c.read_max-most.ensures.bound,
+      c.read_max-most.ensures.some c.requires.some,
+    )))
     c.deref.ensures.value c.finish.result c.finish.ensures.written
 
 -- no call on the way ends as a read that failed
@@ -113,14 +123,22 @@ returns-then-len-longest-clause-memory g c = λ _ _.
 
 -- there is a message about a record that ends in the piece
 pub returns-in_err-answer_piece-in-Some-clause-memory : goal.returns-in_err-answer_piece-in-Some-clause-memory
-returns-in_err-answer_piece-in-Some-clause-memory g c = λ capacity is.
+returns-in_err-answer_piece-in-Some-clause-memory g c = λ fits is.
+    let capacity = subst (λ most. SufficeFor c.args.options.now c.args.longest most c.args.buffers.now.part
+    c.args.buffers.now.converter.waiting) (sym c.read_max-most.ensures.most) fits in
     let so_far = c.reads.invariant.0 in
     let waiting = c.reads.buffers.converter.waiting in
     let piece = take c.in-Some.n c.read.new.buf in
     let failed = c.in_err-answer_piece-in-Some in
     let same = error-passed c.from_residual.result failed.field-0.0 Memory c.from_residual.ensures.1 is in
-    let few : length piece ≤ length c.args.chunk.now =
-    omega (arith, length-take c.in-Some.n c.read.new.buf, c.read.auto.buf, c.reads.auto.chunk) in
+    let few : length piece ≤ c.read_max-most.result =
+    omega (
+      arith,
+      length-take c.in-Some.n c.read.new.buf,
+      c.read.auto.buf,
+      c.reads.auto.chunk,
+      length-take-le c.read_max-most.result c.args.buffer.now c.read_max-most.ensures.bound,
+    ) in
     let suffice = SufficeFor-piece c.args.options.now c.reads.invariant.1
     (waiting.ok.0 ∙ ap length so_far.none_waits) capacity (length piece) few in (
       so_far.course.read ++ piece,
@@ -130,7 +148,9 @@ returns-in_err-answer_piece-in-Some-clause-memory g c = λ capacity is.
 
 -- there is a message about the last record
 pub returns-clause-memory : goal.returns-clause-memory
-returns-clause-memory g c = λ capacity is.
+returns-clause-memory g c = λ fits is.
+    let capacity = subst (λ most. SufficeFor c.args.options.now c.args.longest most c.args.buffers.now.part
+    c.args.buffers.now.converter.waiting) (sym c.read_max-most.ensures.most) fits in
     let options = c.args.options.now in
     let so_far = c.reads.invariant.0 in
     let buffers = c.reads.buffers in
@@ -141,11 +161,16 @@ returns-clause-memory g c = λ capacity is.
     so_far.course.messages part (state_of buffers.converter) =
     record { added = so_far.served.added; begun = c.deref.ensures.value ∙ so_far.served.begun } in
     let at_end : IsAtEnd (g.R.Read.remaining (reader_of c.read.new.self)) =
-    end.ensures.end end.field-0-test (search rules) in
-    let fits = end-fits options c.reads.invariant.1 (waiting.ok.0 ∙ ap length so_far.none_waits) capacity
-    c.requires.some in
+    end.ensures.end end.field-0-test (omega (
+      arith,
+      c.reads.auto.chunk,
+      length-take-le c.read_max-most.result c.args.buffer.now c.read_max-most.ensures.bound,
+      c.read_max-most.ensures.some c.requires.some,
+    )) in
+    let at_end_fits = end-fits options c.reads.invariant.1 (waiting.ok.0 ∙ ap length so_far.none_waits) capacity
+    (c.read_max-most.ensures.some c.requires.some) in
     let len : vec_len buffers.part ≡ length part = buffers.part.ok.0 ∙ ap length (sym c.deref.ensures.value) in
-    let room = subst (λ len. vec_len waiting + end_room options len ≤ vec_capacity waiting) len fits in (
+    let room = subst (λ len. vec_len waiting + end_room options len ≤ vec_capacity waiting) len at_end_fits in (
       so_far.course.read,
       HasRead-end so_far c.read.new.self (take end.field-0 c.read.new.buf) end.ensures.came
           (ap (λ count. take count c.read.new.buf) end.field-0-test),
@@ -159,11 +184,12 @@ returns-clause-bound g c =
     let within = c.reads.invariant.1 in
     let end = c.in-Some-eq0 in
     let part = c.reads.buffers.part in
+    let below = longest_record-below c.args.options.now.record_end so_far.course.read part.items
+    (c.args.longest + c.read_max-most.result) so_far.served.begun within.finished
+    (omega (arith, within.unfinished, part.ok.0, c.read_max-most.ensures.some c.requires.some)) in
     OnOk-always c.finish.result (
       so_far.course.read,
       HasRead-end so_far c.read.new.self (take end.field-0 c.read.new.buf) end.ensures.came
           (ap (λ count. take count c.read.new.buf) end.field-0-test),
-      longest_record-below c.args.options.now.record_end so_far.course.read part.items
-          (c.args.longest + length c.args.chunk.now) so_far.served.begun within.finished
-          (omega (arith, within.unfinished, part.ok.0, c.requires.some)),
+      omega (arith, below, c.read_max-most.ensures.bound),
     )

@@ -1,11 +1,11 @@
 -- What is appended is the blank that separates the field, and the size in its width; not between blanks, nothing is
 -- before it, and the width is that of the options.
-use Rattle.std.proofs.Common.{◌≡◌, ◌++◌, true, false, length, true≢false, ap, subst, sym, ◌∙◌, refl}
-use Rattle.std.proofs.Common.{append_assoc, arith}
+use Rattle.std.proofs.Common.{◌≡◌, ◌++◌, true, false, ap, subst, sym, ◌∙◌, refl}
+use Rattle.std.proofs.Common.{append_assoc}
 use Rattle.std.proofs.lemmas.Result.{on_ok_weaker}
 use Rattle.byte_unit_command.specs.Fields.{at_blanks, gap_by, gap_of, width_by, width_of}
 use Rattle.byte_unit_command.specs.Shown.{IsShown}
-use Rattle.byte_unit_command.proofs.blanks.add_placed.Goals as goal
+use Rattle.byte_unit_command.proofs.text.add_placed.Goals as goal
 
 pub returns-then-blanks-clause-ok : goal.returns-then-blanks-clause-ok
 returns-then-blanks-clause-ok g c =
@@ -13,7 +13,7 @@ returns-then-blanks-clause-ok g c =
     let number = c.args.number in
     let field = c.args.field.now in
     let old = c.args.text.now.items in
-    let at : at_blanks options ≡ true = c.requires.blanks ∙ sym c.value_of-blanks.ensures ∙ c.if-blanks.true in
+    let at : at_blanks options ≡ true = c.requires.blanks ∙ c.if-blanks.true in
     let width : c.width_of-width.result ≡ width_of options number field =
     c.width_of-width.ensures.width ∙ ap (λ blanks. width_by blanks options.width number field) (sym at) in
     let gap : c.gap_of.result.now ≡ gap_of options number field =
@@ -34,7 +34,7 @@ returns-clause-ok g c =
     let options = c.args.options.now in
     let number = c.args.number in
     let field = c.args.field.now in
-    let at : at_blanks options ≡ false = c.requires.blanks ∙ sym c.value_of-blanks.ensures ∙ c.if-blanks.false in
+    let at : at_blanks options ≡ false = c.requires.blanks ∙ c.if-blanks.false in
     let width = ap (λ blanks. width_by blanks options.width number field) (sym at) in
     on_ok_weaker c.add_in_width-2.result (λ added. (
       added.0,
@@ -45,30 +45,3 @@ returns-clause-ok g c =
       },
       added.2,
     )) c.add_in_width-2.ensures.ok
-
-pub returns-in_err-extend_from_slice-clause-succeeds : goal.returns-in_err-extend_from_slice-clause-succeeds
-returns-in_err-extend_from_slice-clause-succeeds g c = λ room.
-    let failed = c.in_err-extend_from_slice.ensures in
-    absurd (true≢false (sym (failed.succeeds (omega (arith, room, c.gap_of.ensures.bound)))))
-
-pub returns-then-blanks-clause-succeeds : goal.returns-then-blanks-clause-succeeds
-returns-then-blanks-clause-succeeds g c = λ room.
-    c.add_in_width.ensures.succeeds (omega (
-      arith,
-      room,
-      c.in_ok-extend_from_slice.ensures.len,
-      c.in_ok-extend_from_slice.ensures.capacity,
-      c.width_of-width.ensures.bound,
-      c.gap_of.ensures.bound,
-      ap length c.gap_of.ensures.items,
-    ))
-
-pub returns-then-blanks-clause-len : goal.returns-then-blanks-clause-len
-returns-then-blanks-clause-len g c = omega (
-  arith,
-  c.add_in_width.ensures.len,
-  c.in_ok-extend_from_slice.ensures.len,
-  c.width_of-width.ensures.bound,
-  c.gap_of.ensures.bound,
-  ap length c.gap_of.ensures.items,
-)
