@@ -151,7 +151,7 @@ impl<A: Allocator> Converter<A> {
         match options.delimiter {
             None => {
                 let chosen = is_in_one(options.fields, 1);
-                self.add_field(options, 1, bytes, chosen, false, digits)
+                self.add_field::<false>(options, 1, bytes, chosen, digits)
             }
             Some(delimiter) if options.blanks => {
                 self.add_split::<true>(options, delimiter, bytes, digits)
@@ -200,7 +200,7 @@ impl<A: Allocator> Converter<A> {
         let mut number = 1u64;
         while let Some(n) = end_of_first(options, BLANKS, delimiter, rest) {
             let chosen = is_chosen(ranges, in_order, number);
-            self.add_field(options, number, &rest[..n], chosen, BLANKS, digits)?;
+            self.add_field::<BLANKS>(options, number, &rest[..n], chosen, digits)?;
             self.waiting.extend_from_slice(between)?;
             rest = &rest[n + between.len()..];
             number += 1;
@@ -211,12 +211,12 @@ impl<A: Allocator> Converter<A> {
             }
         }
         let chosen = is_chosen(ranges, in_order, number);
-        self.add_field(options, number, rest, chosen, BLANKS, digits)
+        self.add_field::<BLANKS>(options, number, rest, chosen, digits)
     }
 
     /// Appends what is written for the field with this number, and counts what is found in it.
     ///
-    /// Preconditions (proved at every call): `chosen` says whether the field is chosen, `blanks` whether fields are
+    /// Preconditions (proved at every call): `chosen` says whether the field is chosen, `BLANKS` whether fields are
     /// between blanks, and `digits` has capacity for the text of any size.
     ///
     /// # Errors
@@ -224,17 +224,16 @@ impl<A: Allocator> Converter<A> {
     /// - `Rejected` if the field is not a size, in the mode `abort`.
     /// - `Memory` if allocation fails.
     #[inline(always)]
-    fn add_field(
+    fn add_field<const BLANKS: bool>(
         &mut self,
         options: &Options,
         number: u64,
         field: &[u8],
         chosen: bool,
-        blanks: bool,
         digits: &mut [u8],
     ) -> Result<(), RunError>
         requires capacity { text_limit ≤ length digits.old }
-        requires blanks { at_blanks options.now ≡ blanks }
+        requires blanks { at_blanks options.now ≡ BLANKS }
         requires yes { IsTrue chosen → IsChosen options.now.fields.now number }
         requires no { IsFalse chosen → ¬ IsChosen options.now.fields.now number }
         ensures ok { OnOk result
@@ -261,15 +260,7 @@ impl<A: Allocator> Converter<A> {
         if self.tally.add(options, size) {
             add_limit_notice(options, &self.place, number, field, size, &mut self.notices)?;
         }
-        add_placed(
-            options,
-            blanks,
-            number,
-            field,
-            size,
-            digits,
-            &mut self.waiting,
-        )?;
+        add_placed::<BLANKS, A>(options, number, field, size, digits, &mut self.waiting)?;
         Ok(())
     }
 

@@ -27,23 +27,22 @@ pub(crate) const AT_ONCE: usize = 64;
 /// separate the fields, the blank before the field is first, unless it is the first field, and the size takes at least
 /// the width of the options or the columns that the field has.
 ///
-/// Preconditions (proved at every call): `blanks` says whether fields are between blanks, `size` is less than 10^30,
+/// Preconditions (proved at every call): `BLANKS` says whether fields are between blanks, `size` is less than 10^30,
 /// and `digits` has capacity for any text.
 ///
 /// # Errors
 ///
 /// Returns `AllocError` if allocation fails.
 #[inline(always)]
-pub(crate) fn add_placed<A: Allocator>(
+pub(crate) fn add_placed<const BLANKS: bool, A: Allocator>(
     options: &Options,
-    blanks: bool,
     number: u64,
     field: &[u8],
     size: u128,
     digits: &mut [u8],
     text: &mut Vec<u8, A>,
 ) -> Result<(), AllocError>
-    requires blanks { at_blanks options.now ≡ blanks }
+    requires blanks { at_blanks options.now ≡ BLANKS }
     requires size { size < size_limit }
     requires capacity { text_limit ≤ length digits.old }
     ensures ok { OnOk result ((placed : List ℕ) × IsPlaced options.now number field.now size placed
@@ -53,12 +52,21 @@ pub(crate) fn add_placed<A: Allocator>(
     ensures len { Grows text.old text.new (field_room options.now (length field.now)) }
     ensures capacity { vec_capacity text.old ≤ vec_capacity text.new }
 {
+    let blanks = value_of(BLANKS);
     if blanks {
         text.extend_from_slice(gap_of(number > 1, field))?;
         let width = width_of(options, number, field);
         return add_in_width(options, width, size, digits, text);
     }
     add_in_width(options, options.width as usize, size, digits, text)
+}
+
+/// Returns a constant as a value, so that proofs tell the two branches on it apart.
+#[inline(always)]
+fn value_of(constant: bool) -> bool
+    ensures { result ≡ constant }
+{
+    constant
 }
 
 /// Appends the text of a size in at least `width` columns to `text`. `digits` is a buffer for it.

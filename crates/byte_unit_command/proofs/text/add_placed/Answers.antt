@@ -13,7 +13,7 @@ returns-then-blanks-clause-ok g c =
     let number = c.args.number in
     let field = c.args.field.now in
     let old = c.args.text.now.items in
-    let at : at_blanks options ≡ true = c.requires.blanks ∙ c.if-blanks.true in
+    let at : at_blanks options ≡ true = c.requires.blanks ∙ (sym c.value_of-blanks.ensures ∙ c.if-blanks.true) in
     let width : c.width_of-width.result ≡ width_of options number field =
     c.width_of-width.ensures.width ∙ ap (λ blanks. width_by blanks options.width number field) (sym at) in
     let gap : c.gap_of.result.now ≡ gap_of options number field =
@@ -34,7 +34,7 @@ returns-clause-ok g c =
     let options = c.args.options.now in
     let number = c.args.number in
     let field = c.args.field.now in
-    let at : at_blanks options ≡ false = c.requires.blanks ∙ c.if-blanks.false in
+    let at : at_blanks options ≡ false = c.requires.blanks ∙ (sym c.value_of-blanks.ensures ∙ c.if-blanks.false) in
     let width = ap (λ blanks. width_by blanks options.width number field) (sym at) in
     on_ok_weaker c.add_in_width-2.result (λ added. (
       added.0,
