@@ -77,3 +77,6 @@ module _ (kind : Kind) (ignore_case : Bool) (bytes : List ℕ) where
 pub parsed_sizes_are_accepted : ParsedSizesAreAccepted
 parsed_sizes_are_accepted kind ignore_case bytes =
     gives_answer _ _ _ _ (accepted_or_refused as_written kind ignore_case bytes) (size_is_answer kind ignore_case bytes)
+
+-- what the parsed unit, number and size of a string are
+pub ruleset parsed_texts = (parsed_units_are_spelled, parsed_numbers_are_represented, parsed_sizes_are_accepted)

@@ -13,3 +13,4 @@ pub mod FewPlaces
 pub mod UnitFraction
 pub mod WithDigits
 pub mod LaterVersion
+pub mod LawProofs

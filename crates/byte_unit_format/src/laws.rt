@@ -3,6 +3,8 @@
 //! In the laws about parsing a formatted size, a size is below 10^30. The others hold for any number as the size,
 //! unless they say otherwise.
 
+#![tactic(auto, using(crate::proofs::LawProofs::law_lemmas))]
+
 ghost use Rattle.std.specs.Prelude.{◌≡◌};
 ghost use Rattle.byte_unit_format.specs.FormLaws.{SizeFormReadsBack, PlainFormReadsBack, SizeStringReadsBack};
 ghost use Rattle.byte_unit_format.specs.FormLaws.{SizeHasOneForm, SizeHasOneAdjustedForm, AdjustedStringReadsBack};
@@ -22,7 +24,6 @@ pub fn size_form_reads_back()
 {}
 
 /// States that a size formatted as digits only round-trips, if the sign is not `Plus`.
-#[tactic(auto, using(crate::proofs::ReadBack::plain_form_reads_back))]
 pub fn plain_form_reads_back()
     ensures { PlainFormReadsBack }
 {}
@@ -38,19 +39,16 @@ pub fn binary_string_reads_back()
 {}
 
 /// States that a size has one form with a unit under each spec, in each version.
-#[tactic(auto, using(crate::proofs::WrittenForms::has_one_form))]
 pub fn size_has_one_form()
     ensures { SizeHasOneForm }
 {}
 
 /// States that a size has one form in each unit under each spec.
-#[tactic(auto, using(crate::proofs::AdjustedForms::has_one_adjusted_form))]
 pub fn size_has_one_adjusted_form()
     ensures { SizeHasOneAdjustedForm }
 {}
 
 /// States that `Display` writes a size as `FormatSpec::PLAIN` formats it.
-#[tactic(auto, using(crate::proofs::ShownForms::shown_size_is_plain))]
 pub fn shown_size_is_plain_form()
     ensures { ShownSizeIsPlainForm }
 {}
@@ -61,34 +59,29 @@ pub fn shown_adjusted_size_is_plain_form()
 {}
 
 /// States that a size formatted as digits only is as long as the width, or as its digits with their sign if longer.
-#[tactic(auto, using(crate::proofs::Widths::plain_form_fills_width))]
 pub fn plain_form_fills_width()
     ensures { PlainFormFillsWidth }
 {}
 
 /// States that a number with its unit is as long as the width, or as number, spaces and name if longer.
-#[tactic(auto, using(crate::proofs::Widths::layout_fills_width))]
 pub fn layout_fills_width()
     ensures { LayoutFillsWidth }
 {}
 
 /// States that the string of an adjusted size is parsed as its size if it has at most 28 digits after the point, and
 /// else rejected at the 29th.
-#[tactic(auto, using(crate::proofs::ReadBack::adjusted_string_reads_back))]
 pub fn adjusted_string_reads_back()
     ensures { AdjustedStringReadsBack }
 {}
 
 /// States that a nonzero size in a unit needs `max(a - s, b - t, 0)` places, where `a` and `b` are the exponents of 2
 /// and 5 in the bits of the unit, and `s` and `t` those in the bits of the size. Zero needs none.
-#[tactic(auto, using(byte_unit_math::proofs::Powers::zero_takes_no_places))]
 pub fn places_of_size()
     ensures places { PlacesOfSize }
     ensures zero { ZeroTakesNoPlaces }
 {}
 
 /// States that a size in a unit has at most 93 places, a size in bytes at most 90.
-#[tactic(auto, using(crate::proofs::ShortExpansions::expansions_end))]
 pub fn expansions_end()
     ensures { ExpansionsEnd }
 {}
@@ -97,7 +90,6 @@ pub fn expansions_end()
 /// the same size, under the same flags. Each size of the first version has the same form with a unit under each spec,
 /// and the same appropriate unit of its own kind by each type; and in each unit of the first version a size has the
 /// same form under each spec.
-#[tactic(auto, using(crate::proofs::LaterVersion::meanings_stay))]
 pub fn old_meanings_stay()
     ensures accepted_texts { AcceptedTextsStay }
     ensures size_forms { SizeFormsStay }

@@ -1,5 +1,7 @@
 //! Laws of the parsers. Each function does nothing; its contract is the law.
 
+#![tactic(auto, using(crate::proofs::ParsedTexts::parsed_texts))]
+
 ghost use Rattle.byte_unit_base.specs.ReaderLaws.{UnitTextsHaveOneAnswer, SizeTextsHaveOneAnswer};
 ghost use Rattle.byte_unit_base.specs.ReaderLaws.{ViableUnitPrefixesAreBeginnings, ViableSizePrefixesAreBeginnings};
 ghost use Rattle.byte_unit_base.specs.ReaderLaws.{NamesSpellTheirUnits};
@@ -33,20 +35,17 @@ pub fn names_spell_their_units()
 {}
 
 /// States that `parsed_unit` gives exactly the unit that a string spells, or its error.
-#[tactic(auto, using(crate::proofs::ParsedTexts::parsed_units_are_spelled))]
 pub fn parsed_units_are_spelled()
     ensures { ParsedUnitsAreSpelled }
 {}
 
 /// States that `parsed_number` gives exactly the number and unit that a string represents, or its error.
-#[tactic(auto, using(crate::proofs::ParsedTexts::parsed_numbers_are_represented))]
 pub fn parsed_numbers_are_represented()
     ensures { ParsedNumbersAreRepresented }
 {}
 
 /// States that `parsed_size` gives exactly the size that a string is accepted as, or the error that it is rejected
 /// with.
-#[tactic(auto, using(crate::proofs::ParsedTexts::parsed_sizes_are_accepted))]
 pub fn parsed_sizes_are_accepted()
     ensures { ParsedSizesAreAccepted }
 {}

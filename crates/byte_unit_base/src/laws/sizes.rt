@@ -1,16 +1,16 @@
 //! Laws of sizes in bytes and in bits. Each function does nothing; its contract is the law.
 
+#![tactic(auto, using(crate::proofs::Rounding::more_covers_more, crate::proofs::Rounding::one_least_size))]
+
 ghost use Rattle.byte_unit_base.specs.SizeLaws.{GreaterNumbersGiveNoSmallerSizes, EachNumberHasOneLeastSize};
 ghost use Rattle.byte_unit_base.specs.SizeLaws.{EachTextIsOneOfThree, TextsAreAcceptedOrRejected};
 
 /// States that for one unit a greater number never has a smaller size.
-#[tactic(auto, using(crate::proofs::Rounding::more_covers_more))]
 pub fn greater_numbers_give_no_smaller_sizes()
     ensures { GreaterNumbersGiveNoSmallerSizes }
 {}
 
 /// States that each number of each unit has one size in bytes, and one in bits: its exact value, rounded up.
-#[tactic(auto, using(crate::proofs::Rounding::one_least_size))]
 pub fn each_number_has_one_least_size()
     ensures { EachNumberHasOneLeastSize }
 {}
