@@ -21,10 +21,10 @@ pub record GrowsByAnswer {E Z : Type 0} (old new : Vec ℕ Z) (result : Result �
   pub len : vec_len new ≤ vec_len old + answer_max
   pub capacity : vec_capacity old ≤ vec_capacity new
 
--- the kind of sizes in bits or in bytes
-abbrev pub kind_of : Bool → Kind
-kind_of true = Bit
-kind_of false = Byte
+-- the kind of sizes in bits if this is true, and else of those in bytes
+abbrev pub kind_for : Bool → Kind
+kind_for true = Bit
+kind_for false = Byte
 
 -- the answers to these lines were appended
 abbrev pub AddsAnswers : Kind → List (List ℕ) → List ℕ → List ℕ → Type 0

@@ -5,7 +5,7 @@ ghost use Rattle.byte_unit.specs.Errors.{size_fault};
 ghost use Rattle.byte_unit.specs.Line.{IsLine};
 ghost use Rattle.byte_unit_lines.specs.Answer.{words_of};
 ghost use Rattle.byte_unit_lines.specs.Lines.{line_end};
-ghost use Rattle.byte_unit_lines.specs.Answered.{AddsAnswer, GrowsByAnswer, kind_of};
+ghost use Rattle.byte_unit_lines.specs.Answered.{AddsAnswer, GrowsByAnswer, kind_for};
 
 use byte_unit::{Kind, ParseError, ValueParseError};
 use byte_unit_base::size;
@@ -50,10 +50,10 @@ fn add_answer_of<const BITS: bool, A: Allocator>(
 ) -> Result<(), AllocError>
     requires { IsLine bytes.now len }
     ensures ok { OnOk result
-        (AddsAnswer (kind_of BITS) (take len bytes.now) out.old.items out.new.items) }
+        (AddsAnswer (kind_for BITS) (take len bytes.now) out.old.items out.new.items) }
     ensures growth { GrowsByAnswer out.old out.new result }
 {
-    let kind = kind_of(BITS);
+    let kind = kind_for(BITS);
     match size::parse_line(bytes, len, false, kind) {
         None => out.extend_from_slice(b"not text\n"),
         Some(Err(error)) => out.extend_from_slice(fault_line_of(&error)),
@@ -66,9 +66,9 @@ fn add_answer_of<const BITS: bool, A: Allocator>(
     }
 }
 
-/// Returns the kind of sizes in bits or in bytes.
-fn kind_of(bits: bool) -> Kind
-    ensures { result ≡ kind_of bits }
+/// Returns the kind of sizes in bits if `bits`, and else of those in bytes.
+fn kind_for(bits: bool) -> Kind
+    ensures { result ≡ kind_for bits }
 {
     if bits { Kind::Bit } else { Kind::Byte }
 }
