@@ -1,13 +1,11 @@
 //! The answer to one line.
 
-ghost use Rattle.std.specs.Prelude.{◌≡◌, ◌+◌, ◌≤◌, ◌∷◌, [], ◌++◌, OnOk, OnErr, IsOk, take, vec_len, vec_capacity};
+ghost use Rattle.std.specs.Prelude.{◌≡◌, ◌∷◌, [], ◌++◌, OnOk, take};
 ghost use Rattle.byte_unit.specs.Errors.{size_fault};
 ghost use Rattle.byte_unit.specs.Line.{IsLine};
-ghost use Rattle.byte_unit.specs.declared.Kind.TheVariants.{Byte as InBytes, Bit as InBits};
 ghost use Rattle.byte_unit_lines.specs.Answer.{words_of};
-ghost use Rattle.byte_unit_lines.specs.Capacity.{answer_max};
 ghost use Rattle.byte_unit_lines.specs.Lines.{line_end};
-ghost use Rattle.byte_unit_lines.specs.Answered.{AddsAnswer};
+ghost use Rattle.byte_unit_lines.specs.Answered.{AddsAnswer, GrowsByAnswer, kind_for};
 
 use byte_unit::{Kind, ParseError, ValueParseError};
 use byte_unit_base::size;
@@ -16,23 +14,6 @@ use std::alloc::{AllocError, Allocator};
 
 /// The maximum length in bytes of an answer: two strings of at most 37 bytes, ` = ` between them, and the line end.
 pub(crate) const ANSWER_MAX: usize = 78;
-
-/// Parses a line as a size of this kind, and appends its message and a line end. A macro, since one function over the
-/// kind takes more instructions than two. Rejected lines take more if the arm for errors comes after that for sizes.
-macro_rules! answer {
-    ($bytes:expr, $len:expr, $kind:expr, $out:expr) => {
-        match size::parse_line($bytes, $len, false, $kind) {
-            None => $out.extend_from_slice(b"not text\n"),
-            Some(Err(error)) => $out.extend_from_slice(fault_line_of(&error)),
-            Some(Ok(size)) => {
-                let mut answer = [0; ANSWER_MAX];
-                let end = write_with_digits(size, $kind, *b" = ", &mut answer);
-                answer[end] = b'\n';
-                $out.extend_from_slice(&answer[..end + 1])
-            }
-        }
-    };
-}
 
 /// Appends the answer to the line at the beginning of bytes, its first `len` bytes, with its line end.
 ///
@@ -50,47 +31,46 @@ pub(crate) fn add_answer<A: Allocator>(
 ) -> Result<(), AllocError>
     requires { IsLine bytes.now len }
     ensures ok { OnOk result (AddsAnswer kind (take len bytes.now) out.old.items out.new.items) }
-    ensures err { OnErr result (out.new.items ≡ out.old.items) }
-    ensures succeeds { vec_len out.old + answer_max ≤ vec_capacity out.old → IsOk result }
-    ensures len { vec_len out.new ≤ vec_len out.old + answer_max }
-    ensures capacity { vec_capacity out.old ≤ vec_capacity out.new }
+    ensures growth { GrowsByAnswer out.old out.new result }
 {
     match kind {
-        Kind::Byte => answer_bytes(bytes, len, out),
-        Kind::Bit => answer_bits(bytes, len, out),
+        Kind::Byte => add_answer_of::<false, A>(bytes, len, out),
+        Kind::Bit => add_answer_of::<true, A>(bytes, len, out),
     }
 }
 
-/// Appends the answer to a line, parsed as a size in bytes. The errors are those of [`add_answer`].
-fn answer_bytes<A: Allocator>(
+/// Does what [`add_answer`] does, with a size in bits if `BITS`, and else in bytes.
+///
+/// One function over the kind takes more instructions. Rejected lines take more if the arm for errors comes after that
+/// for sizes.
+fn add_answer_of<const BITS: bool, A: Allocator>(
     bytes: &[u8],
     len: usize,
     out: &mut Vec<u8, A>,
 ) -> Result<(), AllocError>
     requires { IsLine bytes.now len }
-    ensures ok { OnOk result (AddsAnswer InBytes (take len bytes.now) out.old.items out.new.items) }
-    ensures err { OnErr result (out.new.items ≡ out.old.items) }
-    ensures succeeds { vec_len out.old + answer_max ≤ vec_capacity out.old → IsOk result }
-    ensures len { vec_len out.new ≤ vec_len out.old + answer_max }
-    ensures capacity { vec_capacity out.old ≤ vec_capacity out.new }
+    ensures ok { OnOk result
+        (AddsAnswer (kind_for BITS) (take len bytes.now) out.old.items out.new.items) }
+    ensures growth { GrowsByAnswer out.old out.new result }
 {
-    answer!(bytes, len, Kind::Byte, out)
+    let kind = kind_for(BITS);
+    match size::parse_line(bytes, len, false, kind) {
+        None => out.extend_from_slice(b"not text\n"),
+        Some(Err(error)) => out.extend_from_slice(fault_line_of(&error)),
+        Some(Ok(size)) => {
+            let mut answer = [0; ANSWER_MAX];
+            let end = write_with_digits(size, kind, *b" = ", &mut answer);
+            answer[end] = b'\n';
+            out.extend_from_slice(&answer[..end + 1])
+        }
+    }
 }
 
-/// Appends the answer to a line, parsed as a size in bits. The errors are those of [`add_answer`].
-fn answer_bits<A: Allocator>(
-    bytes: &[u8],
-    len: usize,
-    out: &mut Vec<u8, A>,
-) -> Result<(), AllocError>
-    requires { IsLine bytes.now len }
-    ensures ok { OnOk result (AddsAnswer InBits (take len bytes.now) out.old.items out.new.items) }
-    ensures err { OnErr result (out.new.items ≡ out.old.items) }
-    ensures succeeds { vec_len out.old + answer_max ≤ vec_capacity out.old → IsOk result }
-    ensures len { vec_len out.new ≤ vec_len out.old + answer_max }
-    ensures capacity { vec_capacity out.old ≤ vec_capacity out.new }
+/// Returns the kind of sizes in bits if `bits`, and else of those in bytes.
+fn kind_for(bits: bool) -> Kind
+    ensures { result ≡ kind_for bits }
 {
-    answer!(bytes, len, Kind::Bit, out)
+    if bits { Kind::Bit } else { Kind::Byte }
 }
 
 /// Returns the message for a parse error, with the line end.

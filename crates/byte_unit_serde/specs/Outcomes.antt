@@ -68,8 +68,8 @@ ReadingOption none_returns Reading = AndThen none_returns (λ is_none old result
     (Converting Reading (λ value from read. read ≡ Ok (Some value)) old result new))
 
 -- The error of a sequence: the format's own error at its beginning, or, after the values that were read, the format's
--- own error at the next item, that of reading the item, or that of an item which cannot be stored; or so many values
--- were read that their number has no type.
+-- own error at the next item, that of reading the item, or that of an item which cannot be stored; or `usize::MAX`
+-- values were read.
 abbrev pub IsListError :
     {A F E M : Type 0} → (List ℕ → A → Type 0) → (F → List ℕ → Event → F → Type 0) → (F → F → Type 0)
     → Returns (Deserializer F E M) Unit E → Returns (Deserializer F E M) Bool E

@@ -1,21 +1,11 @@
 //! Sizes and units as fields of types that derive the traits of `serde`, and in TOML.
 #![tactic(auto)]
 
-pub mod bit;
-pub mod bit_vec;
-pub mod byte;
-pub mod byte_binary;
-pub mod byte_ignore_case;
-pub mod byte_vec;
-pub mod byte_vec_binary;
-pub mod byte_vec_ignore_case;
+mod binary;
+mod fields;
+mod ignore_case;
 mod lists;
 mod messages;
-pub mod optional_bit;
-pub mod optional_byte;
-pub mod optional_byte_binary;
-pub mod optional_byte_ignore_case;
-pub mod optional_unit;
 mod options;
 mod sink;
 mod sizes;
@@ -23,11 +13,19 @@ mod source;
 mod stored;
 mod strings;
 mod toml_values;
-pub mod unit;
+mod units;
 
+pub use fields::{
+    bit, bit_vec, byte, byte_binary, byte_ignore_case, byte_vec, byte_vec_binary,
+    byte_vec_ignore_case, optional_bit, optional_byte, optional_byte_binary,
+    optional_byte_ignore_case, optional_unit, unit,
+};
+pub use lists::Lists;
+pub use options::Options;
 pub use sink::Sink;
 pub use source::Source;
 pub use stored::Stored;
+pub use strings::Strings;
 pub use toml_values::{
     TomlSizeError, TomlUnitError, bit_from_toml, byte_from_toml, unit_from_toml,
 };

@@ -3,7 +3,7 @@
 ghost use Rattle.std.specs.Prelude.{IfOk};
 ghost use Rattle.byte_unit_serde.specs.Serialized.{ReadsString};
 
-use crate::strings::{DeserializeString, SerializeString, deserialize_as};
+use crate::strings::{DeserializeString, SerializeString, Strings};
 use serde::{
     Described, Deserialize, DeserializeOwned, Deserializer, Format, Serialize, Serializer,
 };
@@ -38,10 +38,9 @@ impl<T: DeserializeString<Value = T> + Drop> DeserializeOwned for Stored<T> {
         alloc: Global,
         from: &mut Deserializer<'_, '_, F>,
     ) -> Result<Stored<T>, F::Error>
-        ensures { IfOk result (λ stored.
-            ReadsString T.means F.gives from.old from.new stored.0) }
+        ensures { IfOk result (λ stored. ReadsString T.means F.gives from.old from.new stored.0) }
     {
-        Ok(Stored(deserialize_as::<T, F>(alloc, from)?))
+        Ok(Stored(Strings::<T>::deserialize(alloc, from)?))
     }
 }
 
@@ -50,8 +49,7 @@ impl<'de, T: DeserializeString<Value = T> + Drop> Deserialize<'de> for Stored<T>
         alloc: Global,
         from: &mut Deserializer<'de, '_, F>,
     ) -> Result<Stored<T>, F::Error>
-        ensures { IfOk result (λ stored.
-            ReadsString T.means F.gives from.old from.new stored.0) }
+        ensures { IfOk result (λ stored. ReadsString T.means F.gives from.old from.new stored.0) }
     {
         DeserializeOwned::deserialize_owned(alloc, from)
     }

@@ -9,52 +9,45 @@ ghost use Rattle.byte_unit_serde.specs.Serialized.{ReadsString};
 use crate::{Sink, Source};
 use serde::Deserializer;
 use std::alloc::Global;
+use std::marker::PhantomData;
 
-/// Writes the string of the value: the text of a size with its unit, by `FormatSpec::ALTERNATE`, or the name of a unit.
-/// Does not allocate.
-///
-/// # Errors
-///
-/// Returns the format's error if the format cannot write a string.
-pub fn serialize<T: SerializeString<Value = T>, S: Sink>(
-    value: &T,
-    out: &mut S,
-) -> Result<(), S::Error>
-    ensures written { OnOk result (T.writes value.now (S.written out.old) (S.written out.new)) }
-    ensures exact { T.writing S.str_returns value.now out.old result out.new }
-{
-    T::serialize_string(value, out)
+/// Strings that are written in the way `W` and read in the way `R`.
+pub struct Strings<W, R = W>(PhantomData<(W, R)>);
+
+impl<W: SerializeString, R> Strings<W, R> {
+    /// Writes the string of the value, as `W` does. Does not allocate.
+    ///
+    /// # Errors
+    ///
+    /// Returns the format's error if the format cannot write a string.
+    pub fn serialize<S: Sink>(value: &W::Value, out: &mut S) -> Result<(), S::Error>
+        ensures written { OnOk result (W.writes value.now (S.written out.old) (S.written out.new)) }
+        ensures exact { W.writing S.str_returns value.now out.old result out.new }
+    {
+        W::serialize_string(value, out)
+    }
 }
 
-/// Reads a string as `FromStr` of the type parses it. In that of a unit `b` means bits, `B` bytes, and a prefix alone
-/// is a multiple of bytes.
-///
-/// # Errors
-///
-/// Returns the format's error if the value is not a string, or the string is rejected.
-pub fn deserialize<'de, T: DeserializeString<Value = T> + Drop, F: Source>(
-    alloc: Global,
-    from: &mut Deserializer<'de, '_, F>,
-) -> Result<T, F::Error>
-    ensures string { IfOk result (ReadsString T.means F.gives from.old from.new) }
-    ensures exact { Reading T.parses F.string_returns F.rejects from.old result from.new }
-{
-    deserialize_as::<T, F>(alloc, from)
+impl<W, R: DeserializeString> Strings<W, R> {
+    /// Reads a string as `R` parses it.
+    ///
+    /// # Errors
+    ///
+    /// Returns the format's error if the value is not a string, or the string is rejected.
+    pub fn deserialize<F: Source>(
+        alloc: Global,
+        from: &mut Deserializer<'_, '_, F>,
+    ) -> Result<R::Value, F::Error>
+        ensures string { IfOk result (ReadsString R.means F.gives from.old from.new) }
+        ensures exact { Reading R.parses F.string_returns F.rejects from.old result from.new }
+    {
+        let text = F::read_string(alloc, from)?;
+        R::parse_string(text.as_str()).map_err(|message| F::rejection(from, message))
+    }
 }
 
-/// Reads a string as `R` parses it. The errors are those of [`deserialize`].
-pub(crate) fn deserialize_as<R: DeserializeString, F: Source>(
-    alloc: Global,
-    from: &mut Deserializer<'_, '_, F>,
-) -> Result<R::Value, F::Error>
-    ensures string { IfOk result (ReadsString R.means F.gives from.old from.new) }
-    ensures exact { Reading R.parses F.string_returns F.rejects from.old result from.new }
-{
-    let text = F::read_string(alloc, from)?;
-    R::parse_string(text.as_str()).map_err(|message| F::rejection(from, message))
-}
-
-/// A way to write a value as a string.
+/// A way to write a value as a string: the text of a size with its unit, by `FormatSpec::ALTERNATE`, or the name of a
+/// unit.
 pub trait SerializeString {
     /// The type of the value.
     type Value;
@@ -70,7 +63,8 @@ pub trait SerializeString {
         ensures exact { writing S.str_returns value.now out.old result out.new };
 }
 
-/// A way to read a value from a string.
+/// A way to read a value from a string: as `FromStr` of the type parses it, if nothing else is said. In that of a unit
+/// `b` means bits, `B` bytes, and a prefix alone is a multiple of bytes.
 pub trait DeserializeString {
     /// The type of the value.
     type Value: Drop;

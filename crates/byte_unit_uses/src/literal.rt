@@ -87,8 +87,8 @@ pub fn adjusted() -> AdjustedByte
     "20 MB".parse().unwrap()
 }
 
-/// Returns 20 Mbit in the largest unit that is not above it. The unit takes a lemma more than the size.
-#[tactic(auto, using(byte_unit::proofs::OnLiterals::adjusted_computed), unfolding(byte_unit::proofs::OnLiterals::byte_unit_on_literals))]
+/// Returns 20 Mbit in the largest unit that is not above it. The unit takes a lemma more than the size, in
+/// `proofs/literal/adjusted_unit/Answers.antt`.
 pub fn adjusted_unit() -> AdjustedBit
     ensures size { result.size ≡ 20000000 }
     ensures unit { result.unit ≡ Unit.Mibit }

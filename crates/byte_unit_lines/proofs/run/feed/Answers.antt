@@ -55,19 +55,22 @@ loop-n-preserved g c =
       | then-is_empty+in_ok-add_answer w ↦
           let same = ap (λ line. vec_len line) w.line-is in
           let added = ap (λ waiting. vec_len waiting) w.waiting-is in
+          let grown = ap (λ waiting. vec_capacity waiting) w.waiting-is in
+          let growth = w.add_answer.ensures.growth in
           record {
             line_len = omega (arith, so_far.0.line_len, same, left, within);
-            answers_len = omega (arith, so_far.0.answers_len, added, w.add_answer.ensures.len, left, within);
+            answers_len = omega (arith, so_far.0.answers_len, added, growth.len, left, within);
             line_capacity = omega (arith, so_far.0.line_capacity, ap (λ line. vec_capacity line) w.line-is);
-            answers_capacity =
-                omega (arith, so_far.0.answers_capacity, ap (λ waiting. vec_capacity waiting) w.waiting-is, w.add_answer.ensures.capacity);
+            answers_capacity = omega (arith, so_far.0.answers_capacity, grown, growth.capacity);
           }
       | else-is_empty+in_ok-extend_from_slice+in_ok-add_answer-2 w ↦
           let cleared = ap (λ line. vec_len line) w.line-is in
           let added = ap (λ waiting. vec_len waiting) w.waiting-is in
+          let grown = ap (λ waiting. vec_capacity waiting) w.waiting-is in
+          let growth = w.add_answer-else-is_empty.ensures.growth in
           record {
             line_len = omega (arith, so_far.0.line_len, cleared, w.clear.ensures.len, left, within);
-            answers_len = omega (arith, so_far.0.answers_len, added, w.add_answer-else-is_empty.ensures.len, left, within);
+            answers_len = omega (arith, so_far.0.answers_len, added, growth.len, left, within);
             line_capacity = omega (
               arith,
               so_far.0.line_capacity,
@@ -75,12 +78,7 @@ loop-n-preserved g c =
               w.extend_from_slice.ensures.capacity,
               w.clear.ensures.capacity,
             );
-            answers_capacity = omega (
-              arith,
-              so_far.0.answers_capacity,
-              ap (λ waiting. vec_capacity waiting) w.waiting-is,
-              w.add_answer-else-is_empty.ensures.capacity,
-            );
+            answers_capacity = omega (arith, so_far.0.answers_capacity, grown, growth.capacity);
           }
     ] in
     (fits, IsFed-step c.args.kind start now next place so_far.1 answered)

@@ -2,7 +2,7 @@
 use Rattle.std.proofs.Common.{take, drop}
 use Rattle.serde.specs.Event.{WritesEach}
 use Rattle.byte_unit_serde.proofs.Writing.{Continues}
-use Rattle.byte_unit_serde.proofs.lists.serialize_as.Given as goal
+use Rattle.byte_unit_serde.proofs.lists.Lists.serialize.Given as goal
 
 abbrev pub invariant-loop-item : goal.invariant-loop-item
 invariant-loop-item g l =

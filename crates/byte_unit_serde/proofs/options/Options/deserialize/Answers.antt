@@ -1,6 +1,6 @@
 -- What is returned follows from whether the format gave nothing, and else from what was read.
 use Rattle.std.proofs.Common.{rules, true, false, Ok, Err, refl}
-use Rattle.byte_unit_serde.proofs.options.deserialize_as.Goals as goal
+use Rattle.byte_unit_serde.proofs.options.Options.deserialize.Goals as goal
 
 pub returns-in_err-read_none-clause-exact : goal.returns-in_err-read_none-clause-exact
 returns-in_err-read_none-clause-exact g c =
@@ -9,14 +9,14 @@ returns-in_err-read_none-clause-exact g c =
 pub returns-then-branch-clause-exact : goal.returns-then-branch-clause-exact
 returns-then-branch-clause-exact g c = (Ok true, c.read_none.new.from, search rules, (refl, refl))
 
-pub returns-in_err-deserialize_as-clause-exact : goal.returns-in_err-deserialize_as-clause-exact
-returns-in_err-deserialize_as-clause-exact g c = (
+pub returns-in_err-deserialize-clause-exact : goal.returns-in_err-deserialize-clause-exact
+returns-in_err-deserialize-clause-exact g c = (
   Ok false,
   c.read_none.new.from,
   search rules,
-  (Err c.in_err-deserialize_as.field-0.0, search rules, search rules),
+  (Err c.in_err-deserialize.field-0.0, search rules, search rules),
 )
 
 pub returns-clause-exact : goal.returns-clause-exact
 returns-clause-exact g c =
-    (Ok false, c.read_none.new.from, search rules, (Ok c.in_ok-deserialize_as.field-0, search rules, refl))
+    (Ok false, c.read_none.new.from, search rules, (Ok c.in_ok-deserialize.field-0, search rules, refl))

@@ -1,4 +1,4 @@
-//! A unit as a string, for `#[serde(with = "byte_unit_serde::unit")]`.
+//! Units as strings.
 
 ghost use Rattle.byte_unit.specs.Version.{unit_name};
 ghost use Rattle.byte_unit_serde.specs.Outcomes.{ParsesUnit};
@@ -7,7 +7,6 @@ ghost use Rattle.byte_unit_serde.specs.Serialized.{SpellsUnit, WritesUnit};
 use crate::Sink;
 use crate::messages::BAD_UNIT;
 use crate::strings::{DeserializeString, SerializeString};
-pub use crate::strings::{deserialize, serialize};
 use byte_unit::Unit;
 
 impl SerializeString for Unit {

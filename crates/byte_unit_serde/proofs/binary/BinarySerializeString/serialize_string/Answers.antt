@@ -1,6 +1,6 @@
 -- A text by the spec that `spec_of` returns is the string to store.
 use Rattle.std.proofs.lemmas.Result.{on_ok_weaker}
-use Rattle.byte_unit_serde.proofs.byte_binary.serialize.Goals as goal
+use Rattle.byte_unit_serde.proofs.binary.BinarySerializeString.serialize_string.Goals as goal
 
 pub returns-clause-written : goal.returns-clause-written
 returns-clause-written g c =

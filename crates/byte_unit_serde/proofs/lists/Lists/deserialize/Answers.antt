@@ -4,7 +4,7 @@ use Rattle.serde.specs.Steps.{Stays}
 use Rattle.byte_unit_serde.specs.Outcomes.{Reading}
 use Rattle.byte_unit_serde.specs.Serialized.{ReadsEach}
 use Rattle.byte_unit_serde.proofs.Reading.{reads_each_snoc, holds_of_error}
-use Rattle.byte_unit_serde.proofs.lists.deserialize_as.Goals as goal
+use Rattle.byte_unit_serde.proofs.lists.Lists.deserialize.Goals as goal
 
 pub returns-in_err-next_in_list-clause-error : goal.returns-in_err-next_in_list-clause-error
 returns-in_err-next_in_list-clause-error g c =
@@ -21,7 +21,7 @@ pub returns-in_err-item-clause-error : goal.returns-in_err-item-clause-error
 returns-in_err-item-clause-error g c =
     let looks : Stays g.F.Format.stays c.loop-alloc.from c.next_in_list.new.from = search rules in
     let failed : Reading g.R.DeserializeString.parses g.F.Source.string_returns g.F.Source.rejects c.next_in_list.new.from
-    (Err c.in_err-item.field-0.0) c.deserialize_as.new.from = search rules in
+    (Err c.in_err-item.field-0.0) c.deserialize.new.from = search rules in
     holds_of_error _ c.from_residual-in_err-item.result c.in_err-item.field-0.0 (search rules)
     (inr (_, _, _, c.in_ok-begin_list.ensures.given, c.loop-alloc.invariant, inr (inl (_, looks, failed))))
 
@@ -30,16 +30,16 @@ loop-alloc-preserved g c =
     let pushed : c.append.new.items.items ≡ c.loop-alloc.items.items ++ c.in_ok-item.item ∷ [] = search rules in
     let looks : Stays g.F.Format.stays c.loop-alloc.from c.next_in_list.new.from = search rules in
     let more = reads_each_snoc g.R.DeserializeString.means g.F.Format.gives g.F.Format.stays c.loop-alloc.items.items
-    c.in_ok-item.item _ c.loop-alloc.from c.next_in_list.new.from c.deserialize_as.new.from c.loop-alloc.invariant looks
+    c.in_ok-item.item _ c.loop-alloc.from c.next_in_list.new.from c.deserialize.new.from c.loop-alloc.invariant looks
     c.in_ok-item.ensures.string in
     subst (λ items. ReadsEach g.R.DeserializeString.means g.F.Format.gives g.F.Format.stays c.begin_list.new.from
-    c.deserialize_as.new.from items) (sym pushed) more
+    c.deserialize.new.from items) (sym pushed) more
 
 pub returns-in_err-append-clause-error : goal.returns-in_err-append-clause-error
 returns-in_err-append-clause-error g c =
     let looks : Stays g.F.Format.stays c.loop-alloc.from c.next_in_list.new.from = search rules in
     let given = c.in_ok-begin_list.ensures.given in
     let string = c.in_ok-item.ensures.string in
-    let failed : g.F.Source.refuses c.deserialize_as.new.from c.in_err-append.field-0.0 = search rules in
+    let failed : g.F.Source.refuses c.deserialize.new.from c.in_err-append.field-0.0 = search rules in
     holds_of_error _ c.from_residual-in_err-append.result c.in_err-append.field-0.0 (search rules)
     (inr (_, _, _, given, c.loop-alloc.invariant, inr (inr (inl (c.next_in_list.new.from, _, looks, string, failed)))))

@@ -1,7 +1,7 @@
 -- The items so far are the values that were read since the sequence began.
 use Rattle.std.proofs.Common.{◌-◌, ◌^◌, length}
 use Rattle.byte_unit_serde.specs.Serialized.{ReadsEach}
-use Rattle.byte_unit_serde.proofs.lists.deserialize_as.Given as goal
+use Rattle.byte_unit_serde.proofs.lists.Lists.deserialize.Given as goal
 
 abbrev pub invariant-loop-alloc : goal.invariant-loop-alloc
 invariant-loop-alloc g l =

@@ -1,0 +1,72 @@
+//! Sizes in bytes as strings whose prefixes are by 1024.
+
+ghost use Rattle.std.specs.Prelude.{◌≡◌, ℕ, List, true, None};
+ghost use Rattle.byte_unit.specs.BinaryReading.{IsBinaryAccepted, IsBinaryReading};
+ghost use Rattle.byte_unit.specs.BinaryString.{IsBinaryString, has_binary_prefix};
+ghost use Rattle.byte_unit.specs.Forms.{IsText};
+ghost use Rattle.byte_unit.specs.Units.{shape_of};
+ghost use Rattle.byte_unit.specs.declared.Kind.TheVariants.{Byte as InBytes};
+ghost use Rattle.byte_unit_serde.specs.Outcomes.{ParsesSize, WritingSizeAs};
+ghost use Rattle.byte_unit_serde.specs.Serialized.{WritesSizeAs};
+
+use crate::Sink;
+use crate::messages::size_message;
+use crate::sizes::write_as;
+use crate::strings::{DeserializeString, SerializeString};
+use byte_unit::{Byte, FormatSpec, Kind, Unit};
+
+/// The ways to write and to read a size in bytes whose prefixes are by 1024.
+///
+/// Reads a string as `Byte::parse_str_binary` parses it with `ignore_case`. Writes one without a decimal prefix, which
+/// would be read as the binary one: the text of `FormatSpec::ALTERNATE` if its unit has a binary prefix, and else the
+/// number of bytes.
+///
+/// So what is written is read as the same size, also in the other ways: see the law `binary_string_reads_back`.
+pub struct Binary;
+
+impl SerializeString for Binary {
+    type Value = Byte;
+
+    ghost writes = { WritesSizeAs (IsBinaryString InBytes) };
+
+    ghost writing = { WritingSizeAs (IsBinaryString InBytes) };
+
+    fn serialize_string<S: Sink>(size: &Byte, out: &mut S) -> Result<(), S::Error> {
+        write_as(size.as_u128(), Kind::Byte, spec_of(*size), out)
+    }
+}
+
+impl DeserializeString for Binary {
+    type Value = Byte;
+
+    ghost means = { IsBinaryAccepted InBytes true };
+
+    ghost parses = { ParsesSize (IsBinaryReading InBytes true) };
+
+    fn parse_string(text: &str) -> Result<Byte, &'static str> {
+        Byte::parse_str_binary(text, true).map_err(|error| size_message(&error))
+    }
+}
+
+/// Returns how the string of the size is formatted: without a width, as `write_as` requires.
+fn spec_of(size: Byte) -> FormatSpec
+    ensures string { (text : List ℕ) → IsText InBytes size result text → IsBinaryString InBytes size text }
+    ensures narrow { result.width ≡ None }
+{
+    let (_, unit) = size.get_recoverable_unit(false, 3);
+    if has_binary_prefix(unit) {
+        FormatSpec::ALTERNATE
+    } else {
+        FormatSpec::PLAIN
+    }
+}
+
+/// Returns whether the unit has a binary prefix.
+fn has_binary_prefix(unit: Unit) -> bool
+    ensures { result ≡ has_binary_prefix (shape_of unit) }
+{
+    match unit {
+        Unit::B => false,
+        _ => unit.is_binary_multiples(),
+    }
+}

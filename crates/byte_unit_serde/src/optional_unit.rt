@@ -1,3 +1,0 @@
-//! A unit as a string, or nothing, for `#[serde(with = "byte_unit_serde::optional_unit", default)]`.
-
-pub use crate::options::{deserialize, serialize};
