@@ -89,11 +89,11 @@ fn decimal_expansion(numerator: u128, twos: u32, tens: u32) -> Option<ShortExpan
     let scaled = numerator * power_of_five(twos);
     let (whole, digits) = div_rem(scaled, power_of_ten(places));
     // Leaves trailing zeros out.
-    let number = Decimal::from_digits(whole, digits, places);
+    let (whole, digits, places) = Decimal::from_digits(whole, digits, places).parts();
     Some(ShortExpansion {
-        whole: number.whole(),
-        digits: number.digits(),
-        places: number.places(),
+        whole,
+        digits,
+        places,
     })
 }
 
