@@ -23,13 +23,7 @@ position_of Nothing = 7
 -- it is there
 list_at : (expected other : Expected) → slice_index_or all_lists (position_of expected) other ≡ expected
 list_at Beginning other = refl
-list_at EitherB other = refl
-list_at UpperB other = refl
-list_at LowerB other = refl
-list_at I other = refl
-list_at T other = refl
-list_at S other = refl
-list_at Nothing other = refl
+list_at _ other = refl
 
 -- the characters of the list at its position are its characters
 pub codes_at : (expected other : Expected) (position : ℕ) → position_of expected ≡ position
@@ -40,10 +34,4 @@ codes_at expected other position is =
 -- each has a position
 pub position_of-small : (expected : Expected) → position_of expected < 8
 position_of-small Beginning = omega arith
-position_of-small EitherB = omega arith
-position_of-small UpperB = omega arith
-position_of-small LowerB = omega arith
-position_of-small I = omega arith
-position_of-small T = omega arith
-position_of-small S = omega arith
-position_of-small Nothing = omega arith
+position_of-small _ = omega arith

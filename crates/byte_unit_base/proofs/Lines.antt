@@ -138,25 +138,30 @@ no_digits line from within =
     let none : from - from ≡ 0 = omega arith in
     record { after = omega arith; within = within; more = omega (arith, none); value_is = rw none refl }
 
+-- eight bytes in a slice, from an index on, are their number
+pub loaded_word : (bytes : List ℕ) (from word : ℕ) → ((k : ℕ) → Fits w8 (get_or bytes k 0)) → 8 ≤ length bytes - from
+    → word ≡ number_l 256 (first_eight (drop from bytes)) → let eight = take 8 (drop from bytes) in
+    IsEightBytes eight × (word ≡ number_l 256 eight)
+loaded_word bytes from word fits many word_is = (
+  eight_at bytes from (λ k. (fits k).fits) (omega (arith, many)),
+  word_is ∙ ap (number_l 256) (whole_word (drop from bytes) (omega (arith, many, length-drop from bytes))),
+)
+
 -- the digits with which the eight bytes from an index on begin are digits of the line, and if there are fewer than
 -- eight, no more follow
-pub digits_of_word : (line bytes : List ℕ) (from word count value : ℕ)
-    → IsLineOf line bytes → from ≤ length line → 8 ≤ length bytes - from → ((k : ℕ) → get_or bytes k 0 < 256)
-    → word ≡ number_l 256 (first_eight (drop from bytes)) → count ≤ 8
-    → ((xs : List ℕ) → IsEightBytes xs → word ≡ number_l 256 xs
-    → (count ≡ digits_len xs) × (value ≡ digits_value 10 (take count xs)))
+pub digits_of_word : (line bytes : List ℕ) (from count value : ℕ)
+    → IsLineOf line bytes → from ≤ length line → let eight = take 8 (drop from bytes) in
+    length eight ≡ 8 → count ≡ digits_len eight → value ≡ digits_value 10 (take count eight)
     → HasDigits line from (from + count) value × (count < 8 → digits_len (drop from line) ≡ count)
-digits_of_word line bytes from word count value is within many small word_is few read =
+digits_of_word line bytes from count value is within long count_is value_is =
     let all = drop from bytes in
     let rest = drop from line in
     let later = drop (from + count) line in
-    let whole = whole_word all (omega (arith, many, length-drop from bytes)) in
-    let eight = eight_at bytes from small (omega (arith, many)) in
-    let found = read (take 8 all) eight (word_is ∙ ap (number_l 256) whole) in
+    let few : count ≤ 8 = omega (arith, count_is, long, prefix_len-le-length is_ascii_digit (take 8 all)) in
     let parts = rest_of_line line bytes from is within in
     let same : digits_len all ≡ digits_len rest = ap digits_len parts ∙ line_digits rest is.after is.ends in
     let more : digits_len all ≡ count + digits_len (drop count all) =
-    omega (arith, digits_len-take all 8, found.0, ap (λ n. digits_len (drop n all)) found.0) in
+    omega (arith, digits_len-take all 8, count_is, ap (λ n. digits_len (drop n all)) count_is) in
     let inside : count ≤ length rest = omega (arith, more, same, prefix_len-le-length is_ascii_digit rest) in
     let later_is : drop count all ≡ later ++ is.after =
     ap (drop count) parts ∙ (drop-append-le count rest is.after inside
@@ -166,10 +171,10 @@ digits_of_word line bytes from word count value is within many small word_is few
         after = omega arith;
         within = omega (arith, inside, length-drop from line, within);
         more = omega (arith, same, more, ap digits_len later_is, line_digits later is.after is.ends);
-        value_is = found.1 ∙ ap (digits_value 10) (take-take count 8 all few
+        value_is = value_is ∙ ap (digits_value 10) (take-take count 8 all few
             ∙ (ap (take count) parts ∙ (take-append-le count rest is.after inside ∙ ap (λ n. take n rest) span)));
       },
-      λ less. omega (arith, same, found.0, digits_len_short all 8 (omega (arith, less, found.0))),
+      λ less. omega (arith, same, count_is, digits_len_short all 8 (omega (arith, less, count_is))),
     )
 
 -- the value of these digits and that of those after them make the value of all

@@ -147,8 +147,9 @@ module _ (s text : List ℕ) (trimmed : chars text ≡ trim_of s) (utf8 : IsUtf8
       }
 
   -- the position of the error in the string is that of the place in the text
-  pub size_position : (place : ℕ) → IsSizePlace text (Some place) → IsSizePosition s (Some (leading_white s + place))
-  size_position place wrong flags = size_error flags place wrong
+  pub size_position : (start place : ℕ) → start ≡ leading_white s → IsSizePlace text (Some place)
+      → IsSizePosition s (Some (start + place))
+  size_position start place start_is wrong flags = rw start_is (size_error flags place wrong)
 
   pub no_size_position : IsSizePlace text None → IsSizePosition s None
   no_size_position is flags fault first =
@@ -158,8 +159,9 @@ module _ (s text : List ℕ) (trimmed : chars text ≡ trim_of s) (utf8 : IsUtf8
       (size_of_chars flags text found.0 found.1 found.2) in
       (one_answer (size_scan_is flags) (trim_of s)).not_both (found.0, found.1) fault size first
 
-  pub unit_position : (place : ℕ) → IsUnitPlace text (Some place) → IsUnitPosition s (Some (leading_white s + place))
-  unit_position place wrong flags = unit_error flags place wrong.0 wrong.1 wrong.2
+  pub unit_position : (start place : ℕ) → start ≡ leading_white s → IsUnitPlace text (Some place)
+      → IsUnitPosition s (Some (start + place))
+  unit_position start place start_is wrong flags = rw start_is (unit_error flags place wrong.0 wrong.1 wrong.2)
 
   pub no_unit_position : IsUnitPlace text None → IsUnitPosition s None
   no_unit_position is flags fault first =
@@ -174,7 +176,7 @@ module _ (bytes : List ℕ) (utf8 : IsUtf8 bytes) (ends : HasVisibleEnds bytes) 
   untrimmed wrong =
       let at : leading_white bytes + place ≡ place = omega (arith, no_leading_white bytes utf8 ends) in
       subst (λ n. IsSizePosition bytes (Some n)) at
-      (size_position bytes bytes (sym (trim_visible bytes utf8 ends)) utf8 place wrong)
+      (size_position bytes bytes (sym (trim_visible bytes utf8 ends)) utf8 _ place refl wrong)
 
   -- the place where a parser stops in it is the position of its error
   pub stop_position : (reason : Reason) → IsWrongPlace bytes place reason → IsPositionOfStop bytes place reason

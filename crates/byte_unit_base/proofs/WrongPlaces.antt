@@ -197,7 +197,11 @@ module _ (bytes : List ℕ) (utf8 : IsUtf8 bytes) where
           }
 
       -- digits of a fraction follow the point
-      module _ (places : ℕ) (count : IsPlacesLen rest places) (some_places : places ≡ 0 → ⊥) where
+      module _ (places : ℕ) {after : List ℕ} (after_is : after ≡ rest) (are_places : IsPlacesLen after places)
+          (some_places : places ≡ 0 → ⊥) where
+        count : IsPlacesLen rest places
+        count = subst (λ digits. IsPlacesLen digits places) after_is are_places
+
         abbrev digits : List ℕ
         digits = take places rest
 

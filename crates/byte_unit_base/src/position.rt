@@ -29,11 +29,12 @@ use byte_unit_math::{DECIMAL_PLACES, WHOLE_LIMIT};
 /// assert_eq!(rt; position::of_size_error("  1."), Some(4));
 /// assert_eq!(rt; position::of_size_error("1 KiB"), None);
 /// ```
+#[tactic(auto, using(crate::proofs::Positions::size_position))]
 pub fn of_size_error(s: &str) -> Option<usize>
     ensures { IsSizePosition s.now result }
 {
     let (text, start) = trimmed(s);
-    match size_place(text.as_bytes()) {
+    match size_place(text) {
         Some(place) => Some(start + place),
         None => None,
     }
@@ -54,11 +55,12 @@ impl Unit {
     /// assert_eq!(rt; Unit::error_position(" bi "), Some(3));
     /// assert_eq!(rt; Unit::error_position("Kib"), None);
     /// ```
+    #[tactic(auto, using(crate::proofs::Positions::unit_position))]
     pub fn error_position(s: &str) -> Option<usize>
         ensures { IsUnitPosition s.now result }
     {
         let (text, start) = trimmed(s);
-        match unit_place(text.as_bytes(), 0) {
+        match unit_place(text, 0) {
             Some(place) => Some(start + place),
             None => None,
         }
@@ -106,14 +108,15 @@ fn leading_len(s: &str) -> usize
     s.len() - s.trim_start().len()
 }
 
-/// Returns the string without the white space at its ends, and the number of bytes of that at its start.
-fn trimmed(s: &str) -> (&str, usize)
+/// Returns the bytes of the string without the white space at its ends, and the number of bytes of that at its start.
+fn trimmed(s: &str) -> (&[u8], usize)
     ensures text { chars result.0.now ≡ trim_of s.now }
+    ensures utf8 { IsUtf8 result.0.now }
     ensures start { result.1 ≡ leading_white s.now }
     ensures bound { result.1 + length result.0.now ≤ length s.now }
 {
     let rest = s.trim_start();
-    (rest.trim_end(), s.len() - rest.len())
+    (rest.trim_end().as_bytes(), s.len() - rest.len())
 }
 
 /// Returns where bytes stop being the beginning of a number and a unit. Returns `None` if they are a number and a unit.

@@ -80,7 +80,9 @@ pub fn choose_unit(
                 exact_number(in_bits, row.twos, row.fives, most, steps)
             } else {
                 let factors = Factors { left, twos, fives };
-                factored_quotient(factors, row.twos, row.fives, places, steps)
+                let number = factored_quotient(factors, row.twos, row.fives, places);
+                steps.advance_by(number.places());
+                number
             };
             return Some((number, row.unit));
         }

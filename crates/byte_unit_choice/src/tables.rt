@@ -30,42 +30,33 @@ macro_rules! rows {
     };
 }
 
-/// Puts the rows of the first prefix before those that are made, and goes on with the other prefixes.
+/// Makes the rows of the first prefix, for bytes and for bits, and goes on with those of the other prefixes.
 macro_rules! rows_before {
-    (all [$($made:tt)*]
+    ($set:ident [$($made:tt)*]
         $letter:literal $bit:ident $ibit:ident $b:ident $ib:ident $n:literal $decimal:literal $binary:literal
         $(, $($rest:tt)*)?
     ) => {
-        rows_before![all [
-            row!($ib, $binary * 8, 10 * $n + 3, 0),
-            row!($b, $decimal * 8, 3 * $n + 3, 3 * $n),
-            row!($ibit, $binary, 10 * $n, 0),
-            row!($bit, $decimal, 3 * $n, 3 * $n),
-            $($made)*
-        ] $($($rest)*)?]
-    };
-    (bytes [$($made:tt)*]
-        $letter:literal $bit:ident $ibit:ident $b:ident $ib:ident $n:literal $decimal:literal $binary:literal
-        $(, $($rest:tt)*)?
-    ) => {
-        rows_before![bytes [
-            row!($ib, $binary * 8, 10 * $n + 3, 0),
-            row!($b, $decimal * 8, 3 * $n + 3, 3 * $n),
-            $($made)*
-        ] $($($rest)*)?]
-    };
-    (bits [$($made:tt)*]
-        $letter:literal $bit:ident $ibit:ident $b:ident $ib:ident $n:literal $decimal:literal $binary:literal
-        $(, $($rest:tt)*)?
-    ) => {
-        rows_before![bits [
-            row!($ibit, $binary, 10 * $n, 0),
-            row!($bit, $decimal, 3 * $n, 3 * $n),
-            $($made)*
-        ] $($($rest)*)?]
+        put_rows![$set [$($made)*]
+            [row!($ib, $binary * 8, 10 * $n + 3, 0), row!($b, $decimal * 8, 3 * $n + 3, 3 * $n),]
+            [row!($ibit, $binary, 10 * $n, 0), row!($bit, $decimal, 3 * $n, 3 * $n),]
+            $($($rest)*)?
+        ]
     };
     ($set:ident [$($made:tt)*]) => {
         [$($made)*]
+    };
+}
+
+/// Puts the rows of a prefix that are in the unit set before those that are made.
+macro_rules! put_rows {
+    (all [$($made:tt)*] [$($bytes:tt)*] [$($bits:tt)*] $($rest:tt)*) => {
+        rows_before![all [$($bytes)* $($bits)* $($made)*] $($rest)*]
+    };
+    (bytes [$($made:tt)*] [$($bytes:tt)*] $bits:tt $($rest:tt)*) => {
+        rows_before![bytes [$($bytes)* $($made)*] $($rest)*]
+    };
+    (bits [$($made:tt)*] $bytes:tt [$($bits:tt)*] $($rest:tt)*) => {
+        rows_before![bits [$($bits)* $($made)*] $($rest)*]
     };
 }
 

@@ -9,8 +9,9 @@ use Rattle.std.proofs.Math.Nat.{pow-le-pow_right, mul-le-mul_left, le_of_mul-le-
 use Rattle.std.proofs.lemmas.Nat.{mul-pow, mul-le, mod_below, and_mask}
 use Rattle.std.proofs.lemmas.Nat.Bits.{bit_at-trailing_zeros}
 use Rattle.byte_unit_math.specs.Bounds.{scale, places_of_decimal, expansion_places}
+pub use Rattle.byte_unit_math.specs.DecimalFields.{AreParts}
 use Rattle.byte_unit_math.specs.Digits.{last_digits}
-use Rattle.byte_unit_math.specs.Exact.{IsExactAt, IsLeastPlaces}
+use Rattle.byte_unit_math.specs.Exact.{IsExactAt}
 use Rattle.byte_unit_math.specs.Finite.{IsExpansion}
 use Rattle.byte_unit_math.specs.ShortExpansion.{IsShortExpansion, finite_of}
 use Rattle.byte_unit_math.specs.declared.short.ShortExpansion.{ShortExpansion}
@@ -59,14 +60,6 @@ binary_is_expansion n p odd =
       exact = rw (length_last_digits p digits, value) exact;
       least = rw (length_last_digits p digits) least.least;
     }
-
--- The whole part of a number that is scaled by 10^28, and its digits after the point without trailing zeros.
-pub record AreParts (number whole digits places : ℕ) : Type 0 where
-  pub few : places ≤ places_of_decimal
-  pub least : IsLeastPlaces number scale places
-  pub whole_is : whole ≡ number / scale
-  pub digits_are : digits * 10 ^ (places_of_decimal - places) ≡ number % scale
-  pub below : digits < 10 ^ places
 
 -- The parts of a number are its expansion.
 pub parts_expansion :

@@ -1,6 +1,7 @@
--- Private: the meaning of the fields of a `Decimal`. Contracts see only its value scaled by 10^28.
+-- Private: the meaning of the fields of a `Decimal`. Public contracts see only its value scaled by 10^28.
 use Rattle.std.specs.Prelude.{◌≡◌, ℕ, zero, suc, ◌+◌, ◌-◌, ◌*◌, ◌/◌, ◌%◌, ◌^◌, ◌<◌, ◌≤◌, nat_eq, if◌then◌else◌}
 use Rattle.byte_unit_math.specs.Bounds.{scale, places_of_decimal, whole_limit}
+use Rattle.byte_unit_math.specs.Exact.{IsLeastPlaces}
 use Rattle.byte_unit_math.specs.declared.decimal.Decimal.TheInside.{Inside}
 
 -- The value of the fields scaled by 10^28: the whole part, and `places` digits after the point held as one number.
@@ -31,3 +32,11 @@ pub record IsNormalized (d : Inside) : Type 0 where
   pub below : d.digits < 10 ^ d.places
   pub last : 0 < d.places → 0 < d.digits % 10
   pub only : decimal_fields (decimal_value d) ≡ d
+
+-- The whole part of a number that is scaled by 10^28, and its digits after the point without trailing zeros.
+pub record AreParts (number whole digits places : ℕ) : Type 0 where
+  pub few : places ≤ places_of_decimal
+  pub least : IsLeastPlaces number scale places
+  pub whole_is : whole ≡ number / scale
+  pub digits_are : digits * 10 ^ (places_of_decimal - places) ≡ number % scale
+  pub below : digits < 10 ^ places

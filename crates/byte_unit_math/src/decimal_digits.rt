@@ -5,7 +5,7 @@ ghost use Rattle.std.specs.Fmt.{decimal, DisplaysOnOk, DisplaysStyledOnOk};
 ghost use Rattle.byte_unit_math.specs.Bounds.{places_of_number};
 ghost use Rattle.byte_unit_math.specs.Digits.{last_digits};
 ghost use Rattle.byte_unit_math.specs.Numeral.{fraction_text, glyphs};
-ghost use Rattle.byte_unit_math.specs.PutBefore.{IsPutBefore};
+ghost use Rattle.byte_unit_math.specs.PutBefore.{FitBefore, IsPutBefore};
 
 use crate::dividing::split_last_18_digits;
 use crate::lanes::{TEN_POW_16, put_16_digits};
@@ -241,9 +241,7 @@ fn put_u128_wide(n: u128, bytes: &mut [u8], end: usize) -> usize
 #[inline]
 #[tactic(auto, using(crate::proofs::WrittenDigits::two_and_16_digits))]
 fn put_18_digits(n: u64, bytes: &mut [u8], end: usize) -> usize
-    requires below { n < 10 ^ 18 }
-    requires room { 18 ≤ end }
-    requires within { end ≤ length bytes.old }
+    requires { FitBefore 18 n end bytes.old }
     ensures { IsPutBefore (glyphs (last_digits 18 n)) end bytes.old bytes.new result }
 {
     let middle = put_16_digits(n % TEN_POW_16, bytes, end);
@@ -253,7 +251,7 @@ fn put_18_digits(n: u64, bytes: &mut [u8], end: usize) -> usize
 /// Writes the digits of a number of 64 bits as `put_u128`.
 #[inline(always)]
 #[tactic(auto, using(crate::proofs::WrittenDigits::groups_written))]
-fn put_u64(n: u64, bytes: &mut [u8], end: usize) -> usize
+pub(crate) fn put_u64(n: u64, bytes: &mut [u8], end: usize) -> usize
     requires room { length (decimal n) ≤ end }
     requires within { end ≤ length bytes.old }
     ensures { IsPutBefore (decimal n) end bytes.old bytes.new result }
@@ -280,9 +278,7 @@ fn put_u64(n: u64, bytes: &mut [u8], end: usize) -> usize
 /// Writes four digits, leading zeros included, and returns the index where they begin.
 #[inline]
 fn put_4_digits(n: u32, bytes: &mut [u8], end: usize) -> usize
-    requires below { n < 10 ^ 4 }
-    requires room { 4 ≤ end }
-    requires within { end ≤ length bytes.old }
+    requires { FitBefore 4 n end bytes.old }
     ensures { IsPutBefore (glyphs (last_digits 4 n)) end bytes.old bytes.new result }
 {
     let middle = put_2_digits(n % 100, bytes, end);
@@ -292,9 +288,7 @@ fn put_4_digits(n: u32, bytes: &mut [u8], end: usize) -> usize
 /// Writes two digits, a leading zero included, and returns the index where they begin.
 #[inline]
 fn put_2_digits(n: u32, bytes: &mut [u8], end: usize) -> usize
-    requires below { n < 10 ^ 2 }
-    requires room { 2 ≤ end }
-    requires within { end ≤ length bytes.old }
+    requires { FitBefore 2 n end bytes.old }
     ensures { IsPutBefore (glyphs (last_digits 2 n)) end bytes.old bytes.new result }
 {
     let start = end - 2;

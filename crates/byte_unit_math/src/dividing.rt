@@ -1,6 +1,6 @@
 //! Division with remainder: of 128 bits, by constants, and for one digit of a long division.
 ghost use Rattle.std.specs.Prelude.{◌≡◌, ◌+◌, ◌*◌, ◌/◌, ◌%◌, ◌^◌, ◌<◌, ◌≤◌};
-ghost use Rattle.byte_unit_math.specs.Inverse.{HasInverse};
+ghost use Rattle.byte_unit_math.specs.Inverse.{HasInverse, IsSubtracted};
 
 /// The radix of groups of 18 digits.
 const TEN_POW_18: u64 = 1_000_000_000_000_000_000;
@@ -118,7 +118,19 @@ pub(crate) fn split_last_18_digits(n: u128) -> (u128, u64)
     (before, last as u64)
 }
 
-/// Returns the quotient, which is a digit, and the remainder. Four comparisons are faster than a division of 128 bits.
+/// Gives the quotient, which is a digit, and the remainder: four comparisons, which are faster than a division. It is a
+/// macro, since 128 bits take up to 66 % longer where 64 bits are enough.
+macro_rules! digit_and_rest {
+    ($subtract_multiple:ident, $dividend:expr, $divisor:expr) => {{
+        let (eights, rest) = $subtract_multiple($dividend, 8, $divisor);
+        let (fours, rest) = $subtract_multiple(rest, 4, $divisor);
+        let (twos, rest) = $subtract_multiple(rest, 2, $divisor);
+        let (ones, rest) = $subtract_multiple(rest, 1, $divisor);
+        (eights + fours + twos + ones, rest)
+    }};
+}
+
+/// Returns the quotient, which is a digit, and the remainder.
 pub(crate) fn div_rem_digit(dividend: u128, divisor: u128) -> (u128, u128)
     requires digit { dividend < 10 * divisor }
     requires small { 10 * divisor < 2 ^ 128 }
@@ -127,58 +139,39 @@ pub(crate) fn div_rem_digit(dividend: u128, divisor: u128) -> (u128, u128)
 {
     if divisor < 1 << 60 {
         // Ten times the divisor fits 64 bits, and so does the dividend.
-        let (digit, rest) = div_rem_digit_u64(dividend as u64, divisor as u64);
+        let (digit, rest) = digit_and_rest!(subtract_multiple_u64, dividend as u64, divisor as u64);
         return (u128::from(digit), u128::from(rest));
     }
-    let (eights, rest) = subtract_multiple(dividend, 8, divisor);
-    let (fours, rest) = subtract_multiple(rest, 4, divisor);
-    let (twos, rest) = subtract_multiple(rest, 2, divisor);
-    let (ones, rest) = subtract_multiple(rest, 1, divisor);
-    (eights + fours + twos + ones, rest)
+    digit_and_rest!(subtract_multiple, dividend, divisor)
+}
+
+/// Gives `times`, or else 0, and what is left: `times * divisor` is subtracted if the dividend is at least that. A
+/// macro, as `digit_and_rest`.
+macro_rules! subtract {
+    ($dividend:expr, $times:expr, $divisor:expr) => {{
+        let multiple = $times * $divisor;
+        if $dividend < multiple {
+            (0, $dividend)
+        } else {
+            ($times, $dividend - multiple)
+        }
+    }};
 }
 
 /// Subtracts `times * divisor` if the dividend is at least that. Returns `times`, or else 0, and what is left.
 fn subtract_multiple(dividend: u128, times: u128, divisor: u128) -> (u128, u128)
     requires once { dividend < 2 * (times * divisor) }
     requires small { times * divisor < 2 ^ 128 }
-    ensures bound { result.0 ≤ times }
-    ensures parts { result.0 * divisor + result.1 ≡ dividend }
-    ensures below { result.1 < times * divisor }
+    ensures { IsSubtracted dividend times divisor result }
 {
-    let multiple = times * divisor;
-    if dividend < multiple {
-        (0, dividend)
-    } else {
-        (times, dividend - multiple)
-    }
-}
-
-/// Returns the same as `div_rem_digit`, in 64 bits.
-fn div_rem_digit_u64(dividend: u64, divisor: u64) -> (u64, u64)
-    requires digit { dividend < 10 * divisor }
-    requires small { 10 * divisor < 2 ^ 64 }
-    ensures digit { result.0 ≡ dividend / divisor }
-    ensures rest { result.1 ≡ dividend % divisor }
-{
-    let (eights, rest) = subtract_multiple_u64(dividend, 8, divisor);
-    let (fours, rest) = subtract_multiple_u64(rest, 4, divisor);
-    let (twos, rest) = subtract_multiple_u64(rest, 2, divisor);
-    let (ones, rest) = subtract_multiple_u64(rest, 1, divisor);
-    (eights + fours + twos + ones, rest)
+    subtract!(dividend, times, divisor)
 }
 
 /// Subtracts as `subtract_multiple`, in 64 bits.
 fn subtract_multiple_u64(dividend: u64, times: u64, divisor: u64) -> (u64, u64)
     requires once { dividend < 2 * (times * divisor) }
     requires small { times * divisor < 2 ^ 64 }
-    ensures bound { result.0 ≤ times }
-    ensures parts { result.0 * divisor + result.1 ≡ dividend }
-    ensures below { result.1 < times * divisor }
+    ensures { IsSubtracted dividend times divisor result }
 {
-    let multiple = times * divisor;
-    if dividend < multiple {
-        (0, dividend)
-    } else {
-        (times, dividend - multiple)
-    }
+    subtract!(dividend, times, divisor)
 }

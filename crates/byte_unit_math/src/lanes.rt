@@ -4,9 +4,9 @@ ghost use Rattle.std.specs.Prelude.{◌≡◌, ◌+◌, ◌-◌, ◌/◌, ◌%�
 ghost use Rattle.std.specs.Fmt.{decimal};
 ghost use Rattle.byte_unit_math.specs.Digits.{last_digits};
 ghost use Rattle.byte_unit_math.specs.Numeral.{glyphs, padded_digits};
-ghost use Rattle.byte_unit_math.specs.PutBefore.{IsPutBefore};
+ghost use Rattle.byte_unit_math.specs.PutBefore.{FitBefore, IsPutBefore};
 
-use crate::decimal_digits::{decimal_len, put_u128};
+use crate::decimal_digits::{decimal_len, put_u64};
 use crate::dividing::div_rem_by_inverse;
 use std::simd::prelude::*;
 
@@ -42,7 +42,7 @@ pub fn put_padded_digits(n: u128, digits: &mut [u8; PADDED_DIGITS]) -> usize
     if n < 10_000 {
         *digits = [b'0'; PADDED_DIGITS];
         let len = decimal_len(n);
-        put_u128(n, digits, len);
+        put_u64(n as u64, digits, len);
         return len;
     }
     let (all, count) = digits_with_zeros(n);
@@ -102,9 +102,7 @@ fn last_16_digits(n: u64) -> u8x16
 /// Writes sixteen digits, leading zeros included, and returns the index where they begin.
 #[inline(always)]
 pub(crate) fn put_16_digits(n: u64, bytes: &mut [u8], end: usize) -> usize
-    requires below { n < 10 ^ 16 }
-    requires room { 16 ≤ end }
-    requires within { end ≤ length bytes.old }
+    requires { FitBefore 16 n end bytes.old }
     ensures { IsPutBefore (glyphs (last_digits 16 n)) end bytes.old bytes.new result }
 {
     let start = end - 16;

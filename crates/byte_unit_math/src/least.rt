@@ -44,7 +44,7 @@ pub fn least_size(d: Decimal, unit_size: u128, limit: u128) -> Option<u128>
     // No size below the limit is at least the product.
     ensures none { IfNone result ((n : ℕ) → IsLeastSize d unit_size n → limit ≤ n) }
 {
-    let (whole, digits, places) = (d.whole(), d.digits(), d.places());
+    let (whole, digits, places) = d.parts();
     let part = if places <= GROUP_PLACES {
         // All digits are in the most significant group.
         let group = digits as u64 * power_of_ten(GROUP_PLACES - places) as u64;

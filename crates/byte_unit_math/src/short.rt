@@ -1,9 +1,9 @@
 //! Terminating decimal expansions with few digits after the point, by one product and one division or shift.
-ghost use Rattle.std.specs.Prelude.{◌≡◌, ◌≢◌, ℕ, ◌*◌, ◌%◌, ◌^◌, ◌<◌, ◌≤◌, min, IfSome};
-ghost use Rattle.byte_unit_math.specs.Bounds.{bits_limit, places_of_decimal, scale, unit_limit};
-ghost use Rattle.byte_unit_math.specs.Exact.{IsExactAt, IsLeastPlaces};
+ghost use Rattle.std.specs.Prelude.{◌≡◌, ◌≢◌, ℕ, ◌*◌, ◌%◌, ◌^◌, ◌<◌, ◌≤◌, IfSome};
+ghost use Rattle.byte_unit_math.specs.Bounds.{bits_limit, scale, unit_limit};
+ghost use Rattle.byte_unit_math.specs.Exact.{IsLeastPlaces};
 ghost use Rattle.byte_unit_math.specs.Steps.{saturating_add};
-ghost use Rattle.byte_unit_math.specs.ShortExpansion.{IsShortExpansion};
+ghost use Rattle.byte_unit_math.specs.ShortExpansion.{IsExactWithin, IsShortExpansion};
 
 use crate::dividing::div_rem;
 use crate::quotient::exact_quotient;
@@ -89,11 +89,11 @@ fn decimal_expansion(numerator: u128, twos: u32, tens: u32) -> Option<ShortExpan
     let scaled = numerator * power_of_five(twos);
     let (whole, digits) = div_rem(scaled, power_of_ten(places));
     // Leaves trailing zeros out.
-    let number = Decimal::from_digits(whole, digits, places);
+    let (whole, digits, places) = Decimal::from_digits(whole, digits, places).parts();
     Some(ShortExpansion {
-        whole: number.whole(),
-        digits: number.digits(),
-        places: number.places(),
+        whole,
+        digits,
+        places,
     })
 }
 
@@ -119,9 +119,7 @@ pub fn exact_number(
     places: u32,
     steps: &mut Steps,
 ) -> Decimal
-    requires small { numerator < bits_limit }
-    requires den { 2 ^ twos * 5 ^ fives ≤ unit_limit }
-    requires exact { IsExactAt numerator (2 ^ twos * 5 ^ fives) (min places places_of_decimal) }
+    requires { IsExactWithin numerator twos fives places }
     ensures exact { result * (2 ^ twos * 5 ^ fives) ≡ numerator * scale }
     ensures steps { (least : ℕ) × IsLeastPlaces result scale least
         × (steps.new ≡ saturating_add steps.old least) }
@@ -143,9 +141,7 @@ pub fn exact_number(
 #[inline(never)]
 #[tactic(auto, using(crate::proofs::Expanding::powers))]
 fn divided(numerator: u128, twos: u32, fives: u32, places: u32, steps: &mut Steps) -> Decimal
-    requires small { numerator < bits_limit }
-    requires den { 2 ^ twos * 5 ^ fives ≤ unit_limit }
-    requires exact { IsExactAt numerator (2 ^ twos * 5 ^ fives) (min places places_of_decimal) }
+    requires { IsExactWithin numerator twos fives places }
     ensures exact { result * (2 ^ twos * 5 ^ fives) ≡ numerator * scale }
     ensures steps { (least : ℕ) × IsLeastPlaces result scale least
         × (steps.new ≡ saturating_add steps.old least) }

@@ -55,7 +55,14 @@ impl Steps {
     }
 
     /// Adds a number of steps, saturating.
-    pub(crate) fn advance_by(&mut self, steps: u32)
+    ///
+    /// # Examples
+    /// ```rust
+    /// let mut steps = Steps::new();
+    /// steps.advance_by(3);
+    /// assert_eq!(rt; steps.count(), 3);
+    /// ```
+    pub fn advance_by(&mut self, steps: u32)
         ensures { self.new ≡ saturating_add self.old steps }
     {
         self.count = self.count.saturating_add(u64::from(steps));

@@ -3,7 +3,7 @@
 ghost use Rattle.std.specs.Prelude.{◌≡◌, ◌≢◌, ℕ, Bool, List, Some, ◌+◌, ◌%◌, ◌^◌, ◌<◌, ◌≤◌};
 ghost use Rattle.std.specs.Prelude.{length, take, drop, replicate, slice_range};
 ghost use lib.Lanes.{digits_l, number_l};
-ghost use Rattle.core.specs.Dec2flt.Digits.{IsEightBytes, IsEightDigits};
+ghost use Rattle.core.specs.Dec2flt.Digits.{IsEightDigits};
 ghost use Rattle.core.specs.Float.Numeral.{digits_len};
 ghost use Rattle.core.specs.Int.Digits.{number_from_digits};
 ghost use Rattle.std.specs.Str.Parse.{AllDigits, digits_value};
@@ -200,13 +200,20 @@ fn leading_digits<const ALONE: bool>(line: &[u8], bytes: &[u8], from: usize) -> 
     let mut start = from;
     let mut value = 0;
     if bytes.len() - from >= 8 {
-        let (count, first) = up_to_eight(load_eight(bytes, from));
-        if count < 8 {
+        // A digit is below ten then, and every other byte is not.
+        let digits = load_eight(bytes, from) ^ 0x3030_3030_3030_3030;
+        // The high bit of each byte that is ten or more. No sum carries into the next byte.
+        let sums = (digits & 0x7f7f_7f7f_7f7f_7f7f) + 0x7676_7676_7676_7676;
+        let others = (sums | digits) & 0x8080_8080_8080_8080;
+        if others != 0 {
+            let count = others.trailing_zeros() / 8;
+            // The digits are moved to the end, with zeros before them. Two shifts, since a shift by 64 is not defined.
+            let value = value_of_eight(digits << (56 - 8 * count) << 8);
             // What follows the line is no digit.
-            return (from + count, first);
+            return (from + count as usize, value);
         }
         start += 8;
-        value = first;
+        value = value_of_eight(digits);
     }
     read_digits(line, start, value)
 }
@@ -231,29 +238,6 @@ fn few_digits(line: &[u8], from: usize) -> (usize, u64)
         end += 1;
     }
     (end, value)
-}
-
-/// Returns how many of eight bytes are digits, from the first on, and the number that they write.
-#[inline(always)]
-fn up_to_eight(word: u64) -> (usize, u64)
-    ensures bound { result.0 ≤ 8 }
-    ensures read { (bytes : List ℕ) → IsEightBytes bytes → word ≡ number_l 256 bytes
-        → (result.0 ≡ digits_len bytes) × (result.1 ≡ digits_value 10 (take result.0 bytes)) }
-{
-    // A digit is below ten then, and every other byte is not.
-    let digits = word ^ 0x3030_3030_3030_3030;
-    // The high bit of each byte that is ten or more. No sum carries into the next byte.
-    let sums = (digits & 0x7f7f_7f7f_7f7f_7f7f) + 0x7676_7676_7676_7676;
-    let others = (sums | digits) & 0x8080_8080_8080_8080;
-    if others == 0 {
-        return (8, value_of_eight(digits));
-    }
-    let count = others.trailing_zeros() / 8;
-    // The digits are moved to the end, with zeros before them. Two shifts, since a shift by 64 is not defined.
-    (
-        count as usize,
-        value_of_eight(digits << (56 - 8 * count) << 8),
-    )
 }
 
 /// Returns the number that eight digits write, from their values. Two products add four pairs by their places: the

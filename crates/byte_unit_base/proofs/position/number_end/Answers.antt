@@ -52,21 +52,18 @@ pub returns-then-is_ascii_digit-2 : goal.returns-then-is_ascii_digit-2
 returns-then-is_ascii_digit-2 c =
     let bytes = c.args.bytes.now in
     let whole = c.whole_len-whole in
-    let stop = whole.result + 1 + c.places_len-places.result in
-    let count = subst (λ rest. IsPlacesLen rest c.places_len-places.result) (take_rest bytes (whole.result + 1))
-    c.places_len-places.ensures in
+    let places = c.places_len-places in
     wrong_in_fraction bytes c.requires whole.result whole.ensures c.if-whole-eq0.false
     (omega (arith, whole.ensures.within, c.if-whole-bytes.false)) c.if-bytes-whole-ne46.false
-    c.places_len-places.result count c.if-places-eq0.false (omega (arith, c.if-end-bytes.true))
-    (digit_small (get_or bytes stop 0) (sym c.if-is_ascii_digit-2.ensures.value))
+    places.result (take_rest bytes (whole.result + 1)) places.ensures c.if-places-eq0.false
+    (omega (arith, c.if-end-bytes.true))
+    (digit_small (get_or bytes (whole.result + 1 + places.result) 0) (sym c.if-is_ascii_digit-2.ensures.value))
 
 pub returns : goal.returns
 returns c =
     let bytes = c.args.bytes.now in
     let whole = c.whole_len-whole in
     let stop = whole.result + 1 + c.places_len-places.result in
-    let count = subst (λ rest. IsPlacesLen rest c.places_len-places.result) (take_rest bytes (whole.result + 1))
-    c.places_len-places.ensures in
     let other : stop < length bytes → 10 ≤ digit_value (get_or bytes stop 0) = elim c.else-end-bytes.branch [
       | else-end-bytes-via-then-end-bytes+else-is_ascii_digit-2 w ↦ λ inside.
           digit_large (get_or bytes stop 0) (sym w.if-is_ascii_digit-2.ensures.value)
@@ -74,4 +71,5 @@ returns c =
     ] in
     number_of_fraction bytes c.requires whole.result whole.ensures c.if-whole-eq0.false
     (omega (arith, whole.ensures.within, c.if-whole-bytes.false)) c.if-bytes-whole-ne46.false
-    c.places_len-places.result count c.if-places-eq0.false other
+    c.places_len-places.result (take_rest bytes (whole.result + 1)) c.places_len-places.ensures
+    c.if-places-eq0.false other

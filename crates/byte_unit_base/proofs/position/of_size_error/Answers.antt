@@ -1,20 +1,7 @@
--- The place in the trimmed string is the position in the string, after the white space at its start.
-use Rattle.std.proofs.Common.{Some, None, subst}
-use Rattle.std.specs.Str.{IsUtf8}
-use Rattle.byte_unit_base.specs.PlaceReading.{IsSizePlace}
-use Rattle.byte_unit_base.proofs.Positions.{size_position, no_size_position}
+-- The trimmed string has no wrong place, so the string has none.
+use Rattle.byte_unit_base.proofs.Positions.{no_size_position}
 use Rattle.byte_unit_base.proofs.position.of_size_error.Goals as goal
-
-pub returns-in-Some : goal.returns-in-Some
-returns-in-Some c =
-    let place = c.in-Some.place in
-    let utf8 = subst IsUtf8 c.as_bytes.ensures.value c.as_bytes.ensures.utf8 in
-    let wrong = subst (λ bytes. IsSizePlace bytes (Some place)) c.as_bytes.ensures.value c.in-Some.ensures in
-    rw c.trimmed-start.ensures.start
-    (size_position c.args.s.now _ c.trimmed-start.ensures.text utf8 place wrong)
 
 pub returns-in-None : goal.returns-in-None
 returns-in-None c =
-    no_size_position c.args.s.now _ c.trimmed-start.ensures.text
-    (subst IsUtf8 c.as_bytes.ensures.value c.as_bytes.ensures.utf8)
-    (subst (λ bytes. IsSizePlace bytes None) c.as_bytes.ensures.value c.in-None.ensures)
+    no_size_position c.args.s.now _ c.trimmed-start.ensures.text c.trimmed-start.ensures.utf8 c.in-None.ensures

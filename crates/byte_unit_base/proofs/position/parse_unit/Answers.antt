@@ -1,12 +1,11 @@
 -- The unit that the trimmed string spells, or the error of the rest of it, where the parser stops, and its position.
-use Rattle.std.proofs.Common.{◌+◌, Ok, Err, Some, ap, sym, subst, ◌∙◌}
+use Rattle.std.proofs.Common.{Ok, Err, ap, sym, subst, ◌∙◌}
 use Rattle.std.specs.Str.{chars, IsUtf8}
 use Rattle.byte_unit_base.specs.Version.{current}
 use Rattle.byte_unit_base.specs.Spelling.{Spells, flags_of}
 use Rattle.byte_unit_base.specs.Units.{shape_of}
 use Rattle.byte_unit_base.specs.Scan.{read}
 use Rattle.byte_unit_base.specs.UnitScan.{unit_scan, start}
-use Rattle.byte_unit_base.specs.ErrorPosition.{IsUnitPosition}
 use Rattle.byte_unit_base.specs.PartsReading.{IsUnitStop, next_char, unit_stop_fault}
 use Rattle.byte_unit_base.proofs.Positions.{stop_place, unit_position}
 use Rattle.byte_unit_base.proofs.Scans.{reads_meaning}
@@ -46,8 +45,9 @@ returns-in-Err c =
     let error_is = c.error_before-error.ensures
     ∙ ap (unit_stop_fault flags stop.0) (c.first_char.ensures ∙ ap (λ rest. next_char (chars rest)) c.range_from.ensures.value) in
     let trimmed = ap chars c.trim-text.ensures.trim ∙ chars-trim c.args.s.now c.utf8.s in
-    let position = unit_position c.args.s.now text trimmed utf8 stop.1 (stop_place flags text stop.0 stop.1 stops) in (
+    let position = unit_position c.args.s.now text trimmed utf8 c.leading_len.result stop.1 c.leading_len.ensures.start
+    (stop_place flags text stop.0 stop.1 stops) in (
       unit_reading flags c.args.s.now (Err c.error_before-error.result)
           (ap Err error_is ∙ (sym (stop_read flags text stop.1 stop.0 stops utf8) ∙ ap (read (unit_scan flags) start) trimmed)),
-      subst (λ white. IsUnitPosition c.args.s.now (Some (white + stop.1))) (sym c.leading_len.ensures.start) position,
+      position,
     )

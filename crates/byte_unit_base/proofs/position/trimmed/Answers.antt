@@ -6,4 +6,5 @@ use Rattle.byte_unit_base.proofs.position.trimmed.Goals as goal
 
 pub returns-clause-text : goal.returns-clause-text
 returns-clause-text c =
-    ap chars (c.trim_end.ensures.trim ∙ ap trim_end c.trim_start-rest.ensures.trim) ∙ chars-trim c.args.s.now c.utf8.s
+    ap chars (c.as_bytes.ensures.value ∙ (c.trim_end.ensures.trim ∙ ap trim_end c.trim_start-rest.ensures.trim))
+    ∙ chars-trim c.args.s.now c.utf8.s

@@ -8,5 +8,4 @@ returns-in-Ok-clause-reading c =
     c.size_of.ensures.reading c.args.ignore_case c.args.s.now (rw c.flags_for-flags.ensures at c.in-Ok.ensures)
 
 pub returns-in-Err-clause-reading : goal.returns-in-Err-clause-reading
-returns-in-Err-clause-reading c = reading_of_fault as_written c.args.kind c.args.ignore_case c.args.s.now c.in-Err.error
-    (rw c.flags_for-flags.ensures at c.in-Err.ensures)
+returns-in-Err-clause-reading c = reading_of_fault as_written _ _ _ _ (rw c.flags_for-flags.ensures at c.in-Err.ensures)

@@ -1,6 +1,6 @@
 -- The first row that passes the test is the largest unit in which the size is exact; the number times the unit is the
 -- size; if no row passes, no unit of the set is such. The steps are those of `factors_of` and one for each place.
-use Rattle.std.proofs.Common.{◌≡◌, ◌*◌, ◌^◌, ℕ, min, arith, refl, ap, subst, sym, ◌∙◌}
+use Rattle.std.proofs.Common.{rules, ◌≡◌, ◌*◌, ◌^◌, ℕ, min, arith, refl, ap, subst, sym, ◌∙◌}
 use Rattle.std.proofs.lemmas.Bool.{both_ways}
 use Rattle.byte_unit_math.specs.Bounds.{scale, places_of_decimal, whole_limit}
 use Rattle.byte_unit_math.specs.Exact.{IsExactAt, IsLeastPlaces}
@@ -45,19 +45,19 @@ loop-row-preserved c =
       steps = c.loop-row.invariant.steps;
     }
 
-pub exact_number-number-requires-clause-den : goal.exact_number-number-requires-clause-den
-exact_number-number-requires-clause-den c =
-    let multiple = row_multiple (row_at_is_row no_row c.multiples_within-row-items.ensures c.loop-row-test.true) in
-    omega (arith, multiple.small, multiple.powers)
-
-pub exact_number-number-requires-clause-exact : goal.exact_number-number-requires-clause-exact
-exact_number-number-requires-clause-exact c =
+pub exact_number-number-requires : goal.exact_number-number-requires
+exact_number-number-requires c =
     let in_bits = c.args.size * c.args.own_bits in
     let is_row = row_at_is_row no_row c.multiples_within-row-items.ensures c.loop-row-test.true in
+    let multiple = row_multiple is_row in
     let has = row_powers in_bits _ _ is_row c.if-row-in_bits.true in
     let powers = in_bits_powers c.args.size c.args.own_bits _ _ c.requires.own_bits c.factors_of-left.ensures.powers in
-    subst (λ unit. IsExactAt in_bits unit (min c.min-most.result places_of_decimal)) (row_multiple is_row).powers
-    (exact_by_row _ (omega (arith, c.min-most.ensures)) is_row.bits_are powers has)
+    record {
+      small = search rules;
+      den = omega (arith, multiple.small, multiple.powers);
+      exact = subst (λ unit. IsExactAt in_bits unit (min c.min-most.result places_of_decimal)) multiple.powers
+          (exact_by_row _ (omega (arith, c.min-most.ensures)) is_row.bits_are powers has);
+    }
 
 pub factored_quotient-number-requires-clause-small : goal.factored_quotient-number-requires-clause-small
 factored_quotient-number-requires-clause-small c =
@@ -83,7 +83,7 @@ returns-then-row-in_bits-clause-exact c =
       | else-places-gt-FEW_PLACES w ↦
           ap (λ n. n * _) w.number-is
           ∙ (ap (λ n. w.factored_quotient-number.result * n) multiple.powers
-          ∙ (w.factored_quotient-number.ensures.exact ∙ ap (λ n. n * scale) product))
+          ∙ (w.factored_quotient-number.ensures ∙ ap (λ n. n * scale) product))
     ]
 
 pub returns-then-row-in_bits-clause-chosen : goal.returns-then-row-in_bits-clause-chosen
@@ -101,7 +101,6 @@ returns-then-row-in_bits-clause-chosen c =
 
 pub returns-then-row-in_bits-clause-steps : goal.returns-then-row-in_bits-clause-steps
 returns-then-row-in_bits-clause-steps c =
-    let multiple = row_multiple (row_at_is_row no_row c.multiples_within-row-items.ensures c.loop-row-test.true) in
     let mid = c.factors_of-left.new.steps in
     let trials = c.factors_of-left.ensures in
     let unmoved = c.loop-row.invariant.steps in
@@ -114,9 +113,8 @@ returns-then-row-in_bits-clause-steps c =
           let same = subst (λ n. IsLeastPlaces n scale places.0) (sym w.number-is) places.1 in
           (places.0, same, omega (arith, w.steps-is, places.2, unmoved))
       | else-places-gt-FEW_PLACES w ↦
-          let places = w.factored_quotient-number.ensures.steps in
-          let same = subst (λ n. IsLeastPlaces n scale places.0) (sym w.number-is) places.1 in
-          (places.0, same, omega (arith, w.steps-is, places.2, unmoved))
+          let same = subst (λ n. IsLeastPlaces n scale w.places.result) (sym w.number-is) w.places.ensures.least in
+          (w.places.result, same, omega (arith, w.steps-is, w.advance_by.ensures, unmoved))
     ] in
     counted_choice {places = counted.0} c.args.steps.now mid c.if-places-gt-FEW_PLACES.steps trials.powers counted.1
     trials.steps counted.2

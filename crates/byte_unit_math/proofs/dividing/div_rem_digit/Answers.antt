@@ -1,17 +1,26 @@
 -- The digit is the sum of the multiples 8, 4, 2 and 1 of the divisor that were subtracted, and what is left is below
 -- the divisor.
-use Rattle.std.proofs.Common.{◌+◌, arith}
+use Rattle.std.proofs.Common.{◌≡◌, ℕ, ◌+◌, ◌/◌, ◌%◌, ◌∙◌, arith}
+use Rattle.byte_unit_math.specs.Inverse.{IsSubtracted}
 use Rattle.byte_unit_math.proofs.Estimates.{division_is}
 use Rattle.byte_unit_math.proofs.dividing.div_rem_digit.Goals as goal
 
+-- The four multiples make the digit.
+digit_is : {dividend divisor : ℕ} {eights fours twos ones : ℕ × ℕ} → IsSubtracted dividend 8 divisor eights
+    → IsSubtracted eights.1 4 divisor fours → IsSubtracted fours.1 2 divisor twos → IsSubtracted twos.1 1 divisor ones
+    → (eights.0 + fours.0 + twos.0 + ones.0 ≡ dividend / divisor) × (ones.1 ≡ dividend % divisor)
+digit_is {dividend} {divisor} {eights} {fours} {twos} {ones} in_eights in_fours in_twos in_ones =
+    division_is dividend divisor (eights.0 + fours.0 + twos.0 + ones.0) ones.1
+    (omega (arith, in_eights.parts, in_fours.parts, in_twos.parts, in_ones.parts)) (omega (arith, in_ones.below))
+
+pub returns-then-divisor : goal.returns-then-divisor
+returns-then-divisor c =
+    let is = digit_is c.subtract_multiple_u64-eights.ensures c.subtract_multiple_u64-fours.ensures
+    c.subtract_multiple_u64-twos.ensures c.subtract_multiple_u64-ones.ensures in
+    record { digit = c.from.ensures ∙ is.0; rest = c.from-then-divisor.ensures ∙ is.1 }
+
 pub returns : goal.returns
 returns c =
-    let eights = c.subtract_multiple-eights in
-    let fours = c.subtract_multiple-fours in
-    let twos = c.subtract_multiple-twos in
-    let ones = c.subtract_multiple-ones in
-    let digit = eights.result.0 + fours.result.0 + twos.result.0 + ones.result.0 in
-    let parts = division_is c.args.dividend c.args.divisor digit ones.result.1
-    (omega (arith, eights.ensures.parts, fours.ensures.parts, twos.ensures.parts, ones.ensures.parts))
-    (omega (arith, ones.ensures.below)) in
-    record { digit = parts.0; rest = parts.1 }
+    let is = digit_is c.subtract_multiple-eights.ensures c.subtract_multiple-fours.ensures
+    c.subtract_multiple-twos.ensures c.subtract_multiple-ones.ensures in
+    record { digit = is.0; rest = is.1 }

@@ -9,8 +9,8 @@ use Rattle.byte_unit_math.proofs.lanes.put_padded_digits.Goals as goal
 pub returns-then-n-lt10000-clause-digits : goal.returns-then-n-lt10000-clause-digits
 returns-then-n-lt10000-clause-digits c =
     let len = c.decimal_len-len.ensures.exact in
-    let start : c.put_u128.result ≡ 0 = omega (arith, c.put_u128.ensures.put.begins, len) in
-    rw (start, drop-replicate {X = ℕ} c.decimal_len-len.result 32 48, len) at c.put_u128.ensures.put.bytes
+    let start : c.put_u64.result ≡ 0 = omega (arith, c.put_u64.ensures.begins, len) in
+    rw (start, drop-replicate {X = ℕ} c.decimal_len-len.result 32 48, len) at c.put_u64.ensures.bytes
 
 pub returns-clause-digits : goal.returns-clause-digits
 returns-clause-digits c =

@@ -1,5 +1,5 @@
 -- The result is the least size of the number of units, or `None` if that reaches the limit.
-use Rattle.std.proofs.Common.{ℕ, ◌+◌, ◌-◌, ◌*◌, ◌^◌, ◌<◌, ◌≤◌, arith}
+use Rattle.std.proofs.Common.{ℕ, ◌+◌, ◌-◌, ◌*◌, ◌^◌, ◌≤◌, arith}
 use Rattle.std.proofs.lemmas.Bool.Decides.{nat_tests}
 use Rattle.byte_unit_math.specs.Bounds.{places_of_decimal}
 use Rattle.byte_unit_math.specs.Least.{IsLeastSize}
@@ -9,21 +9,17 @@ use Rattle.byte_unit_math.proofs.least.least_size.Goals.{After-checked_mul_add, 
 use Rattle.byte_unit_math.proofs.least.least_size.Goals.{else-places-le-GROUP_PLACES}
 use Rattle.byte_unit_math.proofs.least.least_size.Goals as goal
 
--- The digits are a number of at most their places.
-digits_below : (c : After-checked_mul_add) → c.digits-digits.result < 10 ^ c.places-places.result
-digits_below c = c.digits-digits.ensures.bound c.places-places.result c.places-places.ensures.least
-
 -- The part that the code computes is the least size of the fraction.
 fraction_least : (c : After-checked_mul_add)
-    → IsLeastSize (c.digits-digits.result * 10 ^ (places_of_decimal - c.places-places.result)) c.args.unit_size
+    → IsLeastSize (c.parts-whole.result.1 * 10 ^ (places_of_decimal - c.parts-whole.result.2)) c.args.unit_size
     c.if-places-le-GROUP_PLACES.part
 fraction_least c =
     let unit = c.args.unit_size in
-    let fraction = c.digits-digits.result * 10 ^ (places_of_decimal - c.places-places.result) in
+    let fraction = c.parts-whole.result.1 * 10 ^ (places_of_decimal - c.parts-whole.result.2) in
     elim c.if-places-le-GROUP_PLACES.branch [
       | then-places-le-GROUP_PLACES w ↦
-          let first = in_first_group c.digits-digits.result c.places-places.result
-          w.if-places-le-GROUP_PLACES.true (digits_below c) in
+          let first = in_first_group c.parts-whole.result.1 c.parts-whole.result.2
+          w.if-places-le-GROUP_PLACES.true c.parts-whole.ensures.below in
           let rounded = rw w.power_of_ten.ensures at w.carry_of_group-part.ensures.rounded in
           rw w.part-is (IsLeastSize-group fraction _ unit _ first.all rounded)
       | else-places-le-GROUP_PLACES w ↦
@@ -40,15 +36,14 @@ fraction_least c =
 -- With the whole part it is the least size of the decimal.
 size_least : (c : After-checked_mul_add)
     → IsLeastSize c.args.d c.args.unit_size
-    (c.whole-whole.result * c.args.unit_size + c.if-places-le-GROUP_PLACES.part)
+    (c.parts-whole.result.0 * c.args.unit_size + c.if-places-le-GROUP_PLACES.part)
 size_least c =
-    IsLeastSize-parts c.args.d c.args.unit_size c.whole-whole.result _ c.if-places-le-GROUP_PLACES.part
-    c.whole-whole.ensures.value (c.digits-digits.ensures.value c.places-places.result c.places-places.ensures.least)
-    (fraction_least c)
+    IsLeastSize-parts c.args.d c.args.unit_size c.parts-whole.result.0 _ c.if-places-le-GROUP_PLACES.part
+    c.parts-whole.ensures.whole_is c.parts-whole.ensures.digits_are (fraction_least c)
 
 -- If it reaches the limit, each size that is large enough does.
 not_below : (c : After-checked_mul_add)
-    → c.args.limit ≤ c.whole-whole.result * c.args.unit_size + c.if-places-le-GROUP_PLACES.part
+    → c.args.limit ≤ c.parts-whole.result.0 * c.args.unit_size + c.if-places-le-GROUP_PLACES.part
     → (n : ℕ) → IsLeastSize c.args.d c.args.unit_size n → c.args.limit ≤ n
 not_below c reached n h = omega (arith, reached, (size_least c).least n h.has)
 

@@ -4,7 +4,7 @@ use Rattle.std.proofs.Math.Nat.{pow-le-pow_right, mul-le-mul_left, one-le-pow, d
 use Rattle.std.proofs.lemmas.Nat.{mod_below, mul-le}
 use Rattle.byte_unit_math.specs.Bounds.{bits_limit, places_of_decimal, scale}
 use Rattle.byte_unit_math.proofs.Scales.{cut_at_point}
-use Rattle.byte_unit_math.proofs.ShortExpansions.{AreParts, decimal_is_exact, short_of_decimal}
+use Rattle.byte_unit_math.proofs.ShortExpansions.{decimal_is_exact, short_of_decimal}
 use Rattle.byte_unit_math.proofs.short.decimal_expansion.Goals.{After-power_of_five, After-div_rem-whole}
 use Rattle.byte_unit_math.proofs.short.decimal_expansion.Goals as goal
 
@@ -30,15 +30,15 @@ div_rem-whole-requires c =
     omega (arith, c.power_of_ten.ensures, one-le-pow (c.args.tens + c.args.twos) 10 (omega arith))
 
 abbrev start_of : After-div_rem-whole → After-power_of_five
-start_of c = (goal.at.from_digits-number-requires-clause-whole c).After-power_of_five
+start_of c = (goal.at.from_digits-requires-clause-whole c).After-power_of_five
 
-pub from_digits-number-requires-clause-whole : goal.from_digits-number-requires-clause-whole
-from_digits-number-requires-clause-whole c =
+pub from_digits-requires-clause-whole : goal.from_digits-requires-clause-whole
+from_digits-requires-clause-whole c =
     let below = div-le_self (scaled_of (start_of c)) c.power_of_ten.result in
     omega (arith, c.div_rem-whole.ensures.quotient, below, scaled_small (start_of c))
 
-pub from_digits-number-requires-clause-digits : goal.from_digits-number-requires-clause-digits
-from_digits-number-requires-clause-digits c =
+pub from_digits-requires-clause-digits : goal.from_digits-requires-clause-digits
+from_digits-requires-clause-digits c =
     let power = 10 ^ (c.args.tens + c.args.twos) in
     rw (c.div_rem-whole.ensures.rest, c.power_of_ten.ensures)
     (mod_below (scaled_of (start_of c)) power
@@ -47,7 +47,7 @@ from_digits-number-requires-clause-digits c =
 pub returns : goal.returns
 returns c =
     let split = (goal.at.returns c).After-div_rem-whole in
-    let number = c.from_digits-number in
+    let number = c.from_digits in
     let few : c.args.tens + c.args.twos ≤ places_of_decimal = omega arith in
     let exact : number.result * (2 ^ c.args.twos * 10 ^ c.args.tens) ≡ c.args.numerator * scale =
     rw (
@@ -60,13 +60,5 @@ returns c =
     (ap (λ N. N * (2 ^ c.args.twos * 10 ^ c.args.tens))
     (cut_at_point (c.args.numerator * 5 ^ c.args.twos) (c.args.tens + c.args.twos) few)
     ∙ decimal_is_exact c.args.numerator c.args.twos c.args.tens few) in
-    let least = c.places.ensures.least in
-    let parts : AreParts number.result c.whole.result c.digits.result c.places.result = record {
-      few = c.places.ensures.bound;
-      least = least;
-      whole_is = c.whole.ensures.value;
-      digits_are = c.digits.ensures.value c.places.result least;
-      below = c.digits.ensures.bound c.places.result least;
-    } in
     let some = mul-le 1 1 _ _ (one-le-pow c.args.twos 2 (omega arith)) (one-le-pow c.args.tens 10 (omega arith)) in
-    short_of_decimal some exact parts
+    short_of_decimal some exact c.parts-whole.ensures
