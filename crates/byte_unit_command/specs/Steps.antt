@@ -1,0 +1,43 @@
+-- Private: how the calls end that convert a field, the fields of a record, or a record.
+use Rattle.std.specs.Prelude.{ℕ, ◌≤◌, ◌≡◌, List, length, vec_capacity, Result, ⊤, IsOk}
+use Rattle.byte_unit_command.specs.Capacity.{field_room, fields_room, record_room}
+use Rattle.byte_unit_command.specs.RunState.{Aborts, FieldHasNoMessage, FieldsHaveNoMessage, Grows, HasRoom}
+use Rattle.byte_unit_command.specs.RunState.{RecordHasNoMessage, State, StopsEarly, at_next, messages_of, state_of}
+use Rattle.byte_unit_command.specs.declared.converter.Converter.{Converter}
+use Rattle.byte_unit_command.specs.declared.error.RunError.{RunError}
+use Rattle.byte_unit_command.specs.declared.options.Options.{Options}
+use Rattle.byte_unit_stream.specs.Prefix.{IsPrefix}
+
+-- if a call stops that appends a text and messages, it is out of memory, or at a rejected field; it does not stop if
+-- there is capacity for `room` bytes of text, and nothing to be told
+pub record Stops {A : Type 0} (HasNoMessage : State → Type 0) (room : ℕ) (old : Converter A) (result : Result ⊤ RunError)
+    : Type 0 where
+  pub error : StopsEarly result
+  pub succeeds : HasRoom old.waiting room → HasNoMessage (state_of old) → IsOk result
+
+-- at most this many bytes of text were appended
+pub record Extends {A : Type 0} (room : ℕ) (old new : Converter A) : Type 0 where
+  pub kept : IsPrefix old.waiting.items new.waiting.items
+  pub len : Grows old.waiting new.waiting room
+  pub capacity : vec_capacity old.waiting ≤ vec_capacity new.waiting
+
+-- messages were appended, or none
+abbrev pub KeepsMessages : {A : Type 0} → Converter A → Converter A → Type 0
+KeepsMessages old new = IsPrefix (messages_of old.notices) (messages_of new.notices)
+
+-- when a call stops that converts the field with this number
+abbrev pub FieldStops : {A : Type 0} → Options → ℕ → List ℕ → Converter A → Result ⊤ RunError → Type 0
+FieldStops options number field =
+    Stops (FieldHasNoMessage options number field) (field_room options (length field))
+
+-- when one stops that converts the fields of a record, which is no header record
+abbrev pub FieldsStop : {A : Type 0} → Options → List ℕ → Converter A → Result ⊤ RunError → Type 0
+FieldsStop options bytes = Stops (FieldsHaveNoMessage options bytes) (fields_room options (length bytes))
+
+-- when one stops that converts the next record
+abbrev pub RecordStops : {A : Type 0} → Options → List ℕ → Converter A → Result ⊤ RunError → Type 0
+RecordStops options bytes = Stops (RecordHasNoMessage options bytes) (record_room options (length bytes))
+
+-- in the mode `abort`, a field of the next record is rejected, which is no header record
+abbrev pub AbortsNext : Options → List ℕ → State → List ℕ → Type 0
+AbortsNext options bytes old new_messages = (old.header ≡ 0) × Aborts options bytes (at_next old) new_messages
