@@ -14,7 +14,8 @@ use Rattle.byte_unit_command.specs.declared.options.Invalid.{Invalid}
 use Rattle.byte_unit_command.specs.declared.options.Options.{Options}
 use Rattle.byte_unit_command.specs.declared.values.Values.{Values}
 use Rattle.byte_unit_command.specs.declared.wrong.ValueError.{ValueError}
-use Rattle.byte_unit_command.specs.declared.wrong.ValueError.TheVariants.{Delimiter, From, Mode, NoUnit, Precision, NoDelimiter}
+use Rattle.byte_unit_command.specs.declared.wrong.ValueError.TheVariants.{Delimiter, From, Mode, NoUnit, Precision}
+use Rattle.byte_unit_command.specs.declared.wrong.ValueError.TheVariants.{NoDelimiter}
 use Rattle.byte_unit_command.specs.declared.wrong.Wrong.{Wrong}
 
 -- the form without `--to`: `-H` means `--to=auto -p 1`, but for what `--to` and `-p` say
@@ -126,7 +127,8 @@ pub data IsFirstWrong (values : Values) (wrong : Wrong) : Type 0 where
   wrong_no_unit : (binary : Bool) → IsFrom (text_of values.from) binary → (given : Form) → IsFormOf values given
       → IsWithinExact given values.precision → IsWrongNoUnit values.no_unit given wrong → IsFirstWrong values wrong
   wrong_delimiter : (binary : Bool) → IsFrom (text_of values.from) binary → FormIsRight values
-      → IsWrongOf (codes "--delimiter") values.delimiter (MeansNothing IsDelimiter Delimiter) wrong → IsFirstWrong values wrong
+      → IsWrongOf (codes "--delimiter") values.delimiter (MeansNothing IsDelimiter Delimiter) wrong
+      → IsFirstWrong values wrong
   wrong_field : (binary : Bool) → IsFrom (text_of values.from) binary → FormIsRight values
       → (delimiter : Option ℕ) → IsDelimiter (text_of values.delimiter) delimiter
       → IsWrongField values wrong → IsFirstWrong values wrong

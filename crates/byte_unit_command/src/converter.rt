@@ -6,9 +6,10 @@ ghost use Rattle.byte_unit.specs.Forms.{text_limit};
 ghost use Rattle.byte_unit_command.specs.Capacity.{field_room, fields_room, record_room};
 ghost use Rattle.byte_unit_command.specs.Field.{IsNoSize};
 ghost use Rattle.byte_unit_command.specs.Fields.{IsChosen, at_blanks};
-ghost use Rattle.byte_unit_command.specs.RunState.{Aborts, AddsField, AddsFields, AddsRecords, IsRejectedField};
-ghost use Rattle.byte_unit_command.specs.RunState.{Grows, messages_of, state_of};
-ghost use Rattle.byte_unit_command.specs.Steps.{AbortsNext, Extends, FieldStops, FieldsStop, KeepsMessages, RecordStops};
+ghost use Rattle.byte_unit_command.specs.RunState.{AddsRecords, Grows, messages_of, state_of};
+ghost use Rattle.byte_unit_command.specs.Steps.{AbortsNext, Extends, FieldIsAdded, FieldIsRejected, FieldStops};
+ghost use Rattle.byte_unit_command.specs.Steps.{FieldsAreAdded, FieldsAreRejected, FieldsStop, KeepsMessages};
+ghost use Rattle.byte_unit_command.specs.Steps.{RecordStops};
 
 use crate::blanks::{between, end_of_first};
 use crate::error::{RunError, RunResult};
@@ -112,10 +113,8 @@ impl<A: Allocator> Converter<A> {
     #[inline(always)]
     fn add_fields(&mut self, options: &Options, bytes: &[u8], digits: &mut [u8]) -> RunResult
         requires { text_limit ≤ length digits.old }
-        ensures ok { OnOk result
-            (AddsFields options.now bytes.now (state_of self.old) (state_of self.new)) }
-        ensures rejected { IsErrOf result RunError.Rejected
-            → Aborts options.now bytes.now (state_of self.old) (messages_of self.new.notices) }
+        ensures ok { FieldsAreAdded options.now bytes.now self.old self.new result }
+        ensures rejected { FieldsAreRejected options.now bytes.now self.old self.new result }
         ensures stops { FieldsStop options.now bytes.now self.old result }
         ensures kept_messages { KeepsMessages self.old self.new }
         ensures extends { Extends (fields_room options.now (length bytes.now)) self.old self.new }
@@ -147,10 +146,8 @@ impl<A: Allocator> Converter<A> {
         requires delimiter { options.now.delimiter ≡ Some delimiter }
         requires blanks { at_blanks options.now ≡ BLANKS }
         requires capacity { text_limit ≤ length digits.old }
-        ensures ok { OnOk result
-            (AddsFields options.now bytes.now (state_of self.old) (state_of self.new)) }
-        ensures rejected { IsErrOf result RunError.Rejected
-            → Aborts options.now bytes.now (state_of self.old) (messages_of self.new.notices) }
+        ensures ok { FieldsAreAdded options.now bytes.now self.old self.new result }
+        ensures rejected { FieldsAreRejected options.now bytes.now self.old self.new result }
         ensures stops { FieldsStop options.now bytes.now self.old result }
         ensures kept_messages { KeepsMessages self.old self.new }
         ensures extends { Extends (fields_room options.now (length bytes.now)) self.old self.new }
@@ -202,10 +199,8 @@ impl<A: Allocator> Converter<A> {
         requires blanks { at_blanks options.now ≡ BLANKS }
         requires yes { IsTrue chosen → IsChosen options.now.fields.now number }
         requires no { IsFalse chosen → ¬ IsChosen options.now.fields.now number }
-        ensures ok { OnOk result
-            (AddsField options.now number field.now (state_of self.old) (state_of self.new)) }
-        ensures rejected { IsErrOf result RunError.Rejected → IsRejectedField
-            options.now number field.now (state_of self.old) (messages_of self.new.notices) }
+        ensures ok { FieldIsAdded options.now number field.now self.old self.new result }
+        ensures rejected { FieldIsRejected options.now number field.now self.old self.new result }
         ensures stops { FieldStops options.now number field.now self.old result }
         ensures kept_messages { KeepsMessages self.old self.new }
         ensures extends { Extends (field_room options.now (length field.now)) self.old self.new }
@@ -232,10 +227,8 @@ impl<A: Allocator> Converter<A> {
     fn add_rejected(&mut self, options: &Options, number: u64, field: &[u8]) -> RunResult
         requires chosen { IsChosen options.now.fields.now number }
         requires none { IsNoSize options.now field.now }
-        ensures ok { OnOk result
-            (AddsField options.now number field.now (state_of self.old) (state_of self.new)) }
-        ensures rejected { IsErrOf result RunError.Rejected → IsRejectedField
-            options.now number field.now (state_of self.old) (messages_of self.new.notices) }
+        ensures ok { FieldIsAdded options.now number field.now self.old self.new result }
+        ensures rejected { FieldIsRejected options.now number field.now self.old self.new result }
         ensures stops { FieldStops options.now number field.now self.old result }
         ensures kept_messages { KeepsMessages self.old self.new }
         ensures extends { Extends (field_room options.now (length field.now)) self.old self.new }

@@ -25,7 +25,8 @@ returns-in_err-add_record-clause-error g c =
     let after = c.add_record.new.self in
     IfErr-passed _ c.from_residual.result error c.from_residual.ensures.1
     (EndsEarly-record c.loop-n.invariant.0 next after.waiting.items (messages_of after.notices) (sym failed.ensures.err)
-    error failed.ensures.stops.error (λ is. failed.ensures.memory (ap Err is)) (λ is. failed.ensures.rejected (ap Err is)))
+    error failed.ensures.stops.error (λ is. failed.ensures.memory (ap Err is))
+    (λ is. failed.ensures.rejected (ap Err is)))
 
 pub returns-in_err-add_record-2-clause-error : goal.returns-in_err-add_record-2-clause-error
 returns-in_err-add_record-2-clause-error g c =

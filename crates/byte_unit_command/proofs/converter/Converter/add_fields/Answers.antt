@@ -27,7 +27,8 @@ returns-in-None-clause-stops g c = record {
       let fields = subst (λ fields. AreMessagesOfFields options old.word old.place 1 fields [])
       (fields_of-whole options bytes c.in-None.is) untold in
       let first = first-untold options old.word old.place 1 bytes [] fields in
-      c.add_field.ensures.stops.succeeds (omega (arith, room, fields_room-whole options (length bytes) c.in-None.is)) first;
+      let whole = fields_room-whole options (length bytes) c.in-None.is in
+      c.add_field.ensures.stops.succeeds (omega (arith, room, whole)) first;
 }
 
 pub returns-in-None-clause-extends : goal.returns-in-None-clause-extends
