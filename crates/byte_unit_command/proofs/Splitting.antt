@@ -354,16 +354,18 @@ EndsFirst options bytes place gap =
 
 -- one more field and the bytes after it, by the place where the field ends
 pub IsSplitting-at : {options : Options} {bytes : List ℕ} {old : State} {number : ℕ} {rest : List ℕ} {new : State}
-    → IsSplitting options bytes old number rest new → (delimiter : ℕ)
-    → options.delimiter ≡ Some delimiter → (place gap : ℕ) → EndsFirst options rest place gap → (next : State)
-    → AddsField options number (take place rest) new next → (out : List ℕ) → out ≡ next.out ++ between_of options
-    → IsSplitting options bytes old (number + 1) (drop (place + gap) rest)
-    (record next { out = out })
-IsSplitting-at {options = options} {bytes = bytes} {old = old} {number = number} {rest = rest} so_far delimiter is place
-    gap ends next adds out out_is =
+    → IsSplitting options bytes old number rest new → (delimiter : ℕ) → options.delimiter ≡ Some delimiter
+    → (between : List ℕ) → between ≡ between_of options → (place : ℕ)
+    → EndsFirst options rest place (length (between_of options)) → (next : State)
+    → AddsField options number (take place rest) new next → (out : List ℕ) → out ≡ next.out ++ between
+    → IsSplitting options bytes old (number + 1) (drop (place + length between) rest) (record next { out = out })
+IsSplitting-at {options = options} {bytes = bytes} {old = old} {number = number} {rest = rest} so_far delimiter is
+    between between_is place ends next adds out out_is =
+    let gap = length between in
     let behind = drop (place + gap) rest in
-    let shorter : length behind < length rest = omega (arith, ends.0, ends.1, length-drop (place + gap) rest) in
+    let first = subst (EndsFirst options rest place) (ap length (sym between_is)) ends in
+    let shorter : length behind < length rest = omega (arith, first.0, first.1, length-drop (place + gap) rest) in
     subst (λ out. IsSplitting options bytes old (number + 1) behind (record next { out = out }))
-    (sym out_is)
-    (IsSplitting-step so_far (take place rest) behind ends.2 (fields_IsSplit options delimiter is behind) shorter next
+    (sym (out_is ∙ ap (λ mark. next.out ++ mark) between_is))
+    (IsSplitting-step so_far (take place rest) behind first.2 (fields_IsSplit options delimiter is behind) shorter next
     adds)

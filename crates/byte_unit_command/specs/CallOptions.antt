@@ -3,9 +3,9 @@ use Rattle.std.specs.Prelude.{◌≡◌, ℕ, ◌≤◌, ⊤, ◌⊎◌, Bool, t
 use Rattle.std.specs.Prelude.{MatchOption, unwrap_or, is_some, codes}
 use Rattle.std.specs.Borrow.{Bor}
 use Rattle.byte_unit.specs.declared.UnitType.TheVariants.{Both}
-use Rattle.byte_unit_command.specs.Meaning.{IsFrom, IsNoFrom, IsShownForm}
-use Rattle.byte_unit_command.specs.Meaning.{IsForm, IsNoForm, IsDelimiter, IsNoDelimiter, IsPadding, IsNoPadding}
-use Rattle.byte_unit_command.specs.Meaning.{IsMode, IsNoMode, IsLimit, IsNoLimit}
+use Rattle.byte_unit_command.specs.Meaning.{IsFrom, IsShownForm, MeansNothing}
+use Rattle.byte_unit_command.specs.Meaning.{IsForm, IsNoForm, IsDelimiter, IsPadding, IsNoPadding}
+use Rattle.byte_unit_command.specs.Meaning.{IsMode, IsLimit, IsNoLimit}
 use Rattle.byte_unit_command.specs.Values.{text_of}
 use Rattle.byte_unit_command.specs.declared.options.FieldRange.{FieldRange}
 use Rattle.byte_unit_command.specs.declared.options.Form.{Form}
@@ -14,7 +14,8 @@ use Rattle.byte_unit_command.specs.declared.options.Invalid.{Invalid}
 use Rattle.byte_unit_command.specs.declared.options.Options.{Options}
 use Rattle.byte_unit_command.specs.declared.values.Values.{Values}
 use Rattle.byte_unit_command.specs.declared.wrong.ValueError.{ValueError}
-use Rattle.byte_unit_command.specs.declared.wrong.ValueError.TheVariants.{NoUnit, Precision, NoDelimiter}
+use Rattle.byte_unit_command.specs.declared.wrong.ValueError.TheVariants.{Delimiter, From, Mode, NoUnit, Precision}
+use Rattle.byte_unit_command.specs.declared.wrong.ValueError.TheVariants.{NoDelimiter}
 use Rattle.byte_unit_command.specs.declared.wrong.Wrong.{Wrong}
 
 -- the form without `--to`: `-H` means `--to=auto -p 1`, but for what `--to` and `-p` say
@@ -117,7 +118,7 @@ ModeIsRight values = PaddingIsRight values × ((invalid : Invalid) × IsMode (te
 
 -- this is the first option that is wrong, in this order
 pub data IsFirstWrong (values : Values) (wrong : Wrong) : Type 0 where
-  wrong_from : IsWrongOf (codes "--from") values.from IsNoFrom wrong → IsFirstWrong values wrong
+  wrong_from : IsWrongOf (codes "--from") values.from (MeansNothing IsFrom From) wrong → IsFirstWrong values wrong
   wrong_to : (binary : Bool) → IsFrom (text_of values.from) binary
       → IsWrongOf (codes "--to") values.to (IsNoForm values.kind values.ignore_case) wrong
       → IsFirstWrong values wrong
@@ -126,14 +127,15 @@ pub data IsFirstWrong (values : Values) (wrong : Wrong) : Type 0 where
   wrong_no_unit : (binary : Bool) → IsFrom (text_of values.from) binary → (given : Form) → IsFormOf values given
       → IsWithinExact given values.precision → IsWrongNoUnit values.no_unit given wrong → IsFirstWrong values wrong
   wrong_delimiter : (binary : Bool) → IsFrom (text_of values.from) binary → FormIsRight values
-      → IsWrongOf (codes "--delimiter") values.delimiter IsNoDelimiter wrong → IsFirstWrong values wrong
+      → IsWrongOf (codes "--delimiter") values.delimiter (MeansNothing IsDelimiter Delimiter) wrong
+      → IsFirstWrong values wrong
   wrong_field : (binary : Bool) → IsFrom (text_of values.from) binary → FormIsRight values
       → (delimiter : Option ℕ) → IsDelimiter (text_of values.delimiter) delimiter
       → IsWrongField values wrong → IsFirstWrong values wrong
   wrong_padding : (binary : Bool) → IsFrom (text_of values.from) binary → FieldsAreRight values
       → IsWrongOf (codes "--padding") values.padding IsNoPadding wrong → IsFirstWrong values wrong
   wrong_invalid : (binary : Bool) → IsFrom (text_of values.from) binary → PaddingIsRight values
-      → IsWrongOf (codes "--invalid") values.invalid IsNoMode wrong → IsFirstWrong values wrong
+      → IsWrongOf (codes "--invalid") values.invalid (MeansNothing IsMode Mode) wrong → IsFirstWrong values wrong
   wrong_max : (binary : Bool) → IsFrom (text_of values.from) binary → ModeIsRight values
       → IsWrongOf (codes "--max") values.max (IsNoLimit binary values.kind values.ignore_case) wrong
       → IsFirstWrong values wrong

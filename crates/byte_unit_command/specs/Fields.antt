@@ -1,5 +1,5 @@
 -- The fields of a record, and which of them are converted.
-use Rattle.std.specs.Prelude.{ℕ, ◌-◌, ◌≤◌, ◌⊎◌, ⊤, Bool, true, false, not, ◌&&◌, ◌||◌, cond, nat_lt, List, [], ◌∷◌}
+use Rattle.std.specs.Prelude.{ℕ, ◌-◌, ◌≤◌, ◌⊎◌, ◌↔◌, ⊤, Bool, true, false, not, ◌&&◌, ◌||◌, cond, nat_lt, List, [], ◌∷◌}
 use Rattle.std.specs.Prelude.{zero, suc, ◌==◌, length, take, Option, None, Some, MatchOption}
 use Rattle.std.specs.List.{onto_first, slice_split}
 use Rattle.byte_unit_command.specs.declared.options.FieldRange.{FieldRange}
@@ -96,3 +96,10 @@ IsInOrder (range ∷ next ∷ ranges) = (range.first ≤ next.first) × IsInOrde
 abbrev pub GoesTo : List FieldRange → ℕ → Type 0
 GoesTo [] number = ⊤
 GoesTo (range ∷ ranges) number = MatchOption range.last ⊤ (λ last. number ≤ last)
+
+-- from the field with this number on, the ranges that are left choose the same fields; the first of them does not end
+-- before it, and they are in order if all are
+pub record AreRangesFrom (ranges : List FieldRange) (number : ℕ) (left : List FieldRange) : Type 0 where
+  pub same : (later : ℕ) → number ≤ later → IsChosen ranges later ↔ IsChosen left later
+  pub in_order : IsInOrder ranges → IsInOrder left
+  pub goes : GoesTo left number

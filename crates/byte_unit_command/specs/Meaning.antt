@@ -20,8 +20,12 @@ use Rattle.byte_unit_command.specs.declared.options.Form.TheVariants.{Exact, Pla
 use Rattle.byte_unit_command.specs.declared.options.Invalid.{Invalid}
 use Rattle.byte_unit_command.specs.declared.options.Invalid.TheVariants.{Abort, Fail, Warn, Ignore}
 use Rattle.byte_unit_command.specs.declared.wrong.ValueError.{ValueError}
-use Rattle.byte_unit_command.specs.declared.wrong.ValueError.TheVariants.{Unit as UnitFault, Blank, Delimiter}
-use Rattle.byte_unit_command.specs.declared.wrong.ValueError.TheVariants.{From, Padding, Mode, Size}
+use Rattle.byte_unit_command.specs.declared.wrong.ValueError.TheVariants.{Unit as UnitFault, Blank}
+use Rattle.byte_unit_command.specs.declared.wrong.ValueError.TheVariants.{Padding, Size}
+
+-- the text is no value of an option whose values mean this, for the reason that there is
+abbrev pub MeansNothing : {V : Type 0} → (Option (List ℕ) → V → Type 0) → ValueError → List ℕ → ValueError → Type 0
+MeansNothing {V} Means only text reason = ((value : V) → ¬ Means (Some text) value) × (reason ≡ only)
 
 -- `--from`: whether a decimal prefix means the binary one, so that `K` is 1024
 abbrev pub IsFrom : Option (List ℕ) → Bool → Type 0
@@ -29,10 +33,6 @@ IsFrom None binary = binary ≡ false
 IsFrom (Some text) binary =
     (text ≡ codes "iec") × (binary ≡ true) ⊎ ((text ≡ codes "auto") × (binary ≡ false)
     ⊎ ((text ≡ codes "si") × (binary ≡ false) ⊎ (text ≡ codes "iec-i") × (binary ≡ false)))
-
--- the text is no value of `--from`, for this reason
-abbrev pub IsNoFrom : List ℕ → ValueError → Type 0
-IsNoFrom text reason = ((binary : Bool) → ¬ IsFrom (Some text) binary) × (reason ≡ From)
 
 -- the text is the word for this form
 abbrev pub IsFormWord : List ℕ → Form → Type 0
@@ -78,10 +78,6 @@ IsDelimiter (Some text) delimiter =
     (text ≡ []) × (delimiter ≡ None)
     ⊎ (((byte : ℕ) × (text ≡ byte ∷ []) × (delimiter ≡ Some byte)) ⊎ (text ≡ 92 ∷ 116 ∷ []) × (delimiter ≡ Some 9))
 
--- the text is no value of `--delimiter`, for this reason
-abbrev pub IsNoDelimiter : List ℕ → ValueError → Type 0
-IsNoDelimiter text reason = ((delimiter : Option ℕ) → ¬ IsDelimiter (Some text) delimiter) × (reason ≡ Delimiter)
-
 -- the text is a number from 1 to 65535
 abbrev pub IsWidth : List ℕ → ℕ → Type 0
 IsWidth text width = IsPositive text width × (width < 2 ^ 16)
@@ -104,10 +100,6 @@ IsMode None invalid = invalid ≡ Abort
 IsMode (Some text) invalid =
     (text ≡ codes "abort") × (invalid ≡ Abort) ⊎ ((text ≡ codes "fail") × (invalid ≡ Fail)
     ⊎ ((text ≡ codes "warn") × (invalid ≡ Warn) ⊎ (text ≡ codes "ignore") × (invalid ≡ Ignore)))
-
--- the text is no value of `--invalid`, for this reason
-abbrev pub IsNoMode : List ℕ → ValueError → Type 0
-IsNoMode text reason = ((invalid : Invalid) → ¬ IsMode (Some text) invalid) × (reason ≡ Mode)
 
 -- `--max` and `--min`: a size, as in an input
 abbrev pub IsLimit : Bool → Kind → Bool → Option (List ℕ) → Option ℕ → Type 0

@@ -45,7 +45,7 @@ impl<A: Allocator + Copy> Buffers<A> {
             part: Vec::new(alloc),
             converter: Converter {
                 header: 0,
-                tally: Tally::new(),
+                tally: Tally::NONE,
                 place: Place {
                     word: "",
                     number: 0,

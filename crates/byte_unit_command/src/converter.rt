@@ -1,19 +1,18 @@
 //! Converts records, field by field.
 
 ghost use Rattle.std.specs.Prelude.{◌≡◌, ◌≤◌, ◌∷◌, [], Some, length};
-ghost use Rattle.std.specs.Prelude.{OnOk, OnErr, IsOk, IsErrOf, IsTrue, IsFalse, vec_capacity};
+ghost use Rattle.std.specs.Prelude.{OnOk, OnErr, IsErrOf, IsTrue, IsFalse, vec_capacity};
 ghost use Rattle.byte_unit.specs.Forms.{text_limit};
 ghost use Rattle.byte_unit_command.specs.Capacity.{field_room, fields_room, record_room};
 ghost use Rattle.byte_unit_command.specs.Field.{IsNoSize};
 ghost use Rattle.byte_unit_command.specs.Fields.{IsChosen, at_blanks};
-ghost use Rattle.byte_unit_command.specs.RunState.{AddsField, AddsFields, AddsRecords, Grows, HasRoom};
-ghost use Rattle.byte_unit_command.specs.RunState.{Aborts, IsRejectedField, StopsEarly};
-ghost use Rattle.byte_unit_command.specs.RunState.{FieldHasNoMessage, FieldsHaveNoMessage, RecordHasNoMessage};
-ghost use Rattle.byte_unit_command.specs.RunState.{at_next, messages_of, state_of};
-ghost use Rattle.byte_unit_stream.specs.Prefix.{IsPrefix};
+ghost use Rattle.byte_unit_command.specs.RunState.{AddsRecords, Grows, messages_of, state_of};
+ghost use Rattle.byte_unit_command.specs.Steps.{AbortsNext, Extends, FieldIsAdded, FieldIsRejected, FieldStops};
+ghost use Rattle.byte_unit_command.specs.Steps.{FieldsAreAdded, FieldsAreRejected, FieldsStop, KeepsMessages};
+ghost use Rattle.byte_unit_command.specs.Steps.{RecordStops};
 
 use crate::blanks::{between, end_of_first};
-use crate::error::RunError;
+use crate::error::{RunError, RunResult};
 use crate::field::{is_chosen, is_in_one, is_in_order, ranges_from};
 use crate::notice::{Notices, Place, add_limit_notice, add_reject_notice};
 use crate::options::{Invalid, Options};
@@ -54,19 +53,16 @@ impl<A: Allocator> Converter<A> {
         options: &Options,
         bytes: &[u8],
         digits: &mut [u8],
-    ) -> Result<(), RunError>
+    ) -> RunResult
         requires { text_limit ≤ length digits.old }
         ensures ok { OnOk result
             (AddsRecords options.now (bytes.now ∷ []) (state_of self.old) (state_of self.new)) }
         ensures err { OnErr result (self.new.waiting.items ≡ self.old.waiting.items) }
         ensures memory { IsErrOf result RunError.Memory
             → messages_of self.new.notices ≡ messages_of self.old.notices }
-        ensures rejected { IsErrOf result RunError.Rejected → (self.old.header ≡ 0)
-            × Aborts options.now bytes.now (at_next (state_of self.old))
-            (messages_of self.new.notices) }
-        ensures error { StopsEarly result }
-        ensures succeeds { HasRoom self.old.waiting (record_room options.now (length bytes.now))
-            → RecordHasNoMessage options.now bytes.now (state_of self.old) → IsOk result }
+        ensures rejected { IsErrOf result RunError.Rejected → AbortsNext
+            options.now bytes.now (state_of self.old) (messages_of self.new.notices) }
+        ensures stops { RecordStops options.now bytes.now self.old result }
         ensures len { Grows self.old.waiting self.new.waiting
             (record_room options.now (length bytes.now)) }
         ensures capacity { vec_capacity self.old.waiting ≤ vec_capacity self.new.waiting }
@@ -85,27 +81,15 @@ impl<A: Allocator> Converter<A> {
 
     /// Does what [`add_record`](Converter::add_record) does, but leaves what was appended before an error.
     #[inline(always)]
-    fn append_record(
-        &mut self,
-        options: &Options,
-        bytes: &[u8],
-        digits: &mut [u8],
-    ) -> Result<(), RunError>
+    fn append_record(&mut self, options: &Options, bytes: &[u8], digits: &mut [u8]) -> RunResult
         requires { text_limit ≤ length digits.old }
         ensures ok { OnOk result
             (AddsRecords options.now (bytes.now ∷ []) (state_of self.old) (state_of self.new)) }
-        ensures kept { IsPrefix self.old.waiting.items self.new.waiting.items }
-        ensures kept_messages { IsPrefix (messages_of self.old.notices)
-            (messages_of self.new.notices) }
-        ensures rejected { IsErrOf result RunError.Rejected → (self.old.header ≡ 0)
-            × Aborts options.now bytes.now (at_next (state_of self.old))
-            (messages_of self.new.notices) }
-        ensures error { StopsEarly result }
-        ensures succeeds { HasRoom self.old.waiting (record_room options.now (length bytes.now))
-            → RecordHasNoMessage options.now bytes.now (state_of self.old) → IsOk result }
-        ensures len { Grows self.old.waiting self.new.waiting
-            (record_room options.now (length bytes.now)) }
-        ensures capacity { vec_capacity self.old.waiting ≤ vec_capacity self.new.waiting }
+        ensures rejected { IsErrOf result RunError.Rejected → AbortsNext
+            options.now bytes.now (state_of self.old) (messages_of self.new.notices) }
+        ensures stops { RecordStops options.now bytes.now self.old result }
+        ensures kept_messages { KeepsMessages self.old self.new }
+        ensures extends { Extends (record_room options.now (length bytes.now)) self.old self.new }
     {
         self.place.number = self.place.number.saturating_add(1);
         if self.header > 0 {
@@ -127,26 +111,13 @@ impl<A: Allocator> Converter<A> {
     /// - `Rejected` if a field is not a size, in the mode `abort`.
     /// - `Memory` if allocation fails.
     #[inline(always)]
-    fn add_fields(
-        &mut self,
-        options: &Options,
-        bytes: &[u8],
-        digits: &mut [u8],
-    ) -> Result<(), RunError>
+    fn add_fields(&mut self, options: &Options, bytes: &[u8], digits: &mut [u8]) -> RunResult
         requires { text_limit ≤ length digits.old }
-        ensures ok { OnOk result
-            (AddsFields options.now bytes.now (state_of self.old) (state_of self.new)) }
-        ensures kept { IsPrefix self.old.waiting.items self.new.waiting.items }
-        ensures kept_messages { IsPrefix (messages_of self.old.notices)
-            (messages_of self.new.notices) }
-        ensures rejected { IsErrOf result RunError.Rejected
-            → Aborts options.now bytes.now (state_of self.old) (messages_of self.new.notices) }
-        ensures error { StopsEarly result }
-        ensures succeeds { HasRoom self.old.waiting (fields_room options.now (length bytes.now))
-            → FieldsHaveNoMessage options.now bytes.now (state_of self.old) → IsOk result }
-        ensures len { Grows self.old.waiting self.new.waiting
-            (fields_room options.now (length bytes.now)) }
-        ensures capacity { vec_capacity self.old.waiting ≤ vec_capacity self.new.waiting }
+        ensures ok { FieldsAreAdded options.now bytes.now self.old self.new result }
+        ensures rejected { FieldsAreRejected options.now bytes.now self.old self.new result }
+        ensures stops { FieldsStop options.now bytes.now self.old result }
+        ensures kept_messages { KeepsMessages self.old self.new }
+        ensures extends { Extends (fields_room options.now (length bytes.now)) self.old self.new }
     {
         match options.delimiter {
             None => {
@@ -171,23 +142,15 @@ impl<A: Allocator> Converter<A> {
         delimiter: u8,
         bytes: &[u8],
         digits: &mut [u8],
-    ) -> Result<(), RunError>
+    ) -> RunResult
         requires delimiter { options.now.delimiter ≡ Some delimiter }
         requires blanks { at_blanks options.now ≡ BLANKS }
         requires capacity { text_limit ≤ length digits.old }
-        ensures ok { OnOk result
-            (AddsFields options.now bytes.now (state_of self.old) (state_of self.new)) }
-        ensures kept { IsPrefix self.old.waiting.items self.new.waiting.items }
-        ensures kept_messages { IsPrefix (messages_of self.old.notices)
-            (messages_of self.new.notices) }
-        ensures rejected { IsErrOf result RunError.Rejected
-            → Aborts options.now bytes.now (state_of self.old) (messages_of self.new.notices) }
-        ensures error { StopsEarly result }
-        ensures succeeds { HasRoom self.old.waiting (fields_room options.now (length bytes.now))
-            → FieldsHaveNoMessage options.now bytes.now (state_of self.old) → IsOk result }
-        ensures len { Grows self.old.waiting self.new.waiting
-            (fields_room options.now (length bytes.now)) }
-        ensures capacity { vec_capacity self.old.waiting ≤ vec_capacity self.new.waiting }
+        ensures ok { FieldsAreAdded options.now bytes.now self.old self.new result }
+        ensures rejected { FieldsAreRejected options.now bytes.now self.old self.new result }
+        ensures stops { FieldsStop options.now bytes.now self.old result }
+        ensures kept_messages { KeepsMessages self.old self.new }
+        ensures extends { Extends (fields_room options.now (length bytes.now)) self.old self.new }
     {
         // For the proof: there are fewer fields than a `u64` counts.
         let _len = bytes.len();
@@ -231,24 +194,16 @@ impl<A: Allocator> Converter<A> {
         field: &[u8],
         chosen: bool,
         digits: &mut [u8],
-    ) -> Result<(), RunError>
+    ) -> RunResult
         requires capacity { text_limit ≤ length digits.old }
         requires blanks { at_blanks options.now ≡ BLANKS }
         requires yes { IsTrue chosen → IsChosen options.now.fields.now number }
         requires no { IsFalse chosen → ¬ IsChosen options.now.fields.now number }
-        ensures ok { OnOk result
-            (AddsField options.now number field.now (state_of self.old) (state_of self.new)) }
-        ensures kept { IsPrefix self.old.waiting.items self.new.waiting.items }
-        ensures kept_messages { IsPrefix (messages_of self.old.notices)
-            (messages_of self.new.notices) }
-        ensures rejected { IsErrOf result RunError.Rejected → IsRejectedField
-            options.now number field.now (state_of self.old) (messages_of self.new.notices) }
-        ensures error { StopsEarly result }
-        ensures succeeds { HasRoom self.old.waiting (field_room options.now (length field.now))
-            → FieldHasNoMessage options.now number field.now (state_of self.old) → IsOk result }
-        ensures len { Grows self.old.waiting self.new.waiting
-            (field_room options.now (length field.now)) }
-        ensures capacity { vec_capacity self.old.waiting ≤ vec_capacity self.new.waiting }
+        ensures ok { FieldIsAdded options.now number field.now self.old self.new result }
+        ensures rejected { FieldIsRejected options.now number field.now self.old self.new result }
+        ensures stops { FieldStops options.now number field.now self.old result }
+        ensures kept_messages { KeepsMessages self.old self.new }
+        ensures extends { Extends (field_room options.now (length field.now)) self.old self.new }
     {
         if !chosen {
             self.waiting.extend_from_slice(field)?;
@@ -269,22 +224,14 @@ impl<A: Allocator> Converter<A> {
     /// Preconditions (proved at every call): the field is chosen, and it is not a size.
     #[cold]
     #[inline(never)]
-    fn add_rejected(&mut self, options: &Options, number: u64, field: &[u8]) -> Result<(), RunError>
+    fn add_rejected(&mut self, options: &Options, number: u64, field: &[u8]) -> RunResult
         requires chosen { IsChosen options.now.fields.now number }
         requires none { IsNoSize options.now field.now }
-        ensures ok { OnOk result
-            (AddsField options.now number field.now (state_of self.old) (state_of self.new)) }
-        ensures kept { IsPrefix self.old.waiting.items self.new.waiting.items }
-        ensures kept_messages { IsPrefix (messages_of self.old.notices)
-            (messages_of self.new.notices) }
-        ensures rejected { IsErrOf result RunError.Rejected → IsRejectedField
-            options.now number field.now (state_of self.old) (messages_of self.new.notices) }
-        ensures error { StopsEarly result }
-        ensures succeeds { HasRoom self.old.waiting (field_room options.now (length field.now))
-            → FieldHasNoMessage options.now number field.now (state_of self.old) → IsOk result }
-        ensures len { Grows self.old.waiting self.new.waiting
-            (field_room options.now (length field.now)) }
-        ensures capacity { vec_capacity self.old.waiting ≤ vec_capacity self.new.waiting }
+        ensures ok { FieldIsAdded options.now number field.now self.old self.new result }
+        ensures rejected { FieldIsRejected options.now number field.now self.old self.new result }
+        ensures stops { FieldStops options.now number field.now self.old result }
+        ensures kept_messages { KeepsMessages self.old self.new }
+        ensures extends { Extends (field_room options.now (length field.now)) self.old self.new }
     {
         add_reject_notice(options, &self.place, number, field, &mut self.notices)?;
         if options.invalid == Invalid::Abort {

@@ -19,6 +19,9 @@ pub enum RunError {
     Total,
 }
 
+/// The result of a step of a run.
+pub(crate) type RunResult = Result<(), RunError>;
+
 /// Converts a failed allocation to `Memory`.
 impl From<AllocError> for RunError {
     ghost use Rattle.byte_unit_command.specs.declared.error.RunError.TheVariants.{Memory};

@@ -1,7 +1,7 @@
 //! Which fields are converted.
 
-ghost use Rattle.std.specs.Prelude.{◌≤◌, ◌↔◌, ◌∷◌, [], ℕ, IsTrue, IsFalse};
-ghost use Rattle.byte_unit_command.specs.Fields.{GoesTo, IsChosen, IsInOrder, InRange};
+ghost use Rattle.std.specs.Prelude.{◌≤◌, ◌∷◌, [], ℕ, IsTrue, IsFalse};
+ghost use Rattle.byte_unit_command.specs.Fields.{AreRangesFrom, GoesTo, IsChosen, IsInOrder, InRange};
 
 use crate::options::FieldRange;
 
@@ -38,9 +38,7 @@ pub(crate) fn is_in_one(ranges: &[FieldRange], number: u64) -> bool
 /// Returns the ranges without those at the beginning that end before the field with this number.
 #[inline(always)]
 pub(crate) fn ranges_from(ranges: &[FieldRange], number: u64) -> &[FieldRange]
-    ensures same { (later : ℕ) → number ≤ later → IsChosen ranges.now later ↔ IsChosen result.now later }
-    ensures in_order { IsInOrder ranges.now → IsInOrder result.now }
-    ensures goes { GoesTo result.now number }
+    ensures { AreRangesFrom ranges.now number result.now }
 {
     match ranges {
         [] => ranges,
@@ -59,17 +57,16 @@ pub(crate) fn ranges_from(ranges: &[FieldRange], number: u64) -> &[FieldRange]
 /// Does what [`ranges_from`] does.
 #[inline(never)]
 fn others_from(ranges: &[FieldRange], number: u64) -> &[FieldRange]
-    ensures same { (later : ℕ) → number ≤ later → IsChosen ranges.now later ↔ IsChosen result.now later }
-    ensures in_order { IsInOrder ranges.now → IsInOrder result.now }
-    ensures goes { GoesTo result.now number }
+    ensures { AreRangesFrom ranges.now number result.now }
 {
     match ranges {
         [] => ranges,
         [range, others @ ..] => {
-            if !ends_before(*range, number) {
-                return ranges;
+            if ends_before(*range, number) {
+                others_from(others, number)
+            } else {
+                ranges
             }
-            others_from(others, number)
         }
     }
 }

@@ -12,7 +12,7 @@ ghost use Rattle.byte_unit_stream.specs.Chunks.{nonempty_record};
 ghost use Rattle.byte_unit_stream.specs.Streams.{HasWritten, writing_failed};
 
 use crate::converter::Converter;
-use crate::error::RunError;
+use crate::error::{RunError, RunResult};
 use crate::options::Options;
 use crate::tally::{TOTAL_LIMIT, Tally};
 use crate::text::add_in_width;
@@ -71,12 +71,7 @@ impl<A: Allocator> Converter<A> {
     ///
     /// - `Memory` if allocation fails.
     /// - `Rejected` if a field is rejected in the mode `abort`.
-    fn add_last(
-        &mut self,
-        options: &Options,
-        part: &[u8],
-        digits: &mut [u8],
-    ) -> Result<(), RunError>
+    fn add_last(&mut self, options: &Options, part: &[u8], digits: &mut [u8]) -> RunResult
         requires { text_limit ≤ length digits.old }
         ensures ok { OnOk result (AddsRecords options.now (nonempty_record part.now)
             (state_of self.old) (state_of self.new)) }
@@ -116,7 +111,7 @@ fn write_with_total<A: Allocator, W: Write>(
     digits: &mut [u8],
     waiting: &mut Vec<u8, A>,
     writer: &mut FusedWriter<W>,
-) -> Result<(), RunError>
+) -> RunResult
     requires { text_limit ≤ length digits.old }
     ensures written { (written : List ℕ)
         × HasWritten W.contents writer.old writer.new written

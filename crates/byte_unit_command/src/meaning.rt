@@ -6,10 +6,10 @@ ghost use Rattle.byte_unit_command.specs.CallOptions.{form_without, IsWithinExac
 ghost use Rattle.byte_unit_command.specs.CallOptions.{IsWrongNoUnit, AreFieldsSeparated, IsWrongField};
 ghost use Rattle.byte_unit_command.specs.CallOptions.{separator_of as separator_in};
 ghost use Rattle.byte_unit_command.specs.Field.{ignores_case};
-ghost use Rattle.byte_unit_command.specs.Meaning.{IsFrom, IsNoFrom, IsForm, IsNoForm, IsShownForm};
+ghost use Rattle.byte_unit_command.specs.Meaning.{IsFrom, IsForm, IsNoForm, IsShownForm};
 ghost use Rattle.byte_unit_command.specs.Meaning.{IsUnitName, IsNoUnitName};
-ghost use Rattle.byte_unit_command.specs.Meaning.{IsDelimiter, IsNoDelimiter, IsPadding, IsNoPadding, IsWidth};
-ghost use Rattle.byte_unit_command.specs.Meaning.{IsMode, IsNoMode, IsLimit, IsNoLimit};
+ghost use Rattle.byte_unit_command.specs.Meaning.{IsDelimiter, IsPadding, IsNoPadding, IsWidth};
+ghost use Rattle.byte_unit_command.specs.Meaning.{IsMode, MeansNothing, IsLimit, IsNoLimit};
 ghost use Rattle.byte_unit_command.specs.Prefixes.{IsReadingBy};
 ghost use Rattle.byte_unit_command.specs.Values.{text_of};
 
@@ -81,7 +81,8 @@ pub fn options_of<'a>(
 /// Returns an error if the value is not one of the words that say how prefixes are read.
 fn from_of(value: Option<&str>) -> Result<bool, Wrong<'_>>
     ensures ok { IfOk result (IsFrom (text_of value.entry)) }
-    ensures err { IfErr result (IsWrongOf (codes "--from") value.entry IsNoFrom) }
+    ensures err { IfErr result
+        (IsWrongOf (codes "--from") value.entry (MeansNothing IsFrom ValueError.From)) }
 {
     let Some(value) = value else {
         return Ok(false);
@@ -216,7 +217,8 @@ fn unit_of(value: &str, kind: Kind, ignore_case: bool) -> Result<Unit, ValueErro
 /// Returns an error if the value is neither one byte nor `\t`, nor empty.
 fn delimiter_of(value: Option<&str>) -> Result<Option<u8>, Wrong<'_>>
     ensures ok { IfOk result (IsDelimiter (text_of value.entry)) }
-    ensures err { IfErr result (IsWrongOf (codes "--delimiter") value.entry IsNoDelimiter) }
+    ensures err { IfErr result
+        (IsWrongOf (codes "--delimiter") value.entry (MeansNothing IsDelimiter ValueError.Delimiter)) }
 {
     let Some(value) = value else {
         return Ok(None);
@@ -305,7 +307,8 @@ fn width_of(digits: &str) -> Option<u16>
 /// Returns an error if the value is not the word for a mode.
 fn invalid_of(value: Option<&str>) -> Result<Invalid, Wrong<'_>>
     ensures ok { IfOk result (IsMode (text_of value.entry)) }
-    ensures err { IfErr result (IsWrongOf (codes "--invalid") value.entry IsNoMode) }
+    ensures err { IfErr result
+        (IsWrongOf (codes "--invalid") value.entry (MeansNothing IsMode ValueError.Mode)) }
 {
     let Some(value) = value else {
         return Ok(Invalid::Abort);

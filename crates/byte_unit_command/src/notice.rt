@@ -101,8 +101,6 @@ enum FieldError {
 /// # Errors
 ///
 /// Returns `AllocError` if allocation fails. Nothing is appended then.
-#[cold]
-#[inline(never)]
 pub(crate) fn add_reject_notice<A: Allocator>(
     options: &Options,
     place: &Place,

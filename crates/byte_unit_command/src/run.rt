@@ -13,7 +13,7 @@ ghost use Rattle.byte_unit_stream.specs.Chunks.{ended_records, begun_record};
 ghost use Rattle.byte_unit_stream.specs.Streams.{reading_failed, writing_failed};
 
 use crate::buffers::{Buffers, read_max};
-use crate::error::RunError;
+use crate::error::{RunError, RunResult};
 use crate::notice::Place;
 use crate::options::Options;
 use crate::streams::Streams;
@@ -147,7 +147,7 @@ pub fn run_with_buffers<A: Allocator, R: Read, W: Write, E: Write>(
     let most = read_max(options, buffer.len());
     let chunk = &mut buffer[..most];
     buffers.converter.header = options.header;
-    buffers.converter.tally = Tally::new();
+    buffers.converter.tally = Tally::NONE;
     buffers.converter.place = Place {
         word: streams.word,
         number: 0,
@@ -199,7 +199,7 @@ impl<A: Allocator> Buffers<A> {
         digits: &mut [u8],
         writer: &mut FusedWriter<W>,
         errors: &mut FusedWriter<E>,
-    ) -> Result<(), RunError>
+    ) -> RunResult
         requires empty { self.old.converter.waiting.items ≡ [] }
         requires untold { messages_of self.old.converter.notices ≡ [] }
         requires capacity { text_limit ≤ length digits.old }
@@ -240,7 +240,7 @@ impl<A: Allocator> Buffers<A> {
     ///
     /// - `Memory` if allocation fails. The texts of some first records have been appended.
     /// - `Rejected` if a field is rejected in the mode `abort`. Those of the records before have been appended.
-    fn feed(&mut self, options: &Options, bytes: &[u8], digits: &mut [u8]) -> Result<(), RunError>
+    fn feed(&mut self, options: &Options, bytes: &[u8], digits: &mut [u8]) -> RunResult
         requires { text_limit ≤ length digits.old }
         ensures ok { OnOk result
             (AddsRecords options.now

@@ -1,7 +1,7 @@
 //! What a run counts.
 
 ghost use Rattle.std.specs.Prelude.{◌≡◌};
-ghost use Rattle.byte_unit_command.specs.RunState.{tally_with, no_tally};
+ghost use Rattle.byte_unit_command.specs.RunState.{tally_with};
 ghost use Rattle.byte_unit_command.specs.Sums.{is_beyond as has_beyond, is_above as has_above, is_below as has_below};
 
 use crate::options::Options;
@@ -21,16 +21,12 @@ pub struct Tally {
 }
 
 impl Tally {
-    /// Creates a tally of no field.
-    pub fn new() -> Tally
-        ensures { result ≡ no_tally }
-    {
-        Tally {
-            total: 0,
-            beyond: false,
-            rejected: false,
-        }
-    }
+    /// The tally of no field.
+    pub const NONE: Tally = Tally {
+        total: 0,
+        beyond: false,
+        rejected: false,
+    };
 
     /// Counts a size. Returns `true` if it is above the maximum or below the minimum.
     pub(crate) fn add(&mut self, options: &Options, size: u128) -> bool

@@ -111,7 +111,7 @@ pub(crate) fn add_in_width<A: Allocator>(
 
 /// Appends the first `len` of `bytes` and the suffix.
 ///
-/// Preconditions (proved at every call): `bytes` has at least `len` bytes, and at least [`AT_ONCE`], for `add_first`.
+/// Preconditions (proved at every call): `bytes` has at least `len` bytes, and at least [`AT_ONCE`].
 ///
 /// # Errors
 ///
@@ -134,7 +134,15 @@ fn add_unpadded<A: Allocator>(
     ensures capacity { vec_capacity text.old ≤ vec_capacity text.new }
 {
     match options.suffix {
-        [] => add_first(bytes, len, text),
+        [] => {
+            if len > AT_ONCE {
+                return text.extend_from_slice(&bytes[..len]);
+            }
+            // A copy of a constant length takes a few instructions, and no branch depends on `len`.
+            text.extend_from_slice(&bytes[..AT_ONCE])?;
+            text.truncate(text.len() - (AT_ONCE - len));
+            Ok(())
+        }
         [_, ..] => add_suffixed(&bytes[..len], options.suffix, text),
     }
 }
@@ -159,35 +167,6 @@ fn add_suffixed<A: Allocator>(
 {
     text.extend_from_slice(bytes)?;
     text.extend_from_slice(suffix)
-}
-
-/// Appends the first `len` of `bytes`.
-///
-/// Preconditions (proved at every call): `bytes` has at least `len` bytes, and at least [`AT_ONCE`].
-///
-/// # Errors
-///
-/// Returns `AllocError` if allocation fails.
-fn add_first<A: Allocator>(
-    bytes: &[u8],
-    len: usize,
-    text: &mut Vec<u8, A>,
-) -> Result<(), AllocError>
-    requires len { len ≤ length bytes.now }
-    requires at_once { 64 ≤ length bytes.now }
-    ensures ok { OnOk result (text.new.items ≡ text.old.items ++ take len bytes.now) }
-    ensures kept { IsPrefix text.old.items text.new.items }
-    ensures succeeds { vec_len text.old + max short_room len ≤ vec_capacity text.old → IsOk result }
-    ensures len { vec_len text.new ≤ vec_len text.old + len }
-    ensures capacity { vec_capacity text.old ≤ vec_capacity text.new }
-{
-    if len > AT_ONCE {
-        return text.extend_from_slice(&bytes[..len]);
-    }
-    // A copy of a constant length takes a few instructions, and no branch depends on `len`.
-    text.extend_from_slice(&bytes[..AT_ONCE])?;
-    text.truncate(text.len() - (AT_ONCE - len));
-    Ok(())
 }
 
 /// Appends `bytes` and the suffix, with the spaces that these lack of a width.

@@ -14,9 +14,11 @@ form_right : (values : Values) (given form : Form) → IsFormOf values given →
     → IsShownForm values.no_unit given form → FormIsRight values
 form_right values given form is within shown = (given, is, within, (form, shown))
 
-fields_right : (values : Values) (mark : Option ℕ) → FormIsRight values → IsDelimiter (text_of values.delimiter) mark
-    → AreFieldsSeparated values → FieldsAreRight values
-fields_right values mark right is separated = (right, (mark, is), separated)
+fields_right : (values : Values) (given form : Form) (mark : Option ℕ) → IsFormOf values given
+    → IsWithinExact given values.precision → IsShownForm values.no_unit given form
+    → IsDelimiter (text_of values.delimiter) mark → AreFieldsSeparated values → FieldsAreRight values
+fields_right values given form mark is within shown delimits separated =
+    (form_right values given form is within shown, (mark, delimits), separated)
 
 pub returns-in_err-given-clause-err : goal.returns-in_err-given-clause-err
 returns-in_err-given-clause-err c =
@@ -50,35 +52,31 @@ returns-in_err-delimiter-clause-err c =
 
 pub returns-in_err-width-clause-err : goal.returns-in_err-width-clause-err
 returns-in_err-width-clause-err c =
-    let fields = fields_right c.args.values.now _ (form_right c.args.values.now _ _ c.in_ok-given.ensures.ok
-    c.in_ok-exact_precision.ensures.ok c.in_ok-form.ensures.ok) c.in_ok-mark.ensures.ok
-    c.in_ok-delimiter.ensures.ok.0 in
+    let fields = fields_right c.args.values.now _ _ _ c.in_ok-given.ensures.ok
+    c.in_ok-exact_precision.ensures.ok c.in_ok-form.ensures.ok c.in_ok-mark.ensures.ok c.in_ok-delimiter.ensures.ok.0 in
     IfErr-passed (IsFirstWrong c.args.values.now) _ _ c.from_residual-in_err-width.ensures.1
     (wrong_padding _ c.in_ok-binary.ensures.ok fields c.in_err-width.ensures.err)
 
 pub returns-in_err-invalid-clause-err : goal.returns-in_err-invalid-clause-err
 returns-in_err-invalid-clause-err c =
-    let fields = fields_right c.args.values.now _ (form_right c.args.values.now _ _ c.in_ok-given.ensures.ok
-    c.in_ok-exact_precision.ensures.ok c.in_ok-form.ensures.ok) c.in_ok-mark.ensures.ok
-    c.in_ok-delimiter.ensures.ok.0 in
+    let fields = fields_right c.args.values.now _ _ _ c.in_ok-given.ensures.ok
+    c.in_ok-exact_precision.ensures.ok c.in_ok-form.ensures.ok c.in_ok-mark.ensures.ok c.in_ok-delimiter.ensures.ok.0 in
     IfErr-passed (IsFirstWrong c.args.values.now) _ _ c.from_residual-in_err-invalid.ensures.1
     (wrong_invalid _ c.in_ok-binary.ensures.ok (fields, (_, _, c.in_ok-width.ensures.ok))
     c.in_err-invalid.ensures.err)
 
 pub returns-in_err-max-clause-err : goal.returns-in_err-max-clause-err
 returns-in_err-max-clause-err c =
-    let fields = fields_right c.args.values.now _ (form_right c.args.values.now _ _ c.in_ok-given.ensures.ok
-    c.in_ok-exact_precision.ensures.ok c.in_ok-form.ensures.ok) c.in_ok-mark.ensures.ok
-    c.in_ok-delimiter.ensures.ok.0 in
+    let fields = fields_right c.args.values.now _ _ _ c.in_ok-given.ensures.ok
+    c.in_ok-exact_precision.ensures.ok c.in_ok-form.ensures.ok c.in_ok-mark.ensures.ok c.in_ok-delimiter.ensures.ok.0 in
     IfErr-passed (IsFirstWrong c.args.values.now) _ _ c.from_residual-in_err-max.ensures.1
     (wrong_max _ c.in_ok-binary.ensures.ok
     ((fields, (_, _, c.in_ok-width.ensures.ok)), (_, c.in_ok-invalid.ensures.ok)) c.in_err-max.ensures.err)
 
 pub returns-in_err-min-clause-err : goal.returns-in_err-min-clause-err
 returns-in_err-min-clause-err c =
-    let fields = fields_right c.args.values.now _ (form_right c.args.values.now _ _ c.in_ok-given.ensures.ok
-    c.in_ok-exact_precision.ensures.ok c.in_ok-form.ensures.ok) c.in_ok-mark.ensures.ok
-    c.in_ok-delimiter.ensures.ok.0 in
+    let fields = fields_right c.args.values.now _ _ _ c.in_ok-given.ensures.ok
+    c.in_ok-exact_precision.ensures.ok c.in_ok-form.ensures.ok c.in_ok-mark.ensures.ok c.in_ok-delimiter.ensures.ok.0 in
     IfErr-passed (IsFirstWrong c.args.values.now) _ _ c.from_residual-in_err-min.ensures.1
     (wrong_min _ c.in_ok-binary.ensures.ok ((fields, (_, _, c.in_ok-width.ensures.ok)), (_, c.in_ok-invalid.ensures.ok))
     _ c.in_ok-max.ensures.ok c.in_err-min.ensures.err)

@@ -1,6 +1,6 @@
 -- Each read is served: the records that end in it are written, and the record that it has begun is kept. Memory is not
 -- the answer while no record is longer than the limit and there is no message.
-use Rattle.std.proofs.Common.{◌≡◌, ◌+◌, ◌≤◌, [], ◌++◌, sym, ap, subst, ◌∙◌, take, length, Err, Result, arith}
+use Rattle.std.proofs.Common.{◌≡◌, ◌+◌, ◌≤◌, [], ◌++◌, sym, ap, subst, ◌∙◌, take, length, Err, Result, arith, List, ℕ}
 use Rattle.std.proofs.Common.{inl, inr, vec_len, refl}
 use Rattle.std.proofs.lemmas.List.{length-take, length-take-le}
 use Rattle.std.specs.Prelude.{vec_capacity}
@@ -21,10 +21,15 @@ use Rattle.byte_unit_stream.proofs.Longest.{longest_of-ended_records-append, lon
 use Rattle.byte_unit_stream.proofs.Longest.{longest_record-below}
 use Rattle.byte_unit_command.proofs.run.run_with_buffers.Goals as goal
 
+-- a piece that was read is no longer than what a run reads at once
+short : (n most : ℕ) (read buffer : List ℕ) → length read ≡ length (take most buffer) → most ≤ length buffer
+    → length (take n read) ≤ most
+short n most read buffer same bound = omega (arith, length-take n read, same, length-take-le most buffer bound)
+
 pub reads-init : goal.reads-init
 reads-init g c = (
   HasServed-start _ _ _ c.args.options.now _ _ c.requires.empty.0 c.requires.empty.1 c.requires.empty.2 refl refl refl
-      c.new-buffers.ensures,
+      refl,
   record {
     finished = omega (arith, c.read_max-most.ensures.some c.requires.some);
     unfinished = omega (arith, c.args.buffers.now.part.ok.0, ap length c.requires.empty.0);
@@ -42,19 +47,13 @@ reads-preserved g c =
     let answered = c.in_ok-answer_piece-in-Some.ensures in
     let begun : length (begun_record options.record_end [] so_far.course.read) ≤ c.args.longest =
     omega (arith, ap length so_far.served.begun, c.reads.buffers.part.ok.0, within.unfinished) in
-    let short : length piece ≤ c.read_max-most.result =
-    omega (
-      arith,
-      length-take c.in-Some.n c.read.new.buf,
-      c.read.auto.buf,
-      c.reads.auto.chunk,
-      length-take-le c.read_max-most.result c.args.buffer.now c.read_max-most.ensures.bound,
-    ) in (
+    let few = short c.in-Some.n c.read_max-most.result c.read.new.buf c.args.buffer.now
+    (omega (arith, c.read.auto.buf, c.reads.auto.chunk)) c.read_max-most.ensures.bound in (
       HasServed-piece so_far _ _ piece c.in-Some.ensures.came answered.written answered.part answered.waiting
           answered.notices,
       record {
         finished = longest_of-ended_records-append options.record_end so_far.course.read piece
-            (c.args.longest + c.read_max-most.result) within.finished (omega (arith, begun, short));
+            (c.args.longest + c.read_max-most.result) within.finished (omega (arith, begun, few));
         unfinished = omega (arith, c.if-len-longest.false, c.len.ensures);
         part_capacity = omega (arith, within.part_capacity, answered.part_capacity);
         waiting_capacity = omega (arith, within.waiting_capacity, answered.waiting_capacity);
@@ -131,14 +130,8 @@ returns-in_err-answer_piece-in-Some-clause-memory g c = λ fits is.
     let piece = take c.in-Some.n c.read.new.buf in
     let failed = c.in_err-answer_piece-in-Some in
     let same = error-passed c.from_residual.result failed.field-0.0 Memory c.from_residual.ensures.1 is in
-    let few : length piece ≤ c.read_max-most.result =
-    omega (
-      arith,
-      length-take c.in-Some.n c.read.new.buf,
-      c.read.auto.buf,
-      c.reads.auto.chunk,
-      length-take-le c.read_max-most.result c.args.buffer.now c.read_max-most.ensures.bound,
-    ) in
+    let few = short c.in-Some.n c.read_max-most.result c.read.new.buf c.args.buffer.now
+    (omega (arith, c.read.auto.buf, c.reads.auto.chunk)) c.read_max-most.ensures.bound in
     let suffice = SufficeFor-piece c.args.options.now c.reads.invariant.1
     (waiting.ok.0 ∙ ap length so_far.none_waits) capacity (length piece) few in (
       so_far.course.read ++ piece,

@@ -25,7 +25,8 @@ returns-in_err-add_record-clause-error g c =
     let after = c.add_record.new.self in
     IfErr-passed _ c.from_residual.result error c.from_residual.ensures.1
     (EndsEarly-record c.loop-n.invariant.0 next after.waiting.items (messages_of after.notices) (sym failed.ensures.err)
-    error failed.ensures.error (λ is. failed.ensures.memory (ap Err is)) (λ is. failed.ensures.rejected (ap Err is)))
+    error failed.ensures.stops.error (λ is. failed.ensures.memory (ap Err is))
+    (λ is. failed.ensures.rejected (ap Err is)))
 
 pub returns-in_err-add_record-2-clause-error : goal.returns-in_err-add_record-2-clause-error
 returns-in_err-add_record-2-clause-error g c =
@@ -37,7 +38,7 @@ returns-in_err-add_record-2-clause-error g c =
     let after = c.add_record-else-is_empty.new.self in
     IfErr-passed _ passed.result failed.field-0.0 passed.ensures.1
     (EndsEarly-record c.loop-n.invariant.0 next after.waiting.items (messages_of after.notices) (sym failed.ensures.err)
-    failed.field-0.0 failed.ensures.error (λ is. failed.ensures.memory (ap Err is))
+    failed.field-0.0 failed.ensures.stops.error (λ is. failed.ensures.memory (ap Err is))
     (λ is. failed.ensures.rejected (ap Err is)))
 
 pub loop-n-init : goal.loop-n-init
@@ -110,7 +111,7 @@ returns-in_err-add_record-clause-succeeds g c = λ suffice untold.
     let room = IsFedWithin-fits c.loop-n.invariant.1 suffice place (length (take place rest)) ends.0
     (omega (arith, taken, part.ok.0, ap length none)) in
     let told = IsNext-untold c.loop-n.invariant.0 next untold in
-    absurd (true≢false (sym (c.in_err-add_record.ensures.succeeds room told)))
+    absurd (true≢false (sym (c.in_err-add_record.ensures.stops.succeeds room told)))
 
 pub returns-in_err-add_record-2-clause-succeeds : goal.returns-in_err-add_record-2-clause-succeeds
 returns-in_err-add_record-2-clause-succeeds g c = λ suffice untold.
@@ -129,5 +130,5 @@ returns-in_err-add_record-2-clause-succeeds g c = λ suffice untold.
       length-take-le place rest (omega (arith, within)),
     ) in
     let room = IsFedWithin-fits c.loop-n.invariant.1 suffice place (length bytes) within joined in
-    absurd (true≢false (sym (c.in_err-add_record-2.ensures.succeeds room
+    absurd (true≢false (sym (c.in_err-add_record-2.ensures.stops.succeeds room
     (IsNext-untold c.loop-n.invariant.0 next untold))))

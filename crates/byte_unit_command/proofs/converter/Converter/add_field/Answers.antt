@@ -1,5 +1,5 @@
 -- A field that is not chosen is copied. A size adds its text, and the messages about it if it is beyond a limit.
-use Rattle.std.proofs.Common.{◌≡◌, ◌∷◌, ℕ, Bool, false, true≢false, List, [], ◌++◌, Some, sym, ap, subst, ◌∙◌}
+use Rattle.std.proofs.Common.{rules, ◌≡◌, ◌∷◌, ℕ, Bool, false, true≢false, List, [], ◌++◌, Some, sym, ap, subst, ◌∙◌}
 use Rattle.std.proofs.Common.{append-nil}
 use Rattle.byte_unit_command.specs.Messages.{AreLimitMessages}
 use Rattle.byte_unit_command.specs.RunState.{State, messages_of, state_of}
@@ -65,10 +65,13 @@ returns-in_err-add_placed-clause-kept_messages g c =
     ]
 
 -- a size about which there is no message is beyond no limit
-pub returns-in_err-add_limit_notice-clause-succeeds : goal.returns-in_err-add_limit_notice-clause-succeeds
-returns-in_err-add_limit_notice-clause-succeeds g c = λ _ untold.
-    let old : State = state_of c.args.self.now in
-    let within = within-untold c.args.options.now old.word old.place c.args.number c.args.field.now
-    c.in-Some.size untold.0 (c.requires.yes c.if-not-chosen.false)
-    c.in-Some.ensures.some untold.1 in
-    absurd (true≢false (sym c.if-add.true ∙ c.add.ensures.beyond ∙ within))
+pub returns-in_err-add_limit_notice-clause-stops : goal.returns-in_err-add_limit_notice-clause-stops
+returns-in_err-add_limit_notice-clause-stops g c = record {
+  error = search rules;
+  succeeds = λ _ untold.
+      let old : State = state_of c.args.self.now in
+      let within = within-untold c.args.options.now old.word old.place c.args.number c.args.field.now
+      c.in-Some.size untold.0 (c.requires.yes c.if-not-chosen.false)
+      c.in-Some.ensures.some untold.1 in
+      absurd (true≢false (sym c.if-add.true ∙ c.add.ensures.beyond ∙ within));
+}

@@ -17,12 +17,28 @@ pub returns-in-None-clause-rejected : goal.returns-in-None-clause-rejected
 returns-in-None-clause-rejected g c = λ is. Aborts-whole c.args.options.now c.args.bytes.now (state_of c.args.self.now)
     (messages_of c.add_field.new.self.notices) c.in-None.is (c.add_field.ensures.rejected is)
 
-pub returns-in-None-clause-succeeds : goal.returns-in-None-clause-succeeds
-returns-in-None-clause-succeeds g c = λ room untold.
-    let options = c.args.options.now in
-    let old : State = state_of c.args.self.now in
-    let bytes = c.args.bytes.now in
-    let fields = subst (λ fields. AreMessagesOfFields options old.word old.place 1 fields [])
-    (fields_of-whole options bytes c.in-None.is) untold in
-    let first = first-untold options old.word old.place 1 bytes [] fields in
-    c.add_field.ensures.succeeds (omega (arith, room, fields_room-whole options (length bytes) c.in-None.is)) first
+pub returns-in-None-clause-stops : goal.returns-in-None-clause-stops
+returns-in-None-clause-stops g c = record {
+  error = c.add_field.ensures.stops.error;
+  succeeds = λ room untold.
+      let options = c.args.options.now in
+      let old : State = state_of c.args.self.now in
+      let bytes = c.args.bytes.now in
+      let fields = subst (λ fields. AreMessagesOfFields options old.word old.place 1 fields [])
+      (fields_of-whole options bytes c.in-None.is) untold in
+      let first = first-untold options old.word old.place 1 bytes [] fields in
+      let whole = fields_room-whole options (length bytes) c.in-None.is in
+      c.add_field.ensures.stops.succeeds (omega (arith, room, whole)) first;
+}
+
+pub returns-in-None-clause-extends : goal.returns-in-None-clause-extends
+returns-in-None-clause-extends g c = record {
+  kept = c.add_field.ensures.extends.kept;
+  len =
+      omega (
+        arith,
+        fields_room-whole c.args.options.now (length c.args.bytes.now) c.in-None.is,
+        c.add_field.ensures.extends.len,
+      );
+  capacity = c.add_field.ensures.extends.capacity;
+}

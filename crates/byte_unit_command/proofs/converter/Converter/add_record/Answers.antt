@@ -16,7 +16,7 @@ returns-in-Err-clause-err g c =
     let after = c.append_record.new.self.waiting.items in
     c.truncate.ensures.items
     ∙ ap (λ count. take count after) (omega (arith, c.len-len.ensures, c.args.self.now.waiting.ok.0))
-    ∙ take-IsPrefix before after c.in-Err.ensures.kept
+    ∙ take-IsPrefix before after c.in-Err.ensures.extends.kept
 
 pub returns-in-Err-clause-memory : goal.returns-in-Err-clause-memory
 returns-in-Err-clause-memory g c = λ is.

@@ -1,12 +1,21 @@
 -- A field that is not a size adds a copy of itself, and a message about it.
-use Rattle.std.proofs.Common.{true≢false, ap, sym, ◌≡◌, ◌∙◌, refl, rules, is_ok}
+use Rattle.std.proofs.Common.{true≢false, ap, sym, ◌≡◌, ℕ, List, false, ◌∙◌, refl, rules, is_ok}
 use Rattle.byte_unit_command.specs.Messages.{tells_rejected}
-use Rattle.byte_unit_command.specs.RunState.{State, messages_of, state_of}
+use Rattle.byte_unit_command.specs.Field.{IsNoSize}
+use Rattle.byte_unit_command.specs.Fields.{IsChosen}
+use Rattle.byte_unit_command.specs.RunState.{FieldHasNoMessage, State, messages_of, state_of}
+use Rattle.byte_unit_command.specs.declared.options.Options.{Options}
 use Rattle.byte_unit_command.specs.declared.options.Invalid.TheVariants.{Abort}
 use Rattle.byte_unit_command.proofs.Converting.{AddsField-rejected}
 use Rattle.byte_unit_command.proofs.Untold.{ignored-untold}
 use Rattle.byte_unit_stream.proofs.Prefixes.{IsPrefix-if}
 use Rattle.byte_unit_command.proofs.converter.Converter.add_rejected.Goals as goal
+
+-- a rejected field about which there is no message is ignored
+ignored : (options : Options) (old : State) (number : ℕ) (field : List ℕ) → IsChosen options.fields.now number
+    → IsNoSize options field → FieldHasNoMessage options number field old → tells_rejected options.invalid ≡ false
+ignored options old number field chosen none untold =
+    ignored-untold options old.word old.place number field untold.0 chosen none untold.1
 
 pub returns-clause-ok : goal.returns-clause-ok
 returns-clause-ok g c =
@@ -16,23 +25,27 @@ returns-clause-ok g c =
     (messages_of c.add_reject_notice.new.notices) c.extend_from_slice.new.self.items c.requires.chosen c.requires.none
     told.1 told.2 goes_on c.in_ok-extend_from_slice.ensures.items refl
 
-pub returns-in_err-extend_from_slice-clause-kept : goal.returns-in_err-extend_from_slice-clause-kept
-returns-in_err-extend_from_slice-clause-kept g c =
-    IsPrefix-if (is_ok c.extend_from_slice.result) c.args.self.now.waiting.items c.args.field.now
-    c.extend_from_slice.ensures.items
+pub returns-in_err-extend_from_slice-clause-extends : goal.returns-in_err-extend_from_slice-clause-extends
+returns-in_err-extend_from_slice-clause-extends g c = record {
+  kept = IsPrefix-if (is_ok c.extend_from_slice.result) c.args.self.now.waiting.items c.args.field.now
+      c.extend_from_slice.ensures.items;
+  len = search rules;
+  capacity = search rules;
+}
 
--- a rejected field about which there is no message is ignored
-pub returns-in_err-add_reject_notice-clause-succeeds : goal.returns-in_err-add_reject_notice-clause-succeeds
-returns-in_err-add_reject_notice-clause-succeeds g c = λ _ untold.
-    let old : State = state_of c.args.self.now in
-    let ignored = ignored-untold c.args.options.now old.word old.place c.args.number c.args.field.now
-    untold.0 c.requires.chosen c.requires.none untold.1 in
-    absurd (true≢false (sym (c.in_err-add_reject_notice.ensures.untold ignored)))
+pub returns-in_err-add_reject_notice-clause-stops : goal.returns-in_err-add_reject_notice-clause-stops
+returns-in_err-add_reject_notice-clause-stops g c = record {
+  error = search rules;
+  succeeds = λ _ untold.
+      absurd (true≢false (sym (c.in_err-add_reject_notice.ensures.untold (ignored c.args.options.now
+      (state_of c.args.self.now) c.args.number c.args.field.now c.requires.chosen c.requires.none untold))));
+}
 
-pub returns-then-eq-clause-succeeds : goal.returns-then-eq-clause-succeeds
-returns-then-eq-clause-succeeds g c = λ _ untold.
-    let old : State = state_of c.args.self.now in
-    let ignored = ignored-untold c.args.options.now old.word old.place c.args.number c.args.field.now
-    untold.0 c.requires.chosen c.requires.none untold.1 in
-    let abort : c.args.options.now.invalid ≡ Abort = search rules in
-    absurd (true≢false (sym (ap tells_rejected abort) ∙ ignored))
+pub returns-then-eq-clause-stops : goal.returns-then-eq-clause-stops
+returns-then-eq-clause-stops g c =
+    let abort : c.args.options.now.invalid ≡ Abort = search rules in record {
+      error = search rules;
+      succeeds = λ _ untold.
+          absurd (true≢false (sym (ap tells_rejected abort) ∙ ignored c.args.options.now (state_of c.args.self.now)
+          c.args.number c.args.field.now c.requires.chosen c.requires.none untold));
+    }

@@ -1,6 +1,6 @@
 -- Each iteration adds one field with the bytes after it; the last field follows the loop, or a rest without a chosen
 -- field. A field that is rejected in the mode `abort` is one of the record.
-use Rattle.std.proofs.Common.{true≢false, ◌≡◌, ◌≤◌, ◌+◌, ◌-◌, ◌∙◌, ◌++◌, [], List, ℕ, take, drop, length, ap, sym}
+use Rattle.std.proofs.Common.{◌⊎◌, true≢false, ◌≡◌, ◌≤◌, ◌+◌, ◌-◌, ◌∙◌, ◌++◌, [], List, ℕ, take, drop, length, ap, sym}
 use Rattle.std.proofs.Common.{subst, Err, arith, length-drop, vec_len}
 use Rattle.std.proofs.lemmas.Bool.{eqb-true}
 use Rattle.std.proofs.lemmas.List.{nil_from_length, take_rest, length-take-le}
@@ -8,9 +8,10 @@ use Rattle.byte_unit_command.specs.Capacity.{text_room}
 use Rattle.byte_unit_command.specs.Fields.{IsChosen, between_of, fields_of}
 use Rattle.byte_unit_command.specs.Messages.{AreMessagesOfFields}
 use Rattle.byte_unit_command.specs.RunState.{AddsFields, State, messages_of, state_of}
-use Rattle.byte_unit_command.specs.declared.error.RunError.TheVariants.{Rejected}
+use Rattle.byte_unit_command.specs.declared.error.RunError.{RunError}
+use Rattle.byte_unit_command.specs.declared.error.RunError.TheVariants.{Memory, Rejected}
 use Rattle.std.proofs.lemmas.Result.{on_ok_weaker}
-use Rattle.byte_unit_command.proofs.Results.{error-passed}
+use Rattle.byte_unit_command.proofs.Results.{IfErr-passed, error-passed}
 use Rattle.byte_unit_command.proofs.Rooms.{IsSplitWithin-first, IsSplitWithin-fits, split_len-step, split_room-cut}
 use Rattle.byte_unit_command.proofs.Untold.{others-untold}
 use Rattle.byte_unit_command.proofs.Splitting.{EndsFirst, IsSplitting, IsSplitting-at, IsSplitting-start, Aborts-first}
@@ -45,12 +46,12 @@ loop-n-preserved g c =
     let rest = c.loop-n.rest.now in
     let place = c.in-Some.n in
     let number = c.loop-n.number in
-    let gap = length c.between-between.result.now in
-    let gap_is = ap length (sym c.between-between.ensures) in
-    let ends = subst (EndsFirst options rest place) gap_is c.in-Some.ensures.some in
-    let out_is = c.in_ok-extend_from_slice.ensures.items ∙ ap (λ mark. next.out ++ mark) c.between-between.ensures in
-    let stepped = IsSplitting-at c.loop-n.invariant.0 c.args.delimiter c.requires.delimiter place gap ends next
-    c.in_ok-add_field.ensures.ok c.extend_from_slice.new.self.items out_is in
+    let between = c.between-between in
+    let gap = length between.result.now in
+    let ends = subst (EndsFirst options rest place) (ap length (sym between.ensures)) c.in-Some.ensures.some in
+    let stepped = IsSplitting-at c.loop-n.invariant.0 c.args.delimiter c.requires.delimiter between.result.now
+    between.ensures place c.in-Some.ensures.some next c.in_ok-add_field.ensures.ok c.extend_from_slice.new.self.items
+    c.in_ok-extend_from_slice.ensures.items in
     let behind = drop (place + gap) rest in
     let rest_is = take_rest rest (place + gap) in
     let within = c.loop-n.invariant.1 in
@@ -64,13 +65,13 @@ loop-n-preserved g c =
         len = split_len-step (text_room options) (vec_len c.args.self.now.waiting) (length c.args.bytes.now)
             (vec_len c.loop-n.self.waiting) (length rest) place gap (vec_len c.add_field.new.self.waiting)
             (vec_len c.extend_from_slice.new.self) (length (take (length rest - (place + gap)) behind)) ends.0 ends.1
-            within.len (omega (arith, c.in_ok-add_field.ensures.len, taken))
+            within.len (omega (arith, c.in_ok-add_field.ensures.extends.len, taken))
             (omega (arith, c.in_ok-extend_from_slice.ensures.len)) left;
         capacity =
             omega (
               arith,
               within.capacity,
-              c.in_ok-add_field.ensures.capacity,
+              c.in_ok-add_field.ensures.extends.capacity,
               c.in_ok-extend_from_slice.ensures.capacity,
             );
         untold = λ none.
@@ -93,17 +94,13 @@ pub returns-then-is_empty-clause-ok : goal.returns-then-is_empty-clause-ok
 returns-then-is_empty-clause-ok g c =
     let options = c.args.options.now in
     let next : State = state_of c.add_field.new.self in
-    let rest = c.loop-n.rest.now in
-    let place = c.in-Some.n in
+    let between = c.between-between.result.now in
     let number = c.loop-n.number in
-    let gap = length c.between-between.result.now in
-    let gap_is = ap length (sym c.between-between.ensures) in
-    let ends = subst (EndsFirst options rest place) gap_is c.in-Some.ensures.some in
-    let behind = drop (place + gap) rest in
+    let behind = drop (c.in-Some.n + length between) c.loop-n.rest.now in
     let before = c.extend_from_slice.new.self.items in
-    let out_is = c.in_ok-extend_from_slice.ensures.items ∙ ap (λ mark. next.out ++ mark) c.between-between.ensures in
-    let stepped = IsSplitting-at c.loop-n.invariant.0 c.args.delimiter c.requires.delimiter place gap ends next
-    c.in_ok-add_field.ensures.ok before out_is in
+    let stepped = IsSplitting-at c.loop-n.invariant.0 c.args.delimiter c.requires.delimiter between
+    c.between-between.ensures c.in-Some.n c.in-Some.ensures.some next c.in_ok-add_field.ensures.ok before
+    c.in_ok-extend_from_slice.ensures.items in
     let ranges = c.ranges_from-ranges.result.now in
     let none = nil_from_length ranges (eqb-true (length ranges) 0 (sym c.if-is_empty.ensures)) in
     let past : (later : ℕ) → number + 1 ≤ later → ¬ IsChosen options.fields.now later =
@@ -114,7 +111,8 @@ returns-then-is_empty-clause-ok g c =
     let copied = AddsFields-copied stepped
     (fields_copied options c.args.delimiter c.requires.delimiter behind (number + 1) past) past in
     let out : c.extend_from_slice-then-is_empty.new.self.items ≡ before ++ behind =
-    c.in_ok-extend_from_slice-2.ensures.items ∙ ap (λ more. before ++ more) (take_rest rest (place + gap)) in
+    c.in_ok-extend_from_slice-2.ensures.items ∙ ap (λ more. before ++ more) (take_rest c.loop-n.rest.now
+    (c.in-Some.n + length between)) in
     subst (λ (out : List ℕ). AddsFields options c.args.bytes.now (state_of c.args.self.now)
     (record next { out = out })) (sym out) copied
 
@@ -128,18 +126,22 @@ returns-clause-rejected g c = λ is.
     Aborts-first c.loop-n.invariant.0 c.loop-n.rest.now [] c.in_default.ensures.none
     (messages_of c.add_field-2.new.self.notices) (c.add_field-2.ensures.rejected is)
 
-pub returns-in_err-add_field-clause-succeeds : goal.returns-in_err-add_field-clause-succeeds
-returns-in_err-add_field-clause-succeeds g c = λ room untold.
-    let options = c.args.options.now in
-    let rest = c.loop-n.rest.now in
-    let place = c.in-Some.n in
-    let gap = length (between_of options) in
-    let field = take place rest in
-    let ends = c.in-Some.ensures.some in
-    let within = c.loop-n.invariant.1 in
-    let first = IsSplitWithin-first within field (fields_of options (drop (place + gap) rest)) ends.2 untold in
-    let fits = IsSplitWithin-fits within c.args.delimiter c.requires.delimiter room in
-    let taken : length field ≡ place = length-take-le place rest (omega (arith, ends.1)) in
-    let step = split_room-cut (text_room options) (length rest) (place + gap) ends.0 ends.1 in
-    let here = FieldHasNoMessage-now c.loop-n.invariant.0 field first in
-    absurd (true≢false (sym (c.in_err-add_field.ensures.succeeds (omega (arith, fits, step, taken)) here)))
+pub returns-in_err-add_field-clause-stops : goal.returns-in_err-add_field-clause-stops
+returns-in_err-add_field-clause-stops g c = record {
+  error = IfErr-passed (λ (error : RunError). (error ≡ Memory) ⊎ (error ≡ Rejected)) _ _ c.from_residual.ensures.1
+      c.in_err-add_field.ensures.stops.error;
+  succeeds = λ room untold.
+      let options = c.args.options.now in
+      let rest = c.loop-n.rest.now in
+      let place = c.in-Some.n in
+      let gap = length (between_of options) in
+      let field = take place rest in
+      let ends = c.in-Some.ensures.some in
+      let within = c.loop-n.invariant.1 in
+      let first = IsSplitWithin-first within field (fields_of options (drop (place + gap) rest)) ends.2 untold in
+      let fits = IsSplitWithin-fits within c.args.delimiter c.requires.delimiter room in
+      let taken : length field ≡ place = length-take-le place rest (omega (arith, ends.1)) in
+      let step = split_room-cut (text_room options) (length rest) (place + gap) ends.0 ends.1 in
+      let here = FieldHasNoMessage-now c.loop-n.invariant.0 field first in
+      absurd (true≢false (sym (c.in_err-add_field.ensures.stops.succeeds (omega (arith, fits, step, taken)) here)));
+}
