@@ -6,7 +6,7 @@ ghost use Rattle.byte_unit_math.specs.Digits.{last_digits};
 ghost use Rattle.byte_unit_math.specs.Numeral.{fraction_text};
 ghost use Rattle.byte_unit_math.specs.Padded.{pad_of};
 ghost use Rattle.byte_unit_math.specs.PutBefore.{IsPutBefore};
-ghost use Rattle.byte_unit_format.specs.Pushed.{IsPushed};
+ghost use Rattle.byte_unit_format.specs.Pushed.{IsPushed, IsPutAscii};
 ghost use Rattle.byte_unit_format.specs.Room.{spare_capacity, AppendsForm};
 ghost use Rattle.byte_unit_format.specs.TextParts.{fraction_of, places_in, FitsPlaces, IsReady, parts_text};
 ghost use Rattle.byte_unit_format.specs.Written.{WritesForm};
@@ -153,8 +153,7 @@ impl Fraction<'_> {
         requires room { length (fraction_of self.now) ≤ end }
         requires within { end ≤ length out.old }
         requires short { FitsPlaces self.now }
-        ensures put { IsPutBefore (fraction_of self.now) end out.old out.new result }
-        ensures ascii { IsAscii (fraction_of self.now) }
+        ensures { IsPutAscii (fraction_of self.now) end out.old out.new result }
     {
         match self {
             Fraction::Last(digits, places) => put_fraction(*digits, *places, out, end),
@@ -168,9 +167,8 @@ impl Fraction<'_> {
 fn put_first(e: &Expansion, places: u32, out: &mut [u8], end: usize) -> usize
     requires room { length (fraction_text (pad_of places e.now).digits) ≤ end }
     requires within { end ≤ length out.old }
-    ensures put { let text = fraction_text (pad_of places e.now).digits in
-        IsPutBefore text end out.old out.new result }
-    ensures ascii { IsAscii (fraction_text (pad_of places e.now).digits) }
+    ensures { let text = fraction_text (pad_of places e.now).digits in
+        IsPutAscii text end out.old out.new result }
 {
     if places == 0 {
         return end;
