@@ -1,5 +1,5 @@
 -- The digits of a size and the size in its unit, as one text.
-use Rattle.std.specs.Prelude.{◌≡◌, ℕ, ◌-◌, nat_lt, if◌then◌else◌, List, [], ◌∷◌, ◌++◌, take, drop}
+use Rattle.std.specs.Prelude.{◌≡◌, ℕ, ◌-◌, ◌≤◌, nat_lt, if◌then◌else◌, List, [], ◌∷◌, ◌++◌, take, drop}
 use Rattle.std.specs.Fmt.{decimal}
 use Rattle.byte_unit_base.specs.declared.kind.Kind.{Kind}
 use Rattle.byte_unit_format.specs.Forms.{IsSizeForm}
@@ -14,6 +14,11 @@ pub record IsTextWithDigits (kind : Kind) (size : ℕ) (between text : List ℕ)
 -- The most bytes of such a text with three bytes between: 30 digits, these three, and 37 of the size in its unit.
 abbrev pub with_digits_text : ℕ
 with_digits_text = 70
+
+-- Private: the buffer begins with such a text of three bytes between.
+pub record PutsWithDigits (kind : Kind) (size : ℕ) (between new : List ℕ) (len : ℕ) : Type 0 where
+  pub text : IsTextWithDigits kind size between (take len new)
+  pub bound : len ≤ with_digits_text
 
 -- Private: a point and the digits from the index `cut` up to `used`, or nothing if there are none.
 abbrev pub cut_digits : ℕ → ℕ → List ℕ → List ℕ

@@ -41,6 +41,14 @@ const ALTERNATE_PLACES: u16 = 16;
 /// bits.
 const FEW_PLACES: u32 = 7;
 
+/// The kind of a size, and the unit that it is formatted in. These two are passed in registers; with the size they would
+/// be passed in memory, which takes 6 to 15 instructions more.
+#[derive(Clone, Copy)]
+struct Scale {
+    kind: Kind,
+    unit: Unit,
+}
+
 /// How the number of a size in a unit is rounded.
 #[derive(Clone, Copy)]
 enum Rounding {
@@ -71,7 +79,7 @@ pub fn adjusted_len(size: u128, kind: Kind, unit: Unit, spec: FormatSpec) -> usi
     ensures narrow { result ≤ most_adjusted_text spec }
 {
     let rounding = rounding_of(unit, spec);
-    match short_parts(size, kind, unit, rounding, spec) {
+    match short_parts(size, Scale { kind, unit }, rounding, spec) {
         Some(parts) => parts.len,
         None => {
             let mut number = number_in_unit(size, kind, unit);
@@ -111,7 +119,7 @@ pub fn append_adjusted<A: Allocator>(
     ensures { AppendsForm (IsAdjustedForm kind size unit spec) text.old text.new result }
 {
     let rounding = rounding_of(unit, spec);
-    match short_parts(size, kind, unit, rounding, spec) {
+    match short_parts(size, Scale { kind, unit }, rounding, spec) {
         Some(parts) => parts.append(text),
         None => {
             let mut number = number_in_unit(size, kind, unit);
@@ -145,7 +153,7 @@ pub fn write_adjusted(size: u128, kind: Kind, unit: Unit, spec: FormatSpec, out:
             let number = rounded_to_few(size, kind, unit, places);
             scaled_parts(number, places, unit, spec).write(out)
         }
-        _ => write_longer(size, kind, unit, rounding, spec, out),
+        _ => write_slow(size, Scale { kind, unit }, rounding, spec, out),
     }
 }
 
@@ -172,46 +180,32 @@ pub fn display_adjusted<W: fmt::Write>(
     f.write_str(unit.as_str())
 }
 
-/// Writes as `write_adjusted`, with the rounding of the spec.
+/// Writes as `write_adjusted`, with the rounding of the spec: the slow path.
 #[inline(never)]
 #[tactic(auto, using(crate::proofs::TextParts::writes_form))]
-fn write_longer(
-    size: u128,
-    kind: Kind,
-    unit: Unit,
-    rounding: Rounding,
-    spec: FormatSpec,
-    out: &mut [u8],
-) -> usize
+fn write_slow(size: u128, of: Scale, rounding: Rounding, spec: FormatSpec, out: &mut [u8]) -> usize
     requires size { size < size_limit }
-    requires rounding { IsRoundingOf unit spec rounding }
-    ensures written { WritesForm (IsAdjustedForm kind size unit spec) out.old out.new result }
+    requires rounding { IsRoundingOf of.unit spec rounding }
+    ensures written { WritesForm (IsAdjustedForm of.kind size of.unit spec) out.old out.new result }
     ensures bound { result < text_limit }
 {
-    if let Some(parts) = short_parts(size, kind, unit, rounding, spec) {
+    if let Some(parts) = short_parts(size, of, rounding, spec) {
         return parts.write(out);
     }
-    write_expanded(size, kind, unit, rounding, spec, out)
+    write_full(size, of, rounding, spec, out)
 }
 
-/// Writes as `write_longer`, by all digits of the number.
+/// Writes as `write_slow`, by all digits of the number.
 #[inline(never)]
-fn write_expanded(
-    size: u128,
-    kind: Kind,
-    unit: Unit,
-    rounding: Rounding,
-    spec: FormatSpec,
-    out: &mut [u8],
-) -> usize
+fn write_full(size: u128, of: Scale, rounding: Rounding, spec: FormatSpec, out: &mut [u8]) -> usize
     requires size { size < size_limit }
-    requires rounding { IsRoundingOf unit spec rounding }
-    ensures written { WritesForm (IsAdjustedForm kind size unit spec) out.old out.new result }
+    requires rounding { IsRoundingOf of.unit spec rounding }
+    ensures written { WritesForm (IsAdjustedForm of.kind size of.unit spec) out.old out.new result }
     ensures bound { result < text_limit }
 {
-    let mut number = number_in_unit(size, kind, unit);
+    let mut number = number_in_unit(size, of.kind, of.unit);
     let places = round(&mut number, rounding);
-    write_layout(&number, places, unit, spec, out)
+    write_layout(&number, places, of.unit, spec, out)
 }
 
 /// Returns how the spec rounds a number in the unit.
@@ -238,28 +232,28 @@ fn rounding_of(unit: Unit, spec: FormatSpec) -> Rounding
 #[inline(always)]
 fn short_parts(
     size: u128,
-    kind: Kind,
-    unit: Unit,
+    of: Scale,
     rounding: Rounding,
     spec: FormatSpec,
 ) -> Option<TextParts<'static>>
     requires size { size < size_limit }
-    requires rounding { IsRoundingOf unit spec rounding }
-    ensures text { IfSome result (λ parts. IsAdjustedForm kind size unit spec (parts_text parts)) }
+    requires rounding { IsRoundingOf of.unit spec rounding }
+    ensures text { IfSome result
+        (λ parts. IsAdjustedForm of.kind size of.unit spec (parts_text parts)) }
     ensures len { IfSome result (λ parts. parts.len ≡ length (parts_text parts)) }
     ensures bound { IfSome result (λ parts. parts.len < text_limit) }
     ensures ready { IfSome result (λ parts. IsReady parts) }
 {
     match rounding {
         Rounding::Exact => {
-            let number = short_number(size, kind, unit)?;
+            let number = short_number(size, of.kind, of.unit)?;
             let fraction = Fraction::Last(number.digits, number.places);
-            Some(layout_parts(number.whole, fraction, unit, spec))
+            Some(layout_parts(number.whole, fraction, of.unit, spec))
         }
         Rounding::To(places) => {
-            let scaled = scaled_size(size, kind, places)?;
-            let number = rounded_quotient(scaled, unit.as_bits_u128());
-            Some(scaled_parts(number, places, unit, spec))
+            let scaled = scaled_size(size, of.kind, places)?;
+            let number = rounded_quotient(scaled, of.unit.as_bits_u128());
+            Some(scaled_parts(number, places, of.unit, spec))
         }
         Rounding::AtMost(_) => None,
     }

@@ -8,40 +8,22 @@ ghost use Rattle.byte_unit_base.specs.Kinds.{own_unit};
 ghost use Rattle.byte_unit_base.specs.Version.{current, unit_name_in};
 ghost use Rattle.byte_unit_format.specs.Forms.{IsSizeForm, narrow_text};
 ghost use Rattle.byte_unit_format.specs.NamedSpecs.{alternate_spec};
-ghost use Rattle.byte_unit_format.specs.Room.{AppendsForm};
 ghost use Rattle.byte_unit_format.specs.UnitFraction.{HasPrefix, unit_fraction_text, thousandths_text};
 ghost use Rattle.byte_unit_format.specs.Written.{WritesForm};
 
-use crate::capacity::append_ascii;
 use crate::put::put;
 use crate::thousandths::{UnitFraction, split};
 use byte_unit_base::{Kind, prefix_letter};
 use byte_unit_math::{decimal_len, put_u128};
-use std::alloc::{AllocError, Allocator};
 
 /// The most bytes of a text without a width.
-const NARROW_TEXT: usize = 37;
-
-/// Appends the size in its unit. Allocates at most once, before it writes.
-pub(crate) fn append_alternate<A: Allocator>(
-    size: u128,
-    kind: Kind,
-    text: &mut String<A>,
-) -> Result<(), AllocError>
-    requires { size < size_limit }
-    ensures { AppendsForm (IsSizeForm kind size alternate_spec) text.old text.new result }
-{
-    let mut bytes = [0; NARROW_TEXT];
-    let len = put_form(size, kind, &mut bytes);
-    append_ascii(text, &bytes[..len])
-}
+pub(crate) const NARROW_TEXT: usize = 37;
 
 /// Writes the size in its unit to the beginning of `out` if it fits, and returns its length.
 #[inline(always)]
 pub(crate) fn write_alternate(size: u128, kind: Kind, out: &mut [u8]) -> usize
     requires { size < size_limit }
-    ensures written { WritesForm (IsSizeForm kind size alternate_spec) out.old out.new result }
-    ensures bound { result ≤ narrow_text }
+    ensures { WritesForm (IsSizeForm kind size alternate_spec) out.old out.new result }
 {
     if out.len() < NARROW_TEXT {
         return write_if_fits(size, kind, out);
@@ -58,8 +40,7 @@ pub(crate) fn write_alternate(size: u128, kind: Kind, out: &mut [u8]) -> usize
 #[inline(never)]
 fn write_if_fits(size: u128, kind: Kind, out: &mut [u8]) -> usize
     requires { size < size_limit }
-    ensures written { WritesForm (IsSizeForm kind size alternate_spec) out.old out.new result }
-    ensures bound { result ≤ narrow_text }
+    ensures { WritesForm (IsSizeForm kind size alternate_spec) out.old out.new result }
 {
     let mut bytes = [0; NARROW_TEXT];
     let len = put_form(size, kind, &mut bytes);
@@ -74,15 +55,14 @@ fn write_if_fits(size: u128, kind: Kind, out: &mut [u8]) -> usize
 fn put_form_wide(size: u128, kind: Kind, out: &mut [u8]) -> usize
     requires small { size < size_limit }
     requires room { narrow_text ≤ length out.old }
-    ensures written { WritesForm (IsSizeForm kind size alternate_spec) out.old out.new result }
-    ensures bound { result ≤ narrow_text }
+    ensures { WritesForm (IsSizeForm kind size alternate_spec) out.old out.new result }
 {
     put_form(size, kind, out)
 }
 
 /// Writes the size in its unit to the beginning of `out`, and returns its length.
 #[inline(always)]
-fn put_form(size: u128, kind: Kind, out: &mut [u8]) -> usize
+pub(crate) fn put_form(size: u128, kind: Kind, out: &mut [u8]) -> usize
     requires small { size < size_limit }
     requires room { narrow_text ≤ length out.old }
     ensures written { WritesForm (IsSizeForm kind size alternate_spec) out.old out.new result }

@@ -7,7 +7,8 @@ ghost use Rattle.byte_unit_format.specs.TextParts.{IsReady, parts_text};
 ghost use Rattle.byte_unit_format.specs.Written.{WritesForm};
 ghost use Rattle.byte_unit_format.specs.Forms.{IsText, narrow_text, text_limit};
 
-use crate::alternate::{append_alternate, write_alternate};
+use crate::alternate::{NARROW_TEXT, put_form, write_alternate};
+use crate::capacity::append_ascii;
 use crate::layout::layout_parts;
 use crate::parts::{Fraction, TextParts};
 use crate::plain::plain_parts;
@@ -59,7 +60,9 @@ pub fn append_text<A: Allocator>(
     ensures { AppendsForm (IsText kind size spec) text.old text.new result }
 {
     if spec == FormatSpec::ALTERNATE {
-        return append_alternate(size, kind, text);
+        let mut bytes = [0; NARROW_TEXT];
+        let len = put_form(size, kind, &mut bytes);
+        return append_ascii(text, &bytes[..len]);
     }
     text_parts(size, kind, spec).append(text)
 }

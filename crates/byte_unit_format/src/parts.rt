@@ -1,12 +1,10 @@
 //! The parts of a formatted text, and how they are written.
 
-ghost use Rattle.std.specs.Prelude.{◌≡◌, ◌+◌, ◌^◌, ◌<◌, ◌≤◌, length, IsAscii};
-ghost use Rattle.byte_unit_math.specs.Bounds.{places_of_number};
-ghost use Rattle.byte_unit_math.specs.Digits.{last_digits};
+ghost use Rattle.std.specs.Prelude.{◌≡◌, ◌+◌, ◌^◌, ◌≤◌, length, IsAscii};
 ghost use Rattle.byte_unit_math.specs.Numeral.{fraction_text};
 ghost use Rattle.byte_unit_math.specs.Padded.{pad_of};
 ghost use Rattle.byte_unit_math.specs.PutBefore.{IsPutBefore};
-ghost use Rattle.byte_unit_format.specs.Pushed.{IsPushed};
+ghost use Rattle.byte_unit_format.specs.Pushed.{IsPushed, IsPutAscii};
 ghost use Rattle.byte_unit_format.specs.Room.{spare_capacity, AppendsForm};
 ghost use Rattle.byte_unit_format.specs.TextParts.{fraction_of, places_in, FitsPlaces, IsReady, parts_text};
 ghost use Rattle.byte_unit_format.specs.Written.{WritesForm};
@@ -136,13 +134,18 @@ impl Fraction<'_> {
     }
 
     /// Appends the point and the digits.
+    #[tactic(auto, using(crate::proofs::TextParts::last_digits_put))]
     fn push<A: Allocator>(&self, text: &mut String<A>)
         requires short { FitsPlaces self.now }
         requires room { length (fraction_of self.now) ≤ spare_capacity text.old }
         ensures { IsPushed (fraction_of self.now) text.old text.new }
     {
         match self {
-            Fraction::Last(digits, places) => push_last(text, *digits, *places),
+            Fraction::Last(digits, places) => {
+                let mut bytes = [0; BUFFER_LEN];
+                let start = put_fraction(*digits, *places, &mut bytes, BUFFER_LEN);
+                push_ascii(text, &bytes[start..]);
+            }
             Fraction::First(e, places) => push_first(text, e, *places),
         }
     }
@@ -153,8 +156,7 @@ impl Fraction<'_> {
         requires room { length (fraction_of self.now) ≤ end }
         requires within { end ≤ length out.old }
         requires short { FitsPlaces self.now }
-        ensures put { IsPutBefore (fraction_of self.now) end out.old out.new result }
-        ensures ascii { IsAscii (fraction_of self.now) }
+        ensures { IsPutAscii (fraction_of self.now) end out.old out.new result }
     {
         match self {
             Fraction::Last(digits, places) => put_fraction(*digits, *places, out, end),
@@ -168,9 +170,8 @@ impl Fraction<'_> {
 fn put_first(e: &Expansion, places: u32, out: &mut [u8], end: usize) -> usize
     requires room { length (fraction_text (pad_of places e.now).digits) ≤ end }
     requires within { end ≤ length out.old }
-    ensures put { let text = fraction_text (pad_of places e.now).digits in
-        IsPutBefore text end out.old out.new result }
-    ensures ascii { IsAscii (fraction_text (pad_of places e.now).digits) }
+    ensures { let text = fraction_text (pad_of places e.now).digits in
+        IsPutAscii text end out.old out.new result }
 {
     if places == 0 {
         return end;
@@ -179,18 +180,6 @@ fn put_first(e: &Expansion, places: u32, out: &mut [u8], end: usize) -> usize
     let zeros = put_run(b'0', places as usize - shown, out, end);
     let digits = put(&glyphs_of(e)[..shown], out, zeros);
     put_run(b'.', 1, out, digits)
-}
-
-/// Appends the point and the last `places` digits of a number.
-#[tactic(auto, using(crate::proofs::TextParts::last_digits_put))]
-fn push_last<A: Allocator>(text: &mut String<A>, digits: u128, places: u32)
-    requires short { (places ≤ places_of_number) × (digits < 10 ^ places) }
-    requires room { length (fraction_text (last_digits places digits)) ≤ spare_capacity text.old }
-    ensures { IsPushed (fraction_text (last_digits places digits)) text.old text.new }
-{
-    let mut bytes = [0; BUFFER_LEN];
-    let start = put_fraction(digits, places, &mut bytes, BUFFER_LEN);
-    push_ascii(text, &bytes[start..]);
 }
 
 /// Appends the point and `places` digits of an expansion, or nothing if `places` is 0.

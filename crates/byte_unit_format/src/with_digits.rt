@@ -1,15 +1,12 @@
 //! The digits of a size and the size in its unit, as one text.
 
-ghost use Rattle.std.specs.Prelude.{◌≡◌, ◌≢◌, ℕ, false, ◌+◌, ◌-◌, ◌*◌, ◌^◌, ◌<◌, ◌≤◌, ◌∷◌, [], ◌++◌, length, take, drop, replicate, slice_index};
+ghost use Rattle.std.specs.Prelude.{◌≡◌, ◌≢◌, ℕ, ◌+◌, ◌-◌, ◌*◌, ◌^◌, ◌<◌, ◌≤◌, ◌++◌, length, take, drop, replicate, slice_index};
 ghost use Rattle.std.specs.Fmt.{decimal};
 ghost use Rattle.byte_unit_math.specs.Bounds.{size_limit};
 ghost use Rattle.byte_unit_math.specs.Numeral.{padded_digits};
-ghost use Rattle.byte_unit_base.specs.Kinds.{counts_bits};
-ghost use Rattle.byte_unit_base.specs.Shape.{shape};
-ghost use Rattle.byte_unit_base.specs.Version.{current, unit_name_in};
 ghost use Rattle.byte_unit_format.specs.Forms.{IsSizeForm, narrow_text};
 ghost use Rattle.byte_unit_format.specs.NamedSpecs.{alternate_spec};
-ghost use Rattle.byte_unit_format.specs.WithDigits.{IsTextWithDigits, cut_digits, with_digits_text};
+ghost use Rattle.byte_unit_format.specs.WithDigits.{IsTextWithDigits, PutsWithDigits, cut_digits, with_digits_text};
 
 use crate::alternate::{own_letter, put_split};
 use crate::put::put;
@@ -45,24 +42,12 @@ pub fn write_with_digits(size: u128, kind: Kind, between: [u8; 3], out: &mut [u8
     }
 }
 
-/// Writes as `write_with_digits`: the slow path, for a size of more than 64 bits.
-#[inline(never)]
-fn put_with_digits_wide(size: u128, kind: Kind, between: [u8; 3], out: &mut [u8]) -> usize
-    requires small { size < size_limit }
-    requires room { with_digits_text ≤ length out.old }
-    ensures text { IsTextWithDigits kind size between (take result out.new) }
-    ensures bound { result ≤ with_digits_text }
-{
-    put_with_digits(size, kind, between, out)
-}
-
 /// Writes as `write_with_digits`.
 #[inline(always)]
 fn put_with_digits(size: u128, kind: Kind, between: [u8; 3], out: &mut [u8]) -> usize
     requires small { size < size_limit }
     requires room { with_digits_text ≤ length out.old }
-    ensures text { IsTextWithDigits kind size between (take result out.new) }
-    ensures bound { result ≤ with_digits_text }
+    ensures { PutsWithDigits kind size between out.new result }
 {
     let mut digits = [b'0'; PADDED_DIGITS];
     let len = put_padded_digits(size, &mut digits);
@@ -70,6 +55,16 @@ fn put_with_digits(size: u128, kind: Kind, between: [u8; 3], out: &mut [u8]) -> 
     let form = len + 3;
     put(&between, out, form);
     form + put_form_of(&digits, len, size, kind, &mut out[form..])
+}
+
+/// Writes as `write_with_digits`: the slow path, for a size of more than 64 bits.
+#[inline(never)]
+fn put_with_digits_wide(size: u128, kind: Kind, between: [u8; 3], out: &mut [u8]) -> usize
+    requires small { size < size_limit }
+    requires room { with_digits_text ≤ length out.old }
+    ensures { PutsWithDigits kind size between out.new result }
+{
+    put_with_digits(size, kind, between, out)
 }
 
 /// Writes the size in its unit, by its digits, to the beginning of `out`, and returns the length of this text.
@@ -100,7 +95,8 @@ fn put_form_of(
         // The size is exact in 10^(3 n) within three decimal places if 3 n - 3 zeros are at its end.
         let power = most.min((len + 3 - used) as u32 / 3);
         if binary < power {
-            return put_decimal(digits, len - 3 * power as usize, used, power, kind, out);
+            let unit = [b' ', prefix_letter(power), own_letter(kind)];
+            return put_decimal(digits, len - 3 * power as usize, used, unit, out);
         }
     }
     let (whole, fraction) = in_eighths(size, binary);
@@ -121,24 +117,20 @@ fn significant(digits: &[u8; PADDED_DIGITS]) -> usize
 }
 
 /// Writes the first digits up to the index `cut`, a point and the digits from there up to `used`, if there are any, and
-/// a decimal unit to the beginning of `out`, and returns the length of this text.
+/// the name of a unit to the beginning of `out`, and returns the length of this text.
 #[inline(always)]
 fn put_decimal(
     digits: &[u8; PADDED_DIGITS],
     cut: usize,
     used: usize,
-    power: u32,
-    kind: Kind,
+    unit: [u8; 3],
     out: &mut [u8],
 ) -> usize
-    requires some { 1 ≤ power }
-    requires known { power ≤ 9 }
     requires cut { cut ≤ 27 }
     requires used { used ≤ cut + 3 }
     requires room { narrow_text ≤ length out.old }
     ensures text { take result out.new ≡ take cut digits.now
-        ++ (cut_digits cut used digits.now
-        ++ 32 ∷ unit_name_in current (shape power false (counts_bits kind))) }
+        ++ (cut_digits cut used digits.now ++ unit) }
     ensures bound { result ≤ narrow_text }
 {
     put(digits, out, PADDED_DIGITS);
@@ -149,6 +141,6 @@ fn put_decimal(
     } else {
         cut + 3
     };
-    put(&[b' ', prefix_letter(power), own_letter(kind)], out, end);
+    put(&unit, out, end);
     end
 }

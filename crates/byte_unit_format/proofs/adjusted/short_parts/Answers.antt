@@ -17,7 +17,7 @@ returns-in_ok-number-in-Exact-clause-text c =
 pub returns-in_ok-scaled-in-To-clause-text : goal.returns-in_ok-scaled-in-To-clause-text
 returns-in_ok-scaled-in-To-clause-text c =
     let number = c.rounded_quotient-number.result in
-    let nearest = c.rounded_quotient-number.ensures (c.args.size * bits_in c.args.kind) c.in-To.places
+    let nearest = c.rounded_quotient-number.ensures (c.args.size * bits_in c.args.of.kind) c.in-To.places
     c.in_ok-scaled-in-To.ensures.scaled in
     rw c.scaled_parts.ensures.text
     (adjusted_by_rounding (numeral number c.in-To.places) c.requires.rounding

@@ -24,4 +24,4 @@ returns-in-To-clause-narrow c =
 
 pub returns-in_default-clause-narrow : goal.returns-in_default-clause-narrow
 returns-in_default-clause-narrow c =
-    written_narrow c.args.kind c.args.size c.args.unit c.args.spec c.requires c.write_longer.ensures.written
+    written_narrow c.args.kind c.args.size c.args.unit c.args.spec c.requires c.write_slow.ensures.written

@@ -1,14 +1,20 @@
--- The alternate form is appended, or the parts of the text, which are a text of the size. A size has only one text, so
+-- The array begins with the alternate form, which is appended, or the parts of the text are. A size has only one text, so
 -- its length is known.
-use Rattle.std.proofs.Common.{sym, ◌∙◌}
+use Rattle.std.proofs.Common.{sym, arith, ◌∙◌}
+use Rattle.byte_unit_format.specs.NamedSpecs.{alternate_spec}
 use Rattle.byte_unit_format.specs.TextParts.{parts_text}
-use Rattle.byte_unit_format.proofs.TextParts.{appends_form}
+use Rattle.byte_unit_format.proofs.TextParts.{appends_form, appends_same, front_written}
 use Rattle.byte_unit_format.proofs.NamedSpecs.{is_alternate}
 use Rattle.byte_unit_format.proofs.WrittenForms.{text_length_unique}
 use Rattle.byte_unit_format.proofs.forms.append_text.Goals as goal
 
 pub returns-then-eq : goal.returns-then-eq
-returns-then-eq g c = rw (is_alternate c.args.spec (sym c.eq.ensures ∙ c.if-eq.true)) c.append_alternate.ensures
+returns-then-eq g c =
+    let written = c.put_form-len.ensures.written in
+    let as_long = text_length_unique c.args.kind c.args.size alternate_spec written.form written.is_form in
+    let front = front_written written (omega (arith, c.put_form-len.ensures.bound)) in
+    rw (is_alternate c.args.spec (sym c.eq.ensures ∙ c.if-eq.true))
+    (appends_form written.form written.is_form as_long (appends_same front c.append_ascii.ensures))
 
 pub returns : goal.returns
 returns g c =

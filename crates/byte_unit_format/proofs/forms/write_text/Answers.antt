@@ -3,12 +3,20 @@
 use Rattle.std.proofs.Common.{arith, sym, ◌∙◌}
 use Rattle.byte_unit_format.specs.TextParts.{parts_text}
 use Rattle.byte_unit_format.proofs.NamedSpecs.{is_alternate}
-use Rattle.byte_unit_format.proofs.NarrowTexts.{text_without_width_narrow}
+use Rattle.byte_unit_format.proofs.NarrowTexts.{text_without_width_narrow, written_form_narrow}
 use Rattle.byte_unit_format.proofs.forms.write_text.Goals as goal
 
 pub returns-then-eq-clause-written : goal.returns-then-eq-clause-written
 returns-then-eq-clause-written c =
-    rw (is_alternate c.args.spec (sym c.eq.ensures ∙ c.if-eq.true)) c.write_alternate.ensures.written
+    rw (is_alternate c.args.spec (sym c.eq.ensures ∙ c.if-eq.true)) c.write_alternate.ensures
+
+pub returns-then-eq-clause-bound : goal.returns-then-eq-clause-bound
+returns-then-eq-clause-bound c =
+    omega (arith, written_form_narrow c.args.kind c.args.size c.requires c.write_alternate.ensures)
+
+pub returns-then-eq-clause-narrow : goal.returns-then-eq-clause-narrow
+returns-then-eq-clause-narrow c = λ _.
+    written_form_narrow c.args.kind c.args.size c.requires c.write_alternate.ensures
 
 pub returns-clause-narrow : goal.returns-clause-narrow
 returns-clause-narrow c = λ none.

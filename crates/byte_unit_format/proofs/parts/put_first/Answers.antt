@@ -6,22 +6,18 @@ use Rattle.std.proofs.lemmas.Str.Ascii.{IsAscii-cons}
 use Rattle.byte_unit_format.proofs.TextParts.{fraction_text_of_shown, run_ascii, first_digits_put}
 use Rattle.byte_unit_format.proofs.parts.put_first.Goals as goal
 
-pub returns-clause-put : goal.returns-clause-put
-returns-clause-put c =
-    let text = fraction_text_of_shown c.args.places c.min-shown.result c.args.e.now.digits c.glyphs_of.result
-    (omega (arith, c.if-places-eq0.false)) (omega (arith, c.min-shown.ensures, c.places.ensures.exact))
-    c.glyphs_of.ensures.front in
-    record {
-      begins = grind (arith, first_digits_put);
-      bytes = rw (← text, c.put_run.ensures.bytes, c.put-digits.ensures.bytes, c.put_run-zeros.ensures.bytes)
-          (simp (append_assoc {A = ℕ}));
-    }
-
-pub returns-clause-ascii : goal.returns-clause-ascii
-returns-clause-ascii c =
+pub returns : goal.returns
+returns c =
     let text = fraction_text_of_shown c.args.places c.min-shown.result c.args.e.now.digits c.glyphs_of.result
     (omega (arith, c.if-places-eq0.false)) (omega (arith, c.min-shown.ensures, c.places.ensures.exact))
     c.glyphs_of.ensures.front in
     let front = IsAscii-take c.glyphs_of.result c.min-shown.result c.glyphs_of.ensures.ascii in
     let zeros = run_ascii (c.args.places - c.min-shown.result) 48 (omega arith) in
-    subst IsAscii text (IsAscii-cons 46 _ (omega arith) (IsAscii-append _ _ front zeros))
+    record {
+      put = record {
+        begins = grind (arith, first_digits_put);
+        bytes = rw (← text, c.put_run.ensures.bytes, c.put-digits.ensures.bytes, c.put_run-zeros.ensures.bytes)
+            (simp (append_assoc {A = ℕ}));
+      };
+      ascii = subst IsAscii text (IsAscii-cons 46 _ (omega arith) (IsAscii-append _ _ front zeros));
+    }

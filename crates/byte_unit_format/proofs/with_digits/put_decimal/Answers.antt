@@ -1,9 +1,8 @@
 -- The digits are copied, the point and the fraction are put over those after the whole part, and the unit after them.
-use Rattle.std.proofs.Common.{◌≡◌, ◌+◌, ◌-◌, ◌<◌, ◌≤◌, ◌∷◌, [], ◌++◌, List, ℕ, false, refl, ap, sym, subst, arith, ◌∙◌}
+use Rattle.std.proofs.Common.{◌≡◌, ◌+◌, ◌-◌, ◌<◌, ◌≤◌, ◌∷◌, ◌++◌, ℕ, refl, ap, sym, arith, ◌∙◌}
 use Rattle.std.proofs.Common.{take, drop, length, length-append}
 use Rattle.std.proofs.lemmas.List.{length-take, length-drop}
-use Rattle.byte_unit_format.specs.WithDigits.{cut_digits}
-use Rattle.byte_unit_format.proofs.UnitFraction.{drop_known, named, written_over}
+use Rattle.byte_unit_format.proofs.UnitFraction.{drop_known, written_over}
 use Rattle.byte_unit_format.proofs.WithDigits.{text_at, front_at, take_kept, cut_some, cut_none, three_of}
 use Rattle.byte_unit_format.proofs.with_digits.put_decimal.Goals as goal
 use Rattle.byte_unit_format.proofs.with_digits.put_decimal.Goals.{then-used-cut, else-used-cut}
@@ -19,15 +18,13 @@ returns-clause-text c =
     let end = c.if-used-cut.end in
     let long = c.told-digits in
     let name = c.put-2.ensures in
-    let letters = 32 ∷ c.prefix_letter.result ∷ c.own_letter.result ∷ [] in
+    let letters = c.args.unit in
     let front : take cut copied ≡ take cut digits =
     front_at copied digits (drop 32 old) cut (omega (arith, c.put.ensures.begins, long)) c.put.ensures.bytes
     (omega (arith, long, c.requires.cut)) in
-    let named_is = named c.args.kind c.args.power false c.requires.some c.prefix_letter.ensures c.own_letter.ensures in
     let take_len : length (take cut digits) ≡ cut =
     omega (arith, length-take {A = ℕ} cut digits, long, c.requires.cut) in
-    let Of : List ℕ → Type 0 = λ unit. take end new ≡ take cut digits ++ (cut_digits cut used digits ++ unit) in
-    subst Of named_is (elim c.if-used-cut.branch [
+    elim c.if-used-cut.branch [
       | then-used-cut w ↦
           (let more : cut < used = omega (arith, w.if-used-cut) in
           let fraction = w.put-then-used-cut.ensures in
@@ -57,4 +54,4 @@ returns-clause-text c =
           drop_known {other = cut} new (omega (arith, name.begins, w.end-is)) name.bytes in
           text_at letters new (drop end c.if-used-cut.out) cut end kept here (omega (arith, take_len, w.end-is))
           ∙ ap (λ text. take cut digits ++ (text ++ letters)) (sym (cut_none cut used digits few)))
-    ])
+    ]

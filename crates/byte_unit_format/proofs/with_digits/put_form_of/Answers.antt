@@ -6,7 +6,7 @@ use Rattle.byte_unit_base.specs.Shape.{shape}
 use Rattle.byte_unit_choice.proofs.Choosing.{own_number}
 use Rattle.byte_unit_format.specs.FewPlaces.{FitsPrefix}
 use Rattle.byte_unit_format.proofs.TextParts.{front_is}
-use Rattle.byte_unit_format.proofs.UnitFraction.{form_of_split, form_of_thousandths}
+use Rattle.byte_unit_format.proofs.UnitFraction.{form_of_split, form_of_thousandths, named}
 use Rattle.byte_unit_format.proofs.FewPlaces.{recovered_own, recovered_binary, recovered_decimal, number_of_units}
 use Rattle.byte_unit_format.proofs.WithDigits.{few_digits, found_power, cut_of_size, not_above_digits}
 use Rattle.byte_unit_format.proofs.with_digits.put_form_of.Goals as goal
@@ -39,8 +39,8 @@ in_eighths-whole-requires-clause-some c = elim c.if-binary-most.branch [
   | else-binary-most w ↦ omega (arith, c.if-most-eq0.false, w.if-binary-most)
 ]
 
-pub put_decimal-requires-clause-known : goal.put_decimal-requires-clause-known
-put_decimal-requires-clause-known c =
+pub prefix_letter-requires-clause-known : goal.prefix_letter-requires-clause-known
+prefix_letter-requires-clause-known c =
     let used = c.significant-used.ensures in
     let found = found_power c.requires.digits c.requires.len c.requires.small (omega (arith, c.if-most-eq0.false))
     (assumption used) used.bound (omega (arith, c.min-power.ensures)) in
@@ -56,7 +56,8 @@ returns-then-binary-power-clause-form c =
     (assumption used) used.bound (omega (arith, c.min-power.ensures)) in
     let cut = cut_of_size size c.significant-used.result power found.some c.requires.small found.greatest.fits.not_above
     found.is_used (omega (arith, c.min-power.ensures, c.requires.len, found.within)) in
-    rw (c.put_decimal.ensures.text, c.requires.digits, c.requires.len, cut.whole_is, cut.fraction_is)
+    let name = named kind power false found.some c.prefix_letter.ensures c.own_letter.ensures in
+    rw (c.put_decimal.ensures.text, name, c.requires.digits, c.requires.len, cut.whole_is, cut.fraction_is)
     (form_of_thousandths kind size (size / 10 ^ (3 * power)) cut.thousandths (shape power false (counts_bits kind))
     cut.below
     (recovered_decimal kind 3 size (omega arith) found.some found.known found.greatest

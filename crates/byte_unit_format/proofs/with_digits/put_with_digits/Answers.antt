@@ -7,8 +7,8 @@ use Rattle.byte_unit_format.proofs.UnitFraction.{drop_known}
 use Rattle.byte_unit_format.proofs.WithDigits.{text_at, front_at, take_kept, first_of_padded, padded_length}
 use Rattle.byte_unit_format.proofs.with_digits.put_with_digits.Goals as goal
 
-pub returns-clause-text : goal.returns-clause-text
-returns-clause-text c =
+pub returns : goal.returns
+returns c =
     let size = c.args.size in
     let len = c.put_padded_digits-len.result in
     let between = c.args.between in
@@ -34,11 +34,14 @@ returns-clause-text c =
     let room : count ≤ length written = omega (arith, length-take {A = ℕ}, length-drop {A = ℕ}, few) in
     let start_len : length (take start middle) ≡ start = omega (arith, length-take {A = ℕ}, few) in
     record {
-      form = take count written;
-      is_form = c.put_form_of.ensures.form;
-      text_is =
-          ap (λ n. take (n + count) (take start middle ++ (written ++ behind))) (sym start_len)
-          ∙ (take-append-add (take start middle) (written ++ behind) count
-          ∙ rw (before, take-append-le count written behind room)
-          (append_assoc (decimal size) between (take count written)));
+      text = record {
+        form = take count written;
+        is_form = c.put_form_of.ensures.form;
+        text_is =
+            ap (λ n. take (n + count) (take start middle ++ (written ++ behind))) (sym start_len)
+            ∙ (take-append-add (take start middle) (written ++ behind) count
+            ∙ rw (before, take-append-le count written behind room)
+            (append_assoc (decimal size) between (take count written)));
+      };
+      bound = omega (arith, c.put_form_of.ensures.bound, few);
     }
