@@ -8,6 +8,15 @@ use Rattle.byte_unit_format.proofs.Widths.{plain_form_fills_width, layout_fills_
 use Rattle.byte_unit_format.proofs.ShortExpansions.{expansions_end}
 use Rattle.byte_unit_format.proofs.LaterVersion.{meanings_stay}
 
-pub ruleset law_lemmas =
-    (plain_form_reads_back, adjusted_string_reads_back, has_one_form, has_one_adjusted_form, shown_size_is_plain,
-     plain_form_fills_width, layout_fills_width, zero_takes_no_places, expansions_end, meanings_stay)
+pub ruleset law_lemmas = (
+  plain_form_reads_back,
+  adjusted_string_reads_back,
+  has_one_form,
+  has_one_adjusted_form,
+  shown_size_is_plain,
+  plain_form_fills_width,
+  layout_fills_width,
+  zero_takes_no_places,
+  expansions_end,
+  meanings_stay,
+)
