@@ -6,12 +6,15 @@ use Rattle.byte_unit_base.specs.ErrorPosition.{IsSizePosition, IsUnitPosition}
 use Rattle.byte_unit_base.specs.Errors.{size_fault, unit_fault}
 use Rattle.byte_unit_base.specs.FaultText.{parse_text}
 use Rattle.byte_unit_base.specs.Readings.{IsUnitReading}
+use Rattle.byte_unit_base.specs.Shape.{Shape}
+use Rattle.byte_unit_base.specs.SizeReading.{IsBytesReadingAs}
 use Rattle.byte_unit_base.specs.Spelling.{flags_of}
 use Rattle.byte_unit_base.specs.declared.errors.ParseError.{ParseError}
 use Rattle.byte_unit_base.specs.declared.errors.ParseError.TheVariants.{Unit as UnitError}
 use Rattle.byte_unit_base.specs.declared.errors.UnitParseError.{UnitParseError}
 use Rattle.byte_unit_base.specs.declared.unit.Unit.{Unit as UnitName}
 use Rattle.byte_unit_format.specs.Written.{WritesForm}
+use Rattle.byte_unit_c.specs.declared.flags.ParseFlags.{ParseFlags}
 use Rattle.byte_unit_c.specs.declared.values.Number.{Number}
 use Rattle.byte_unit_c.specs.declared.error.Error.{Error}
 use Rattle.byte_unit_c.specs.Values.{number_of}
@@ -26,6 +29,12 @@ IsReturned bytes (Some (Ok n)) code size size' errors errors' = (code ≡ ok) ×
 IsReturned bytes (Some (Err e)) code size size' errors errors' =
     (code ≡ code_of (size_fault e)) × IsErrorWritten (IsSizePosition bytes) (size_fault e) errors errors'
     × (size' ≡ size)
+
+-- what a parsing call with these flags returns and writes, where a unit `u` that is read counts as `meant u`
+abbrev pub Parses : (Shape → Shape) → ParseFlags → List ℕ → ℕ → Number → Number → List Error → List Error → Type 0
+Parses meant asked bytes code size size' errors errors' =
+    (answer : Option (Result ℕ ParseError)) × IsBytesReadingAs meant asked.kind asked.ignore_case bytes answer
+    × IsReturned bytes answer code size size' errors errors'
 
 -- `None` if the bytes are not UTF-8, and otherwise the result of parsing them as a unit
 abbrev pub IsUnitBytesReading : Bool → Bool → List ℕ → Option (Result UnitName UnitParseError) → Type 0

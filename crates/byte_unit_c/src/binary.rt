@@ -10,7 +10,7 @@ ghost use Rattle.byte_unit_base.specs.declared.errors.ParseError.{ParseError};
 ghost use Rattle.byte_unit_c.specs.Flags.{binary_flags_at};
 ghost use Rattle.byte_unit_c.specs.Error.{ok, invalid_argument};
 ghost use Rattle.byte_unit_c.specs.Many.{offsets_of, IsLayout, IsParsed, AreParsed};
-ghost use Rattle.byte_unit_c.specs.Parse.{IsReturned, IsExplanation};
+ghost use Rattle.byte_unit_c.specs.Parse.{IsReturned, IsExplanation, Parses};
 
 use crate::error::{Error, INVALID_ARGUMENT, NOT_UTF8, OK};
 use crate::explain::explain_result;
@@ -51,9 +51,7 @@ pub extern "C" fn byte_unit_parse_binary_to(
 /// Parses as `byte_unit_parse_binary_to` does, with known flags.
 #[inline(always)]
 fn parse_as(text: &[u8], asked: ParseFlags, size: &mut Number, errors: &mut [Error]) -> u32
-    ensures { (answer : Option (Result ℕ ParseError))
-        × IsBinaryBytesReading asked.kind asked.ignore_case text.now answer
-        × IsReturned text.now answer result size.old size.new errors.old errors.new }
+    ensures { Parses binary_of asked text.now result size.old size.new errors.old errors.new }
 {
     match size::read_bytes(text, asked.ignore_case, asked.kind) {
         Outcome::Accepted(unit, number) => {
@@ -76,11 +74,9 @@ fn parse_stopped(
     errors: &mut [Error],
 ) -> u32
     requires { IsStopAt (flags_for asked.kind asked.ignore_case) text.now place reason }
-    ensures { (answer : Option (Result ℕ ParseError))
-        × IsBinaryBytesReading asked.kind asked.ignore_case text.now answer
-        × IsReturned text.now answer result size.old size.new errors.old errors.new }
+    ensures { Parses binary_of asked text.now result size.old size.new errors.old errors.new }
 {
-    match write_stop(text, place, reason, asked.kind, asked.ignore_case, errors) {
+    match write_stop(text, place, reason, asked, errors) {
         Some(code) => code,
         None => {
             let answer = binary::parse_text(text, asked.ignore_case, asked.kind);

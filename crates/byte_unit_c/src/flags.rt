@@ -30,15 +30,6 @@ pub struct ParseFlags {
     pub ignore_case: bool,
 }
 
-/// The decoded flags of a choice of a unit.
-#[derive(Clone, Copy)]
-pub struct ChoiceFlags {
-    /// The kind of the size.
-    pub kind: Kind,
-    /// Whether the units of either kind are chosen from.
-    pub of_either: bool,
-}
-
 impl ParseFlags {
     fn new(kind: Kind, ignore_case: bool) -> ParseFlags
         ensures kind { result.kind ≡ kind }
@@ -48,13 +39,13 @@ impl ParseFlags {
     }
 }
 
-impl ChoiceFlags {
-    fn new(kind: Kind, of_either: bool) -> ChoiceFlags
-        ensures kind { result.kind ≡ kind }
-        ensures of_either { result.of_either ≡ of_either }
-    {
-        ChoiceFlags { kind, of_either }
-    }
+/// The decoded flags of a choice of a unit.
+#[derive(Clone, Copy)]
+pub struct ChoiceFlags {
+    /// The kind of the size.
+    pub kind: Kind,
+    /// Whether the units of either kind are chosen from.
+    pub of_either: bool,
 }
 
 /// Returns the kind of sizes, by a word with the flag `BITS` or none. Returns `None` if the word has another flag.
@@ -119,5 +110,5 @@ pub fn choice_flags_at(flags: u32) -> Option<ChoiceFlags>
     } else {
         flags
     })?;
-    Some(ChoiceFlags::new(kind, of_either))
+    Some(ChoiceFlags { kind, of_either })
 }

@@ -2,6 +2,7 @@
 
 ghost use Rattle.std.specs.Prelude.{◌≡◌, ℕ, Bool, Option, Some, Result, Err, IfSome, IfNone, MatchOption};
 ghost use Rattle.std.specs.Str.{IsUtf8};
+ghost use Rattle.byte_unit_base.specs.Accepted.{as_written};
 ghost use Rattle.byte_unit_base.specs.Errors.{size_fault};
 ghost use Rattle.byte_unit_base.specs.ErrorPosition.{IsSizePosition};
 ghost use Rattle.byte_unit_base.specs.Kinds.{flags_for};
@@ -17,7 +18,7 @@ ghost use Rattle.byte_unit_base.specs.declared.unit.Unit.{Unit as UnitName};
 ghost use Rattle.byte_unit_c.specs.Flags.{parse_flags_at, prefers_byte};
 ghost use Rattle.byte_unit_base.specs.declared.kind.Kind.{Kind};
 ghost use Rattle.byte_unit_c.specs.Error.{invalid_argument, code_of, IsWrittenAt, IsErrorWritten};
-ghost use Rattle.byte_unit_c.specs.Parse.{IsReturned, IsUnitBytesReading, IsUnitReturned};
+ghost use Rattle.byte_unit_c.specs.Parse.{IsReturned, IsUnitBytesReading, IsUnitReturned, Parses};
 
 use crate::codes::code_of;
 use crate::error::{Error, INVALID_ARGUMENT, NOT_UTF8, OK, UNIT, bytes_of};
@@ -61,49 +62,26 @@ pub extern "C" fn byte_unit_parse_to(
 /// Parses as `byte_unit_parse_to` does, with known flags.
 #[inline(always)]
 fn parse_as(text: &[u8], asked: ParseFlags, size: &mut Number, errors: &mut [Error]) -> u32
-    ensures { (answer : Option (Result ℕ ParseError))
-        × IsBytesReading asked.kind asked.ignore_case text.now answer
-        × IsReturned text.now answer result size.old size.new errors.old errors.new }
+    ensures { Parses as_written asked text.now result size.old size.new errors.old errors.new }
 {
     match size::read_bytes(text, asked.ignore_case, asked.kind) {
         Outcome::Accepted(unit, number) => {
             let answer = Some(size::size_of((number, unit), asked.kind));
             write_result(text, answer, size, errors)
         }
-        Outcome::Stopped(reason, place) => {
-            parse_rejected(text, place, reason, asked, size, errors)
-        }
+        Outcome::Stopped(reason, place) => match reason {
+            Reason::InUnit(_) => parse_stopped(text, place, reason, asked, size, errors),
+            Reason::NoDigit => parse_stopped(text, place, reason, asked, size, errors),
+            Reason::TooLong => parse_too_long(text, place, asked, size, errors),
+        },
     }
 }
 
-/// Parses as `parse_as` does, from bytes in which the parser stops at this place and for this reason.
+/// Parses as `parse_as` does, from bytes in which the parser stops at this place and for this reason. If the next
+/// character is not visible to it (not ASCII, or trimmed), parses the string that the bytes are.
 ///
-/// Each reason has a call of its own, which does not test it again.
-#[inline(always)]
-fn parse_rejected(
-    text: &[u8],
-    place: usize,
-    reason: Reason,
-    asked: ParseFlags,
-    size: &mut Number,
-    errors: &mut [Error],
-) -> u32
-    requires { IsStopAt (flags_for asked.kind asked.ignore_case) text.now place reason }
-    ensures { (answer : Option (Result ℕ ParseError))
-        × IsBytesReading asked.kind asked.ignore_case text.now answer
-        × IsReturned text.now answer result size.old size.new errors.old errors.new }
-{
-    match reason {
-        Reason::InUnit(_) => parse_stopped(text, place, reason, asked, size, errors),
-        Reason::NoDigit => parse_stopped(text, place, reason, asked, size, errors),
-        Reason::TooLong => parse_too_long(text, place, asked, size, errors),
-    }
-}
-
-/// Writes the error of a parser that stops at this place and for this reason. If the next character is not visible to
-/// it (not ASCII, or trimmed), parses the string that the bytes are.
-///
-/// `#[inline(always)]`: a call costs a rejected text some 30 instructions.
+/// Each reason has a call of its own, which does not test it again. `#[inline(always)]`: a call costs a rejected text
+/// some 30 instructions.
 #[inline(always)]
 fn parse_stopped(
     text: &[u8],
@@ -114,11 +92,9 @@ fn parse_stopped(
     errors: &mut [Error],
 ) -> u32
     requires { IsStopAt (flags_for asked.kind asked.ignore_case) text.now place reason }
-    ensures { (answer : Option (Result ℕ ParseError))
-        × IsBytesReading asked.kind asked.ignore_case text.now answer
-        × IsReturned text.now answer result size.old size.new errors.old errors.new }
+    ensures { Parses as_written asked text.now result size.old size.new errors.old errors.new }
 {
-    match write_stop(text, place, reason, asked.kind, asked.ignore_case, errors) {
+    match write_stop(text, place, reason, asked, errors) {
         Some(code) => code,
         None => parse_as_string(text, asked, size, errors),
     }
@@ -135,9 +111,7 @@ fn parse_too_long(
     errors: &mut [Error],
 ) -> u32
     requires { IsStopAt (flags_for asked.kind asked.ignore_case) text.now place TooLong }
-    ensures { (answer : Option (Result ℕ ParseError))
-        × IsBytesReading asked.kind asked.ignore_case text.now answer
-        × IsReturned text.now answer result size.old size.new errors.old errors.new }
+    ensures { Parses as_written asked text.now result size.old size.new errors.old errors.new }
 {
     parse_stopped(text, place, Reason::TooLong, asked, size, errors)
 }
@@ -146,9 +120,7 @@ fn parse_too_long(
 #[cold]
 #[inline(never)]
 fn parse_as_string(text: &[u8], asked: ParseFlags, size: &mut Number, errors: &mut [Error]) -> u32
-    ensures { (answer : Option (Result ℕ ParseError))
-        × IsBytesReading asked.kind asked.ignore_case text.now answer
-        × IsReturned text.now answer result size.old size.new errors.old errors.new }
+    ensures { Parses as_written asked text.now result size.old size.new errors.old errors.new }
 {
     let answer = size::parse_text(text, asked.ignore_case, asked.kind);
     write_result(text, answer, size, errors)
@@ -163,20 +135,19 @@ pub(crate) fn write_stop(
     text: &[u8],
     place: usize,
     reason: Reason,
-    kind: Kind,
-    ignore_case: bool,
+    asked: ParseFlags,
     errors: &mut [Error],
 ) -> Option<u32>
-    requires { IsStopAt (flags_for kind ignore_case) text.now place reason }
+    requires { IsStopAt (flags_for asked.kind asked.ignore_case) text.now place reason }
     ensures some { IfSome result (λ code. (error : ParseError)
         × ((meant : Shape → Shape)
-        → IsBytesReadingAs meant kind ignore_case text.now (Some (Err error)))
+        → IsBytesReadingAs meant asked.kind asked.ignore_case text.now (Some (Err error)))
         × (code ≡ code_of (size_fault error))
         × IsErrorWritten (IsSizePosition text.now) (size_fault error) errors.old errors.new) }
     ensures none { IfNone result (errors.new ≡ errors.old) }
 {
     let next = size::visible_next(text, place)?;
-    let flags = size::flags_for(kind, ignore_case);
+    let flags = size::flags_for(asked.kind, asked.ignore_case);
     Some(match reason {
         Reason::InUnit(stop) => {
             let expected = bytes_of(stop.expected_before(next, flags));

@@ -14,7 +14,7 @@ ghost use Rattle.byte_unit_c.specs.Flags.{kind_at, choice_flags_at};
 ghost use Rattle.byte_unit_c.specs.Values.{number_of, AreDecimalParts};
 
 use crate::codes::{code_of, type_at, unit_at};
-use crate::flags::{choice_flags_at, kind_at};
+use crate::flags::{ChoiceFlags, choice_flags_at, kind_at};
 use crate::values::{DecimalParts, Number};
 use byte_unit_base::{Kind, Unit, size};
 use byte_unit_choice::{appropriate_unit, exact_unit, recoverable_unit};
@@ -39,22 +39,22 @@ pub extern "C" fn byte_unit_exact_unit(size: Number, flags: u32, count: &mut Num
         → (result ≡ u32.MAX) × (count.new ≡ count.old) }
 {
     match choice_flags_at(flags) {
-        Some(asked) => exact_unit_as(size, asked.kind, asked.of_either, count),
+        Some(asked) => exact_unit_as(size, asked, count),
         None => NO_UNIT,
     }
 }
 
 /// Chooses as `byte_unit_exact_unit` does, with known flags.
-fn exact_unit_as(size: Number, kind: Kind, of_either: bool, count: &mut Number) -> u32
+fn exact_unit_as(size: Number, asked: ChoiceFlags, count: &mut Number) -> u32
     ensures found { number_of size < size_limit → CodesUnit
-        (λ unit. IsRecoveredIn current kind of_either (number_of size) 0 unit
-        × (number_of count.new * bits unit ≡ number_of size * bits_in kind))
+        (λ unit. IsRecoveredIn current asked.kind asked.of_either (number_of size) 0 unit
+        × (number_of count.new * bits unit ≡ number_of size * bits_in asked.kind))
         result }
     ensures rejected { size_limit ≤ number_of size → (result ≡ u32.MAX) × (count.new ≡ count.old) }
 {
     match size::bounded(size.get()) {
         Some(size) => {
-            let (whole, unit) = exact_unit(size, kind, of_either);
+            let (whole, unit) = exact_unit(size, asked.kind, asked.of_either);
             *count = Number::new(whole);
             code_of(unit)
         }
@@ -85,7 +85,7 @@ pub extern "C" fn byte_unit_recoverable_unit(
         → (result ≡ u32.MAX) × (count.new ≡ count.old) }
 {
     match choice_flags_at(flags) {
-        Some(asked) => recoverable_unit_as(size, asked.kind, asked.of_either, precision, count),
+        Some(asked) => recoverable_unit_as(size, asked, precision, count),
         None => NO_UNIT,
     }
 }
@@ -93,22 +93,27 @@ pub extern "C" fn byte_unit_recoverable_unit(
 /// Chooses as `byte_unit_recoverable_unit` does, with known flags.
 fn recoverable_unit_as(
     size: Number,
-    kind: Kind,
-    of_either: bool,
+    asked: ChoiceFlags,
     precision: usize,
     count: &mut DecimalParts,
 ) -> u32
     ensures found { number_of size < size_limit → CodesUnit
-        (λ unit. IsRecoveredIn current kind of_either (number_of size) precision unit
+        (λ unit. IsRecoveredIn current asked.kind asked.of_either (number_of size) precision unit
         × (number : ℕ) × AreDecimalParts count.new number
-        × (number * bits unit ≡ number_of size * bits_in kind * scale))
+        × (number * bits unit ≡ number_of size * bits_in asked.kind * scale))
         result }
     ensures rejected { size_limit ≤ number_of size → (result ≡ u32.MAX) × (count.new ≡ count.old) }
 {
     let steps = &mut Steps::new();
     match size::bounded(size.get()) {
         Some(size) => {
-            let (number, unit) = recoverable_unit(size, kind, of_either, precision, steps);
+            let (number, unit) = recoverable_unit(
+                size,
+                asked.kind,
+                asked.of_either,
+                precision,
+                steps,
+            );
             *count = DecimalParts::new(number);
             code_of(unit)
         }

@@ -16,7 +16,7 @@ pub returns-in-InUnit-clause-some : goal.returns-in-InUnit-clause-some
 returns-in-InUnit-clause-some c =
     let at_start = nat_eq c.args.place 0 in
     let next = c.in_ok-next.next in
-    let stops = c.in_ok-next.ensures c.args.kind c.args.ignore_case c.args.reason c.requires in
+    let stops = c.in_ok-next.ensures c.args.asked.kind c.args.asked.ignore_case c.args.reason c.requires in
     let error = c.error_before-error.result in
     let fault_is = c.error_before-error.ensures
     ∙ (ap (λ reason. stop_fault c.flags_for-flags.result at_start reason next) (sym c.in-InUnit.is)
@@ -43,12 +43,12 @@ returns-in-NoDigit-clause-some c =
     let bytes = c.args.text.now in
     let at_start = nat_eq c.args.place 0 in
     let next = c.in_ok-next.next in
-    let stops = c.in_ok-next.ensures c.args.kind c.args.ignore_case c.args.reason c.requires in
+    let stops = c.in_ok-next.ensures c.args.asked.kind c.args.asked.ignore_case c.args.reason c.requires in
     let fault_is = c.error_at.ensures
     ∙ ap (λ flags. stop_fault flags at_start c.args.reason next) c.flags_for-flags.ensures in
     let is = stops.0 c.error_at.result fault_is in
     let place = subst (IsPositionOfStop bytes c.args.place) c.in-NoDigit.is stops.1 in
-    let flags = flags_for c.args.kind c.args.ignore_case in
+    let flags = flags_for c.args.asked.kind c.args.asked.ignore_case in
     let fault = fault_is ∙ ap (λ reason. stop_fault flags at_start reason next) c.in-NoDigit.is in
     let position = subst (λ fault. IsPositionOf (IsSizePosition bytes) fault c.args.place) (sym fault)
     (at_missing_digit (IsSizePosition bytes) at_start next c.args.place place) in (
@@ -60,11 +60,11 @@ returns-in-NoDigit-clause-some c =
 
 pub returns-in-TooLong-clause-some : goal.returns-in-TooLong-clause-some
 returns-in-TooLong-clause-some c =
-    let stops = c.in_ok-next.ensures c.args.kind c.args.ignore_case c.args.reason c.requires in
+    let stops = c.in_ok-next.ensures c.args.asked.kind c.args.asked.ignore_case c.args.reason c.requires in
     let fault_is = c.error_at-error.ensures
     ∙ ap (λ flags. stop_fault flags (nat_eq c.args.place 0) c.args.reason c.in_ok-next.next) c.flags_for-flags.ensures in
     let is = stops.0 c.error_at-error.result fault_is in
-    let position = c.of_error-position.ensures as_written c.args.kind c.args.ignore_case (is.0, is.1 as_written) in (
+    let position = c.of_error-position.ensures as_written c.args.asked.kind c.args.asked.ignore_case (is.0, is.1 as_written) in (
       c.error_at-error.result,
       (λ meant. (is.0, is.1 meant)),
       c.write_error-in-TooLong.ensures.code,
