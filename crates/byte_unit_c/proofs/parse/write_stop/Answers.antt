@@ -64,7 +64,8 @@ returns-in-TooLong-clause-some c =
     let fault_is = c.error_at-error.ensures
     ∙ ap (λ flags. stop_fault flags (nat_eq c.args.place 0) c.args.reason c.in_ok-next.next) c.flags_for-flags.ensures in
     let is = stops.0 c.error_at-error.result fault_is in
-    let position = c.of_error-position.ensures as_written c.args.asked.kind c.args.asked.ignore_case (is.0, is.1 as_written) in (
+    let position =
+    c.of_error-position.ensures as_written c.args.asked.kind c.args.asked.ignore_case (is.0, is.1 as_written) in (
       c.error_at-error.result,
       (λ meant. (is.0, is.1 meant)),
       c.write_error-in-TooLong.ensures.code,
