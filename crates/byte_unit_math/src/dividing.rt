@@ -145,26 +145,18 @@ pub(crate) fn div_rem_digit(dividend: u128, divisor: u128) -> (u128, u128)
     digit_and_rest!(subtract_multiple, dividend, divisor)
 }
 
-/// Gives `times`, or else 0, and what is left: `times * divisor` is subtracted if the dividend is at least that. A
-/// macro, as `digit_and_rest`.
-macro_rules! subtract {
-    ($dividend:expr, $times:expr, $divisor:expr) => {{
-        let multiple = $times * $divisor;
-        if $dividend < multiple {
-            (0, $dividend)
-        } else {
-            ($times, $dividend - multiple)
-        }
-    }};
-}
-
 /// Subtracts `times * divisor` if the dividend is at least that. Returns `times`, or else 0, and what is left.
 fn subtract_multiple(dividend: u128, times: u128, divisor: u128) -> (u128, u128)
     requires once { dividend < 2 * (times * divisor) }
     requires small { times * divisor < 2 ^ 128 }
     ensures { IsSubtracted dividend times divisor result }
 {
-    subtract!(dividend, times, divisor)
+    let multiple = times * divisor;
+    if dividend < multiple {
+        (0, dividend)
+    } else {
+        (times, dividend - multiple)
+    }
 }
 
 /// Subtracts as `subtract_multiple`, in 64 bits.
@@ -173,5 +165,10 @@ fn subtract_multiple_u64(dividend: u64, times: u64, divisor: u64) -> (u64, u64)
     requires small { times * divisor < 2 ^ 64 }
     ensures { IsSubtracted dividend times divisor result }
 {
-    subtract!(dividend, times, divisor)
+    let multiple = times * divisor;
+    if dividend < multiple {
+        (0, dividend)
+    } else {
+        (times, dividend - multiple)
+    }
 }
