@@ -80,9 +80,7 @@ pub fn choose_unit(
                 exact_number(in_bits, row.twos, row.fives, most, steps)
             } else {
                 let factors = Factors { left, twos, fives };
-                let number = factored_quotient(factors, row.twos, row.fives, places);
-                steps.advance_by(number.places());
-                number
+                factored_quotient(factors, row.twos, row.fives, places, steps)
             };
             return Some((number, row.unit));
         }

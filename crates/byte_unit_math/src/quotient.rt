@@ -2,7 +2,7 @@
 ghost use Rattle.std.specs.Prelude.{◌≡◌, ℕ, ◌+◌, ◌*◌, ◌-◌, ◌/◌, ◌%◌, ◌^◌, ◌<◌, ◌≤◌, min, IfSome, IfNone};
 ghost use Rattle.byte_unit_math.specs.Bounds.{scale, places_of_decimal, unit_limit, whole_limit};
 ghost use Rattle.byte_unit_math.specs.Steps.{saturating_add};
-ghost use Rattle.byte_unit_math.specs.Exact.{IsExactAt, IsQuotient, IsFirstExact};
+ghost use Rattle.byte_unit_math.specs.Exact.{IsExactAt, IsLeastPlaces, IsQuotient, IsFirstExact};
 ghost use Rattle.byte_unit_math.specs.Factored.{product_of};
 ghost use Rattle.byte_unit_math.specs.Nearest.{IsNearest};
 ghost use Rattle.byte_unit_math.specs.declared.expansion.Ties.TheVariants.{Even};
@@ -63,19 +63,31 @@ pub fn exact_quotient(size: u128, unit: u128, places: u32, steps: &mut Steps) ->
 /// `places <= 28`, `twos <= number.twos + places`, `fives <= number.fives + places`, and the quotient scaled by
 /// `10^places` is below 2^112.
 ///
+/// Counts one step for each digit after the point of the result.
+///
 /// # Examples
 /// ```rust
+/// let mut steps = Steps::new();
 /// let twelve = Factors { left: 3, twos: 2, fives: 0 };
-/// assert_eq!(rt; factored_quotient(twelve, 3, 0, 1), Decimal::from_digits(1, 5, 1));
+/// assert_eq!(rt; factored_quotient(twelve, 3, 0, 1, &mut steps), Decimal::from_digits(1, 5, 1));
+/// assert_eq!(rt; steps.count(), 1);
 /// ```
 #[inline(always)]
-pub fn factored_quotient(number: Factors, twos: u32, fives: u32, places: u32) -> Decimal
+pub fn factored_quotient(
+    number: Factors,
+    twos: u32,
+    fives: u32,
+    places: u32,
+    steps: &mut Steps,
+) -> Decimal
     requires some { 1 ≤ number.left }
     requires few { (number.twos < 2 ^ 16) × (number.fives < 2 ^ 16) }
     requires places { places ≤ places_of_decimal }
     requires exact { (twos ≤ number.twos + places) × (fives ≤ number.fives + places) }
     requires small { product_of number * 10 ^ places < whole_limit * (2 ^ twos * 5 ^ fives) }
-    ensures { result * (2 ^ twos * 5 ^ fives) ≡ product_of number * scale }
+    ensures exact { result * (2 ^ twos * 5 ^ fives) ≡ product_of number * scale }
+    ensures steps { (least : ℕ) × IsLeastPlaces result scale least
+        × (steps.new ≡ saturating_add steps.old least) }
 {
     let power = POWERS_OF_FIVE[(number.fives + places - fives) as usize];
     let count = (number.left << (number.twos + places - twos)) * power;
@@ -87,7 +99,9 @@ pub fn factored_quotient(number: Factors, twos: u32, fives: u32, places: u32) ->
         3 => div_rem_small(count, 1000),
         _ => div_rem(count, power_of_ten(places)),
     };
-    Decimal::from_digits(whole, digits, places)
+    let quotient = Decimal::from_digits(whole, digits, places);
+    steps.advance_by(quotient.places());
+    quotient
 }
 
 /// Splits a fixed-point value into its integer and fractional parts; `divisor`, its scale, is a constant.

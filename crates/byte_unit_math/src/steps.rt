@@ -55,14 +55,7 @@ impl Steps {
     }
 
     /// Adds a number of steps, saturating.
-    ///
-    /// # Examples
-    /// ```rust
-    /// let mut steps = Steps::new();
-    /// steps.advance_by(3);
-    /// assert_eq!(rt; steps.count(), 3);
-    /// ```
-    pub fn advance_by(&mut self, steps: u32)
+    pub(crate) fn advance_by(&mut self, steps: u32)
         ensures { self.new ≡ saturating_add self.old steps }
     {
         self.count = self.count.saturating_add(u64::from(steps));

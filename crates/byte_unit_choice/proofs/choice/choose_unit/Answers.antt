@@ -83,7 +83,7 @@ returns-then-row-in_bits-clause-exact c =
       | else-places-gt-FEW_PLACES w ↦
           ap (λ n. n * _) w.number-is
           ∙ (ap (λ n. w.factored_quotient-number.result * n) multiple.powers
-          ∙ (w.factored_quotient-number.ensures ∙ ap (λ n. n * scale) product))
+          ∙ (w.factored_quotient-number.ensures.exact ∙ ap (λ n. n * scale) product))
     ]
 
 pub returns-then-row-in_bits-clause-chosen : goal.returns-then-row-in_bits-clause-chosen
@@ -101,6 +101,7 @@ returns-then-row-in_bits-clause-chosen c =
 
 pub returns-then-row-in_bits-clause-steps : goal.returns-then-row-in_bits-clause-steps
 returns-then-row-in_bits-clause-steps c =
+    let multiple = row_multiple (row_at_is_row no_row c.multiples_within-row-items.ensures c.loop-row-test.true) in
     let mid = c.factors_of-left.new.steps in
     let trials = c.factors_of-left.ensures in
     let unmoved = c.loop-row.invariant.steps in
@@ -113,8 +114,9 @@ returns-then-row-in_bits-clause-steps c =
           let same = subst (λ n. IsLeastPlaces n scale places.0) (sym w.number-is) places.1 in
           (places.0, same, omega (arith, w.steps-is, places.2, unmoved))
       | else-places-gt-FEW_PLACES w ↦
-          let same = subst (λ n. IsLeastPlaces n scale w.places.result) (sym w.number-is) w.places.ensures.least in
-          (w.places.result, same, omega (arith, w.steps-is, w.advance_by.ensures, unmoved))
+          let places = w.factored_quotient-number.ensures.steps in
+          let same = subst (λ n. IsLeastPlaces n scale places.0) (sym w.number-is) places.1 in
+          (places.0, same, omega (arith, w.steps-is, places.2, unmoved))
     ] in
     counted_choice {places = counted.0} c.args.steps.now mid c.if-places-gt-FEW_PLACES.steps trials.powers counted.1
     trials.steps counted.2

@@ -53,25 +53,25 @@ div_rem-requires c = omega (arith, c.power_of_ten.ensures, pow10_bounds c.args.p
 -- The multiple split at the point into whole part and digits.
 
 abbrev start_of : Joined-places → Start
-start_of c = (goal.at.from_digits-requires-clause-digits c).Start
+start_of c = (goal.at.from_digits-quotient-requires-clause-digits c).Start
 
 count_at_point : (c : Joined-places) → (c.match-places.whole.0 ≡ count_of (start_of c) / 10 ^ c.args.places)
     × (c.match-places.whole.1 ≡ count_of (start_of c) % 10 ^ c.args.places)
 count_at_point c = grind (arith, (few (start_of c)).by_table)
 
-pub from_digits-requires-clause-whole : goal.from_digits-requires-clause-whole
-from_digits-requires-clause-whole c = rw (count_at_point c).0 (omega (arith, count_fits (start_of c)))
+pub from_digits-quotient-requires-clause-whole : goal.from_digits-quotient-requires-clause-whole
+from_digits-quotient-requires-clause-whole c = rw (count_at_point c).0 (omega (arith, count_fits (start_of c)))
 
-pub from_digits-requires-clause-digits : goal.from_digits-requires-clause-digits
-from_digits-requires-clause-digits c = grind (arith, count_at_point, pow10_bounds)
+pub from_digits-quotient-requires-clause-digits : goal.from_digits-quotient-requires-clause-digits
+from_digits-quotient-requires-clause-digits c = grind (arith, count_at_point, pow10_bounds)
 
-pub returns : goal.returns
-returns c =
-    let at_point = count_at_point (goal.at.returns c).Joined-places in
-    let s = (goal.at.returns c).Start in
+pub returns-clause-exact : goal.returns-clause-exact
+returns-clause-exact c =
+    let at_point = count_at_point (goal.at.returns-clause-exact c).Joined-places in
+    let s = (goal.at.returns-clause-exact c).Start in
     let unit = 2 ^ c.args.twos * 5 ^ c.args.fives in
-    let quotient : c.from_digits.result ≡ count_of s * 10 ^ (places_of_decimal - c.args.places) =
-    rw (c.from_digits.ensures, at_point.0, at_point.1)
+    let quotient : c.from_digits-quotient.result ≡ count_of s * 10 ^ (places_of_decimal - c.args.places) =
+    rw (c.from_digits-quotient.ensures, at_point.0, at_point.1)
     (cut_at_point (count_of s) c.args.places c.requires.places) in
     ap (λ n. n * unit) quotient
     ∙ count_is_exact (product_of c.args.number) unit (count_of s) c.args.places (count_is_exact_quotient s)
