@@ -10,7 +10,7 @@ ghost use Rattle.byte_unit_base.specs.Readings.{IsUnitReading};
 ghost use Rattle.byte_unit_base.specs.Spelling.{flags_of};
 ghost use Rattle.byte_unit.specs.UnitJson.{error_text, styled_error_text, unit_errors};
 
-use byte_unit_base::{JsonSizeError, Unit, UnitParseError};
+use byte_unit_base::{Unit, UnitParseError};
 use serde_json::Value;
 use std::alloc::{AllocError, Global};
 use std::error::Error;
@@ -47,7 +47,7 @@ impl fmt::Display for JsonUnitError {
 
     fn fmt<W: fmt::Write>(&self, f: &mut fmt::Formatter<W>) -> fmt::Result {
         match self {
-            JsonUnitError::NotString => fmt::Display::fmt(&JsonSizeError::NotString, f),
+            JsonUnitError::NotString => f.write_str("not a JSON string"),
             JsonUnitError::Unit(error) => fmt::Display::fmt(error, f),
         }
     }
