@@ -30,7 +30,7 @@ IsReturned bytes (Some (Err e)) code size size' errors errors' =
     (code ≡ code_of (size_fault e)) × IsErrorWritten (IsSizePosition bytes) (size_fault e) errors errors'
     × (size' ≡ size)
 
--- what a parsing call with these flags returns and writes, where a unit `u` that is read counts as `meant u`
+-- Private: what a parsing call with these flags returns and writes, where a unit `u` that is read counts as `meant u`
 abbrev pub Parses : (Shape → Shape) → ParseFlags → List ℕ → ℕ → Number → Number → List Error → List Error → Type 0
 Parses meant asked bytes code size size' errors errors' =
     (answer : Option (Result ℕ ParseError)) × IsBytesReadingAs meant asked.kind asked.ignore_case bytes answer

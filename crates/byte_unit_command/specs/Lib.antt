@@ -6,7 +6,7 @@ pub mod Messages
 pub mod Outcome
 pub mod Output
 pub mod RunState
-pub mod Steps
+pub mod CallEnds
 pub mod Run
 pub mod Shown
 pub mod Sums

@@ -23,7 +23,7 @@ use Rattle.byte_unit_command.specs.declared.wrong.ValueError.{ValueError}
 use Rattle.byte_unit_command.specs.declared.wrong.ValueError.TheVariants.{Unit as UnitFault, Blank}
 use Rattle.byte_unit_command.specs.declared.wrong.ValueError.TheVariants.{Padding, Size}
 
--- the text is no value of an option whose values mean this, for the reason that there is
+-- the text has no meaning as a value of the option, and `only` is the error
 abbrev pub MeansNothing : {V : Type 0} → (Option (List ℕ) → V → Type 0) → ValueError → List ℕ → ValueError → Type 0
 MeansNothing {V} Means only text reason = ((value : V) → ¬ Means (Some text) value) × (reason ≡ only)
 

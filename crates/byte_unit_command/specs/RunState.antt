@@ -1,4 +1,4 @@
--- Private but for `no_tally`, `messages_of`: how far a run has come.
+-- Private but for `messages_of`: how far a run has come.
 use Rattle.std.specs.Prelude.{◌≡◌, ℕ, ◌+◌, ◌-◌, ◌≤◌, min, true, false, ◌||◌, List, [], ◌∷◌, ◌++◌, Option, Some, None}
 use Rattle.std.specs.Prelude.{vec_capacity, vec_len, length, ◌<◌, ◌⊎◌, Bool, MatchBool, IsTrue, IfErr}
 use Rattle.std.specs.Prelude.{Result, Ok, Err, ⊤}

@@ -7,9 +7,9 @@ ghost use Rattle.byte_unit_command.specs.Capacity.{field_room, fields_room, reco
 ghost use Rattle.byte_unit_command.specs.Field.{IsNoSize};
 ghost use Rattle.byte_unit_command.specs.Fields.{IsChosen, at_blanks};
 ghost use Rattle.byte_unit_command.specs.RunState.{AddsRecords, Grows, messages_of, state_of};
-ghost use Rattle.byte_unit_command.specs.Steps.{AbortsNext, Extends, FieldIsAdded, FieldIsRejected, FieldStops};
-ghost use Rattle.byte_unit_command.specs.Steps.{FieldsAreAdded, FieldsAreRejected, FieldsStop, KeepsMessages};
-ghost use Rattle.byte_unit_command.specs.Steps.{RecordStops};
+ghost use Rattle.byte_unit_command.specs.CallEnds.{AbortsNext, Extends, FieldIsAdded, FieldIsRejected, FieldStops};
+ghost use Rattle.byte_unit_command.specs.CallEnds.{FieldsAreAdded, FieldsAreRejected, FieldsStop, KeepsMessages};
+ghost use Rattle.byte_unit_command.specs.CallEnds.{RecordStops};
 
 use crate::blanks::{between, end_of_first};
 use crate::error::{RunError, RunResult};

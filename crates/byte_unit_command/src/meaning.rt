@@ -217,8 +217,8 @@ fn unit_of(value: &str, kind: Kind, ignore_case: bool) -> Result<Unit, ValueErro
 /// Returns an error if the value is neither one byte nor `\t`, nor empty.
 fn delimiter_of(value: Option<&str>) -> Result<Option<u8>, Wrong<'_>>
     ensures ok { IfOk result (IsDelimiter (text_of value.entry)) }
-    ensures err { IfErr result
-        (IsWrongOf (codes "--delimiter") value.entry (MeansNothing IsDelimiter ValueError.Delimiter)) }
+    ensures err { IfErr result (IsWrongOf (codes "--delimiter") value.entry
+        (MeansNothing IsDelimiter ValueError.Delimiter)) }
 {
     let Some(value) = value else {
         return Ok(None);

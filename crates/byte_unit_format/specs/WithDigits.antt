@@ -15,7 +15,7 @@ pub record IsTextWithDigits (kind : Kind) (size : ℕ) (between text : List ℕ)
 abbrev pub with_digits_text : ℕ
 with_digits_text = 70
 
--- Private: the buffer begins with such a text of three bytes between.
+-- Private: the buffer begins with such a text, of at most 70 bytes.
 pub record PutsWithDigits (kind : Kind) (size : ℕ) (between new : List ℕ) (len : ℕ) : Type 0 where
   pub text : IsTextWithDigits kind size between (take len new)
   pub bound : len ≤ with_digits_text

@@ -41,10 +41,10 @@ const ALTERNATE_PLACES: u16 = 16;
 /// bits.
 const FEW_PLACES: u32 = 7;
 
-/// The kind of a size, and the unit that it is formatted in. These two are passed in registers; with the size they would
-/// be passed in memory, which takes 6 to 15 instructions more.
+/// The kind of a size, and the unit that it is formatted in. These two are passed in registers; with the size they
+/// would be passed in memory, which takes 6 to 15 instructions more.
 #[derive(Clone, Copy)]
-struct Units {
+struct Target {
     kind: Kind,
     unit: Unit,
 }
@@ -79,7 +79,7 @@ pub fn adjusted_len(size: u128, kind: Kind, unit: Unit, spec: FormatSpec) -> usi
     ensures narrow { result ≤ most_adjusted_text spec }
 {
     let rounding = rounding_of(unit, spec);
-    match short_parts(size, Units { kind, unit }, rounding, spec) {
+    match short_parts(size, Target { kind, unit }, rounding, spec) {
         Some(parts) => parts.len,
         None => {
             let mut number = number_in_unit(size, kind, unit);
@@ -119,7 +119,7 @@ pub fn append_adjusted<A: Allocator>(
     ensures { AppendsForm (IsAdjustedForm kind size unit spec) text.old text.new result }
 {
     let rounding = rounding_of(unit, spec);
-    match short_parts(size, Units { kind, unit }, rounding, spec) {
+    match short_parts(size, Target { kind, unit }, rounding, spec) {
         Some(parts) => parts.append(text),
         None => {
             let mut number = number_in_unit(size, kind, unit);
@@ -153,7 +153,7 @@ pub fn write_adjusted(size: u128, kind: Kind, unit: Unit, spec: FormatSpec, out:
             let number = rounded_to_few(size, kind, unit, places);
             scaled_parts(number, places, unit, spec).write(out)
         }
-        _ => write_slow(size, Units { kind, unit }, rounding, spec, out),
+        _ => write_slow(size, Target { kind, unit }, rounding, spec, out),
     }
 }
 
@@ -183,7 +183,7 @@ pub fn display_adjusted<W: fmt::Write>(
 /// Writes as `write_adjusted`, with the rounding of the spec: the slow path.
 #[inline(never)]
 #[tactic(auto, using(crate::proofs::TextParts::writes_form))]
-fn write_slow(size: u128, of: Units, rounding: Rounding, spec: FormatSpec, out: &mut [u8]) -> usize
+fn write_slow(size: u128, of: Target, rounding: Rounding, spec: FormatSpec, out: &mut [u8]) -> usize
     requires size { size < size_limit }
     requires rounding { IsRoundingOf of.unit spec rounding }
     ensures written { WritesForm (IsAdjustedForm of.kind size of.unit spec) out.old out.new result }
@@ -197,7 +197,7 @@ fn write_slow(size: u128, of: Units, rounding: Rounding, spec: FormatSpec, out: 
 
 /// Writes as `write_slow`, by all digits of the number.
 #[inline(never)]
-fn write_full(size: u128, of: Units, rounding: Rounding, spec: FormatSpec, out: &mut [u8]) -> usize
+fn write_full(size: u128, of: Target, rounding: Rounding, spec: FormatSpec, out: &mut [u8]) -> usize
     requires size { size < size_limit }
     requires rounding { IsRoundingOf of.unit spec rounding }
     ensures written { WritesForm (IsAdjustedForm of.kind size of.unit spec) out.old out.new result }
@@ -232,7 +232,7 @@ fn rounding_of(unit: Unit, spec: FormatSpec) -> Rounding
 #[inline(always)]
 fn short_parts(
     size: u128,
-    of: Units,
+    of: Target,
     rounding: Rounding,
     spec: FormatSpec,
 ) -> Option<TextParts<'static>>

@@ -117,7 +117,7 @@ fn significant(digits: &[u8; PADDED_DIGITS]) -> usize
 }
 
 /// Writes the first digits up to the index `cut`, a point and the digits from there up to `used`, if there are any, and
-/// the name of a unit to the beginning of `out`, and returns the length of this text.
+/// `unit`, a space and the name of a unit, to the beginning of `out`, and returns the length of this text.
 #[inline(always)]
 fn put_decimal(
     digits: &[u8; PADDED_DIGITS],

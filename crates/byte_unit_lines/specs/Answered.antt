@@ -1,5 +1,6 @@
 -- Private: how far a run has come, step by step. No public contract cites this file.
-use Rattle.std.specs.Prelude.{◌≡◌, ℕ, ◌+◌, ◌≤◌, List, ◌++◌, Bool, true, false, Result, Ok, Err, OnErr, IsOk, ⊤, vec_len, vec_capacity}
+use Rattle.std.specs.Prelude.{◌≡◌, ℕ, ◌+◌, ◌≤◌, List, ◌++◌, Bool, true, false, Result, Ok, Err, OnErr, IsOk, ⊤}
+use Rattle.std.specs.Prelude.{vec_len, vec_capacity}
 use Rattle.std.specs.declared.vec.Vec.{Vec}
 use Rattle.byte_unit.specs.declared.Kind.TheVariants.{Byte, Bit}
 use Rattle.byte_unit_lines.specs.Answer.{Kind, IsAnswer}
@@ -14,7 +15,8 @@ use Rattle.byte_unit_stream.specs.Prefix.{IsPrefix}
 abbrev pub AddsAnswer : Kind → List ℕ → List ℕ → List ℕ → Type 0
 AddsAnswer kind line old new = (answer : List ℕ) × IsAnswer kind line answer × (new ≡ old ++ answer)
 
--- a vector grew by at most an answer, and by nothing if allocation failed, as it cannot if there was capacity for one
+-- a vector grew by at most an answer, and by nothing if allocation failed, which it does not if there was capacity for
+-- one
 pub record GrowsByAnswer {E Z : Type 0} (old new : Vec ℕ Z) (result : Result ⊤ E) : Type 0 where
   pub err : OnErr result (new.items ≡ old.items)
   pub succeeds : vec_len old + answer_max ≤ vec_capacity old → IsOk result

@@ -14,7 +14,8 @@ pub record HasInverse (n divisor inverse cut shift : ℕ) : Type 0 where
   pub fits : inverse < 2 ^ 64
   pub close : 2 ^ 64 * divisor + 2 ^ (cut + shift) ≤ divisor * 2 ^ shift
 
--- The divisor is subtracted from the dividend `times` times or not at all: how often it is, and what is left.
+-- The divisor is subtracted from the dividend, at most `times` times: how often, and what is left, which is below
+-- `times` divisors.
 pub record IsSubtracted (dividend times divisor : ℕ) (result : ℕ × ℕ) : Type 0 where
   pub bound : result.0 ≤ times
   pub parts : result.0 * divisor + result.1 ≡ dividend

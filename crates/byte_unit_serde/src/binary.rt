@@ -21,7 +21,7 @@ use byte_unit::{Byte, FormatSpec, Kind, Unit};
 /// would be read as the binary one: the text of `FormatSpec::ALTERNATE` if its unit has a binary prefix, and else the
 /// number of bytes.
 ///
-/// So what is written is read as the same size, also in the other ways: see the law `binary_string_reads_back`.
+/// So what is written is read as the same size, also by the other types: see the law `binary_string_reads_back`.
 pub struct Binary;
 
 impl SerializeString for Binary {

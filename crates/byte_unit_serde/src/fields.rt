@@ -1,13 +1,13 @@
 //! The types for `#[serde(with = "byte_unit_serde::..")]`, each of which writes and reads fields of one type.
 //!
-//! Each has a name in snake case, as the modules that Rust code names there. Modules that share generic functions would
-//! accept a field of any type; a type accepts a field of its own.
+//! The names are in snake case, as those of the modules that `with` takes in Rust. Modules that share generic functions
+//! would accept a field of any type; a type accepts a field of its own.
 #![allow(non_camel_case_types)]
 
 use crate::binary::Binary;
 use crate::ignore_case::IgnoreCase;
 use crate::lists::Lists;
-use crate::options::Options;
+use crate::options::OptionalStrings;
 use crate::strings::Strings;
 use byte_unit::{Bit, Byte, Unit};
 
@@ -21,13 +21,13 @@ pub type bit = Strings<Bit>;
 pub type unit = Strings<Unit>;
 
 /// A size in bytes as a string, or nothing, for `#[serde(with = "byte_unit_serde::optional_byte", default)]`.
-pub type optional_byte = Options<Byte>;
+pub type optional_byte = OptionalStrings<Byte>;
 
 /// A size in bits as a string, or nothing, for `#[serde(with = "byte_unit_serde::optional_bit", default)]`.
-pub type optional_bit = Options<Bit>;
+pub type optional_bit = OptionalStrings<Bit>;
 
 /// A unit as a string, or nothing, for `#[serde(with = "byte_unit_serde::optional_unit", default)]`.
-pub type optional_unit = Options<Unit>;
+pub type optional_unit = OptionalStrings<Unit>;
 
 /// A list of sizes in bytes as strings, for `#[serde(with = "byte_unit_serde::byte_vec")]`.
 pub type byte_vec = Lists<Byte>;
@@ -56,7 +56,7 @@ pub type bit_vec = Lists<Bit>;
 pub type byte_ignore_case = Strings<Byte, IgnoreCase>;
 
 /// A string of [`byte_ignore_case`], or nothing, for fields that also have `default`.
-pub type optional_byte_ignore_case = Options<Byte, IgnoreCase>;
+pub type optional_byte_ignore_case = OptionalStrings<Byte, IgnoreCase>;
 
 /// A list of strings of [`byte_ignore_case`].
 pub type byte_vec_ignore_case = Lists<Byte, IgnoreCase>;
@@ -86,7 +86,7 @@ pub type byte_vec_ignore_case = Lists<Byte, IgnoreCase>;
 pub type byte_binary = Strings<Binary>;
 
 /// A string of [`byte_binary`], or nothing, for fields that also have `default`.
-pub type optional_byte_binary = Options<Binary>;
+pub type optional_byte_binary = OptionalStrings<Binary>;
 
 /// A list of strings of [`byte_binary`].
 pub type byte_vec_binary = Lists<Binary>;

@@ -21,7 +21,7 @@ pub use fields::{
     optional_byte_ignore_case, optional_unit, unit,
 };
 pub use lists::Lists;
-pub use options::Options;
+pub use options::OptionalStrings;
 pub use sink::Sink;
 pub use source::Source;
 pub use stored::Stored;

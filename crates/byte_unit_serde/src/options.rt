@@ -1,4 +1,4 @@
-//! Options of what is stored as strings.
+//! Optional values that are stored as strings.
 
 ghost use Rattle.std.specs.Prelude.{IfOk, OnOk};
 ghost use Rattle.serde.specs.Event.{WritesOption};
@@ -11,10 +11,10 @@ use serde::Deserializer;
 use std::alloc::Global;
 use std::marker::PhantomData;
 
-/// Options of strings that are written in the way `W` and read in the way `R`.
-pub struct Options<W, R = W>(PhantomData<(W, R)>);
+/// Optional strings that are written in the way `W` and read in the way `R`.
+pub struct OptionalStrings<W, R = W>(PhantomData<(W, R)>);
 
-impl<W: SerializeString, R> Options<W, R> {
+impl<W: SerializeString, R> OptionalStrings<W, R> {
     /// Writes the string of the value, as `W` does, or nothing. Does not allocate.
     ///
     /// # Errors
@@ -33,7 +33,7 @@ impl<W: SerializeString, R> Options<W, R> {
     }
 }
 
-impl<W, R: DeserializeString> Options<W, R> {
+impl<W, R: DeserializeString> OptionalStrings<W, R> {
     /// Reads nothing, or a string as `R` parses it.
     ///
     /// # Errors

@@ -46,8 +46,8 @@ impl<W, R: DeserializeString> Strings<W, R> {
     }
 }
 
-/// A way to write a value as a string: the text of a size with its unit, by `FormatSpec::ALTERNATE`, or the name of a
-/// unit.
+/// A way to write a value as a string: if nothing else is said, the text of a size with its unit, by
+/// `FormatSpec::ALTERNATE`, or the name of a unit.
 pub trait SerializeString {
     /// The type of the value.
     type Value;
@@ -63,8 +63,8 @@ pub trait SerializeString {
         ensures exact { writing S.str_returns value.now out.old result out.new };
 }
 
-/// A way to read a value from a string: as `FromStr` of the type parses it, if nothing else is said. In that of a unit
-/// `b` means bits, `B` bytes, and a prefix alone is a multiple of bytes.
+/// A way to read a value from a string: as `FromStr` of the type parses it, if nothing else is said. `FromStr` of a unit
+/// reads `b` as bits, `B` as bytes, and a prefix alone as a multiple of bytes.
 pub trait DeserializeString {
     /// The type of the value.
     type Value: Drop;

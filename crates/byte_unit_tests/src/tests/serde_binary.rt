@@ -61,7 +61,7 @@ fn prefixes_are_by_1024(rt: HostRuntime) {
 }
 
 #[test]
-fn what_is_stored_is_read_by_all_modules(rt: HostRuntime) {
+fn what_is_stored_is_read_by_all_types(rt: HostRuntime) {
     for (_, number, shown) in SIZES {
         assert_read::<Settings>(&rt, rt.alloc(), shown, *number);
         for ignore_case in [false, true] {

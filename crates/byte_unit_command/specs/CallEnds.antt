@@ -10,8 +10,8 @@ use Rattle.byte_unit_command.specs.declared.error.RunError.TheVariants.{Rejected
 use Rattle.byte_unit_command.specs.declared.options.Options.{Options}
 use Rattle.byte_unit_stream.specs.Prefix.{IsPrefix}
 
--- if a call stops that appends a text and messages, it is out of memory, or at a rejected field; it does not stop if
--- there is capacity for `room` bytes of text, and nothing to be told
+-- if a call that appends a text and messages returns an error, it is out of memory, or at a rejected field; it returns
+-- none if there is capacity for `room` bytes of text, and there is no message
 pub record Stops {A : Type 0} (HasNoMessage : State → Type 0) (room : ℕ) (old : Converter A)
     (result : Result ⊤ RunError) : Type 0 where
   pub error : StopsEarly result
@@ -32,13 +32,13 @@ abbrev pub FieldIsAdded : {A : Type 0} → Options → ℕ → List ℕ → Conv
 FieldIsAdded options number field old new result =
     OnOk result (AddsField options number field (state_of old) (state_of new))
 
--- it is rejected if the call stops for that reason
+-- if a call returns `Rejected`, the field with this number is rejected
 abbrev pub FieldIsRejected : {A : Type 0} → Options → ℕ → List ℕ → Converter A → Converter A → Result ⊤ RunError
     → Type 0
 FieldIsRejected options number field old new result =
     IsErrOf result Rejected → IsRejectedField options number field (state_of old) (messages_of new.notices)
 
--- when a call stops that converts the field with this number
+-- when a call that converts the field with this number returns an error
 abbrev pub FieldStops : {A : Type 0} → Options → ℕ → List ℕ → Converter A → Result ⊤ RunError → Type 0
 FieldStops options number field =
     Stops (FieldHasNoMessage options number field) (field_room options (length field))
@@ -47,16 +47,16 @@ FieldStops options number field =
 abbrev pub FieldsAreAdded : {A : Type 0} → Options → List ℕ → Converter A → Converter A → Result ⊤ RunError → Type 0
 FieldsAreAdded options bytes old new result = OnOk result (AddsFields options bytes (state_of old) (state_of new))
 
--- one of them is rejected if the call stops for that reason
+-- if a call returns `Rejected`, a field of the record is rejected
 abbrev pub FieldsAreRejected : {A : Type 0} → Options → List ℕ → Converter A → Converter A → Result ⊤ RunError → Type 0
 FieldsAreRejected options bytes old new result =
     IsErrOf result Rejected → Aborts options bytes (state_of old) (messages_of new.notices)
 
--- when one stops that converts the fields of a record, which is no header record
+-- when a call that converts the fields of a record, which is no header record, returns an error
 abbrev pub FieldsStop : {A : Type 0} → Options → List ℕ → Converter A → Result ⊤ RunError → Type 0
 FieldsStop options bytes = Stops (FieldsHaveNoMessage options bytes) (fields_room options (length bytes))
 
--- when one stops that converts the next record
+-- when a call that converts the next record returns an error
 abbrev pub RecordStops : {A : Type 0} → Options → List ℕ → Converter A → Result ⊤ RunError → Type 0
 RecordStops options bytes = Stops (RecordHasNoMessage options bytes) (record_room options (length bytes))
 

@@ -1,6 +1,6 @@
 -- What is returned follows from whether the format gave nothing, and else from what was read.
 use Rattle.std.proofs.Common.{rules, true, false, Ok, Err, refl}
-use Rattle.byte_unit_serde.proofs.options.Options.deserialize.Goals as goal
+use Rattle.byte_unit_serde.proofs.options.OptionalStrings.deserialize.Goals as goal
 
 pub returns-in_err-read_none-clause-exact : goal.returns-in_err-read_none-clause-exact
 returns-in_err-read_none-clause-exact g c =
