@@ -41,8 +41,8 @@ pub(crate) fn add_answer<A: Allocator>(
 
 /// Does what [`add_answer`] does, with a size in bits if `BITS`, and else in bytes.
 ///
-/// A function that takes the kind as an argument takes more instructions. Rejected lines take more if the arm for errors comes after that
-/// for sizes.
+/// A function that takes the kind as an argument takes more instructions. Rejected lines take more if the arm for errors
+/// comes after that for sizes.
 fn add_answer_of<const BITS: bool, A: Allocator>(
     bytes: &[u8],
     len: usize,

@@ -63,8 +63,8 @@ pub trait SerializeString {
         ensures exact { writing S.str_returns value.now out.old result out.new };
 }
 
-/// A way to read a value from a string: as `FromStr` of the type parses it, if nothing else is said. `FromStr` of a unit
-/// reads `b` as bits, `B` as bytes, and a prefix alone as a multiple of bytes.
+/// A way to read a value from a string: as `FromStr` of the type parses it, if nothing else is said. `FromStr` of a
+/// unit reads `b` as bits, `B` as bytes, and a prefix alone as a multiple of bytes.
 pub trait DeserializeString {
     /// The type of the value.
     type Value: Drop;
