@@ -2,8 +2,7 @@
 
 ghost use Rattle.std.specs.Prelude.{◌≡◌, ◌+◌, ◌*◌, ◌^◌, ◌<◌, ◌≤◌, max, IfOk, IfSome, IfNone};
 ghost use Rattle.byte_unit_command.specs.Capacity.{AreEmpty, HaveCapacity, texts_max};
-ghost use Rattle.byte_unit_command.specs.Capacity.{form_max as most_of_form};
-ghost use Rattle.byte_unit_command.specs.Capacity.{message_room as room_of_messages, read_room as room_of_read};
+ghost use Rattle.byte_unit_command.specs.Capacity.{read_room as room_of_read};
 ghost use Rattle.byte_unit_command.specs.Capacity.{read_max as most_of_read, text_max as most_of_text};
 
 use crate::converter::Converter;
@@ -24,7 +23,7 @@ const UNIT_PLACES: usize = 93;
 /// each of 65,536.
 const TEXTS_MAX: usize = 2_621_440;
 
-/// The bytes that are counted for the messages about a field.
+/// The bytes that are counted for the messages about a field: none are if a run has at most one message.
 const MESSAGE: usize = 128;
 
 /// What a run keeps from one read to the next.
@@ -93,25 +92,14 @@ pub(crate) fn read_max(options: &Options, len: usize) -> usize
     ensures bound { result ≤ len }
     ensures some { 0 < len → 0 < result }
 {
-    let field = text_max(options) + message_room(options);
+    let passes = matches!(options.invalid, Invalid::Fail | Invalid::Warn);
+    let message = if passes || options.max.is_some() || options.min.is_some() {
+        MESSAGE
+    } else {
+        0
+    };
+    let field = text_max(options) + message;
     len.min((TEXTS_MAX / field).max(1))
-}
-
-/// Returns the bytes that are counted for the messages about a field: none if a run has at most one message.
-fn message_room(options: &Options) -> usize
-    ensures room { result ≡ room_of_messages options.now }
-    ensures bound { result ≤ 128 }
-{
-    match options.invalid {
-        Invalid::Fail | Invalid::Warn => MESSAGE,
-        Invalid::Abort | Invalid::Ignore => {
-            if options.max.is_some() || options.min.is_some() {
-                MESSAGE
-            } else {
-                0
-            }
-        }
-    }
 }
 
 /// Returns the most bytes that what is written after a read takes, or `None` if they exceed `usize::MAX`.
@@ -136,21 +124,13 @@ fn text_max(options: &Options) -> usize
     ensures bound { result < 2 ^ 63 + 65573 }
     ensures positive { 0 < result }
 {
-    let text = form_max(options.form, options.precision) + options.suffix.len();
-    text.max(options.width as usize)
-}
-
-/// Returns the most bytes of the text of a size in a form, without padding.
-fn form_max(form: Form, precision: Option<u16>) -> usize
-    ensures most { result ≡ most_of_form form precision }
-    ensures bound { result ≤ 65572 }
-    ensures positive { 0 < result }
-{
-    match form {
+    let size = match options.form {
         Form::Exact | Form::Plain => NARROW_TEXT,
-        Form::InUnit(_) | Form::NumberOf(_) | Form::Largest(_) => match precision {
+        Form::InUnit(_) | Form::NumberOf(_) | Form::Largest(_) => match options.precision {
             None => NARROW_TEXT + UNIT_PLACES,
             Some(precision) => NARROW_TEXT + UNIT_PLACES.max(precision as usize),
         },
-    }
+    };
+    let text = size + options.suffix.len();
+    text.max(options.width as usize)
 }
