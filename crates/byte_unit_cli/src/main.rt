@@ -4,7 +4,7 @@
 use byte_unit_command::arguments::command;
 use byte_unit_command::ending::{message, status};
 use byte_unit_command::error::RunError;
-use byte_unit_command::field_list::{fields_of, sort_fields};
+use byte_unit_command::field_list::fields_of;
 use byte_unit_command::meaning::options_of;
 use byte_unit_command::operands::joined;
 use byte_unit_command::options::Options;
@@ -178,7 +178,7 @@ fn answer(rt: &HostRuntime) -> io::Result<u8> {
         Err(error) => return print_or_report(rt, words.as_slice(), &error),
     };
     let list = matches.get_str("field");
-    let Some(mut fields) = fields_of(rt.alloc(), list)? else {
+    let Some(fields) = fields_of(rt.alloc(), list)? else {
         let value = list.unwrap_or("");
         let wrong = Wrong {
             option: "--field",
@@ -187,7 +187,6 @@ fn answer(rt: &HostRuntime) -> io::Result<u8> {
         };
         return Ok(report(rt, &wrong)?);
     };
-    sort_fields(&mut fields);
     match options_of(&values_of(&matches), fields.as_slice()) {
         Ok(options) => Ok(convert_call(rt, &matches, &options)?),
         Err(wrong) => Ok(report(rt, &wrong)?),

@@ -1,14 +1,19 @@
 -- Lemmas: a call that converts records, and then writes them.
-use Rattle.std.proofs.Common.{◌≡◌, ℕ, List, [], ◌∷◌, Result, Ok, Err, OnOk, IfErr, refl, sym, subst, append-nil}
-use Rattle.std.specs.Prelude.{⊤, IsErrAnd}
+use Rattle.std.proofs.Common.{◌≡◌, ℕ, List, [], ◌∷◌, Option, Result, Ok, Err, OnOk, IfErr, refl, sym, subst}
+use Rattle.std.proofs.Common.{append-nil}
+use Rattle.std.specs.Prelude.{⊤}
+use Rattle.std.proofs.KnownBytes.{Appends-nil}
 use Rattle.byte_unit_command.specs.RunState.{AddsRecords, State, EndsEarly, IsAnswered, idle, messages_of, state_of}
-use Rattle.byte_unit_command.specs.declared.buffers.Buffers.{Buffers}
+use Rattle.byte_unit_command.specs.RunState.{Tells, WritesAndTells}
+use Rattle.byte_unit_command.specs.declared.run.Buffers.{Buffers}
 use Rattle.byte_unit_command.specs.declared.options.Options.{Options}
 use Rattle.byte_unit_command.specs.declared.error.RunError.{RunError}
 use Rattle.byte_unit_command.specs.declared.error.RunError.TheVariants.{Memory, Read, Write, Rejected, Total}
-use Rattle.byte_unit_command.proofs.Results.{Err-passed}
+use Rattle.byte_unit_command.proofs.Telling.{Tells-nothing, WritesAndTells-by}
 use Rattle.byte_unit_stream.specs.Chunks.{ended_records}
 use Rattle.byte_unit_stream.specs.Prefix.{IsPrefix}
+use Rattle.byte_unit_stream.specs.Streams.{HasWritten, writer_of, writing_failed}
+use Rattle.byte_unit_stream.specs.declared.writer.FusedWriter.{FusedWriter}
 
 -- what a call has appended that converts records: text and messages
 pub record HasFed (options : Options) (records : List (List ℕ)) (old new : State) (result : Result ⊤ RunError) : Type 0
@@ -61,12 +66,37 @@ IsAnswered-begun options records old new now written begins (Err Read) fed = abs
 IsAnswered-begun options records old new now written begins (Err Write) fed = absurd fed.error
 IsAnswered-begun options records old new now written begins (Err Total) fed = absurd fed.error
 
--- and the result is that a write failed
-pub IsAnswered-failed : {options : Options} {records : List (List ℕ)} {old new : State} {fed_result : Result ⊤ RunError}
-    → HasFed options records old new fed_result → (now : State) (written : List ℕ) → IsPrefix written new.out
-    → (result : Result ⊤ RunError) (error : RunError) → IsErrAnd result (λ other. other ≡ error) → error ≡ Write
-    → IsAnswered options records old now result written []
-IsAnswered-failed {options} {records} {old} {new} {fed_result} fed now written begins result error passed is_write =
-    let Answered : Result ⊤ RunError → Type 0 = λ result. IsAnswered options records old now result written [] in
-    Err-passed Answered result error passed (subst (λ error. Answered (Err error)) (sym is_write)
-    (IsAnswered-begun options records old new now written begins fed_result fed))
+-- a piece was converted, all of that was written, and the messages were told
+pub piece-answered : {W E A : Type 0} {contents : W → Option (List ℕ)} {tells : E → Option (List ℕ)}
+    {old_writer writer : FusedWriter W} {old_errors errors : FusedWriter E} {options : Options}
+    {records : List (List ℕ)} {old : State} {result : Result ⊤ RunError} (fed now : Buffers A)
+    → HasFed options records old (state_of fed.converter) result
+    → HasWritten contents old_writer writer fed.converter.waiting.items
+    → (told : List ℕ) × HasWritten tells old_errors errors told
+    × Tells (writing_failed old_errors) (writing_failed errors) (messages_of fed.converter.notices) told
+    → state_of fed.converter ≡ record (state_of now.converter)
+    { out = fed.converter.waiting.items; messages = messages_of fed.converter.notices }
+    → WritesAndTells contents tells old_writer writer old_errors errors
+    (IsAnswered options records old (state_of now.converter) result)
+piece-answered {result = result} fed now has_fed wrote told same =
+    WritesAndTells-by fed.converter.waiting.items wrote told
+    (IsAnswered-fed result has_fed (state_of now.converter) same)
+
+-- a write of it failed, and nothing was told
+pub piece-unwritten : {W E A : Type 0} {contents : W → Option (List ℕ)} {tells : E → Option (List ℕ)}
+    {old_writer writer : FusedWriter W} {errors : FusedWriter E} {options : Options} {records : List (List ℕ)}
+    {old : State} {result : Result ⊤ RunError} (fed : Buffers A)
+    → HasFed options records old (state_of fed.converter) result
+    → (written : List ℕ) × HasWritten contents old_writer writer written
+    × IsPrefix written fed.converter.waiting.items
+    → WritesAndTells contents tells old_writer writer errors errors
+    (IsAnswered options records old (state_of fed.converter) (Err Write))
+piece-unwritten {tells = tells} {errors = errors} {options = options} {records = records} {old = old}
+    {result = result} fed has_fed (written, has_written, begins) =
+    let state = state_of fed.converter in
+    WritesAndTells-by written has_written (
+      [],
+      Appends-nil (tells (writer_of errors)),
+      Tells-nothing
+          (writing_failed errors),
+    ) (IsAnswered-begun options records old state state written begins result has_fed)

@@ -1,9 +1,9 @@
 -- Lemmas: the command as clap's parser reads it.
-use Rattle.std.proofs.Common.{◌≡◌, ◌∙◌, ℕ, Bool, true, false, ◌&&◌, List, [], ◌∷◌, ◌++◌, Some}
+use Rattle.std.proofs.Common.{◌≡◌, ◌∙◌, ℕ, Bool, true, false, ◌&&◌, List, [], ◌∷◌, ◌++◌, Option, None, Some}
 use Rattle.std.proofs.Common.{refl, sym, ap, ap₂, arith}
 use Rattle.std.proofs.Common.{length, length-append}
 use Rattle.std.proofs.lemmas.Bool.{ne_eqb}
-use Rattle.std.specs.Prelude.{is_some, not}
+use Rattle.std.specs.Prelude.{IsSomeAnd, is_some, not}
 use Rattle.std.specs.Borrow.{Bor}
 use Rattle.clap.specs.Adds.{AddsConflicts}
 use Rattle.clap.specs.Built.{AddsArg}
@@ -11,6 +11,9 @@ use Rattle.clap.specs.Walk.{Rule, is_empty, is_free_arg, is_simple_arg, rule_of}
 use Rattle.clap.specs.Simple.{App, app_of, with_rule}
 use Rattle.clap.specs.declared.builder.arg.Arg.{Arg}
 use Rattle.clap.specs.declared.builder.command.Command.{Command}
+use Rattle.clap.specs.declared.builder.range.ValueRange.{ValueRange}
+use Rattle.clap.specs.declared.builder.texts.Texts.TheVariants.{One}
+use Rattle.clap.specs.declared.builder.value_parser.ValueParser.{ValueParser}
 use Rattle.byte_unit_command.specs.CommandLine.{IsArg}
 
 -- a list with one more element is not empty
@@ -46,6 +49,63 @@ with_hyphen old new rule is new_is = record {
       (fails (is_empty old.groups.items) _ (fails (not (is_some old.val_delim)) _
       (fails (not (is_some old.terminator)) _ refl)))) in
       same ∙ ap₂ (λ (rule : Rule) (simple : Bool). record rule { is_simple = simple }) is.rule_is simple;
+  not_global = ap (λ (arg : Arg). arg.global) new_is ∙ is.not_global;
+}
+
+is_some_range : (found : Option ValueRange) (range : ValueRange) → IsSomeAnd found (λ other. other ≡ range)
+    → found ≡ Some range
+is_some_range None range is = absurd is
+is_some_range (Some other) range is = ap (λ (range : ValueRange). Some range) is
+
+-- an argument whose number of values is in this range
+pub with_range : (old new : Arg) (rule : Rule) (range : ValueRange) → IsArg rule old
+    → (new ≡ record old { num_vals = new.num_vals }) × IsSomeAnd new.num_vals (λ other. other ≡ range)
+    → IsArg (record rule { range = Some range }) new
+with_range old new rule range is (new_is, range_is) = record {
+  rule_is = ap rule_of new_is ∙ ap₂ (λ (rule : Rule) (range : Option ValueRange). record rule { range = range })
+      is.rule_is (is_some_range new.num_vals range range_is);
+  not_global = ap (λ (arg : Arg). arg.global) new_is ∙ is.not_global;
+}
+
+-- an argument whose values are parsed
+pub with_parser : (old new : Arg) (rule : Rule) (parser : ValueParser) → IsArg rule old
+    → new ≡ record old { value_parser = new.value_parser } → new.value_parser ≡ Some parser
+    → IsArg (record rule { parser = Some parser }) new
+with_parser old new rule parser is new_is parser_is = record {
+  rule_is = ap rule_of new_is ∙ ap₂ (λ (rule : Rule) (parser : Option ValueParser). record rule { parser = parser })
+      is.rule_is parser_is;
+  not_global = ap (λ (arg : Arg). arg.global) new_is ∙ is.not_global;
+}
+
+-- an argument with a help text
+pub with_help : (old new : Arg) (rule : Rule) (text : Bor (List ℕ)) → IsArg rule old
+    → new ≡ record old { help = Some text } → IsArg rule new
+with_help old new rule text is new_is = record {
+  rule_is = ap rule_of new_is ∙ is.rule_is;
+  not_global = ap (λ (arg : Arg). arg.global) new_is ∙ is.not_global;
+}
+
+-- an argument whose value needs `=`
+pub with_equals : (old new : Arg) (rule : Rule) → IsArg rule old → new ≡ record old { require_equals = true }
+    → IsArg (record rule { is_simple = false }) new
+with_equals old new rule is new_is = record {
+  rule_is =
+      let same : rule_of new ≡ record (rule_of old) { is_simple = is_simple_arg new } =
+      ap rule_of new_is ∙ ap (λ arg. record (rule_of old) { is_simple = is_simple_arg arg }) (sym new_is) in
+      let simple : is_simple_arg new ≡ false =
+      ap is_simple_arg new_is ∙ fails (is_empty old.overrides.items) _ (fails (is_empty old.default_vals_ifs.items) _
+      (fails (is_empty old.groups.items) _ (fails (not (is_some old.val_delim)) _
+      (fails (not (is_some old.terminator)) _ (fails (not old.allow_hyphen_values) _
+      (fails (not old.allow_negative_numbers) _ refl)))))) in
+      same ∙ ap₂ (λ (rule : Rule) (simple : Bool). record rule { is_simple = simple }) is.rule_is simple;
+  not_global = ap (λ (arg : Arg). arg.global) new_is ∙ is.not_global;
+}
+
+-- an argument whose value is this text if it is missing
+pub with_missing : (old new : Arg) (rule : Rule) (text : Bor (List ℕ)) → IsArg rule old
+    → new ≡ record old { default_missing_vals = One text } → IsArg (record rule { missing = text.now ∷ [] }) new
+with_missing old new rule text is new_is = record {
+  rule_is = ap rule_of new_is ∙ ap (λ (rule : Rule). record rule { missing = text.now ∷ [] }) is.rule_is;
   not_global = ap (λ (arg : Arg). arg.global) new_is ∙ is.not_global;
 }
 

@@ -5,7 +5,7 @@ use Rattle.std.proofs.KnownBytes.{Appends-nil, Appends-trans, Consumes-kept, Con
 use Rattle.byte_unit_command.specs.RunState.{IsAnswered, IsFinished, WritesAndTells, idle, messages_of, no_tally}
 use Rattle.byte_unit_command.specs.RunState.{state_of}
 use Rattle.byte_unit_command.specs.Run.{Course, IsRunOf}
-use Rattle.byte_unit_command.specs.declared.buffers.Buffers.{Buffers}
+use Rattle.byte_unit_command.specs.declared.run.Buffers.{Buffers}
 use Rattle.byte_unit_command.specs.declared.options.Options.{Options}
 use Rattle.byte_unit_command.specs.declared.error.RunError.{RunError}
 use Rattle.byte_unit_command.specs.declared.error.RunError.TheVariants.{Memory, Read}

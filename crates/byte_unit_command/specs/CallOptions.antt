@@ -75,6 +75,12 @@ IsWrongPrecision form precision wrong =
     ¬ IsWithinExact form precision × (wrong.option.now ≡ codes "--precision") × (wrong.value ≡ None)
     × (wrong.reason ≡ Precision)
 
+-- `--to` is neither a form nor a unit, or else `--precision` is too large in its form
+abbrev pub IsWrongForm : Values → Wrong → Type 0
+IsWrongForm values wrong =
+    IsWrongOf (codes "--to") values.to (IsNoForm values.kind values.ignore_case) wrong
+    ⊎ (form : Form) × IsFormOf values form × IsWrongPrecision form values.precision wrong
+
 -- `--no-unit` in a form without one unit for all sizes
 abbrev pub IsWrongNoUnit : Bool → Form → Wrong → Type 0
 IsWrongNoUnit no_unit given wrong =

@@ -5,7 +5,7 @@ use Rattle.std.specs.declared.vec.Vec.{Vec}
 use Rattle.byte_unit.specs.Bounds.{expansion_places}
 use Rattle.byte_unit.specs.Forms.{narrow_text}
 use Rattle.byte_unit_command.specs.RunState.{messages_of}
-use Rattle.byte_unit_command.specs.declared.buffers.Buffers.{Buffers}
+use Rattle.byte_unit_command.specs.declared.run.Buffers.{Buffers}
 use Rattle.byte_unit_command.specs.declared.options.Form.{Form}
 use Rattle.byte_unit_command.specs.declared.options.Form.TheVariants.{Exact, Plain, InUnit, NumberOf, Largest}
 use Rattle.byte_unit_command.specs.declared.options.Invalid.{Invalid}

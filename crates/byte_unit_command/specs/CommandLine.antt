@@ -85,9 +85,12 @@ abbrev pub with_rules : App → List Rule → App
 with_rules app [] = app
 with_rules app (rule ∷ rules) = with_rules (with_rule app rule) rules
 
--- the command, which has a version. The last of an option that is given more than once holds
-abbrev pub command_line : App
-command_line =
+-- the command without arguments. It has a version, and the last of an option that is given more than once holds
+abbrev pub without_rules : App
+without_rules =
     let start = new_app (codes "byte-unit") in
-    let empty : App = record start { top = record start.top { has_version = true; args_override_self = true } } in
-    with_rules (with_rules empty size_rules) record_rules
+    record start { top = record start.top { has_version = true; args_override_self = true } }
+
+-- the command
+abbrev pub command_line : App
+command_line = with_rules (with_rules without_rules size_rules) record_rules

@@ -1,6 +1,7 @@
 -- A list of fields, as `--field` takes it: ranges between commas.
-use Rattle.std.specs.Prelude.{◌≡◌, ℕ, ◌≤◌, ◌⊎◌, ⊤, List, [], ◌∷◌, ◌++◌, ◌==◌, Option, None, Some}
+use Rattle.std.specs.Prelude.{◌≡◌, ℕ, ◌≤◌, ◌⊎◌, ◌↔◌, ⊤, List, [], ◌∷◌, ◌++◌, ◌==◌, Option, None, Some}
 use Rattle.std.specs.List.{slice_split}
+use Rattle.byte_unit_command.specs.Fields.{IsChosen, IsInOrder}
 use Rattle.byte_unit_command.specs.Positive.{IsPositive}
 use Rattle.byte_unit_command.specs.declared.options.FieldRange.{FieldRange}
 
@@ -32,7 +33,12 @@ AreRanges (text ∷ texts) (range ∷ ranges) = IsRange text range × AreRanges 
 abbrev pub IsFieldList : List ℕ → List FieldRange → Type 0
 IsFieldList text ranges = AreRanges (slice_split (λ c. c == 44) text) ranges
 
--- the ranges of a list of fields, or `None` if the text is no such list
+-- the same fields are in these ranges as in the listed ones, and they begin in their order
+pub record AreSorted (listed ranges : List FieldRange) : Type 0 where
+  pub same : (number : ℕ) → IsChosen listed number ↔ IsChosen ranges number
+  pub in_order : IsInOrder ranges
+
+-- the ranges of a list of fields, sorted, or `None` if the text is no such list
 abbrev pub IsListReading : List ℕ → Option (List FieldRange) → Type 0
 IsListReading text None = (ranges : List FieldRange) → ¬ IsFieldList text ranges
-IsListReading text (Some ranges) = IsFieldList text ranges
+IsListReading text (Some ranges) = (listed : List FieldRange) × IsFieldList text listed × AreSorted listed ranges

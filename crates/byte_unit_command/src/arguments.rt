@@ -63,23 +63,18 @@ pub fn command<'a>(alloc: Global) -> Result<Command<'a>, AllocError>
         .override_usage("byte-unit [OPTION].. [SIZE]..")
         .after_help(AFTER_HELP)
         .args_override_self(true);
-    let with_sizes = with_size_options(alloc, command)?;
-    with_record_options(alloc, with_sizes)
-}
-
-/// Adds the options that say how a size is read and shown.
-///
-/// # Errors
-///
-/// Returns `AllocError` if allocation fails.
-fn with_size_options<'a>(alloc: Global, command: Command<'a>) -> Result<Command<'a>, AllocError>
-    ensures { IfOk result (λ more. app_of more ≡ line.with_rules (app_of command.entry) line.size_rules) }
-{
     let ignore_case = flag(alloc, "ignore-case", "ignore case; b then means bytes")
         .short('i')
         .conflicts_with("bits")?;
     let from = "iec: K, M, .. in sizes are powers of 1024";
     let suffix = "text after sizes, as /s; not needed in the input";
+    let delimiter = "fields are separated by this character";
+    let blanks = "fields are separated by blanks, as in ls -l";
+    let field = "convert these fields [default: 1]";
+    let header = "copy the first N lines, 1 without N";
+    let padding = "columns of a size; left-aligned if negative";
+    let invalid = "what a rejected field does: abort, fail, warn or ignore";
+    let zero_terminated = "records end with a zero byte, not a line end";
     command
         .arg(flag(alloc, "bits", "sizes are bits, not bytes"))?
         .arg(ignore_case)?
@@ -87,36 +82,33 @@ fn with_size_options<'a>(alloc: Global, command: Command<'a>) -> Result<Command<
         .arg(value(alloc, "to", "UNIT", "convert to this unit or form"))?
         .arg(flag(alloc, "no-unit", "with a unit in --to, its number alone"))?
         .arg(value(alloc, "suffix", "TEXT", suffix).allow_hyphen_values(true))?
-        .arg(precision(alloc))?
-        .arg(flag(alloc, "human-readable", "as --to=auto -p 1").short('H'))
-}
-
-/// Adds the options that say what is converted, and what a run does with what it finds; and the operands.
-///
-/// # Errors
-///
-/// Returns `AllocError` if allocation fails.
-fn with_record_options<'a>(alloc: Global, command: Command<'a>) -> Result<Command<'a>, AllocError>
-    ensures { IfOk result (λ more. app_of more ≡ line.with_rules (app_of command.entry) line.record_rules) }
-{
-    let delimiter = "fields are separated by this character";
-    let blanks = "fields are separated by blanks, as in ls -l";
-    let field = "convert these fields [default: 1]";
-    let padding = "columns of a size; left-aligned if negative";
-    let invalid = "what a rejected field does: abort, fail, warn or ignore";
-    let zero_terminated = "records end with a zero byte, not a line end";
-    command
+        .arg(
+            value(alloc, "precision", "N", "digits after the point")
+                .short('p')
+                .value_parser(value_parser!(u16)),
+        )?
+        .arg(flag(alloc, "human-readable", "as --to=auto -p 1").short('H'))?
         .arg(value(alloc, "delimiter", "C", delimiter).short('d'))?
         .arg(flag(alloc, "blanks", blanks).conflicts_with("delimiter")?)?
         .arg(value(alloc, "field", "FIELDS", field).allow_hyphen_values(true))?
-        .arg(header(alloc))?
+        .arg(
+            value(alloc, "header", "N", header)
+                .num_args(0..=1)
+                .require_equals(true)
+                .default_missing_value("1")
+                .value_parser(value_parser!(u64)),
+        )?
         .arg(value(alloc, "padding", "N", padding).allow_hyphen_values(true))?
         .arg(value(alloc, "invalid", "MODE", invalid))?
         .arg(flag(alloc, "total", "a last line has the sum of all sizes"))?
         .arg(value(alloc, "max", "SIZE", "status 3 if a size is above it"))?
         .arg(value(alloc, "min", "SIZE", "status 3 if a size is below it"))?
         .arg(flag(alloc, "zero-terminated", zero_terminated).short('z'))?
-        .arg(operands(alloc))
+        .arg(
+            Arg::new(alloc, "SIZE")
+                .num_args(0..)
+                .help("the sizes, in place of standard input"),
+        )
 }
 
 /// Creates an option that takes no value.
@@ -137,33 +129,4 @@ fn value<'a>(alloc: Global, name: &'a str, value: &'a str, help: &'a str) -> Arg
         .long(name)
         .value_name(value)
         .help(help)
-}
-
-/// Returns the option for the number of digits after the point.
-fn precision<'a>(alloc: Global) -> Arg<'a>
-    ensures { line.IsArg line.precision result }
-{
-    value(alloc, "precision", "N", "digits after the point")
-        .short('p')
-        .value_parser(value_parser!(u16))
-}
-
-/// Returns the option for header records.
-fn header<'a>(alloc: Global) -> Arg<'a>
-    ensures { line.IsArg line.header result }
-{
-    value(alloc, "header", "N", "copy the first N lines, 1 without N")
-        .num_args(0..=1)
-        .require_equals(true)
-        .default_missing_value("1")
-        .value_parser(value_parser!(u64))
-}
-
-/// Returns the operands.
-fn operands<'a>(alloc: Global) -> Arg<'a>
-    ensures { line.IsArg line.operands result }
-{
-    Arg::new(alloc, "SIZE")
-        .num_args(0..)
-        .help("the sizes, in place of standard input")
 }

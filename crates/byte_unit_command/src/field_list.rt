@@ -1,8 +1,7 @@
 //! The list of fields that `--field` names.
 
-ghost use Rattle.std.specs.Prelude.{◌↔◌, ℕ, List, Option, MatchOption, IfOk, codes, option_map, unwrap_or};
+ghost use Rattle.std.specs.Prelude.{ℕ, Option, MatchOption, IfOk, codes, option_map, unwrap_or};
 ghost use Rattle.byte_unit_command.specs.FieldList.{IsFirst, IsLast, IsRange, IsListReading};
-ghost use Rattle.byte_unit_command.specs.Fields.{IsChosen, IsInOrder};
 ghost use Rattle.byte_unit_command.specs.Positive.{IsPositive};
 ghost use Rattle.byte_unit_command.specs.declared.options.FieldRange.{FieldRange};
 
@@ -15,6 +14,9 @@ use std::alloc::{AllocError, Global};
 /// A list is ranges between commas: `N`, `N-`, `N-M`, `-M` or `-`, where the numbers are decimal digits, from 1 to
 /// 2^64 - 1, and the first is not above the last. All else is wrong, a number of 2^64 or more too.
 ///
+/// The ranges are sorted by where they begin. A run takes ranges in any order; in this one, the time for a record is
+/// linear in its fields and the ranges.
+///
 /// # Errors
 ///
 /// Returns `AllocError` if allocation fails.
@@ -24,23 +26,21 @@ pub fn fields_of(alloc: Global, list: Option<&str>) -> Result<Option<Vec<FieldRa
         (option_map (λ fields. fields.items) found)) }
 {
     let mut fields = Vec::new(alloc);
-    for item in list.unwrap_or("1").split(',') {
+    let Some(list) = list else {
+        fields.push(FieldRange {
+            first: 1,
+            last: Some(1),
+        })?;
+        return Ok(Some(fields));
+    };
+    for item in list.split(',') {
         match range_of(item) {
             Some(range) => fields.push(range)?,
             None => return Ok(None),
         }
     }
-    Ok(Some(fields))
-}
-
-/// Brings ranges into the order in which they begin. The same fields are in them.
-///
-/// A run takes ranges in any order; in this one, the time for a record is linear in its fields and the ranges.
-pub fn sort_fields(fields: &mut Vec<FieldRange>)
-    ensures same { (number : ℕ) → IsChosen fields.old.items number ↔ IsChosen fields.new.items number }
-    ensures in_order { IsInOrder fields.new.items }
-{
     fields.sort_unstable_by_key(|range| range.first);
+    Ok(Some(fields))
 }
 
 /// Returns the range that one item of a list is, or `None` if it is none.

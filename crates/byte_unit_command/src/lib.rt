@@ -3,7 +3,6 @@
 
 pub mod arguments;
 mod blanks;
-pub mod buffers;
 mod converter;
 pub mod ending;
 pub mod error;

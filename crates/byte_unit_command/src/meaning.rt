@@ -2,11 +2,11 @@
 
 ghost use Rattle.std.specs.Prelude.{◌≡◌, ℕ, Bool, MatchOption, MatchResult, IfOk, IfErr, codes};
 ghost use Rattle.byte_unit_command.specs.CallOptions.{AreOptions, IsFirstWrong, IsWrongOf};
-ghost use Rattle.byte_unit_command.specs.CallOptions.{form_without, IsWithinExact, IsWrongPrecision};
+ghost use Rattle.byte_unit_command.specs.CallOptions.{IsFormOf, IsWithinExact, IsWrongForm};
 ghost use Rattle.byte_unit_command.specs.CallOptions.{IsWrongNoUnit, AreFieldsSeparated, IsWrongField};
 ghost use Rattle.byte_unit_command.specs.CallOptions.{separator_of as separator_in};
 ghost use Rattle.byte_unit_command.specs.Field.{ignores_case};
-ghost use Rattle.byte_unit_command.specs.Meaning.{IsFrom, IsForm, IsNoForm, IsShownForm};
+ghost use Rattle.byte_unit_command.specs.Meaning.{IsFrom, IsShownForm};
 ghost use Rattle.byte_unit_command.specs.Meaning.{IsUnitName, IsNoUnitName};
 ghost use Rattle.byte_unit_command.specs.Meaning.{IsDelimiter, IsPadding, IsNoPadding, IsWidth};
 ghost use Rattle.byte_unit_command.specs.Meaning.{IsMode, MeansNothing, IsLimit, IsNoLimit};
@@ -38,8 +38,7 @@ pub fn options_of<'a>(
 {
     let kind = values.kind;
     let binary = from_of(values.from)?;
-    let given = form_of(values.to, values.human_readable, kind, values.ignore_case)?;
-    exact_precision(given, values.precision)?;
+    let given = form_of(values)?;
     let form = shown_form(values.no_unit, given)?;
     let mark = delimiter_of(values.delimiter)?;
     let delimiter = separator_of(values, mark)?;
@@ -104,27 +103,33 @@ fn from_of(value: Option<&str>) -> Result<bool, Wrong<'_>>
 ///
 /// # Errors
 ///
-/// Returns an error if the value is neither the word for a form nor a unit.
-fn form_of(
-    value: Option<&str>,
-    human_readable: bool,
-    kind: Kind,
-    ignore_case: bool,
-) -> Result<Form, Wrong<'_>>
-    ensures ok { IfOk result
-        (IsForm (form_without human_readable) kind ignore_case (text_of value.entry)) }
-    ensures err { IfErr result (IsWrongOf (codes "--to") value.entry (IsNoForm kind ignore_case)) }
+/// Returns an error if the value is neither the word for a form nor a unit, or if more than 28 digits after the point
+/// are asked for in the exact form, which never has more.
+fn form_of<'a>(values: &Values<'a>) -> Result<Form, Wrong<'a>>
+    ensures ok { IfOk result (λ form. IsFormOf values.now form
+        × IsWithinExact form values.now.precision) }
+    ensures err { IfErr result (IsWrongForm values.now) }
 {
-    let Some(value) = value else {
-        return Ok(form_without(human_readable));
+    let without = if values.human_readable {
+        "auto"
+    } else {
+        "exact"
     };
+    let value = values.to.unwrap_or(without);
     match value {
-        "exact" => Ok(Form::Exact),
+        "exact" => match values.precision {
+            Some(precision) if precision > DECIMAL_PLACES => Err(Wrong {
+                option: "--precision",
+                value: None,
+                reason: ValueError::Precision,
+            }),
+            Some(_) | None => Ok(Form::Exact),
+        },
         "plain" => Ok(Form::Plain),
         "si" => Ok(Form::Largest(UnitType::Decimal)),
         "iec" => Ok(Form::Largest(UnitType::Binary)),
         "auto" => Ok(Form::Largest(UnitType::Both)),
-        _ => match unit_of(value, kind, ignore_case) {
+        _ => match unit_of(value, values.kind, values.ignore_case) {
             Ok(unit) => Ok(Form::InUnit(unit)),
             Err(reason) => Err(Wrong {
                 option: "--to",
@@ -133,39 +138,6 @@ fn form_of(
             }),
         },
     }
-}
-
-/// Returns how a size is shown without `--to`.
-fn form_without(human_readable: bool) -> Form
-    ensures { result ≡ form_without human_readable }
-{
-    if human_readable {
-        Form::Largest(UnitType::Both)
-    } else {
-        Form::Exact
-    }
-}
-
-/// Checks that the exact form can have the number of digits after the point that is asked for.
-///
-/// # Errors
-///
-/// Returns an error if more than 28 are asked for, which it never has.
-fn exact_precision<'a>(form: Form, value: Option<u16>) -> Result<(), Wrong<'a>>
-    ensures ok { IfOk result (λ _. IsWithinExact form value) }
-    ensures err { IfErr result (IsWrongPrecision form value) }
-{
-    let Some(precision) = value else {
-        return Ok(());
-    };
-    if precision > DECIMAL_PLACES && form == Form::Exact {
-        return Err(Wrong {
-            option: "--precision",
-            value: None,
-            reason: ValueError::Precision,
-        });
-    }
-    Ok(())
 }
 
 /// Returns the form with or without the unit.

@@ -74,6 +74,9 @@ impl<A: Allocator> Notices<A> {
             (messages_of self.old) told }
         ensures none { messages_of self.new ≡ [] }
     {
+        if self.messages.is_empty() {
+            return;
+        }
         if !errors.failed() {
             let _ = write_whole(errors, &self.messages, RunError::Write);
         }

@@ -1,24 +1,25 @@
 //! The run: reads a chunk, converts the records that end in it, and writes them.
-//!
-//! What a run keeps from one read to the next is in [`Buffers`].
 
-ghost use Rattle.std.specs.Prelude.{◌≡◌, ◌+◌, ◌<◌, ◌≤◌, [], length, vec_len, vec_capacity};
-ghost use Rattle.std.specs.Prelude.{IsTrue, IsOk, IsErrOf, IfErr, OnOk, OnErr, IfOk};
+ghost use Rattle.std.specs.Prelude.{◌≡◌, ◌+◌, ◌*◌, ◌^◌, ◌<◌, ◌≤◌, max, length, vec_len, vec_capacity};
+ghost use Rattle.std.specs.Prelude.{IsTrue, IsOk, IsErrOf, IfErr, OnOk, OnErr, IfOk, IfSome};
 ghost use Rattle.byte_unit.specs.Forms.{text_limit};
-ghost use Rattle.byte_unit_command.specs.Capacity.{AreEmpty, HaveCapacity, SufficeFor};
-ghost use Rattle.byte_unit_command.specs.RunState.{AddsRecords, IsAnswered, RecordsHaveNoMessage, EndsEarly};
-ghost use Rattle.byte_unit_command.specs.RunState.{WritesAndTells, idle, messages_of, state_of};
+ghost use Rattle.byte_unit_command.specs.Capacity.{AreEmpty, HaveCapacity, SufficeFor, texts_max};
+ghost use Rattle.byte_unit_command.specs.Capacity.{read_max as most_of_read, text_max as most_of_text};
+ghost use Rattle.byte_unit_command.specs.Capacity.{read_room as room_of_read};
+ghost use Rattle.byte_unit_command.specs.RunState.{AddsRecords, RecordsHaveNoMessage, EndsEarly};
+ghost use Rattle.byte_unit_command.specs.RunState.{messages_of, state_of};
 ghost use Rattle.byte_unit_command.specs.Run.{AreRecordsBelow, IsMemoryDue, IsRunOf};
 ghost use Rattle.byte_unit_stream.specs.Chunks.{ended_records, begun_record};
 ghost use Rattle.byte_unit_stream.specs.Streams.{reading_failed, writing_failed};
 
-use crate::buffers::{Buffers, read_max};
+use crate::converter::Converter;
 use crate::error::{RunError, RunResult};
-use crate::notice::Place;
-use crate::options::Options;
+use crate::notice::{Notices, Place};
+use crate::options::{Form, Invalid, Options};
 use crate::streams::Streams;
 use crate::tally::Tally;
-use byte_unit_stream::{FusedWriter, end_of, write_whole};
+use crate::text::AT_ONCE;
+use byte_unit_stream::{end_of, write_whole};
 use std::alloc::{AllocError, Allocator, Global};
 use std::io::{Read, Write};
 
@@ -27,6 +28,78 @@ const CHUNK: usize = 65536;
 
 /// The length of a buffer that has capacity for the text of any size.
 pub(crate) const DIGITS: usize = 65600;
+
+/// The most bytes of the text of a size in its own unit, or as digits; and of one in a given unit, but for the digits
+/// after the point.
+const NARROW_TEXT: usize = 37;
+
+/// The most digits after the point of a size in a given unit, but for zeros.
+const UNIT_PLACES: usize = 93;
+
+/// The most bytes that the texts of the sizes of one read may take, if each byte of it begins a field: 40 bytes for
+/// each of 65,536.
+const TEXTS_MAX: usize = 2_621_440;
+
+/// The bytes that are counted for the messages about a field: none are if a run has at most one message.
+const MESSAGE: usize = 128;
+
+/// What a run keeps from one read to the next.
+#[derive(Drop)]
+pub struct Buffers<A: Allocator> {
+    /// The part that was read of a record whose end was not read yet.
+    pub(crate) part: Vec<u8, A>,
+    /// What was converted and is not written yet.
+    pub(crate) converter: Converter<A>,
+}
+
+impl<A: Allocator + Copy> Buffers<A> {
+    /// Creates empty buffers. Does not allocate.
+    pub fn new(alloc: A) -> Buffers<A>
+        ensures { AreEmpty result }
+    {
+        Buffers {
+            part: Vec::new(alloc),
+            converter: Converter {
+                header: 0,
+                tally: Tally::NONE,
+                place: Place {
+                    word: "",
+                    number: 0,
+                },
+                waiting: Vec::new(alloc),
+                notices: Notices {
+                    messages: Vec::new(alloc),
+                    line: String::new(alloc),
+                    words: String::new(alloc),
+                },
+            },
+        }
+    }
+
+    /// Creates buffers with capacity for records of at most `longest` bytes and reads into a buffer of `chunk` bytes.
+    /// None is allocated for messages.
+    ///
+    /// # Errors
+    ///
+    /// Returns `AllocError` if allocation fails, or the capacity exceeds `usize::MAX`.
+    pub fn with_capacity(
+        alloc: A,
+        options: &Options,
+        longest: usize,
+        chunk: usize,
+    ) -> Result<Buffers<A>, AllocError>
+        ensures empty { IfOk result (λ buffers. AreEmpty buffers) }
+        ensures capacity { IfOk result (λ buffers. HaveCapacity options.now longest chunk buffers) }
+    {
+        let mut buffers = Buffers::new(alloc);
+        let chunk = read_max(options, chunk);
+        let part = longest.checked_add(chunk).ok_or(AllocError)?;
+        let waiting = read_room(options, longest, chunk).ok_or(AllocError)?;
+        buffers.part.try_reserve_exact(part)?;
+        buffers.converter.waiting.try_reserve_exact(waiting)?;
+        Ok(buffers)
+    }
+}
 
 /// Reads the whole input, and writes each record, with the chosen fields replaced.
 ///
@@ -157,13 +230,16 @@ pub fn run_with_buffers<A: Allocator, R: Read, W: Write, E: Write>(
             None => return Err(RunError::Read),
             Some(0) => break 'reads,
             Some(n) => {
-                buffers.answer_piece(
-                    options,
-                    &chunk[..n],
-                    digits,
+                let fed = buffers.feed(options, &chunk[..n], digits);
+                // Even if the call stopped, the records before are written.
+                write_whole(
                     &mut streams.writer,
-                    &mut streams.errors,
+                    &buffers.converter.waiting,
+                    RunError::Write,
                 )?;
+                buffers.converter.waiting.clear();
+                buffers.converter.notices.tell(&mut streams.errors);
+                fed?;
             }
         }
         if buffers.part.len() > longest {
@@ -180,56 +256,6 @@ pub fn run_with_buffers<A: Allocator, R: Read, W: Write, E: Write>(
 }
 
 impl<A: Allocator> Buffers<A> {
-    /// Converts the records that end in `bytes`, and writes them.
-    ///
-    /// The part that was read before begins the first of them; the part of the next one is kept.
-    ///
-    /// Preconditions (proved at every call): nothing waits to be written or told, and `digits` has capacity for the
-    /// text of any size.
-    ///
-    /// # Errors
-    ///
-    /// - `Memory` if allocation fails. Some first records have been written.
-    /// - `Rejected` if a field is rejected in the mode `abort`. The records before it have been written.
-    /// - `Write` if a write fails. A prefix of the records has been written.
-    fn answer_piece<W: Write, E: Write>(
-        &mut self,
-        options: &Options,
-        bytes: &[u8],
-        digits: &mut [u8],
-        writer: &mut FusedWriter<W>,
-        errors: &mut FusedWriter<E>,
-    ) -> RunResult
-        requires empty { self.old.converter.waiting.items ≡ [] }
-        requires untold { messages_of self.old.converter.notices ≡ [] }
-        requires capacity { text_limit ≤ length digits.old }
-        ensures written { WritesAndTells W.contents E.contents writer.old writer.new errors.old errors.new
-            (IsAnswered options.now
-            (ended_records options.now.record_end self.old.part.items bytes.now)
-            (idle (state_of self.old.converter)) (state_of self.new.converter) result) }
-        ensures part { OnOk result
-            (self.new.part.items
-            ≡ begun_record options.now.record_end self.old.part.items bytes.now) }
-        ensures waiting { OnOk result (self.new.converter.waiting.items ≡ []) }
-        ensures notices { OnOk result (messages_of self.new.converter.notices ≡ []) }
-        ensures failed { IsErrOf result RunError.Write → IsTrue (writing_failed writer.new) }
-        ensures memory { SufficeFor options.now (vec_len self.old.part)
-            (length bytes.now) self.old.part
-            self.old.converter.waiting → RecordsHaveNoMessage options.now
-            (ended_records options.now.record_end self.old.part.items bytes.now)
-            (state_of self.old.converter) → ¬ IsErrOf result RunError.Memory }
-        ensures part_capacity { vec_capacity self.old.part ≤ vec_capacity self.new.part }
-        ensures waiting_capacity { vec_capacity self.old.converter.waiting
-            ≤ vec_capacity self.new.converter.waiting }
-    {
-        let fed = self.feed(options, bytes, digits);
-        // Even if the call stopped, the records before are written.
-        write_whole(writer, &self.converter.waiting, RunError::Write)?;
-        self.converter.waiting.clear();
-        self.converter.notices.tell(errors);
-        fed
-    }
-
     /// Converts the records that end in `bytes`.
     ///
     /// The part that was read before begins the first of them; the part of the next one is kept.
@@ -240,6 +266,7 @@ impl<A: Allocator> Buffers<A> {
     ///
     /// - `Memory` if allocation fails. The texts of some first records have been appended.
     /// - `Rejected` if a field is rejected in the mode `abort`. Those of the records before have been appended.
+    #[inline(always)]
     fn feed(&mut self, options: &Options, bytes: &[u8], digits: &mut [u8]) -> RunResult
         requires { text_limit ≤ length digits.old }
         ensures ok { OnOk result
@@ -278,4 +305,55 @@ impl<A: Allocator> Buffers<A> {
         self.part.extend_from_slice(rest)?;
         Ok(())
     }
+}
+
+/// Returns the most bytes that a run reads at once into a buffer of `len` bytes: fewer if texts are long or there can
+/// be messages, so that few of them wait to be written; and at least one.
+pub(crate) fn read_max(options: &Options, len: usize) -> usize
+    ensures most { result ≡ most_of_read options.now len }
+    ensures texts { most_of_text options.now * result ≤ max texts_max (most_of_text options.now) }
+    ensures bound { result ≤ len }
+    ensures some { 0 < len → 0 < result }
+{
+    let passes = matches!(options.invalid, Invalid::Fail | Invalid::Warn);
+    let message = if passes || options.max.is_some() || options.min.is_some() {
+        MESSAGE
+    } else {
+        0
+    };
+    let field = text_max(options) + message;
+    len.min((TEXTS_MAX / field).max(1))
+}
+
+/// Returns the most bytes that what is written after a read takes, or `None` if they exceed `usize::MAX`.
+fn read_room(options: &Options, longest: usize, chunk: usize) -> Option<usize>
+    ensures { IfSome result (λ room. room ≡ room_of_read options.now longest chunk) }
+{
+    let fields = match options.delimiter {
+        None => chunk,
+        Some(_) => longest.checked_add(chunk)?,
+    };
+    let text = AT_ONCE.max(text_max(options));
+    let texts = text.checked_mul(fields.checked_add(1)?)?;
+    texts
+        .checked_add(longest)?
+        .checked_add(chunk)?
+        .checked_add(1)
+}
+
+/// Returns the most bytes of the text of a size with the suffix.
+fn text_max(options: &Options) -> usize
+    ensures most { result ≡ most_of_text options.now }
+    ensures bound { result < 2 ^ 63 + 65573 }
+    ensures positive { 0 < result }
+{
+    let size = match options.form {
+        Form::Exact | Form::Plain => NARROW_TEXT,
+        Form::InUnit(_) | Form::NumberOf(_) | Form::Largest(_) => match options.precision {
+            None => NARROW_TEXT + UNIT_PLACES,
+            Some(precision) => NARROW_TEXT + UNIT_PLACES.max(precision as usize),
+        },
+    };
+    let text = size + options.suffix.len();
+    text.max(options.width as usize)
 }

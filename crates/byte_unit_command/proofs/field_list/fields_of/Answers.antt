@@ -1,20 +1,23 @@
--- The items of the loop are the parts of the list between its commas.
+-- The items of the loop are the parts of the list between its commas. A sort moves ranges, and leaves none that begins
+-- after the next one.
 use Rattle.std.proofs.Common.{◌≡◌, ℕ, List, ◌++◌, [], ◌∷◌, map, length, ap, sym, subst, lit<, Bor, Option}
-use Rattle.std.proofs.Common.{None, Some}
+use Rattle.std.proofs.Common.{None, Some, codes, rules}
 use Rattle.std.specs.Prelude.{option_map, unwrap_or}
 use Rattle.std.proofs.lemmas.List.{map-append}
+use Rattle.std.proofs.lemmas.List.Sorted.{IsNonDecreasingBy-from_sort_by_key, all_adjacent_from_non_decreasing}
 use Rattle.std.proofs.lemmas.Iterator.Consumers.{YieldsList-turn, YieldsList-end}
 use Rattle.std.proofs.lemmas.Iterator.Splits.{YieldsList-from_str_split}
-use Rattle.byte_unit_command.specs.FieldList.{IsListReading, IsRange, AreRanges}
+use Rattle.byte_unit_command.specs.FieldList.{AreSorted, IsListReading, IsRange, AreRanges}
 use Rattle.byte_unit_command.specs.declared.options.FieldRange.{FieldRange}
 use Rattle.byte_unit_command.proofs.Items.{AreRanges-append, AreRanges-at}
+use Rattle.byte_unit_command.proofs.Ranges.{chosen-in_any_order, in_order-adjacent}
 use Rattle.byte_unit_command.proofs.field_list.fields_of.Goals as goal
 
--- the list that is read: the one that is given, or the default
-list_text : (list : Option (Bor (List ℕ))) (default read : Bor (List ℕ)) → read ≡ unwrap_or list default
-    → read.now ≡ unwrap_or (option_map (λ list. list.now) list) default.now
-list_text None default read is = ap (λ list. list.now) is
-list_text (Some list) default read is = ap (λ list. list.now) is
+-- a list that is given is read
+list_text : (given : Option (Bor (List ℕ))) (list : Bor (List ℕ)) → given ≡ Some list
+    → list.now ≡ unwrap_or (option_map (λ list. list.now) given) (codes "1")
+list_text given list is =
+    ap (λ (given : Option (Bor (List ℕ))). unwrap_or (option_map (λ list. list.now) given) (codes "1")) (sym is)
 
 -- one more item, which is one more range
 with_item : (items : List (Bor (List ℕ))) (item : Bor (List ℕ)) (ranges more : List FieldRange) (range : FieldRange)
@@ -28,23 +31,32 @@ with_item items item ranges more range are is more_is =
 
 pub loop-item-preserved : goal.loop-item-preserved
 loop-item-preserved c =
-    with_item c.loop-item.yielded c.in-Some.item c.loop-item.fields.items _ c.in-Some-range_of.range
+    with_item c.loop-item.yielded c.in-Some-item.item c.loop-item.fields.items _ c.in-Some-range_of.range
     c.loop-item.invariant c.in-Some-range_of.ensures c.in_ok-push-in-Some-range_of.ensures.items
 
 pub returns-in-None-range_of : goal.returns-in-None-range_of
 returns-in-None-range_of c =
-    let parts = YieldsList-from_str_split 44 c.unwrap_or.result.now (lit< tt) (cc) (cc) (cc) in
-    let turn = YieldsList-turn parts c.loop-item.yielded _ c.loop-item.yielded_by _ _ c.in-Some.item c.in-Some.is
-    c.next.ensures.steps in
-    let text = list_text c.args.list _ c.unwrap_or.result c.unwrap_or.ensures in
+    let parts = YieldsList-from_str_split 44 c.in-Some.list.now (lit< tt) (cc) (cc) (cc) in
+    let turn = YieldsList-turn parts c.loop-item.yielded _ c.loop-item.yielded_by _ _ c.in-Some-item.item
+    c.in-Some-item.is c.next.ensures.steps in
+    let text = list_text c.args.list c.in-Some.list c.in-Some.is in
     subst (λ text. IsListReading text None) text (λ ranges are.
-    let range = AreRanges-at _ ranges c.in-Some.item.now (length c.loop-item.yielded) are turn.0 turn.1 in
+    let range = AreRanges-at _ ranges c.in-Some-item.item.now (length c.loop-item.yielded) are turn.0 turn.1 in
     c.in-None-range_of.ensures range.0 range.1)
 
 pub returns : goal.returns
 returns c =
-    let parts = YieldsList-from_str_split 44 c.unwrap_or.result.now (lit< tt) (cc) (cc) (cc) in
+    let parts = YieldsList-from_str_split 44 c.in-Some.list.now (lit< tt) (cc) (cc) (cc) in
     let end = YieldsList-end parts c.loop-item.yielded _ c.loop-item.yielded_by _ _ c.in-None.is c.next.ensures.steps in
-    let text = list_text c.args.list _ c.unwrap_or.result c.unwrap_or.ensures in
-    subst (λ text. IsListReading text (Some c.loop-item.fields.items)) text
-    (subst (λ texts. AreRanges texts c.loop-item.fields.items) end.0 c.loop-item.invariant)
+    let text = list_text c.args.list c.in-Some.list c.in-Some.is in
+    let listed = c.loop-item.fields.items in
+    let ranges = c.sort_unstable_by_key.new.self.items in
+    let rising = IsNonDecreasingBy-from_sort_by_key (λ range. range.first) _ c.sort_unstable_by_key.ensures.sorted
+    (λ a r q k. search rules) in
+    let sorted : AreSorted listed ranges = record {
+      same = λ number. chosen-in_any_order listed ranges number c.sort_unstable_by_key.ensures.permutation;
+      in_order =
+          in_order-adjacent ranges (all_adjacent_from_non_decreasing (λ range. range.first) _ rising);
+    } in
+    subst (λ text. IsListReading text (Some ranges)) text
+    (listed, subst (λ texts. AreRanges texts listed) end.0 c.loop-item.invariant, sorted)

@@ -1,22 +1,24 @@
 -- Each read is served: the records that end in it are written, and the record that it has begun is kept. Memory is not
 -- the answer while no record is longer than the limit and there is no message.
-use Rattle.std.proofs.Common.{◌≡◌, ◌+◌, ◌≤◌, [], ◌++◌, sym, ap, subst, ◌∙◌, take, length, Err, Result, arith, List, ℕ}
-use Rattle.std.proofs.Common.{inl, inr, vec_len, refl}
+use Rattle.std.proofs.Common.{◌≡◌, ◌+◌, ◌≤◌, [], ◌++◌, sym, ap, subst, ◌∙◌, take, length, Ok, Err, Result, arith, List, ℕ}
+use Rattle.std.proofs.Common.{inl, inr, vec_len, refl, true≢false}
 use Rattle.std.proofs.lemmas.List.{length-take, length-take-le}
-use Rattle.std.specs.Prelude.{vec_capacity}
+use Rattle.std.specs.Prelude.{IsErrAnd, vec_capacity}
 use Rattle.std.specs.Io.KnownBytes.{IsAtEnd}
 use Rattle.byte_unit_command.specs.Capacity.{SufficeFor, end_room}
-use Rattle.byte_unit_command.specs.RunState.{IsAnswered, IsFinished, idle, state_of}
+use Rattle.byte_unit_command.specs.RunState.{IsFinished, idle, state_of}
 use Rattle.byte_unit_command.specs.declared.error.RunError.{RunError}
-use Rattle.byte_unit_command.specs.declared.error.RunError.TheVariants.{Memory, Read}
+use Rattle.byte_unit_command.specs.declared.error.RunError.TheVariants.{Write}
 use Rattle.byte_unit_command.specs.declared.tally.Tally.{Tally}
+use Rattle.byte_unit_command.proofs.Answering.{HasFed-from_empty, piece-answered, piece-unwritten}
 use Rattle.byte_unit_command.proofs.Dues.{SufficeFor-piece, end-fits, last-untold, piece-untold}
-use Rattle.byte_unit_command.proofs.Results.{OnOk-always, error-passed}
+use Rattle.byte_unit_command.proofs.Results.{OnOk-always}
 use Rattle.byte_unit_command.proofs.Runs.{IsServed, begun-piece}
 use Rattle.byte_unit_command.proofs.Served.{HasRead-end, HasRead-more, HasServed-piece, HasServed-start}
 use Rattle.byte_unit_command.proofs.Served.{IsRunOf-finished, IsRunOf-long, IsRunOf-piece, IsRunOf-read}
-use Rattle.byte_unit_stream.specs.Chunks.{begun_record, ended_records}
-use Rattle.byte_unit_stream.specs.Streams.{reader_of}
+use Rattle.byte_unit_stream.specs.Chunks.{begun_record}
+use Rattle.byte_unit_stream.specs.Prefix.{IsPrefix}
+use Rattle.byte_unit_stream.specs.Streams.{HasWritten, reader_of}
 use Rattle.byte_unit_stream.proofs.Longest.{longest_of-ended_records-append, longest_record-unfinished}
 use Rattle.byte_unit_stream.proofs.Longest.{longest_record-below}
 use Rattle.byte_unit_command.proofs.run.run_with_buffers.Goals as goal
@@ -44,65 +46,98 @@ reads-preserved g c =
     let so_far = c.reads.invariant.0 in
     let within = c.reads.invariant.1 in
     let piece = take c.in-Some.n c.read.new.buf in
-    let answered = c.in_ok-answer_piece-in-Some.ensures in
+    let fed = c.in_ok-fed-in-Some.ensures in
+    let new = c.feed-fed.new.self in
+    let now =
+    record new { converter = record new.converter { waiting = c.clear.new.self; notices = c.tell.new.self } } in
+    let answered = piece-answered new now (HasFed-from_empty options piece c.reads.buffers new (Ok tt) so_far.none_waits
+    so_far.none_untold fed.ok fed.error)
+    (subst (HasWritten g.W.Write.contents c.reads.streams.writer c.write_whole.new.writer) c.deref.ensures.value
+    c.in_ok-write_whole-in-Some.ensures.ok) c.tell.ensures.told refl in
     let begun : length (begun_record options.record_end [] so_far.course.read) ≤ c.args.longest =
     omega (arith, ap length so_far.served.begun, c.reads.buffers.part.ok.0, within.unfinished) in
     let few = short c.in-Some.n c.read_max-most.result c.read.new.buf c.args.buffer.now
     (omega (arith, c.read.auto.buf, c.reads.auto.chunk)) c.read_max-most.ensures.bound in (
-      HasServed-piece so_far _ _ piece c.in-Some.ensures.came answered.written answered.part answered.waiting
-          answered.notices,
+      HasServed-piece so_far _ _ piece c.in-Some.ensures.came answered fed.part c.clear.ensures.items
+          c.tell.ensures.none,
       record {
         finished = longest_of-ended_records-append options.record_end so_far.course.read piece
             (c.args.longest + c.read_max-most.result) within.finished (omega (arith, begun, few));
         unfinished = omega (arith, c.if-len-longest.false, c.len.ensures);
-        part_capacity = omega (arith, within.part_capacity, answered.part_capacity);
-        waiting_capacity = omega (arith, within.waiting_capacity, answered.waiting_capacity);
+        part_capacity = omega (arith, within.part_capacity, fed.part_capacity);
+        waiting_capacity = omega (
+          arith,
+          within.waiting_capacity,
+          fed.waiting_capacity,
+          c.clear.ensures.capacity,
+        );
       },
     )
 
 pub returns-in-None-clause-run : goal.returns-in-None-clause-run
 returns-in-None-clause-run g c = IsRunOf-read c.reads.invariant.0 c.read.new.self c.in-None.ensures.none
 
-pub returns-in_err-answer_piece-in-Some-clause-run : goal.returns-in_err-answer_piece-in-Some-clause-run
-returns-in_err-answer_piece-in-Some-clause-run g c =
-    let failed = c.in_err-answer_piece-in-Some in
-    IsRunOf-piece c.reads.invariant.0 _ c.answer_piece.new.self (take c.in-Some.n c.read.new.buf)
-    c.in-Some.ensures.came failed.field-0.0 failed.ensures.written c.from_residual.result c.from_residual.ensures.1
+pub returns-in_err-write_whole-in-Some-clause-run : goal.returns-in_err-write_whole-in-Some-clause-run
+returns-in_err-write_whole-in-Some-clause-run g c =
+    let so_far = c.reads.invariant.0 in
+    let piece = take c.in-Some.n c.read.new.buf in
+    let call = c.feed-fed in
+    let failed = c.in_err-write_whole-in-Some in
+    let written = failed.ensures.err in
+    let begins = subst (IsPrefix written.0) c.deref.ensures.value written.2 in
+    let fed = HasFed-from_empty c.args.options.now piece c.reads.buffers call.new.self call.result so_far.none_waits
+    so_far.none_untold call.ensures.ok call.ensures.error in
+    let passed = subst (λ error. IsErrAnd c.from_residual.result (λ other. other ≡ error)) failed.ensures.write
+    c.from_residual.ensures.1 in
+    IsRunOf-piece so_far _ call.new.self piece c.in-Some.ensures.came Write
+    (piece-unwritten call.new.self fed (written.0, written.1, begins)) c.from_residual.result passed
+
+pub returns-in_err-fed-in-Some-clause-run : goal.returns-in_err-fed-in-Some-clause-run
+returns-in_err-fed-in-Some-clause-run g c =
+    let so_far = c.reads.invariant.0 in
+    let piece = take c.in-Some.n c.read.new.buf in
+    let new = c.feed-fed.new.self in
+    let failed = c.in_err-fed-in-Some in
+    let error = failed.field-0.0 in
+    let fed = HasFed-from_empty c.args.options.now piece c.reads.buffers new (Err error) so_far.none_waits
+    so_far.none_untold failed.ensures.ok failed.ensures.error in
+    let wrote = subst (HasWritten g.W.Write.contents c.reads.streams.writer c.write_whole.new.writer)
+    c.deref.ensures.value c.in_ok-write_whole-in-Some.ensures.ok in
+    let passed = c.from_residual-in_err-fed-in-Some in
+    IsRunOf-piece so_far _ new piece c.in-Some.ensures.came error
+    (piece-answered new new fed wrote c.tell.ensures.told refl) passed.result passed.ensures.1
 
 pub returns-then-len-longest-clause-run : goal.returns-then-len-longest-clause-run
 returns-then-len-longest-clause-run g c =
-    let answered = c.in_ok-answer_piece-in-Some.ensures in
-    IsRunOf-long c.reads.invariant.0 _ c.answer_piece.new.self (take c.in-Some.n c.read.new.buf)
-    c.in-Some.ensures.came answered.written answered.part
+    let so_far = c.reads.invariant.0 in
+    let piece = take c.in-Some.n c.read.new.buf in
+    let new = c.feed-fed.new.self in
+    let fed = c.in_ok-fed-in-Some.ensures in
+    let has_fed = HasFed-from_empty c.args.options.now piece c.reads.buffers new (Ok tt) so_far.none_waits
+    so_far.none_untold fed.ok fed.error in
+    let wrote = subst (HasWritten g.W.Write.contents c.reads.streams.writer c.write_whole.new.writer)
+    c.deref.ensures.value c.in_ok-write_whole-in-Some.ensures.ok in
+    IsRunOf-long so_far _ new piece c.in-Some.ensures.came
+    (piece-answered new new has_fed wrote c.tell.ensures.told refl) fed.part
 
 pub returns-clause-run : goal.returns-clause-run
 returns-clause-run g c =
     let end = c.in-Some-eq0 in
-    IsRunOf-finished c.reads.invariant.0 _ (take end.field-0 c.read.new.buf) c.deref.result.now end.ensures.came
+    IsRunOf-finished c.reads.invariant.0 _ (take end.field-0 c.read.new.buf) c.deref-2.result.now end.ensures.came
     (ap (λ count. take count c.read.new.buf) end.field-0-test) (end.ensures.end end.field-0-test (omega (
       arith,
       c.reads.auto.chunk,
       length-take-le c.read_max-most.result c.args.buffer.now c.read_max-most.ensures.bound,
       c.read_max-most.ensures.some c.requires.some,
     )))
-    c.deref.ensures.value c.finish.result c.finish.ensures.written
+    c.deref-2.ensures.value c.finish.result c.finish.ensures.written
 
--- no call on the way ends as a read that failed
-pub returns-in_err-answer_piece-in-Some-clause-read_failed : goal.returns-in_err-answer_piece-in-Some-clause-read_failed
-returns-in_err-answer_piece-in-Some-clause-read_failed g c = λ is.
-    let failed = c.in_err-answer_piece-in-Some in
-    let more = failed.ensures.written in
-    let same = error-passed c.from_residual.result failed.field-0.0 Read c.from_residual.ensures.1 is in
-    let Ends : RunError → Type 0 = λ error. IsAnswered c.args.options.now (ended_records c.args.options.now.record_end
-    c.reads.buffers.part.items (take c.in-Some.n c.read.new.buf)) (idle (state_of c.reads.buffers.converter))
-    (state_of c.answer_piece.new.self.converter) (Err error) more.written more.messages in
-    absurd (subst Ends same more.holds)
-
+-- the end does not end as a read that failed
 pub returns-clause-read_failed : goal.returns-clause-read_failed
 returns-clause-read_failed g c = λ is.
     let more = c.finish.ensures.written in
     let Ends : Result Tally RunError → Type 0 =
-    λ result. IsFinished c.args.options.now c.deref.result.now (idle (state_of c.reads.buffers.converter)) result
+    λ result. IsFinished c.args.options.now c.deref-2.result.now (idle (state_of c.reads.buffers.converter)) result
     more.written more.messages in
     absurd (subst Ends is more.holds)
 
@@ -111,8 +146,8 @@ pub returns-then-len-longest-clause-memory : goal.returns-then-len-longest-claus
 returns-then-len-longest-clause-memory g c = λ _ _.
     let so_far = c.reads.invariant.0 in
     let piece = take c.in-Some.n c.read.new.buf in
-    let part = c.answer_piece.new.self.part in
-    let begun = begun-piece so_far.served piece part.items c.in_ok-answer_piece-in-Some.ensures.part in
+    let part = c.feed-fed.new.self.part in
+    let begun = begun-piece so_far.served piece part.items c.in_ok-fed-in-Some.ensures.part in
     let long = longest_record-unfinished c.args.options.now.record_end (so_far.course.read ++ piece) part.items
     begun in (
       so_far.course.read ++ piece,
@@ -121,22 +156,21 @@ returns-then-len-longest-clause-memory g c = λ _ _.
     )
 
 -- there is a message about a record that ends in the piece
-pub returns-in_err-answer_piece-in-Some-clause-memory : goal.returns-in_err-answer_piece-in-Some-clause-memory
-returns-in_err-answer_piece-in-Some-clause-memory g c = λ fits is.
+pub returns-in_err-fed-in-Some-clause-memory : goal.returns-in_err-fed-in-Some-clause-memory
+returns-in_err-fed-in-Some-clause-memory g c = λ fits _.
     let capacity = subst (λ most. SufficeFor c.args.options.now c.args.longest most c.args.buffers.now.part
     c.args.buffers.now.converter.waiting) (sym c.read_max-most.ensures.most) fits in
     let so_far = c.reads.invariant.0 in
     let waiting = c.reads.buffers.converter.waiting in
     let piece = take c.in-Some.n c.read.new.buf in
-    let failed = c.in_err-answer_piece-in-Some in
-    let same = error-passed c.from_residual.result failed.field-0.0 Memory c.from_residual.ensures.1 is in
     let few = short c.in-Some.n c.read_max-most.result c.read.new.buf c.args.buffer.now
     (omega (arith, c.read.auto.buf, c.reads.auto.chunk)) c.read_max-most.ensures.bound in
     let suffice = SufficeFor-piece c.args.options.now c.reads.invariant.1
     (waiting.ok.0 ∙ ap length so_far.none_waits) capacity (length piece) few in (
       so_far.course.read ++ piece,
       HasRead-more so_far c.read.new.self piece c.in-Some.ensures.came,
-      inr (inl (λ none. failed.ensures.memory suffice (piece-untold so_far.served piece none) (ap Err same))),
+      inr (inl (λ none. true≢false (sym (c.in_err-fed-in-Some.ensures.succeeds suffice
+          (piece-untold so_far.served piece none))))),
     )
 
 -- there is a message about the last record
@@ -149,10 +183,10 @@ returns-clause-memory g c = λ fits is.
     let buffers = c.reads.buffers in
     let waiting = buffers.converter.waiting in
     let end = c.in-Some-eq0 in
-    let part = c.deref.result.now in
+    let part = c.deref-2.result.now in
     let served : IsServed options c.args.streams.now.word.now so_far.course.read so_far.course.written
     so_far.course.messages part (state_of buffers.converter) =
-    record { added = so_far.served.added; begun = c.deref.ensures.value ∙ so_far.served.begun } in
+    record { added = so_far.served.added; begun = c.deref-2.ensures.value ∙ so_far.served.begun } in
     let at_end : IsAtEnd (g.R.Read.remaining (reader_of c.read.new.self)) =
     end.ensures.end end.field-0-test (omega (
       arith,
@@ -162,7 +196,7 @@ returns-clause-memory g c = λ fits is.
     )) in
     let at_end_fits = end-fits options c.reads.invariant.1 (waiting.ok.0 ∙ ap length so_far.none_waits) capacity
     (c.read_max-most.ensures.some c.requires.some) in
-    let len : vec_len buffers.part ≡ length part = buffers.part.ok.0 ∙ ap length (sym c.deref.ensures.value) in
+    let len : vec_len buffers.part ≡ length part = buffers.part.ok.0 ∙ ap length (sym c.deref-2.ensures.value) in
     let room = subst (λ len. vec_len waiting + end_room options len ≤ vec_capacity waiting) len at_end_fits in (
       so_far.course.read,
       HasRead-end so_far c.read.new.self (take end.field-0 c.read.new.buf) end.ensures.came

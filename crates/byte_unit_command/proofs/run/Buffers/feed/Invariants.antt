@@ -2,7 +2,7 @@
 use Rattle.std.proofs.Common.{length}
 use Rattle.byte_unit_command.proofs.Feeding.{IsFed, feed_of}
 use Rattle.byte_unit_command.proofs.Rooms.{IsFedWithin}
-use Rattle.byte_unit_command.proofs.buffers.Buffers.feed.Given as goal
+use Rattle.byte_unit_command.proofs.run.Buffers.feed.Given as goal
 
 abbrev pub invariant-loop-n : goal.invariant-loop-n
 invariant-loop-n g l =

@@ -10,9 +10,9 @@ use Rattle.byte_unit_command.proofs.Feeding.{waiting_capacity, waiting_len}
 use Rattle.byte_unit_command.proofs.Results.{IfErr-passed}
 use Rattle.byte_unit_command.proofs.Rooms.{IsFedWithin-fits, IsFedWithin-step}
 use Rattle.byte_unit_stream.proofs.ChunkRecords.{empty_from_length}
-use Rattle.byte_unit_command.proofs.buffers.Buffers.feed.Goals.{then-is_empty+in_ok-add_record}
-use Rattle.byte_unit_command.proofs.buffers.Buffers.feed.Goals.{else-is_empty+in_ok-extend_from_slice+in_ok-add_record-2}
-use Rattle.byte_unit_command.proofs.buffers.Buffers.feed.Goals as goal
+use Rattle.byte_unit_command.proofs.run.Buffers.feed.Goals.{then-is_empty+in_ok-add_record}
+use Rattle.byte_unit_command.proofs.run.Buffers.feed.Goals.{else-is_empty+in_ok-extend_from_slice+in_ok-add_record-2}
+use Rattle.byte_unit_command.proofs.run.Buffers.feed.Goals as goal
 
 pub returns-in_err-add_record-clause-error : goal.returns-in_err-add_record-clause-error
 returns-in_err-add_record-clause-error g c =
