@@ -7,7 +7,6 @@ pub mod buffers;
 mod converter;
 pub mod ending;
 pub mod error;
-mod field;
 pub mod field_list;
 mod finish;
 pub mod laws;
