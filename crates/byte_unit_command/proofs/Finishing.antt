@@ -1,19 +1,31 @@
 -- Lemmas: the end of a run.
 use Rattle.std.proofs.Common.{◌≡◌, ℕ, List, [], ◌∷◌, ◌++◌, true, false, Option, Result, Ok, Err, refl, sym, subst}
-use Rattle.std.proofs.Common.{append-nil, inl, inr, MatchBool, ◌⊎◌}
-use Rattle.std.specs.Prelude.{⊤, IsErrAnd}
+use Rattle.std.proofs.Common.{append-nil, inl, inr, MatchBool, ◌⊎◌, length, true≢false}
+use Rattle.std.specs.Prelude.{⊤, IsErrAnd, ◌==◌}
 use Rattle.std.specs.Io.KnownBytes.{Appends}
+use Rattle.std.proofs.KnownBytes.{Appends-nil}
 use Rattle.byte_unit_command.specs.RunState.{Aborts, AddsRecords, State, IsTotalFor, IsTotalWritten, IsFinished}
+use Rattle.byte_unit_command.specs.RunState.{Tells}
 use Rattle.byte_unit_command.specs.RunState.{at_next, idle, messages_of, state_of}
 use Rattle.byte_unit_command.specs.declared.converter.Converter.{Converter}
+use Rattle.byte_unit_command.specs.declared.notice.Notices.{Notices}
 use Rattle.byte_unit_command.specs.declared.options.Options.{Options}
 use Rattle.byte_unit_command.specs.declared.error.RunError.{RunError}
 use Rattle.byte_unit_command.specs.declared.error.RunError.TheVariants.{Memory, Read, Write, Rejected, Total}
 use Rattle.byte_unit_command.specs.declared.tally.Tally.{Tally}
+use Rattle.byte_unit_command.proofs.Converting.{AddsRecords-none}
 use Rattle.byte_unit_command.proofs.Results.{Err-passed}
+use Rattle.byte_unit_command.proofs.Telling.{Tells-nothing}
 use Rattle.byte_unit_stream.specs.Chunks.{nonempty_record}
 use Rattle.byte_unit_stream.specs.Prefix.{IsPrefix}
+use Rattle.byte_unit_stream.specs.Streams.{HasWritten, writer_of, writing_failed}
+use Rattle.byte_unit_stream.specs.declared.writer.FusedWriter.{FusedWriter}
 use Rattle.byte_unit_stream.proofs.Bytes.{IsWrittenBy}
+
+-- a part that is not empty is a record
+pub nonempty_record-some : (part : List ℕ) → false ≡ (length part == 0) → nonempty_record part ≡ part ∷ []
+nonempty_record-some [] some = absurd (true≢false (sym some))
+nonempty_record-some (byte ∷ bytes) some = refl
 
 -- records that were added where nothing was to be written and told before
 pub AddsRecords-idle : {A : Type 0} (options : Options) (part : List ℕ) (before new : Converter A)
@@ -24,6 +36,55 @@ AddsRecords-idle options part before new none untold adds =
     let From : List ℕ → List ℕ → Type 0 = λ out messages. AddsRecords options (nonempty_record part)
     (record (state_of before) { out = out; messages = messages }) (state_of new) in
     subst (λ out. From out []) none (subst (From before.waiting.items) untold adds)
+
+-- the last record, if there is one, was converted, and the messages about it were told
+pub record ConvertsLast {A E : Type 0} (tells : E → Option (List ℕ)) (options : Options) (part : List ℕ)
+    (old now : Converter A) (old_errors errors : FusedWriter E) : Type 0 where
+  pub messages : List ℕ
+  pub adds :
+      AddsRecords options (nonempty_record part) (idle (state_of old)) (record (state_of now) { messages = messages })
+  pub told : (told : List ℕ) × HasWritten tells old_errors errors told
+      × Tells (writing_failed old_errors) (writing_failed errors) messages told
+
+module _ {A E : Type 0} (tells : E → Option (List ℕ)) (options : Options) (part : List ℕ) (old : Converter A)
+    (old_errors : FusedWriter E) (empty : old.waiting.items ≡ []) where
+  -- there is none
+  pub ConvertsLast-none : (now : Converter A) (errors : FusedWriter E) → part ≡ [] → now ≡ old → errors ≡ old_errors
+      → ConvertsLast tells options part old now old_errors errors
+  ConvertsLast-none now errors none now_is errors_is =
+      let idle_state : State = idle (state_of old) in
+      let at = subst (λ part. AddsRecords options (nonempty_record part) idle_state idle_state) (sym none)
+      (AddsRecords-none options idle_state) in
+      let adds = subst (λ out. AddsRecords options (nonempty_record part) idle_state (record idle_state { out = out }))
+      (sym empty) at in
+      let same : ConvertsLast tells options part old old old_errors old_errors = record {
+        messages = [];
+        adds = adds;
+        told = ([], Appends-nil (tells (writer_of old_errors)), Tells-nothing (writing_failed old_errors));
+      } in
+      subst (λ now. ConvertsLast tells options part old now old_errors errors) (sym now_is)
+      (subst (λ errors. ConvertsLast tells options part old old old_errors errors) (sym errors_is) same)
+
+  -- there is one
+  pub ConvertsLast-one : messages_of old.notices ≡ [] → (after now : Converter A) (notices : Notices A)
+      (then_errors errors : FusedWriter E) → false ≡ (length part == 0)
+      → AddsRecords options (part ∷ []) (state_of old) (state_of after)
+      → (told : List ℕ) × HasWritten tells old_errors then_errors told
+      × Tells (writing_failed old_errors) (writing_failed then_errors) (messages_of after.notices) told
+      → now ≡ record after { notices = notices } → errors ≡ then_errors
+      → ConvertsLast tells options part old now old_errors errors
+  ConvertsLast-one untold after now notices then_errors errors some adds told now_is errors_is =
+      let all = subst (λ records. AddsRecords options records (state_of old) (state_of after))
+      (sym (nonempty_record-some part some)) adds in
+      let same : ConvertsLast tells options part old (record after { notices = notices }) old_errors then_errors =
+      record {
+        messages = messages_of after.notices;
+        adds = AddsRecords-idle options part old after empty untold all;
+        told = told;
+      } in
+      subst (λ now. ConvertsLast tells options part old now old_errors errors) (sym now_is)
+      (subst (λ errors. ConvertsLast tells options part old (record after { notices = notices }) old_errors errors)
+      (sym errors_is) same)
 
 module _ (options : Options) (total : ℕ) (before : List ℕ) where
   -- out of memory, nothing was written

@@ -50,9 +50,11 @@ impl<A: Allocator> Converter<A> {
             → RecordsHaveNoMessage options.now (nonempty_record part.now) (state_of self.old)
             → ¬ IsErrOf result RunError.Memory }
     {
-        let added = self.add_last(options, part, digits);
-        self.notices.tell(errors);
-        added?;
+        if !part.is_empty() {
+            let added = self.add_record(options, part, digits);
+            self.notices.tell(errors);
+            added?;
+        }
         let tally = self.tally;
         let waiting = &mut self.waiting;
         if options.total {
@@ -61,38 +63,6 @@ impl<A: Allocator> Converter<A> {
             write_whole(writer, waiting, RunError::Write)?;
         }
         Ok(tally)
-    }
-
-    /// Appends what is written for the last record, if there is one.
-    ///
-    /// Precondition (proved at every call): `digits` has capacity for the text of any size.
-    ///
-    /// # Errors
-    ///
-    /// - `Memory` if allocation fails.
-    /// - `Rejected` if a field is rejected in the mode `abort`.
-    fn add_last(&mut self, options: &Options, part: &[u8], digits: &mut [u8]) -> RunResult
-        requires { text_limit ≤ length digits.old }
-        ensures ok { OnOk result (AddsRecords options.now (nonempty_record part.now)
-            (state_of self.old) (state_of self.new)) }
-        ensures memory { IsErrOf result RunError.Memory
-            → messages_of self.new.notices ≡ messages_of self.old.notices }
-        ensures rejected { IsErrOf result RunError.Rejected → (self.old.header ≡ 0)
-            × Aborts options.now part.now (at_next (state_of self.old))
-            (messages_of self.new.notices)
-            × (nonempty_record part.now ≡ part.now ∷ []) }
-        ensures error { StopsEarly result }
-        ensures succeeds { HasRoom self.old.waiting (record_room options.now (length part.now))
-            → RecordsHaveNoMessage options.now (nonempty_record part.now) (state_of self.old)
-            → IsOk result }
-        ensures len { Grows self.old.waiting self.new.waiting
-            (record_room options.now (length part.now)) }
-        ensures capacity { vec_capacity self.old.waiting ≤ vec_capacity self.new.waiting }
-    {
-        match part {
-            [] => Ok(()),
-            [_, ..] => self.add_record(options, part, digits),
-        }
     }
 }
 

@@ -6,7 +6,6 @@ mod blanks;
 mod converter;
 pub mod ending;
 pub mod error;
-mod field;
 pub mod field_list;
 mod finish;
 pub mod laws;

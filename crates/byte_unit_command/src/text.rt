@@ -1,20 +1,18 @@
 //! Writes and appends the text of a size.
 
-ghost use Rattle.std.specs.Prelude.{◌≡◌, ◌+◌, ◌<◌, ◌≤◌, ◌++◌, ℕ, List, length, max, take, replicate, OnOk, IsOk};
+ghost use Rattle.std.specs.Prelude.{◌≡◌, ◌+◌, ◌<◌, ◌≤◌, ◌++◌, ℕ, List, cond, length, max, replicate, OnOk, IsOk};
 ghost use Rattle.std.specs.Prelude.{vec_len, vec_capacity};
 ghost use Rattle.byte_unit.specs.Bounds.{size_limit};
 ghost use Rattle.byte_unit.specs.Forms.{text_limit};
-ghost use Rattle.byte_unit_command.specs.Capacity.{field_room, form_max, short_room, text_room, unit_text_max};
+ghost use Rattle.byte_unit_command.specs.Capacity.{field_room, form_max, text_room, unit_text_max};
 ghost use Rattle.byte_unit_command.specs.Field.{IsPlaced};
 ghost use Rattle.byte_unit_command.specs.Fields.{at_blanks};
 ghost use Rattle.byte_unit_command.specs.RunState.{Grows, HasRoom};
 ghost use Rattle.byte_unit_stream.specs.Prefix.{IsPrefix};
 ghost use Rattle.byte_unit_command.specs.Shown.{BeginsWithForm, IsFormText, IsShown, padded};
-ghost use Rattle.byte_unit_command.specs.Values.{kind_of};
 
 use crate::blanks::{gap_of, width_of};
 use crate::options::{Form, Kind, Options, Unit};
-use crate::values::kind_of;
 use byte_unit::FormatSpec;
 use byte_unit_choice::appropriate_unit;
 use byte_unit_format::{write_adjusted, write_text};
@@ -52,21 +50,12 @@ pub(crate) fn add_placed<const BLANKS: bool, A: Allocator>(
     ensures len { Grows text.old text.new (field_room options.now (length field.now)) }
     ensures capacity { vec_capacity text.old ≤ vec_capacity text.new }
 {
-    let blanks = value_of(BLANKS);
-    if blanks {
+    if BLANKS {
         text.extend_from_slice(gap_of(number > 1, field))?;
         let width = width_of(options, number, field);
         return add_in_width(options, width, size, digits, text);
     }
     add_in_width(options, options.width as usize, size, digits, text)
-}
-
-/// Returns a constant as a value, so that proofs tell the two branches on it apart.
-#[inline(always)]
-fn value_of(constant: bool) -> bool
-    ensures { result ≡ constant }
-{
-    constant
 }
 
 /// Appends the text of a size in at least `width` columns to `text`. `digits` is a buffer for it.
@@ -97,53 +86,26 @@ pub(crate) fn add_in_width<A: Allocator>(
     ensures capacity { vec_capacity text.old ≤ vec_capacity text.new }
 {
     let len = write_size(options, size, digits);
-    if width == 0 {
-        return add_unpadded(options, digits, len, text);
+    if width > 0 {
+        return add_padded(
+            width,
+            options.align_left,
+            options.suffix,
+            &digits[..len],
+            text,
+        );
     }
-    add_padded(
-        width,
-        options.align_left,
-        options.suffix,
-        &digits[..len],
-        text,
-    )
-}
-
-/// Appends the first `len` of `bytes` and the suffix.
-///
-/// Preconditions (proved at every call): `bytes` has at least `len` bytes, and at least [`AT_ONCE`].
-///
-/// # Errors
-///
-/// Returns `AllocError` if allocation fails.
-#[inline(always)]
-fn add_unpadded<A: Allocator>(
-    options: &Options,
-    bytes: &[u8],
-    len: usize,
-    text: &mut Vec<u8, A>,
-) -> Result<(), AllocError>
-    requires len { len ≤ length bytes.now }
-    requires at_once { 64 ≤ length bytes.now }
-    ensures ok { OnOk result
-        (text.new.items ≡ text.old.items ++ (take len bytes.now ++ options.now.suffix.now)) }
-    ensures kept { IsPrefix text.old.items text.new.items }
-    ensures succeeds { vec_len text.old + max short_room (len + length options.now.suffix.now)
-        ≤ vec_capacity text.old → IsOk result }
-    ensures len { vec_len text.new ≤ vec_len text.old + (len + length options.now.suffix.now) }
-    ensures capacity { vec_capacity text.old ≤ vec_capacity text.new }
-{
     match options.suffix {
         [] => {
             if len > AT_ONCE {
-                return text.extend_from_slice(&bytes[..len]);
+                return text.extend_from_slice(&digits[..len]);
             }
             // A copy of a constant length takes a few instructions, and no branch depends on `len`.
-            text.extend_from_slice(&bytes[..AT_ONCE])?;
+            text.extend_from_slice(&digits[..AT_ONCE])?;
             text.truncate(text.len() - (AT_ONCE - len));
             Ok(())
         }
-        [_, ..] => add_suffixed(&bytes[..len], options.suffix, text),
+        [_, ..] => add_suffixed(&digits[..len], options.suffix, text),
     }
 }
 
@@ -248,12 +210,12 @@ fn write_as<const BITS: bool>(options: &Options, size: u128, out: &mut [u8]) -> 
     requires size { size < size_limit }
     requires capacity { text_limit ≤ length out.old }
     ensures written { BeginsWithForm
-        (IsFormText (kind_of BITS) options.now.form options.now.precision size)
+        (IsFormText (cond BITS Kind.Bit Kind.Byte) options.now.form options.now.precision size)
         out.new result }
     ensures small { result < text_limit }
     ensures narrow { result ≤ form_max options.now.form options.now.precision }
 {
-    let kind = kind_of(BITS);
+    let kind = if BITS { Kind::Bit } else { Kind::Byte };
     // The precision is read where it counts: digits take fewer instructions then.
     match options.form {
         Form::Exact => {

@@ -1,7 +1,6 @@
 //! The values of the options of a call.
 
-ghost use Rattle.std.specs.Prelude.{◌≡◌};
-ghost use Rattle.byte_unit_command.specs.Values.{HasValues, kind_of};
+ghost use Rattle.byte_unit_command.specs.Values.{HasValues};
 
 use crate::options::Kind;
 use clap::ArgMatches;
@@ -54,7 +53,11 @@ pub fn values_of<'a>(matches: &ArgMatches<'a>) -> Values<'a>
     ensures { HasValues matches.now result }
 {
     Values {
-        kind: kind_of(matches.get_flag("bits")),
+        kind: if matches.get_flag("bits") {
+            Kind::Bit
+        } else {
+            Kind::Byte
+        },
         precision: matches.get_one::<u16>("precision"),
         header: matches.get_one::<u64>("header"),
         ignore_case: matches.get_flag("ignore-case"),
@@ -74,11 +77,4 @@ pub fn values_of<'a>(matches: &ArgMatches<'a>) -> Values<'a>
         zero_terminated: matches.get_flag("zero-terminated"),
         has_operands: matches.contains_id("SIZE"),
     }
-}
-
-/// Returns the kind of the sizes.
-pub(crate) fn kind_of(bits: bool) -> Kind
-    ensures { result ≡ kind_of bits }
-{
-    if bits { Kind::Bit } else { Kind::Byte }
 }

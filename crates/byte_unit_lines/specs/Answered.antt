@@ -1,8 +1,7 @@
 -- Private: how far a run has come, step by step. No public contract cites this file.
-use Rattle.std.specs.Prelude.{◌≡◌, ℕ, ◌+◌, ◌≤◌, List, ◌++◌, Bool, true, false, Result, Ok, Err, OnErr, IsOk, ⊤}
+use Rattle.std.specs.Prelude.{◌≡◌, ℕ, ◌+◌, ◌≤◌, List, ◌++◌, Result, Ok, Err, OnErr, IsOk, ⊤}
 use Rattle.std.specs.Prelude.{vec_len, vec_capacity}
 use Rattle.std.specs.declared.vec.Vec.{Vec}
-use Rattle.byte_unit.specs.declared.Kind.TheVariants.{Byte, Bit}
 use Rattle.byte_unit_lines.specs.Answer.{Kind, IsAnswer}
 use Rattle.byte_unit_lines.specs.Capacity.{answer_max}
 use Rattle.byte_unit_lines.specs.Report.{AreAnswers}
@@ -22,11 +21,6 @@ pub record GrowsByAnswer {E Z : Type 0} (old new : Vec ℕ Z) (result : Result �
   pub succeeds : vec_len old + answer_max ≤ vec_capacity old → IsOk result
   pub len : vec_len new ≤ vec_len old + answer_max
   pub capacity : vec_capacity old ≤ vec_capacity new
-
--- the kind of sizes in bits if this is true, and else of those in bytes
-abbrev pub kind_for : Bool → Kind
-kind_for true = Bit
-kind_for false = Byte
 
 -- the answers to these lines were appended
 abbrev pub AddsAnswers : Kind → List (List ℕ) → List ℕ → List ℕ → Type 0

@@ -1,11 +1,11 @@
 //! The answer to one line.
 
-ghost use Rattle.std.specs.Prelude.{◌≡◌, ◌∷◌, [], ◌++◌, OnOk, take};
+ghost use Rattle.std.specs.Prelude.{◌≡◌, ◌∷◌, [], ◌++◌, OnOk, cond, take};
 ghost use Rattle.byte_unit.specs.Errors.{size_fault};
 ghost use Rattle.byte_unit.specs.Line.{IsLine};
 ghost use Rattle.byte_unit_lines.specs.Answer.{words_of};
 ghost use Rattle.byte_unit_lines.specs.Lines.{line_end};
-ghost use Rattle.byte_unit_lines.specs.Answered.{AddsAnswer, GrowsByAnswer, kind_for};
+ghost use Rattle.byte_unit_lines.specs.Answered.{AddsAnswer, GrowsByAnswer};
 
 use byte_unit::{Kind, ParseError, ValueParseError};
 use byte_unit_base::size;
@@ -41,19 +41,19 @@ pub(crate) fn add_answer<A: Allocator>(
 
 /// Does what [`add_answer`] does, with a size in bits if `BITS`, and else in bytes.
 ///
-/// A function that takes the kind as an argument takes more instructions. Rejected lines take more if the arm for errors
-/// comes after that for sizes.
+/// A function that takes the kind as an argument takes more instructions. Rejected lines take more if the arm for
+/// errors comes after that for sizes.
 fn add_answer_of<const BITS: bool, A: Allocator>(
     bytes: &[u8],
     len: usize,
     out: &mut Vec<u8, A>,
 ) -> Result<(), AllocError>
     requires { IsLine bytes.now len }
-    ensures ok { OnOk result
-        (AddsAnswer (kind_for BITS) (take len bytes.now) out.old.items out.new.items) }
+    ensures ok { OnOk result (AddsAnswer (cond BITS Kind.Bit Kind.Byte)
+        (take len bytes.now) out.old.items out.new.items) }
     ensures growth { GrowsByAnswer out.old out.new result }
 {
-    let kind = kind_for(BITS);
+    let kind = if BITS { Kind::Bit } else { Kind::Byte };
     match size::parse_line(bytes, len, false, kind) {
         None => out.extend_from_slice(b"not text\n"),
         Some(Err(error)) => out.extend_from_slice(fault_line_of(&error)),
@@ -64,13 +64,6 @@ fn add_answer_of<const BITS: bool, A: Allocator>(
             out.extend_from_slice(&answer[..end + 1])
         }
     }
-}
-
-/// Returns the kind of sizes in bits if `bits`, and else of those in bytes.
-fn kind_for(bits: bool) -> Kind
-    ensures { result ≡ kind_for bits }
-{
-    if bits { Kind::Bit } else { Kind::Byte }
 }
 
 /// Returns the message for a parse error, with the line end.

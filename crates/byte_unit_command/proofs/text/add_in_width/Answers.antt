@@ -1,23 +1,16 @@
--- What is appended is the text that `write_size` wrote, with its suffix, padded to the width.
-use Rattle.std.proofs.Common.{ℕ, List, ◌++◌, ap, sym, ◌∙◌, refl}
-use Rattle.byte_unit_command.specs.Shown.{padded}
+-- What is appended is the text that `write_size` wrote, with its suffix, padded to the width. Without a width and a
+-- suffix it is appended as it was written: of the bytes that are appended, truncating leaves the first ones.
+use Rattle.std.proofs.Common.{true≢false, ◌≡◌, ◌≤◌, ℕ, List, [], ◌++◌, length, take, ap, sym, ◌∙◌, arith}
+use Rattle.std.proofs.Common.{append-nil, is_ok, refl}
+use Rattle.std.proofs.lemmas.List.{length-take-le, nil_from_length}
 use Rattle.std.proofs.lemmas.Result.{on_ok_weaker}
-use Rattle.byte_unit_command.proofs.Texts.{padded-none}
+use Rattle.byte_unit_command.specs.Shown.{padded}
+use Rattle.byte_unit_command.proofs.Texts.{first_bytes, padded-none}
+use Rattle.byte_unit_stream.proofs.Prefixes.{IsPrefix-if}
 use Rattle.byte_unit_command.proofs.text.add_in_width.Goals as goal
 
-pub returns-then-width-eq0-clause-ok : goal.returns-then-width-eq0-clause-ok
-returns-then-width-eq0-clause-ok g c =
-    let options = c.args.options.now in
-    let written = c.write_size-len.ensures.written in
-    let shown = written.form ++ options.suffix.now in
-    on_ok_weaker c.add_unpadded.result (λ added. (
-      shown,
-      (written.form, written.is_form, sym (padded-none c.args.width options.align_left shown c.if-width-eq0.true)),
-      added ∙ ap (λ text. c.args.text.now.items ++ (text ++ options.suffix.now)) written.begins,
-    )) c.add_unpadded.ensures.ok
-
-pub returns-clause-ok : goal.returns-clause-ok
-returns-clause-ok g c =
+pub returns-then-width-gt0-clause-ok : goal.returns-then-width-gt0-clause-ok
+returns-then-width-gt0-clause-ok g c =
     let options = c.args.options.now in
     let written = c.write_size-len.ensures.written in
     let shown : List ℕ → List ℕ = λ text. padded c.args.width options.align_left (text ++ options.suffix.now) in
@@ -26,3 +19,70 @@ returns-clause-ok g c =
       (written.form, written.is_form, refl),
       added ∙ ap (λ text. c.args.text.now.items ++ shown text) written.begins,
     )) c.add_padded.ensures.ok
+
+pub returns-in-len1-up-clause-ok : goal.returns-in-len1-up-clause-ok
+returns-in-len1-up-clause-ok g c =
+    let options = c.args.options.now in
+    let written = c.write_size-len.ensures.written in
+    let shown = written.form ++ options.suffix.now in
+    let none : c.args.width ≡ 0 = omega (arith, c.if-width-gt0.false) in
+    on_ok_weaker c.add_suffixed.result (λ added. (
+      shown,
+      (written.form, written.is_form, sym (padded-none c.args.width options.align_left shown none)),
+      added ∙ ap (λ text. c.args.text.now.items ++ (text ++ options.suffix.now)) written.begins,
+    )) c.add_suffixed.ensures.ok
+
+pub returns-then-len-gt-AT_ONCE-clause-kept : goal.returns-then-len-gt-AT_ONCE-clause-kept
+returns-then-len-gt-AT_ONCE-clause-kept g c =
+    IsPrefix-if (is_ok c.extend_from_slice.result) c.args.text.now.items
+    (take c.write_size-len.result c.write_size-len.new.out) c.extend_from_slice.ensures.items
+
+pub slice_bounds-extend_from_slice-end-in-empty-2 : goal.slice_bounds-extend_from_slice-end-in-empty-2
+slice_bounds-extend_from_slice-end-in-empty-2 g c =
+    let long : 64 ≤ length c.write_size-len.new.out = omega (arith, c.requires.capacity, c.write_size-len.auto.out) in
+    omega (arith, length-take-le 64 c.write_size-len.new.out long)
+
+pub returns-in_err-extend_from_slice-in-empty-clause-succeeds :
+    goal.returns-in_err-extend_from_slice-in-empty-clause-succeeds
+returns-in_err-extend_from_slice-in-empty-clause-succeeds g c = λ room.
+    let long : 64 ≤ length c.write_size-len.new.out = omega (arith, c.requires.capacity, c.write_size-len.auto.out) in
+    let copied = length-take-le 64 c.write_size-len.new.out long in
+    absurd (true≢false (sym (c.in_err-extend_from_slice-in-empty.ensures.succeeds (omega (arith, room, copied)))))
+
+pub overflow_sub-len-in-empty : goal.overflow_sub-len-in-empty
+overflow_sub-len-in-empty g c =
+    let long : 64 ≤ length c.write_size-len.new.out = omega (arith, c.requires.capacity, c.write_size-len.auto.out) in
+    let copied = length-take-le 64 c.write_size-len.new.out long in
+    omega (arith, c.len.ensures, c.in_ok-extend_from_slice-in-empty.ensures.len, copied)
+
+pub returns-in_ok-extend_from_slice-in-empty-clause-ok : goal.returns-in_ok-extend_from_slice-in-empty-clause-ok
+returns-in_ok-extend_from_slice-in-empty-clause-ok g c =
+    let options = c.args.options.now in
+    let text = c.args.text.now.items in
+    let len = c.write_size-len.result in
+    let bytes = c.write_size-len.new.out in
+    let suffix = options.suffix.now in
+    let written = c.write_size-len.ensures.written in
+    let after = c.extend_from_slice-in-empty.new.self in
+    let long : 64 ≤ length bytes = omega (arith, c.requires.capacity, c.write_size-len.auto.out) in
+    let short : len ≤ 64 = omega (arith, c.if-len-gt-AT_ONCE.false) in
+    let none : suffix ≡ [] = nil_from_length suffix (omega (arith, c.in-empty.len_below)) in
+    let unpadded : c.args.width ≡ 0 = omega (arith, c.if-width-gt0.false) in
+    let shown = written.form ++ suffix in
+    let same : shown ≡ written.form = ap (λ suffix. written.form ++ suffix) none ∙ append-nil written.form in (
+      shown,
+      (written.form, written.is_form, sym (padded-none c.args.width options.align_left shown unpadded)),
+      c.truncate.ensures.items ∙ ap (λ count. take count after.items) (omega (arith, after.ok.0, c.len.ensures))
+          ∙ first_bytes text bytes after.items len c.in_ok-extend_from_slice-in-empty.ensures.items long short
+          ∙ ap (λ shown. text ++ shown) (written.begins ∙ sym same),
+    )
+
+pub returns-in_ok-extend_from_slice-in-empty-clause-kept : goal.returns-in_ok-extend_from_slice-in-empty-clause-kept
+returns-in_ok-extend_from_slice-in-empty-clause-kept g c =
+    let added = returns-in_ok-extend_from_slice-in-empty-clause-ok g c in (added.0, added.2)
+
+pub returns-in_ok-extend_from_slice-in-empty-clause-len : goal.returns-in_ok-extend_from_slice-in-empty-clause-len
+returns-in_ok-extend_from_slice-in-empty-clause-len g c =
+    let long : 64 ≤ length c.write_size-len.new.out = omega (arith, c.requires.capacity, c.write_size-len.auto.out) in
+    let copied = length-take-le 64 c.write_size-len.new.out long in
+    omega (arith, c.truncate.ensures.len, c.len.ensures, c.in_ok-extend_from_slice-in-empty.ensures.len, copied)

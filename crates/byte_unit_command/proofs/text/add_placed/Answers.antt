@@ -1,19 +1,19 @@
 -- What is appended is the blank that separates the field, and the size in its width; not between blanks, nothing is
 -- before it, and the width is that of the options.
-use Rattle.std.proofs.Common.{◌≡◌, ◌++◌, true, false, ap, subst, sym, ◌∙◌, refl}
+use Rattle.std.proofs.Common.{◌≡◌, ◌++◌, true, false, ap, subst, sym, ◌∙◌, refl, rules}
 use Rattle.std.proofs.Common.{append_assoc}
 use Rattle.std.proofs.lemmas.Result.{on_ok_weaker}
 use Rattle.byte_unit_command.specs.Fields.{at_blanks, gap_by, gap_of, width_by, width_of}
 use Rattle.byte_unit_command.specs.Shown.{IsShown}
 use Rattle.byte_unit_command.proofs.text.add_placed.Goals as goal
 
-pub returns-then-blanks-clause-ok : goal.returns-then-blanks-clause-ok
-returns-then-blanks-clause-ok g c =
+pub returns-then-this-ne0-clause-ok : goal.returns-then-this-ne0-clause-ok
+returns-then-this-ne0-clause-ok g c =
     let options = c.args.options.now in
     let number = c.args.number in
     let field = c.args.field.now in
     let old = c.args.text.now.items in
-    let at : at_blanks options ≡ true = c.requires.blanks ∙ (sym c.value_of-blanks.ensures ∙ c.if-blanks.true) in
+    let at : at_blanks options ≡ true = search rules in
     let width : c.width_of-width.result ≡ width_of options number field =
     c.width_of-width.ensures.width ∙ ap (λ blanks. width_by blanks options.width number field) (sym at) in
     let gap : c.gap_of.result.now ≡ gap_of options number field =
@@ -34,7 +34,7 @@ returns-clause-ok g c =
     let options = c.args.options.now in
     let number = c.args.number in
     let field = c.args.field.now in
-    let at : at_blanks options ≡ false = c.requires.blanks ∙ (sym c.value_of-blanks.ensures ∙ c.if-blanks.false) in
+    let at : at_blanks options ≡ false = search rules in
     let width = ap (λ blanks. width_by blanks options.width number field) (sym at) in
     on_ok_weaker c.add_in_width-2.result (λ added. (
       added.0,

@@ -1,6 +1,6 @@
 -- The recursion ends: each call has one range less.
 use Rattle.std.proofs.Common.{length}
-use Rattle.byte_unit_command.proofs.field.+is_in_one.Given as goal
+use Rattle.byte_unit_command.proofs.converter.+is_in_one.Given as goal
 
 abbrev pub decreases-is_in_one : goal.decreases-is_in_one
 decreases-is_in_one l = length l.ranges.now

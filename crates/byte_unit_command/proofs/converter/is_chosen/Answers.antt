@@ -2,7 +2,7 @@
 use Rattle.std.proofs.Common.{None, arith}
 use Rattle.std.proofs.lemmas.Bool.{leb-false, leb-true}
 use Rattle.byte_unit_command.proofs.Ranges.{chosen-by_first, none-before-first}
-use Rattle.byte_unit_command.proofs.field.is_chosen.Goals as goal
+use Rattle.byte_unit_command.proofs.converter.is_chosen.Goals as goal
 
 pub returns-in-len1-up-clause-yes : goal.returns-in-len1-up-clause-yes
 returns-in-len1-up-clause-yes c = λ begun.
