@@ -18,7 +18,7 @@ use Rattle.byte_unit_base.specs.UnitWord.{letter_power, multiple_of, word_of, bi
 use Rattle.byte_unit_base.specs.UnitScan.{Multiple}
 use Rattle.byte_unit_base.specs.UnitScan.{One, Decimal, Binary}
 use Rattle.byte_unit_base.specs.UnitScan.{Empty}
-use Rattle.byte_unit_base.specs.declared.read.number.TheConstants.{LETTER_POWERS}
+use Rattle.byte_unit_base.specs.declared.unit.tables.TheConstants.{LETTER_POWERS}
 use Rattle.byte_unit_base.proofs.Lines.{rest_of_line}
 use Rattle.byte_unit_base.proofs.UnitReached.{prefix_found}
 use Rattle.byte_unit_base.proofs.UnitStops.{walk, walk_line, walk_leads}

@@ -21,7 +21,8 @@ pub record IsErrorAt (IsViable : ParserState → List ℕ → Type 0) (flags : F
 
 -- the position of the error of the input, or `None` if it has no error
 abbrev pub IsPositionFor : (ParserState → List ℕ → Type 0) → Flags → List ℕ → Option ℕ → Type 0
-IsPositionFor IsViable flags bytes None = (fault : Fault) → ¬ (IsFirstFault IsViable current flags (trim_of bytes) fault)
+IsPositionFor IsViable flags bytes None =
+    (fault : Fault) → ¬ (IsFirstFault IsViable current flags (trim_of bytes) fault)
 IsPositionFor IsViable flags bytes (Some position) = IsErrorAt IsViable flags bytes position
 
 -- the position of the error of a number and unit; `None` if the input is in the grammar

@@ -11,7 +11,9 @@ use Rattle.byte_unit_base.specs.Parsed.{parsed_unit, parsed_number, parsed_size}
 use Rattle.byte_unit_base.specs.declared.kind.Kind.{Kind}
 
 -- the result is `Ok` with exactly the meaning of the input, and an error with exactly the error of the input
-pub record GivesAnswer (Meaning : Type 0) (Means : Meaning → Type 0) (Fails : Fault → Type 0) (result : Result Meaning Fault)
+pub record GivesAnswer
+    (Meaning : Type 0) (Means : Meaning → Type 0) (Fails : Fault → Type 0)
+    (result : Result Meaning Fault)
     : Type 0 where
   pub is_meaning : (meaning : Meaning) → (result ≡ Ok meaning) ↔ Means meaning
   pub is_fault : (fault : Fault) → (result ≡ Err fault) ↔ Fails fault

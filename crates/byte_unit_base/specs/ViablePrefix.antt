@@ -10,7 +10,8 @@ use Rattle.byte_unit_base.specs.SizeText.{space}
 -- the parser state after a viable prefix. `before_unit` is after the spaces that follow a number, and, if a unit is
 -- parsed alone, at the beginning
 pub data ParserState : Type 0 where
-  beginning in_whole after_point in_fraction before_unit after_prefix after_b after_bi after_bit after_bits : ParserState
+  beginning in_whole after_point in_fraction : ParserState
+  before_unit after_prefix after_b after_bi after_bit after_bits : ParserState
 
 -- the text is a beginning of `bits`, in either case (so `B` too leads to `after_b`), and leads to this parser state
 abbrev pub IsWord : ParserState → List ℕ → Type 0
@@ -60,7 +61,8 @@ IsViableSizePrefix version place text = IsNumberAndUnitPrefix version place text
 
 -- the input is `front` followed by `rest`, and `front` is its longest viable prefix, with this parser state after it
 pub record IsLongestViablePrefix
-    (IsViable : ParserState → List ℕ → Type 0) (text : List ℕ) (place : ParserState) (front rest : List ℕ) : Type 0 where
+    (IsViable : ParserState → List ℕ → Type 0) (text : List ℕ) (place : ParserState)
+    (front rest : List ℕ) : Type 0 where
   pub text_is : text ≡ front ++ rest
   pub is_front : IsViable place front
   pub longest : (farther : ParserState) (next others : List ℕ)

@@ -13,7 +13,6 @@ use crate::unit::scan::Flags;
 use crate::{ParseError, Unit};
 use byte_unit_math::Decimal;
 
-pub(crate) mod loads;
 pub(crate) mod number;
 pub(crate) mod stop;
 

@@ -158,7 +158,7 @@ impl Unit {
     pub fn is_bit(self) -> bool
         ensures { result ≡ (shape_of self).bit }
     {
-        self.shape().bit
+        UNITS[self as usize].shape.bit
     }
 
     /// Returns `true` if the prefix is binary (IEC). Of the units without a prefix, `B` counts as binary and `Bit` does
@@ -172,7 +172,7 @@ impl Unit {
     pub fn is_binary_multiples(self) -> bool
         ensures { result ≡ (shape_of self).binary }
     {
-        self.shape().binary
+        UNITS[self as usize].shape.binary
     }
 
     /// Returns the exponents of 2 and of 5 in the number of bits of the unit, which has no other prime factor.

@@ -6,7 +6,7 @@ pub record IsPutBefore (text : List ℕ) (end : ℕ) (old new : List ℕ) (begin
   pub begins : begin + length text ≡ end
   pub bytes : drop begin new ≡ text ++ drop end old
 
--- `n` has at most `count` digits, and so many fit before the index `end` of the bytes.
+-- `n` has at most `count` digits, and `count` bytes fit before the index `end`, which is within the bytes.
 pub record FitBefore (count n end : ℕ) (bytes : List ℕ) : Type 0 where
   pub below : n < 10 ^ count
   pub room : count ≤ end

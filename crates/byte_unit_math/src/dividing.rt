@@ -1,6 +1,9 @@
-//! Division with remainder: of 128 bits, by constants, and for one digit of a long division.
-ghost use Rattle.std.specs.Prelude.{◌≡◌, ◌+◌, ◌*◌, ◌/◌, ◌%◌, ◌^◌, ◌<◌, ◌≤◌};
+//! Division with remainder: of 128 bits, rounded, by constants, and for one digit of a long division.
+ghost use Rattle.std.specs.Prelude.{◌≡◌, ℕ, ◌+◌, ◌*◌, ◌/◌, ◌%◌, ◌^◌, ◌<◌, ◌≤◌};
+ghost use Rattle.byte_unit_math.specs.Bounds.{unit_limit};
 ghost use Rattle.byte_unit_math.specs.Inverse.{HasInverse, IsSubtracted};
+ghost use Rattle.byte_unit_math.specs.Nearest.{IsNearest};
+ghost use Rattle.byte_unit_math.specs.declared.expansion.Ties.TheVariants.{Even};
 
 /// The radix of groups of 18 digits.
 const TEN_POW_18: u64 = 1_000_000_000_000_000_000;
@@ -34,6 +37,33 @@ pub fn div_rem(dividend: u128, divisor: u128) -> (u128, u128)
     } else {
         let quotient = dividend / divisor;
         (quotient, dividend - quotient * divisor)
+    }
+}
+
+/// Returns `numerator / divisor` rounded to the nearest whole number, a tie to the even one.
+///
+/// Precondition (proved at every call): `numerator < 2^127` and `1 <= divisor <= 2^93`.
+///
+/// # Examples
+/// ```rust
+/// assert_eq!(rt; (rounded_quotient(5, 2), rounded_quotient(7, 2)), (2, 4));
+/// assert_eq!(rt; rounded_quotient(8, 3), 3);
+/// ```
+#[inline]
+#[tactic(auto, using(crate::proofs::Nearest::rounds_up_even, crate::proofs::Nearest::rounds_down_even))]
+pub fn rounded_quotient(numerator: u128, divisor: u128) -> u128
+    requires small { numerator < 2 ^ 127 }
+    requires some_divisor { 1 ≤ divisor }
+    requires small_divisor { divisor ≤ unit_limit }
+    ensures { (number places : ℕ) → numerator ≡ number * 10 ^ places
+        → IsNearest number divisor places Even result }
+{
+    let (quotient, rest) = div_rem(numerator, divisor);
+    let odd = quotient % 2;
+    if 2 * rest + odd > divisor {
+        quotient + 1
+    } else {
+        quotient
     }
 }
 

@@ -6,7 +6,8 @@ ghost use Rattle.byte_unit_math.specs.RoundedUp.{group_limit, half_limit, IsRoun
 ghost use Rattle.byte_unit_math.specs.Steps.{saturating_add};
 
 use crate::dividing::{div_rem_by_inverse, div_rem_u24};
-use crate::{DECIMAL_PLACES, Decimal, Steps, power_of_ten};
+use crate::tens::{POWERS_OF_TEN, power_of_ten};
+use crate::{DECIMAL_PLACES, Decimal, Steps};
 
 /// The radix of groups of seven digits: the product of a group and a unit of less than 40 bits fits a `u64`.
 const GROUP: u64 = 10_000_000;
@@ -47,7 +48,7 @@ pub fn least_size(d: Decimal, unit_size: u128, limit: u128) -> Option<u128>
     let (whole, digits, places) = d.parts();
     let part = if places <= GROUP_PLACES {
         // All digits are in the most significant group.
-        let group = digits as u64 * power_of_ten(GROUP_PLACES - places) as u64;
+        let group = digits as u64 * POWERS_OF_TEN[(GROUP_PLACES - places) as usize] as u64;
         carry_of_group(group, unit_size, 0)
     } else {
         let (high, low) = split_fraction(digits, places);

@@ -4,8 +4,6 @@ ghost use Rattle.byte_unit_math.specs.Bounds.{scale, places_of_decimal, unit_lim
 ghost use Rattle.byte_unit_math.specs.Steps.{saturating_add};
 ghost use Rattle.byte_unit_math.specs.Exact.{IsExactAt, IsLeastPlaces, IsQuotient, IsFirstExact};
 ghost use Rattle.byte_unit_math.specs.Factored.{product_of};
-ghost use Rattle.byte_unit_math.specs.Nearest.{IsNearest};
-ghost use Rattle.byte_unit_math.specs.declared.expansion.Ties.TheVariants.{Even};
 
 use crate::dividing::{div_rem, div_rem_digit, div_rem_u24};
 use crate::tens::{POWERS_OF_FIVE, power_of_ten};
@@ -119,31 +117,4 @@ fn div_rem_small(count: u128, divisor: u64) -> (u128, u128)
     }
     let (whole, digits) = div_rem_u24(count, divisor);
     (whole, u128::from(digits))
-}
-
-/// Returns `numerator / divisor` rounded to the nearest whole number, a tie to the even one.
-///
-/// Precondition (proved at every call): `numerator < 2^127` and `1 <= divisor <= 2^93`.
-///
-/// # Examples
-/// ```rust
-/// assert_eq!(rt; (rounded_quotient(5, 2), rounded_quotient(7, 2)), (2, 4));
-/// assert_eq!(rt; rounded_quotient(8, 3), 3);
-/// ```
-#[inline]
-#[tactic(auto, using(crate::proofs::Nearest::rounds_up_even, crate::proofs::Nearest::rounds_down_even))]
-pub fn rounded_quotient(numerator: u128, divisor: u128) -> u128
-    requires small { numerator < 2 ^ 127 }
-    requires some_divisor { 1 ≤ divisor }
-    requires small_divisor { divisor ≤ unit_limit }
-    ensures { (number places : ℕ) → numerator ≡ number * 10 ^ places
-        → IsNearest number divisor places Even result }
-{
-    let (quotient, rest) = div_rem(numerator, divisor);
-    let odd = quotient % 2;
-    if 2 * rest + odd > divisor {
-        quotient + 1
-    } else {
-        quotient
-    }
 }

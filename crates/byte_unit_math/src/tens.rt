@@ -3,7 +3,7 @@ ghost use Rattle.std.specs.Prelude.{◌≡◌, ◌^◌, ◌≤◌};
 ghost use Rattle.byte_unit_math.specs.Bounds.{expansion_places};
 
 /// The powers of 10 that fit 128 bits.
-const POWERS: [u128; 39] = [
+pub(crate) const POWERS_OF_TEN: [u128; 39] = [
     1,
     10,
     100,
@@ -59,7 +59,7 @@ pub fn power_of_ten(exponent: u32) -> u128
     requires { exponent ≤ 38 }
     ensures { result ≡ 10 ^ exponent }
 {
-    POWERS[exponent as usize]
+    POWERS_OF_TEN[exponent as usize]
 }
 
 /// Returns `2^exponent`.

@@ -1,4 +1,4 @@
-//! Parses a number and a unit from a line. Digits are loaded eight bytes at a time.
+//! Parses a number and a unit from a line. Eight bytes are loaded at a time, as a number whose lowest byte is the first.
 
 ghost use Rattle.std.specs.Prelude.{◌≡◌, ◌≢◌, ℕ, Bool, List, Some, ◌+◌, ◌%◌, ◌^◌, ◌<◌, ◌≤◌};
 ghost use Rattle.std.specs.Prelude.{length, take, drop, replicate, slice_range};
@@ -12,14 +12,13 @@ ghost use Rattle.byte_unit_base.specs.SizeText.{space};
 ghost use Rattle.byte_unit_base.specs.Units.{shape_of};
 ghost use Rattle.byte_unit_base.specs.UnitScan.{count_of, multiple_shape};
 ghost use Rattle.byte_unit_base.specs.UnitWord.{multiple_of, letters_of, word_of, bits_len};
-ghost use Rattle.byte_unit_base.specs.PartsReading.{IsFirst, IsLineOf, IsNoSpace, IsNumberEnd, IsUnitEnd};
+ghost use Rattle.byte_unit_base.specs.PartsReading.{IsFirst, IsLineOf, IsNoSpace, IsNumberEnd, IsUnitEnd, first_eight};
 ghost use Rattle.byte_unit_base.specs.PartsReading.{IsPartsReading};
 
-use crate::read::loads::{eight_at, load_eight};
 use crate::read::stop::{Reason, Stop};
 use crate::unit::Unit;
 use crate::unit::scan::{Flags, UnitStop, Word};
-use crate::unit::tables::BY_POWER;
+use crate::unit::tables::{BY_POWER, LETTER_POWERS};
 use byte_unit_math::{DECIMAL_PLACES, Decimal, WHOLE_LIMIT};
 use core::dec2flt::read_digits;
 use std::simd::prelude::*;
@@ -183,9 +182,8 @@ fn long_value(digits: &[u8], last_bits: u64) -> u128
     product + u128::from(last_bits.wrapping_sub((product % (1 << 64)) as u64))
 }
 
-/// Parses the digits of a line from an index on. Returns where they end, and the last 64 bits of their value.
-///
-/// The line is at the beginning of `bytes`, or all of them (`ALONE`).
+/// Parses the digits of a line from an index on. Returns where they end, and the last 64 bits of their value. The line
+/// is at the beginning of `bytes`, or all of them (`ALONE`).
 #[inline(always)]
 fn leading_digits<const ALONE: bool>(line: &[u8], bytes: &[u8], from: usize) -> (usize, u64)
     requires line { IsLineOf line.now bytes.now }
@@ -343,15 +341,59 @@ fn letters(length: usize) -> Word
     }
 }
 
-/// The position of the prefix of each letter in either case, by its byte: from 1 for K to 9 for R, or 0 if the byte is
-/// no prefix letter.
-static LETTER_POWERS: [u8; 256] = [
-    0, 0, 0, 0, 0, 0, 0, 0, 0, 0, 0, 0, 0, 0, 0, 0, 0, 0, 0, 0, 0, 0, 0, 0, 0, 0, 0, 0, 0, 0, 0, 0,
-    0, 0, 0, 0, 0, 0, 0, 0, 0, 0, 0, 0, 0, 0, 0, 0, 0, 0, 0, 0, 0, 0, 0, 0, 0, 0, 0, 0, 0, 0, 0, 0,
-    0, 0, 0, 0, 0, 6, 0, 3, 0, 0, 0, 1, 0, 2, 0, 0, 5, 0, 9, 0, 4, 0, 0, 0, 0, 8, 7, 0, 0, 0, 0, 0,
-    0, 0, 0, 0, 0, 6, 0, 3, 0, 0, 0, 1, 0, 2, 0, 0, 5, 0, 9, 0, 4, 0, 0, 0, 0, 8, 7, 0, 0, 0, 0, 0,
-    0, 0, 0, 0, 0, 0, 0, 0, 0, 0, 0, 0, 0, 0, 0, 0, 0, 0, 0, 0, 0, 0, 0, 0, 0, 0, 0, 0, 0, 0, 0, 0,
-    0, 0, 0, 0, 0, 0, 0, 0, 0, 0, 0, 0, 0, 0, 0, 0, 0, 0, 0, 0, 0, 0, 0, 0, 0, 0, 0, 0, 0, 0, 0, 0,
-    0, 0, 0, 0, 0, 0, 0, 0, 0, 0, 0, 0, 0, 0, 0, 0, 0, 0, 0, 0, 0, 0, 0, 0, 0, 0, 0, 0, 0, 0, 0, 0,
-    0, 0, 0, 0, 0, 0, 0, 0, 0, 0, 0, 0, 0, 0, 0, 0, 0, 0, 0, 0, 0, 0, 0, 0, 0, 0, 0, 0, 0, 0, 0, 0,
-];
+/// Returns the first eight bytes from an index on. After the end of the bytes they are 0.
+#[inline(always)]
+#[tactic(auto, using(crate::proofs::Lines::last_bytes))]
+fn eight_at(bytes: &[u8], from: usize) -> u64
+    requires { from ≤ length bytes.now }
+    ensures { result ≡ number_l 256 (first_eight (drop from bytes.now)) }
+{
+    if bytes.len() - from >= 8 {
+        return load_eight(bytes, from);
+    }
+    if bytes.len() < 8 || from == bytes.len() {
+        return few_bytes(&bytes[from..]);
+    }
+    let start = bytes.len() - 8;
+    load_eight(bytes, start) >> (8 * (from - start))
+}
+
+/// Returns the eight bytes at an index.
+#[inline(always)]
+#[tactic(auto, using(crate::proofs::Lines::loaded_eight))]
+fn load_eight(bytes: &[u8], from: usize) -> u64
+    requires { from + 8 ≤ length bytes.now }
+    ensures { result ≡ number_l 256 (first_eight (drop from bytes.now)) }
+{
+    u64x1::from_le_bytes(u8x8::from_slice(&bytes[from..])).to_array()[0]
+}
+
+/// Returns the four bytes at an index.
+#[inline(always)]
+#[tactic(auto, using(crate::proofs::Lines::loaded_four))]
+fn load_four(bytes: &[u8], from: usize) -> u64
+    requires { from + 4 ≤ length bytes.now }
+    ensures { result ≡ number_l 256 (take 4 (drop from bytes.now)) }
+{
+    u64::from(u32x1::from_le_bytes(u8x4::from_slice(&bytes[from..])).to_array()[0])
+}
+
+/// Returns fewer than eight bytes as a number, in which the missing bytes are 0. If there are four or more, the first
+/// four and the last four are loaded.
+#[inline(always)]
+fn few_bytes(bytes: &[u8]) -> u64
+    requires { length bytes.now < 8 }
+    ensures { result ≡ number_l 256 (first_eight bytes.now) }
+{
+    let len = bytes.len();
+    if len >= 4 {
+        let after_four = load_four(bytes, len - 4) >> (8 * (8 - len));
+        return load_four(bytes, 0) + (after_four << 32);
+    }
+    match bytes {
+        [] => 0,
+        [a] => u64::from(*a),
+        [a, b] => u64::from(*a) + u64::from(*b) * 256,
+        [a, b, c, ..] => u64::from(*a) + u64::from(*b) * 256 + u64::from(*c) * 65536,
+    }
+}

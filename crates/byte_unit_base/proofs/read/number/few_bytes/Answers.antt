@@ -1,7 +1,7 @@
 -- Four bytes and those after them are all of the bytes.
 use Rattle.std.proofs.Common.{◌-◌, ◌*◌, ◌/◌, ◌^◌, length, ap, arith}
 use Rattle.byte_unit_base.proofs.Lines.{after_four}
-use Rattle.byte_unit_base.proofs.read.loads.few_bytes.Goals as goal
+use Rattle.byte_unit_base.proofs.read.number.few_bytes.Goals as goal
 
 pub overflow_add-result : goal.overflow_add-result
 overflow_add-result c =
