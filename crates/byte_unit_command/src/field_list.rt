@@ -8,14 +8,14 @@ ghost use Rattle.byte_unit_command.specs.declared.options.FieldRange.{FieldRange
 use crate::options::FieldRange;
 use std::alloc::{AllocError, Global};
 
-/// Returns the fields that are converted: those of a list, or the first without one. Returns `None` if the list is
-/// wrong.
+/// Returns the fields that are converted: those of a list, or the first field if there is no list. Returns `None` if
+/// the list is wrong.
 ///
 /// A list is ranges between commas: `N`, `N-`, `N-M`, `-M` or `-`, where the numbers are decimal digits, from 1 to
-/// 2^64 - 1, and the first is not above the last. All else is wrong, a number of 2^64 or more too.
+/// 2^64 - 1, and the first is not above the last. All else is wrong, also a number of 2^64 or more.
 ///
-/// The ranges are sorted by where they begin. A run takes ranges in any order; in this one, the time for a record is
-/// linear in its fields and the ranges.
+/// The ranges are sorted by their first field. A run takes any order; with sorted ranges its time for a record is
+/// linear in the fields and the ranges.
 ///
 /// # Errors
 ///

@@ -1,5 +1,5 @@
--- The items of the loop are the parts of the list between its commas. A sort moves ranges, and leaves none that begins
--- after the next one.
+-- The items of the loop are the parts of the list between its commas. A sort leaves no range that begins after the next
+-- one.
 use Rattle.std.proofs.Common.{◌≡◌, ℕ, List, ◌++◌, [], ◌∷◌, map, length, ap, sym, subst, lit<, Bor, Option}
 use Rattle.std.proofs.Common.{None, Some, codes, rules}
 use Rattle.std.specs.Prelude.{option_map, unwrap_or}
@@ -7,10 +7,10 @@ use Rattle.std.proofs.lemmas.List.{map-append}
 use Rattle.std.proofs.lemmas.List.Sorted.{IsNonDecreasingBy-from_sort_by_key, all_adjacent_from_non_decreasing}
 use Rattle.std.proofs.lemmas.Iterator.Consumers.{YieldsList-turn, YieldsList-end}
 use Rattle.std.proofs.lemmas.Iterator.Splits.{YieldsList-from_str_split}
-use Rattle.byte_unit_command.specs.FieldList.{AreSorted, IsListReading, IsRange, AreRanges}
+use Rattle.byte_unit_command.specs.FieldList.{IsSortedFrom, IsListReading, IsRange, AreRanges}
 use Rattle.byte_unit_command.specs.declared.options.FieldRange.{FieldRange}
 use Rattle.byte_unit_command.proofs.Items.{AreRanges-append, AreRanges-at}
-use Rattle.byte_unit_command.proofs.Ranges.{chosen-in_any_order, in_order-adjacent}
+use Rattle.byte_unit_command.proofs.Ranges.{in_order-adjacent}
 use Rattle.byte_unit_command.proofs.field_list.fields_of.Goals as goal
 
 -- a list that is given is read
@@ -53,8 +53,8 @@ returns c =
     let ranges = c.sort_unstable_by_key.new.self.items in
     let rising = IsNonDecreasingBy-from_sort_by_key (λ range. range.first) _ c.sort_unstable_by_key.ensures.sorted
     (λ a r q k. search rules) in
-    let sorted : AreSorted listed ranges = record {
-      same = λ number. chosen-in_any_order listed ranges number c.sort_unstable_by_key.ensures.permutation;
+    let sorted : IsSortedFrom listed ranges = record {
+      permutation = c.sort_unstable_by_key.ensures.permutation;
       in_order =
           in_order-adjacent ranges (all_adjacent_from_non_decreasing (λ range. range.first) _ rising);
     } in
