@@ -1,4 +1,4 @@
-//! Converts records, field by field, and says which fields are converted.
+//! Converts records field by field, and finds the fields to convert.
 
 ghost use Rattle.std.specs.Prelude.{◌≡◌, ◌≤◌, ◌∷◌, ℕ, [], Some, length};
 ghost use Rattle.std.specs.Prelude.{OnOk, OnErr, IsErrOf, IsTrue, IsFalse, vec_capacity};
@@ -246,7 +246,7 @@ impl<A: Allocator> Converter<A> {
 ///
 /// Precondition (proved at every call): if `in_order`, the ranges are, and the first does not end before the field.
 #[inline(always)]
-pub(crate) fn is_chosen(ranges: &[FieldRange], in_order: bool, number: u64) -> bool
+fn is_chosen(ranges: &[FieldRange], in_order: bool, number: u64) -> bool
     requires order { IsTrue in_order → IsInOrder ranges.now }
     requires goes { IsTrue in_order → GoesTo ranges.now number }
     ensures yes { IsTrue result → IsChosen ranges.now number }
@@ -262,7 +262,7 @@ pub(crate) fn is_chosen(ranges: &[FieldRange], in_order: bool, number: u64) -> b
 }
 
 /// Returns `true` if the field with this number is in one of the ranges.
-pub(crate) fn is_in_one(ranges: &[FieldRange], number: u64) -> bool
+fn is_in_one(ranges: &[FieldRange], number: u64) -> bool
     ensures yes { IsTrue result → IsChosen ranges.now number }
     ensures no { IsFalse result → ¬ IsChosen ranges.now number }
 {
@@ -272,9 +272,43 @@ pub(crate) fn is_in_one(ranges: &[FieldRange], number: u64) -> bool
     }
 }
 
+/// Returns `true` if the field with this number is in the range.
+fn in_range(range: &FieldRange, number: u64) -> bool
+    ensures yes { IsTrue result → InRange range.now number }
+    ensures no { IsFalse result → ¬ InRange range.now number }
+{
+    if number < range.first {
+        return false;
+    }
+    match range.last {
+        None => true,
+        Some(last) => number <= last,
+    }
+}
+
+/// Returns `true` if the ranges begin in their order.
+fn is_in_order(ranges: &[FieldRange]) -> bool
+    ensures { IsTrue result → IsInOrder ranges.now }
+{
+    match ranges {
+        [] => true,
+        [range, others @ ..] => begins_before(*range, others) && is_in_order(others),
+    }
+}
+
+/// Returns `true` if the range begins before the first of the others, or with it, or there is none.
+fn begins_before(range: FieldRange, others: &[FieldRange]) -> bool
+    ensures { IsTrue result → IsInOrder others.now → IsInOrder (range ∷ others.now) }
+{
+    match others {
+        [] => true,
+        [next, ..] => range.first <= next.first,
+    }
+}
+
 /// Returns the ranges without those at the beginning that end before the field with this number.
 #[inline(always)]
-pub(crate) fn ranges_from(ranges: &[FieldRange], number: u64) -> &[FieldRange]
+fn ranges_from(ranges: &[FieldRange], number: u64) -> &[FieldRange]
     ensures { AreRangesFrom ranges.now number result.now }
 {
     match ranges {
@@ -308,26 +342,6 @@ fn others_from(ranges: &[FieldRange], number: u64) -> &[FieldRange]
     }
 }
 
-/// Returns `true` if the ranges begin in their order.
-pub(crate) fn is_in_order(ranges: &[FieldRange]) -> bool
-    ensures { IsTrue result → IsInOrder ranges.now }
-{
-    match ranges {
-        [] => true,
-        [range, others @ ..] => begins_before(*range, others) && is_in_order(others),
-    }
-}
-
-/// Returns `true` if the range begins before the first of the others, or with it, or there is none.
-fn begins_before(range: FieldRange, others: &[FieldRange]) -> bool
-    ensures { IsTrue result → IsInOrder others.now → IsInOrder (range ∷ others.now) }
-{
-    match others {
-        [] => true,
-        [next, ..] => range.first <= next.first,
-    }
-}
-
 /// Returns `true` if the range ends before the field with this number.
 fn ends_before(range: FieldRange, number: u64) -> bool
     ensures yes { IsTrue result → (later : ℕ) → number ≤ later → ¬ InRange range later }
@@ -336,19 +350,5 @@ fn ends_before(range: FieldRange, number: u64) -> bool
     match range.last {
         None => false,
         Some(last) => last < number,
-    }
-}
-
-/// Returns `true` if the field with this number is in the range.
-fn in_range(range: &FieldRange, number: u64) -> bool
-    ensures yes { IsTrue result → InRange range.now number }
-    ensures no { IsFalse result → ¬ InRange range.now number }
-{
-    if number < range.first {
-        return false;
-    }
-    match range.last {
-        None => true,
-        Some(last) => number <= last,
     }
 }

@@ -110,12 +110,12 @@ fn form_of<'a>(values: &Values<'a>) -> Result<Form, Wrong<'a>>
         × IsWithinExact form values.now.precision) }
     ensures err { IfErr result (IsWrongForm values.now) }
 {
-    let without = if values.human_readable {
+    let default = if values.human_readable {
         "auto"
     } else {
         "exact"
     };
-    let value = values.to.unwrap_or(without);
+    let value = values.to.unwrap_or(default);
     match value {
         "exact" => match values.precision {
             Some(precision) if precision > DECIMAL_PLACES => Err(Wrong {

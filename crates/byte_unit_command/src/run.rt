@@ -1,4 +1,4 @@
-//! The run: reads a chunk, converts the records that end in it, and writes them.
+//! The run and its buffers: reads a chunk, converts the records that end in it, and writes them.
 
 ghost use Rattle.std.specs.Prelude.{◌≡◌, ◌+◌, ◌*◌, ◌^◌, ◌<◌, ◌≤◌, max, length, vec_len, vec_capacity};
 ghost use Rattle.std.specs.Prelude.{IsTrue, IsOk, IsErrOf, IfErr, OnOk, OnErr, IfOk, IfSome};
@@ -27,79 +27,7 @@ use std::io::{Read, Write};
 const CHUNK: usize = 65536;
 
 /// The length of a buffer that has capacity for the text of any size.
-pub(crate) const DIGITS: usize = 65600;
-
-/// The most bytes of the text of a size in its own unit, or as digits; and of one in a given unit, but for the digits
-/// after the point.
-const NARROW_TEXT: usize = 37;
-
-/// The most digits after the point of a size in a given unit, but for zeros.
-const UNIT_PLACES: usize = 93;
-
-/// The most bytes that the texts of the sizes of one read may take, if each byte of it begins a field: 40 bytes for
-/// each of 65,536.
-const TEXTS_MAX: usize = 2_621_440;
-
-/// The bytes that are counted for the messages about a field: none are if a run has at most one message.
-const MESSAGE: usize = 128;
-
-/// What a run keeps from one read to the next.
-#[derive(Drop)]
-pub struct Buffers<A: Allocator> {
-    /// The part that was read of a record whose end was not read yet.
-    pub(crate) part: Vec<u8, A>,
-    /// What was converted and is not written yet.
-    pub(crate) converter: Converter<A>,
-}
-
-impl<A: Allocator + Copy> Buffers<A> {
-    /// Creates empty buffers. Does not allocate.
-    pub fn new(alloc: A) -> Buffers<A>
-        ensures { AreEmpty result }
-    {
-        Buffers {
-            part: Vec::new(alloc),
-            converter: Converter {
-                header: 0,
-                tally: Tally::NONE,
-                place: Place {
-                    word: "",
-                    number: 0,
-                },
-                waiting: Vec::new(alloc),
-                notices: Notices {
-                    messages: Vec::new(alloc),
-                    line: String::new(alloc),
-                    words: String::new(alloc),
-                },
-            },
-        }
-    }
-
-    /// Creates buffers with capacity for records of at most `longest` bytes and reads into a buffer of `chunk` bytes.
-    /// None is allocated for messages.
-    ///
-    /// # Errors
-    ///
-    /// Returns `AllocError` if allocation fails, or the capacity exceeds `usize::MAX`.
-    pub fn with_capacity(
-        alloc: A,
-        options: &Options,
-        longest: usize,
-        chunk: usize,
-    ) -> Result<Buffers<A>, AllocError>
-        ensures empty { IfOk result (λ buffers. AreEmpty buffers) }
-        ensures capacity { IfOk result (λ buffers. HaveCapacity options.now longest chunk buffers) }
-    {
-        let mut buffers = Buffers::new(alloc);
-        let chunk = read_max(options, chunk);
-        let part = longest.checked_add(chunk).ok_or(AllocError)?;
-        let waiting = read_room(options, longest, chunk).ok_or(AllocError)?;
-        buffers.part.try_reserve_exact(part)?;
-        buffers.converter.waiting.try_reserve_exact(waiting)?;
-        Ok(buffers)
-    }
-}
+const DIGITS: usize = 65600;
 
 /// Reads the whole input, and writes each record, with the chosen fields replaced.
 ///
@@ -255,6 +183,64 @@ pub fn run_with_buffers<A: Allocator, R: Read, W: Write, E: Write>(
     )
 }
 
+/// What a run keeps from one read to the next.
+#[derive(Drop)]
+pub struct Buffers<A: Allocator> {
+    /// The part that was read of a record whose end was not read yet.
+    pub(crate) part: Vec<u8, A>,
+    /// What was converted and is not written yet.
+    pub(crate) converter: Converter<A>,
+}
+
+impl<A: Allocator + Copy> Buffers<A> {
+    /// Creates empty buffers. Does not allocate.
+    pub fn new(alloc: A) -> Buffers<A>
+        ensures { AreEmpty result }
+    {
+        Buffers {
+            part: Vec::new(alloc),
+            converter: Converter {
+                header: 0,
+                tally: Tally::NONE,
+                place: Place {
+                    word: "",
+                    number: 0,
+                },
+                waiting: Vec::new(alloc),
+                notices: Notices {
+                    messages: Vec::new(alloc),
+                    line: String::new(alloc),
+                    words: String::new(alloc),
+                },
+            },
+        }
+    }
+
+    /// Creates buffers with capacity for records of at most `longest` bytes and reads into a buffer of `chunk` bytes.
+    /// None is allocated for messages.
+    ///
+    /// # Errors
+    ///
+    /// Returns `AllocError` if allocation fails, or the capacity exceeds `usize::MAX`.
+    pub fn with_capacity(
+        alloc: A,
+        options: &Options,
+        longest: usize,
+        chunk: usize,
+    ) -> Result<Buffers<A>, AllocError>
+        ensures empty { IfOk result (λ buffers. AreEmpty buffers) }
+        ensures capacity { IfOk result (λ buffers. HaveCapacity options.now longest chunk buffers) }
+    {
+        let mut buffers = Buffers::new(alloc);
+        let chunk = read_max(options, chunk);
+        let part = longest.checked_add(chunk).ok_or(AllocError)?;
+        let waiting = read_room(options, longest, chunk).ok_or(AllocError)?;
+        buffers.part.try_reserve_exact(part)?;
+        buffers.converter.waiting.try_reserve_exact(waiting)?;
+        Ok(buffers)
+    }
+}
+
 impl<A: Allocator> Buffers<A> {
     /// Converts the records that end in `bytes`.
     ///
@@ -307,16 +293,30 @@ impl<A: Allocator> Buffers<A> {
     }
 }
 
+/// The most bytes of the text of a size in its own unit, or as digits; and of one in a given unit, but for the digits
+/// after the point.
+const NARROW_TEXT: usize = 37;
+
+/// The most digits after the point of a size in a given unit, but for zeros.
+const UNIT_PLACES: usize = 93;
+
+/// The most bytes that the texts of the sizes of one read may take, if each byte of it begins a field: 40 bytes for
+/// each of 65,536.
+const TEXTS_MAX: usize = 2_621_440;
+
+/// The bytes that are counted for the messages about a field, in a run that can have more than one message.
+const MESSAGE: usize = 128;
+
 /// Returns the most bytes that a run reads at once into a buffer of `len` bytes: fewer if texts are long or there can
 /// be messages, so that few of them wait to be written; and at least one.
-pub(crate) fn read_max(options: &Options, len: usize) -> usize
+fn read_max(options: &Options, len: usize) -> usize
     ensures most { result ≡ most_of_read options.now len }
     ensures texts { most_of_text options.now * result ≤ max texts_max (most_of_text options.now) }
     ensures bound { result ≤ len }
     ensures some { 0 < len → 0 < result }
 {
-    let passes = matches!(options.invalid, Invalid::Fail | Invalid::Warn);
-    let message = if passes || options.max.is_some() || options.min.is_some() {
+    let tells_rejected = matches!(options.invalid, Invalid::Fail | Invalid::Warn);
+    let message = if tells_rejected || options.max.is_some() || options.min.is_some() {
         MESSAGE
     } else {
         0
@@ -347,13 +347,13 @@ fn text_max(options: &Options) -> usize
     ensures bound { result < 2 ^ 63 + 65573 }
     ensures positive { 0 < result }
 {
-    let size = match options.form {
+    let number_len = match options.form {
         Form::Exact | Form::Plain => NARROW_TEXT,
         Form::InUnit(_) | Form::NumberOf(_) | Form::Largest(_) => match options.precision {
             None => NARROW_TEXT + UNIT_PLACES,
             Some(precision) => NARROW_TEXT + UNIT_PLACES.max(precision as usize),
         },
     };
-    let text = size + options.suffix.len();
-    text.max(options.width as usize)
+    let len = number_len + options.suffix.len();
+    len.max(options.width as usize)
 }

@@ -1,4 +1,4 @@
--- A value that is neither of the words that are meant without `--to` is given.
+-- A value that is neither `auto` nor `exact` was given by `--to`.
 use Rattle.std.proofs.Common.{◌≡◌, ◌≢◌, ℕ, List, Option, None, Some, Bor, inr, refl, sym, ap, subst, ◌∙◌, rules}
 use Rattle.std.specs.Prelude.{unwrap_or}
 use Rattle.byte_unit.specs.declared.Unit.{Unit as UnitName}
@@ -9,10 +9,10 @@ use Rattle.byte_unit_command.specs.declared.options.Form.TheVariants.{InUnit}
 use Rattle.byte_unit_command.proofs.meaning.form_of.Goals.{then-values, else-values}
 use Rattle.byte_unit_command.proofs.meaning.form_of.Goals as goal
 
-is_given : (to : Option (Bor (List ℕ))) (without value : Bor (List ℕ)) → value ≡ unwrap_or to without
-    → value.now ≢ without.now → text_of to ≡ Some value.now
-is_given None without value is other = absurd (other (ap (λ text. text.now) is))
-is_given (Some to) without value is other = ap (λ text. Some text.now) (sym is)
+is_given : (to : Option (Bor (List ℕ))) (default value : Bor (List ℕ)) → value ≡ unwrap_or to default
+    → value.now ≢ default.now → text_of to ≡ Some value.now
+is_given None default value is other = absurd (other (ap (λ text. text.now) is))
+is_given (Some to) default value is other = ap (λ text. Some text.now) (sym is)
 
 within : (unit : UnitName) (precision : Option ℕ) → IsWithinExact (InUnit unit) precision
 within unit None = tt
@@ -22,11 +22,11 @@ pub returns-in-Ok-clause-ok : goal.returns-in-Ok-clause-ok
 returns-in-Ok-clause-ok c =
     let values = c.args.values.now in
     let value = c.unwrap_or-value.result in
-    let other : value.now ≢ c.if-values.without.now = elim c.if-values.branch [
-      | then-values w ↦ λ same. c.in_default.not-auto (same ∙ ap (λ text. text.now) w.without-is)
-      | else-values w ↦ λ same. c.in_default.not-exact (same ∙ ap (λ text. text.now) w.without-is)
+    let other : value.now ≢ c.if-values.default.now = elim c.if-values.branch [
+      | then-values w ↦ λ same. c.in_default.not-auto (same ∙ ap (λ text. text.now) w.default-is)
+      | else-values w ↦ λ same. c.in_default.not-exact (same ∙ ap (λ text. text.now) w.default-is)
     ] in
-    let to = is_given values.to c.if-values.without value c.unwrap_or-value.ensures other in (
+    let to = is_given values.to c.if-values.default value c.unwrap_or-value.ensures other in (
       subst (λ to. IsForm (form_without values.human_readable) values.kind values.ignore_case to (InUnit c.in-Ok.unit))
           (sym to) (inr (c.in-Ok.unit, c.in-Ok.ensures, refl)),
       within c.in-Ok.unit values.precision,
