@@ -3,7 +3,7 @@ use Rattle.std.proofs.Common.{◌≡◌, ℕ, List, [], ◌∷◌, Option, Resul
 use Rattle.std.proofs.Common.{append-nil}
 use Rattle.std.specs.Prelude.{⊤}
 use Rattle.std.proofs.KnownBytes.{Appends-nil}
-use Rattle.byte_unit_command.specs.RunState.{AddsRecords, State, EndsEarly, IsAnswered, idle, messages_of, state_of}
+use Rattle.byte_unit_command.specs.RunState.{AddsRecords, State, EndsEarly, idle, messages_of, state_of}
 use Rattle.byte_unit_command.specs.RunState.{Tells, WritesAndTells}
 use Rattle.byte_unit_command.specs.declared.run.Buffers.{Buffers}
 use Rattle.byte_unit_command.specs.declared.options.Options.{Options}
@@ -36,6 +36,15 @@ HasFed-from_empty options bytes before new result none untold ok error =
     (record (state_of before.converter) { out = out; messages = messages }) (state_of new.converter) result in
     subst (λ out. Has out []) none
     (subst (Has before.converter.waiting.items) untold (record { ok = ok; error = error }))
+
+-- what was written and told after these records were converted, with this result
+abbrev pub IsAnswered : Options → List (List ℕ) → State → State → Result ⊤ RunError → List ℕ → List ℕ → Type 0
+IsAnswered options records old new (Ok _) written messages =
+    AddsRecords options records old (record new { out = written; messages = messages })
+IsAnswered options records old new (Err Write) written messages =
+    ((first : List (List ℕ)) × (whole : State) × IsPrefix first records × AddsRecords options first old whole
+    × IsPrefix written whole.out) × (messages ≡ [])
+IsAnswered options records old new (Err error) written messages = EndsEarly options records old error written messages
 
 -- all of it was written; `now` is the state after that
 pub IsAnswered-fed : {options : Options} {records : List (List ℕ)} {old new : State} (result : Result ⊤ RunError)
@@ -82,7 +91,7 @@ piece-answered {result = result} fed now has_fed wrote told same =
     WritesAndTells-by fed.converter.waiting.items wrote told
     (IsAnswered-fed result has_fed (state_of now.converter) same)
 
--- a write of it failed, and nothing was told
+-- a piece was converted, its write failed, and nothing was told
 pub piece-unwritten : {W E A : Type 0} {contents : W → Option (List ℕ)} {tells : E → Option (List ℕ)}
     {old_writer writer : FusedWriter W} {errors : FusedWriter E} {options : Options} {records : List (List ℕ)}
     {old : State} {result : Result ⊤ RunError} (fed : Buffers A)

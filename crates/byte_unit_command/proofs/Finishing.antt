@@ -48,7 +48,7 @@ pub record ConvertsLast {A E : Type 0} (tells : E → Option (List ℕ)) (option
 
 module _ {A E : Type 0} (tells : E → Option (List ℕ)) (options : Options) (part : List ℕ) (old : Converter A)
     (old_errors : FusedWriter E) (empty : old.waiting.items ≡ []) where
-  -- there is none
+  -- there is no last record
   pub ConvertsLast-none : (now : Converter A) (errors : FusedWriter E) → part ≡ [] → now ≡ old → errors ≡ old_errors
       → ConvertsLast tells options part old now old_errors errors
   ConvertsLast-none now errors none now_is errors_is =
@@ -65,7 +65,7 @@ module _ {A E : Type 0} (tells : E → Option (List ℕ)) (options : Options) (p
       subst (λ now. ConvertsLast tells options part old now old_errors errors) (sym now_is)
       (subst (λ errors. ConvertsLast tells options part old old old_errors errors) (sym errors_is) same)
 
-  -- there is one
+  -- there is a last record
   pub ConvertsLast-one : messages_of old.notices ≡ [] → (after now : Converter A) (notices : Notices A)
       (then_errors errors : FusedWriter E) → false ≡ (length part == 0)
       → AddsRecords options (part ∷ []) (state_of old) (state_of after)

@@ -2,13 +2,13 @@
 use Rattle.std.proofs.Common.{◌≡◌, ℕ, List, [], ◌∷◌, ◌++◌, Result, Ok, Err}
 use Rattle.std.proofs.Common.{refl, sym, ap, subst, ◌∙◌, append_assoc, append-nil, arith, inl, inr, ◌⊎◌}
 use Rattle.byte_unit_command.specs.Outcome.{AreFirst, IsAborted, IsBegun, IsBegunOutput, IsWritten, all_of, finished_of}
-use Rattle.byte_unit_command.specs.RunState.{AddsRecords, State, IsAnswered, IsFinished}
-use Rattle.byte_unit_command.specs.RunState.{at_next, idle, no_tally, start_of}
+use Rattle.byte_unit_command.specs.RunState.{AddsRecords, State, IsFinished, at_next, idle, no_tally, start_of}
 use Rattle.byte_unit_command.specs.Told.{AreFirstMessages, AreRunMessages}
 use Rattle.byte_unit_command.specs.declared.options.Options.{Options}
 use Rattle.byte_unit_command.specs.declared.error.RunError.{RunError}
 use Rattle.byte_unit_command.specs.declared.error.RunError.TheVariants.{Memory, Read, Write, Rejected, Total}
 use Rattle.byte_unit_command.specs.declared.tally.Tally.{Tally}
+use Rattle.byte_unit_command.proofs.Answering.{IsAnswered}
 use Rattle.byte_unit_command.proofs.Converting.{AddsRecords-append, AddsRecords-after, AddsRecords-none, behind}
 use Rattle.byte_unit_command.proofs.Starts.{aborted-from_start, converted-from_start, large-from_start}
 use Rattle.byte_unit_command.proofs.Starts.{messages-from_start, tally-from_start, total_line-from_start}

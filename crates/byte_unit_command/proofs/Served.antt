@@ -2,8 +2,7 @@
 use Rattle.std.proofs.Common.{◌≡◌, ℕ, List, [], ◌++◌, Option, Result, Ok, Err, ◌∙◌}
 use Rattle.std.specs.Prelude.{IsErrAnd}
 use Rattle.std.proofs.KnownBytes.{Appends-nil, Appends-trans, Consumes-kept, Consumes-nil, Consumes-trans}
-use Rattle.byte_unit_command.specs.RunState.{IsAnswered, IsFinished, WritesAndTells, idle, messages_of, no_tally}
-use Rattle.byte_unit_command.specs.RunState.{state_of}
+use Rattle.byte_unit_command.specs.RunState.{IsFinished, WritesAndTells, idle, messages_of, no_tally, state_of}
 use Rattle.byte_unit_command.specs.Run.{Course, IsRunOf}
 use Rattle.byte_unit_command.specs.declared.run.Buffers.{Buffers}
 use Rattle.byte_unit_command.specs.declared.options.Options.{Options}
@@ -11,6 +10,7 @@ use Rattle.byte_unit_command.specs.declared.error.RunError.{RunError}
 use Rattle.byte_unit_command.specs.declared.error.RunError.TheVariants.{Memory, Read}
 use Rattle.byte_unit_command.specs.declared.streams.Streams.{Streams}
 use Rattle.byte_unit_command.specs.declared.tally.Tally.{Tally}
+use Rattle.byte_unit_command.proofs.Answering.{IsAnswered}
 use Rattle.byte_unit_command.proofs.Results.{Err-passed}
 use Rattle.byte_unit_command.proofs.Runs.{IsOutcome, IsOutcome-finished, IsOutcome-memory, IsOutcome-piece}
 use Rattle.byte_unit_command.proofs.Runs.{IsOutcome-read, IsServed, IsServed-piece, IsServed-start}

@@ -75,7 +75,7 @@ IsWrongPrecision form precision wrong =
     ¬ IsWithinExact form precision × (wrong.option.now ≡ codes "--precision") × (wrong.value ≡ None)
     × (wrong.reason ≡ Precision)
 
--- `--to` is neither a form nor a unit, or else `--precision` is too large in its form
+-- `--to` is neither a form nor a unit; or it means the exact form, and `--precision` is above 28
 abbrev pub IsWrongForm : Values → Wrong → Type 0
 IsWrongForm values wrong =
     IsWrongOf (codes "--to") values.to (IsNoForm values.kind values.ignore_case) wrong

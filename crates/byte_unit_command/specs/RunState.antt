@@ -175,16 +175,6 @@ EndsEarly options records old Rejected out messages =
     × Aborts options bytes (at_next new) messages
 EndsEarly options records old _ out messages = ⊥
 
--- what a call has written that converts these records, reads nothing and returns this result, and the messages that it
--- tells: nothing was to be written or told before
-abbrev pub IsAnswered : Options → List (List ℕ) → State → State → Result ⊤ RunError → List ℕ → List ℕ → Type 0
-IsAnswered options records old new (Ok _) written messages =
-    AddsRecords options records old (record new { out = written; messages = messages })
-IsAnswered options records old new (Err Write) written messages =
-    ((first : List (List ℕ)) × (whole : State) × IsPrefix first records × AddsRecords options first old whole
-    × IsPrefix written whole.out) × (messages ≡ [])
-IsAnswered options records old new (Err error) written messages = EndsEarly options records old error written messages
-
 -- from one state of standard error to another one, this was told of these messages: nothing if a write had failed
 -- before; a prefix if a write fails; and else all of them
 pub record Tells (failed_before failed : Bool) (messages told : List ℕ) : Type 0 where

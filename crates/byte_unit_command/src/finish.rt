@@ -1,13 +1,12 @@
 //! The end of a run: the last record, and the total.
 
-ghost use Rattle.std.specs.Prelude.{◌≡◌, ◌+◌, ◌≤◌, ◌∷◌, ℕ, List, [], length, true};
-ghost use Rattle.std.specs.Prelude.{OnOk, OnErr, IsOk, IsErrOf, IsTrue, vec_capacity};
+ghost use Rattle.std.specs.Prelude.{◌≡◌, ◌+◌, ◌≤◌, ℕ, List, [], length};
+ghost use Rattle.std.specs.Prelude.{IsErrOf, IsTrue};
 ghost use Rattle.byte_unit.specs.Forms.{text_limit};
-ghost use Rattle.byte_unit_command.specs.Capacity.{end_room, record_room, text_room};
-ghost use Rattle.byte_unit_command.specs.RunState.{AddsRecords, Aborts, IsFinished, IsTotalWritten, WritesAndTells};
-ghost use Rattle.byte_unit_command.specs.RunState.{Grows, HasRoom, RecordsHaveNoMessage, StopsEarly};
-ghost use Rattle.byte_unit_command.specs.RunState.{at_next, idle, messages_of, state_of};
-ghost use Rattle.byte_unit_stream.specs.Prefix.{IsPrefix};
+ghost use Rattle.byte_unit_command.specs.Capacity.{end_room, text_room};
+ghost use Rattle.byte_unit_command.specs.RunState.{IsFinished, IsTotalWritten, WritesAndTells};
+ghost use Rattle.byte_unit_command.specs.RunState.{HasRoom, RecordsHaveNoMessage};
+ghost use Rattle.byte_unit_command.specs.RunState.{idle, messages_of, state_of};
 ghost use Rattle.byte_unit_stream.specs.Chunks.{nonempty_record};
 ghost use Rattle.byte_unit_stream.specs.Streams.{HasWritten, writing_failed};
 

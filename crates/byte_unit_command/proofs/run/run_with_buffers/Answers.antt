@@ -1,7 +1,7 @@
 -- Each read is served: the records that end in it are written, and the record that it has begun is kept. Memory is not
 -- the answer while no record is longer than the limit and there is no message.
-use Rattle.std.proofs.Common.{◌≡◌, ◌+◌, ◌≤◌, [], ◌++◌, sym, ap, subst, ◌∙◌, take, length, Ok, Err, Result, arith, List, ℕ}
-use Rattle.std.proofs.Common.{inl, inr, vec_len, refl, true≢false}
+use Rattle.std.proofs.Common.{◌≡◌, ◌+◌, ◌≤◌, ℕ, List, [], ◌++◌, Result, Ok, Err, take, length, vec_len, arith}
+use Rattle.std.proofs.Common.{refl, sym, ap, subst, ◌∙◌, inl, inr, true≢false}
 use Rattle.std.proofs.lemmas.List.{length-take, length-take-le}
 use Rattle.std.specs.Prelude.{IsErrAnd, vec_capacity}
 use Rattle.std.specs.Io.KnownBytes.{IsAtEnd}
