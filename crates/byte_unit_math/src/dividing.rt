@@ -1,4 +1,4 @@
-//! Division with remainder: of 128 bits, rounded, by constants, and for one digit of a long division.
+//! Division of 128 bits, with remainder or rounded; by constants; and for one digit of a long division.
 ghost use Rattle.std.specs.Prelude.{◌≡◌, ℕ, ◌+◌, ◌*◌, ◌/◌, ◌%◌, ◌^◌, ◌<◌, ◌≤◌};
 ghost use Rattle.byte_unit_math.specs.Bounds.{unit_limit};
 ghost use Rattle.byte_unit_math.specs.Inverse.{HasInverse, IsSubtracted};

@@ -1,4 +1,4 @@
-//! Parses a number and a unit from a line. Eight bytes are loaded at a time, as a number whose lowest byte is the first.
+//! Parses a number and a unit from a line. Eight bytes are loaded at once, as a `u64` whose lowest byte is the first.
 
 ghost use Rattle.std.specs.Prelude.{◌≡◌, ◌≢◌, ℕ, Bool, List, Some, ◌+◌, ◌%◌, ◌^◌, ◌<◌, ◌≤◌};
 ghost use Rattle.std.specs.Prelude.{length, take, drop, replicate, slice_range};

@@ -5,7 +5,7 @@ use Rattle.byte_unit_math.specs.Bounds.{places_of_decimal}
 use Rattle.byte_unit_math.specs.Least.{IsLeastSize}
 use Rattle.byte_unit_math.proofs.RoundedUp.{IsRoundedUp-groups, IsLeastSize-halves, IsLeastSize-parts, in_first_group}
 use Rattle.byte_unit_math.proofs.RoundedUp.{IsLeastSize-group, IfNone-always, IfNone-below}
-use Rattle.byte_unit_math.proofs.Scales.{ten_power}
+use Rattle.byte_unit_math.proofs.Scales.{ten_power_at}
 use Rattle.byte_unit_math.proofs.least.least_size.Goals.{After-checked_mul_add, then-places-le-GROUP_PLACES}
 use Rattle.byte_unit_math.proofs.least.least_size.Goals.{else-places-le-GROUP_PLACES}
 use Rattle.byte_unit_math.proofs.least.least_size.Goals as goal
@@ -21,7 +21,8 @@ fraction_least c =
       | then-places-le-GROUP_PLACES w ↦
           let first = in_first_group c.parts-whole.result.1 c.parts-whole.result.2
           w.if-places-le-GROUP_PLACES.true c.parts-whole.ensures.below in
-          let rounded = rw (ten_power (7 - c.parts-whole.result.2) (omega arith)) at w.carry_of_group-part.ensures.rounded in
+          let power = ten_power_at (7 - c.parts-whole.result.2) (omega arith) in
+          let rounded = rw power at w.carry_of_group-part.ensures.rounded in
           rw w.part-is (IsLeastSize-group fraction _ unit _ first.all rounded)
       | else-places-le-GROUP_PLACES w ↦
           let part = w.carry_of_group-part-else-places-le-GROUP_PLACES-2 in
