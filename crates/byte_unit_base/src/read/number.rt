@@ -368,16 +368,6 @@ fn load_eight(bytes: &[u8], from: usize) -> u64
     u64x1::from_le_bytes(u8x8::from_slice(&bytes[from..])).to_array()[0]
 }
 
-/// Returns the four bytes at an index.
-#[inline(always)]
-#[tactic(auto, using(crate::proofs::Lines::loaded_four))]
-fn load_four(bytes: &[u8], from: usize) -> u64
-    requires { from + 4 ≤ length bytes.now }
-    ensures { result ≡ number_l 256 (take 4 (drop from bytes.now)) }
-{
-    u64::from(u32x1::from_le_bytes(u8x4::from_slice(&bytes[from..])).to_array()[0])
-}
-
 /// Returns fewer than eight bytes as a number, in which the missing bytes are 0. If there are four or more, the first
 /// four and the last four are loaded.
 #[inline(always)]
@@ -396,4 +386,14 @@ fn few_bytes(bytes: &[u8]) -> u64
         [a, b] => u64::from(*a) + u64::from(*b) * 256,
         [a, b, c, ..] => u64::from(*a) + u64::from(*b) * 256 + u64::from(*c) * 65536,
     }
+}
+
+/// Returns the four bytes at an index.
+#[inline(always)]
+#[tactic(auto, using(crate::proofs::Lines::loaded_four))]
+fn load_four(bytes: &[u8], from: usize) -> u64
+    requires { from + 4 ≤ length bytes.now }
+    ensures { result ≡ number_l 256 (take 4 (drop from bytes.now)) }
+{
+    u64::from(u32x1::from_le_bytes(u8x4::from_slice(&bytes[from..])).to_array()[0])
 }
