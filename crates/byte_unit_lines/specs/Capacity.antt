@@ -1,6 +1,7 @@
--- Capacity that suffices for the buffers of a run.
-use Rattle.std.specs.Prelude.{ℕ, ◌+◌, ◌*◌, ◌≤◌, vec_len, vec_capacity}
+-- The buffers of a run, and capacity that suffices for them.
+use Rattle.std.specs.Prelude.{ℕ, [], ◌≡◌, ◌+◌, ◌*◌, ◌≤◌, vec_len, vec_capacity}
 use Rattle.std.specs.declared.vec.Vec.{Vec}
+use Rattle.byte_unit_lines.specs.declared.run.Buffers.{Buffers}
 
 -- no answer has more bytes than two texts of a size, of at most 37 bytes each, ` = ` between them, and a line end
 abbrev pub answer_max : ℕ
@@ -11,3 +12,7 @@ answer_max = 78
 abbrev pub HaveCapacity : {Z : Type 0} → ℕ → ℕ → Vec ℕ Z → Vec ℕ Z → Type 0
 HaveCapacity longest chunk line answers =
     (longest + chunk ≤ vec_capacity line) × (vec_len answers + answer_max * chunk ≤ vec_capacity answers)
+
+-- no line has begun, and no answer waits
+abbrev pub AreEmpty : {Z : Type 0} → Buffers Z → Type 0
+AreEmpty buffers = (buffers.line.items ≡ []) × (buffers.waiting.items ≡ [])

@@ -1,12 +1,11 @@
 //! The program's loop: reads a chunk, answers the lines that end in it, and writes the answers.
 //!
-//! Two buffers keep their memory from one read to the next: `waiting` has whole answers that are not written yet, and
-//! `line` has the part that was read of a line without a line end so far.
+//! The memory of [`Buffers`] is kept from one read to the next.
 
 ghost use Rattle.std.specs.Prelude.{◌≡◌, ◌+◌, ◌<◌, ◌≤◌, ℕ, List, [], length};
 ghost use Rattle.std.specs.Prelude.{IsTrue, IsOk, IsErrOf, IfOk, OnOk, OnErr};
 ghost use Rattle.std.specs.Prelude.{vec_len, vec_capacity};
-ghost use Rattle.byte_unit_lines.specs.Capacity.{HaveCapacity};
+ghost use Rattle.byte_unit_lines.specs.Capacity.{AreEmpty, HaveCapacity};
 ghost use Rattle.byte_unit_lines.specs.Lines.{line_end, longest_line};
 ghost use Rattle.byte_unit_lines.specs.Outcome.{IsWritten};
 ghost use Rattle.byte_unit_lines.specs.Answered.{AddsAnswers, AddsFirst, IsAnswered};
@@ -26,6 +25,27 @@ const LINE_END: u8 = b'\n';
 
 /// The number of bytes that [`run`] asks for in each read.
 const CHUNK: usize = 65536;
+
+/// What a run keeps from one read to the next.
+#[derive(Drop)]
+pub struct Buffers<A: Allocator> {
+    /// The answers that are not written yet, each whole.
+    pub(crate) waiting: Vec<u8, A>,
+    /// The part that was read of a line whose end was not read yet.
+    pub(crate) line: Vec<u8, A>,
+}
+
+impl<A: Allocator + Copy> Buffers<A> {
+    /// Creates empty buffers. Does not allocate.
+    pub fn new(alloc: A) -> Buffers<A>
+        ensures { AreEmpty result }
+    {
+        Buffers {
+            waiting: Vec::new(alloc),
+            line: Vec::new(alloc),
+        }
+    }
+}
 
 /// The reason why a run ended before the end of its input.
 #[derive(Debug, Clone, Copy, PartialEq, Eq)]
@@ -73,11 +93,9 @@ pub fn run<R: Read, W: Write>(
     ensures write_failed { IsErrOf result RunError.Write → IsTrue (writing_failed writer.new) }
 {
     let mut buffer = [0u8; CHUNK];
-    let mut line = Vec::new(alloc);
-    let mut waiting = Vec::new(alloc);
+    let mut buffers = Buffers::new(alloc);
     run_with_buffers(
-        &mut line,
-        &mut waiting,
+        &mut buffers,
         usize::MAX,
         &mut buffer,
         reader,
@@ -128,14 +146,16 @@ pub fn run_with_capacity<A: Allocator, R: Read, W: Write>(
         (λ ended. IsErrOf ended RunError.Write → IsTrue (writing_failed writer.new)) }
     ensures unstarted { OnErr result ((reader.new ≡ reader.old) × (writer.new ≡ writer.old)) }
 {
-    let mut line = Vec::new(alloc);
-    let mut waiting = Vec::new(alloc);
+    let mut buffers = Buffers::new(alloc);
     let chunk = buffer.len();
-    line.try_reserve_exact(longest.checked_add(chunk).ok_or(AllocError)?)?;
-    waiting.try_reserve_exact(chunk.checked_mul(ANSWER_MAX).ok_or(AllocError)?)?;
+    buffers
+        .line
+        .try_reserve_exact(longest.checked_add(chunk).ok_or(AllocError)?)?;
+    buffers
+        .waiting
+        .try_reserve_exact(chunk.checked_mul(ANSWER_MAX).ok_or(AllocError)?)?;
     Ok(run_with_buffers(
-        &mut line,
-        &mut waiting,
+        &mut buffers,
         longest,
         buffer,
         reader,
@@ -146,19 +166,15 @@ pub fn run_with_capacity<A: Allocator, R: Read, W: Write>(
 
 /// Does what [`run`] does, for lines of at most `longest` bytes, in the caller's buffers; it reads into `buffer`.
 ///
-/// `line` is for the part that was read of a line without a line end so far, and `waiting` for the answers that are not
-/// written yet.
-///
-/// Precondition (proved at every call): `buffer` is not empty; `line` and `waiting` are empty.
+/// Precondition (proved at every call): `buffer` is not empty; both of `buffers` are empty.
 ///
 /// # Errors
 ///
 /// Those of [`run`], and `Memory` if more than `longest` bytes of a line have been read without its line end. `Memory`
-/// is returned for no other reason if `line` has capacity for `longest` bytes and a `buffer` more, and `waiting` for 78
-/// times the length of `buffer`.
+/// is returned for no other reason if `buffers.line` has capacity for `longest` bytes and a `buffer` more, and
+/// `buffers.waiting` for 78 times the length of `buffer`.
 pub fn run_with_buffers<A: Allocator, R: Read, W: Write>(
-    line: &mut Vec<u8, A>,
-    waiting: &mut Vec<u8, A>,
+    buffers: &mut Buffers<A>,
     longest: usize,
     buffer: &mut [u8],
     reader: &mut FusedReader<R>,
@@ -166,13 +182,13 @@ pub fn run_with_buffers<A: Allocator, R: Read, W: Write>(
     kind: Kind,
 ) -> Result<(), RunError>
     requires buffer { 0 < length buffer.old }
-    requires line { line.old.items ≡ [] }
-    requires waiting { waiting.old.items ≡ [] }
+    requires empty { AreEmpty buffers.old }
     ensures run { (read written : List ℕ)
         × HasRead R.remaining reader.old reader.new read
         × HasWritten W.contents writer.old writer.new written
         × IsWritten kind read result written }
-    ensures memory { HaveCapacity longest (length buffer.old) line.old waiting.old
+    ensures memory {
+        HaveCapacity longest (length buffer.old) buffers.old.line buffers.old.waiting
         → IsErrOf result RunError.Memory → (read : List ℕ)
         × HasRead R.remaining reader.old reader.new read × (longest < longest_line read) }
     ensures bound { OnOk result ((read : List ℕ)
@@ -186,24 +202,33 @@ pub fn run_with_buffers<A: Allocator, R: Read, W: Write>(
         match reader.read(buffer) {
             None => return Err(RunError::Read),
             Some(0) => break 'reads,
-            Some(n) => match answer_piece(line, &buffer[..n], kind, waiting, writer) {
-                Ok(()) => {}
-                Err(error) => {
-                    // For the proof: a report that was begun has an answer to each unanswered line too.
-                    each_line_has_an_answer();
-                    return Err(error);
+            Some(n) => {
+                let piece = &buffer[..n];
+                match answer_piece(
+                    &mut buffers.line,
+                    piece,
+                    kind,
+                    &mut buffers.waiting,
+                    writer,
+                ) {
+                    Ok(()) => {}
+                    Err(error) => {
+                        // For the proof: a report that was begun has an answer to each unanswered line too.
+                        each_line_has_an_answer();
+                        return Err(error);
+                    }
                 }
-            },
+            }
         }
-        if line.len() > longest {
+        if buffers.line.len() > longest {
             return Err(RunError::Memory);
         }
     }
-    if line.is_empty() {
+    if buffers.line.is_empty() {
         Ok(())
     } else {
-        add_answer(line, line.len(), kind, waiting)?;
-        write_whole(writer, waiting, RunError::Write)
+        add_answer(&buffers.line, buffers.line.len(), kind, &mut buffers.waiting)?;
+        write_whole(writer, &buffers.waiting, RunError::Write)
     }
 }
 

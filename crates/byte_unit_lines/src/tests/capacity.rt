@@ -3,7 +3,7 @@ use super::ended::{Ended, streams};
 use super::mixed::{INPUT, REPORT, repeated};
 use super::refusing::Refusing;
 use super::*;
-use crate::run::{run_with_buffers, run_with_capacity};
+use crate::run::{Buffers, run_with_buffers, run_with_capacity};
 use byte_unit_stream::paced::AT_ONCE;
 
 /// The number of allocations at the start: one for a line and one for the answers.
@@ -109,12 +109,10 @@ fn expect_without_capacity(
     wanted: Result<(), RunError>,
     report: &[u8],
 ) {
-    let mut line = Vec::new(rt.alloc());
-    let mut waiting = Vec::new(rt.alloc());
+    let mut buffers = Buffers::new(rt.alloc());
     let (mut reader, mut writer) = streams(rt.alloc(), b"1 KB", AT_ONCE, AT_ONCE);
     let result = run_with_buffers(
-        &mut line,
-        &mut waiting,
+        &mut buffers,
         longest,
         &mut [0u8; 2],
         &mut reader,

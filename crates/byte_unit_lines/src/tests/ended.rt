@@ -3,7 +3,7 @@ ghost use Rattle.std.specs.Prelude.{◌<◌, length};
 
 use super::refusing::Refusing;
 use super::*;
-use crate::run::run_with_buffers;
+use crate::run::{Buffers, run_with_buffers};
 use byte_unit_stream::paced::{AT_ONCE, MemoryReader, MemoryWriter, Pace};
 use std::alloc::Allocator;
 
@@ -98,11 +98,9 @@ pub fn ran_in<'a, A: Allocator>(
     requires { 0 < length buffer.old }
 {
     let (mut reader, mut writer) = streams(alloc, input, reads, writes);
-    let mut line = Vec::new(heap);
-    let mut waiting = Vec::new(heap);
+    let mut buffers = Buffers::new(heap);
     let result = run_with_buffers(
-        &mut line,
-        &mut waiting,
+        &mut buffers,
         usize::MAX,
         buffer,
         &mut reader,

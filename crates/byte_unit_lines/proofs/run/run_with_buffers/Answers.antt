@@ -33,12 +33,12 @@ reads-init g c = (
     written = [];
     gave = search rules;
     took = search rules;
-    served = record { answered = refl; begun = c.requires.line };
-    none_wait = c.requires.waiting;
+    served = record { answered = refl; begun = c.requires.empty.0 };
+    none_wait = c.requires.empty.1;
   },
   record {
     finished = omega (arith, c.requires.buffer);
-    unfinished = omega (arith, c.args.line.now.ok.0, ap length c.requires.line);
+    unfinished = omega (arith, c.args.buffers.now.line.ok.0, ap length c.requires.empty.0);
     part_capacity = omega arith;
     waiting_capacity = omega arith;
   },
@@ -53,7 +53,7 @@ reads-preserved g c =
     let answers = fed.written in
     let line = c.answer_piece.new.line in
     let begun : length (begun_record line_end [] so_far.read) ≤ c.args.longest =
-    omega (arith, ap length so_far.served.begun, c.reads.line.ok.0, within.unfinished) in
+    omega (arith, ap length so_far.served.begun, c.reads.buffers.line.ok.0, within.unfinished) in
     let short : length piece ≤ length c.args.buffer.now =
     omega (arith, length-take c.in-Some.n c.read.new.buf, c.read.auto.buf, c.reads.auto.buffer) in (
       HasServed-piece so_far _ _ piece answers.0 line.items c.answer_piece.new.waiting.items c.in-Some.ensures.came
@@ -98,7 +98,7 @@ returns-then-is_empty-clause-bound g c =
     let end = c.in-Some-eq0 in (
       so_far.read,
       HasServed-at_end so_far _ c.read.new.buf end.ensures.came end.field-0-test,
-      longest_line-below c.args.longest _ _ _ c.reads.line _ so_far c.reads.invariant.1 c.requires.buffer,
+      longest_line-below c.args.longest _ _ _ c.reads.buffers.line _ so_far c.reads.invariant.1 c.requires.buffer,
     )
 
 pub returns-in_ok-add_answer-clause-bound : goal.returns-in_ok-add_answer-clause-bound
@@ -106,7 +106,8 @@ returns-in_ok-add_answer-clause-bound g c =
     let so_far = c.reads.invariant.0 in
     let end = c.in-Some-eq0 in
     let gave = HasServed-at_end so_far _ c.read.new.buf end.ensures.came end.field-0-test in
-    let below = longest_line-below c.args.longest _ _ _ c.reads.line _ so_far c.reads.invariant.1 c.requires.buffer in
+    let below = longest_line-below c.args.longest _ _ _ c.reads.buffers.line _ so_far c.reads.invariant.1
+    c.requires.buffer in
     on_ok_weaker c.write_whole.result (λ _. (so_far.read, gave, below)) c.write_whole.ensures.ok
 
 pub returns-in-Err-clause-run : goal.returns-in-Err-clause-run
@@ -126,7 +127,8 @@ pub returns-then-is_empty-clause-run : goal.returns-then-is_empty-clause-run
 returns-then-is_empty-clause-run g c =
     let so_far = c.reads.invariant.0 in
     let end = c.in-Some-eq0 in
-    let empty = empty_from_length c.reads.line.items (vec_len c.reads.line) c.reads.line.ok.0 c.if-is_empty.ensures in (
+    let line = c.reads.buffers.line in
+    let empty = empty_from_length line.items (vec_len line) line.ok.0 c.if-is_empty.ensures in (
       so_far.read,
       so_far.written,
       HasServed-at_end so_far _ c.read.new.buf end.ensures.came end.field-0-test,
@@ -152,7 +154,8 @@ returns-in_ok-add_answer-clause-run g c =
     let so_far = c.reads.invariant.0 in
     let end = c.in-Some-eq0 in
     let line = c.deref.result.now in
-    let begun = nonempty_from_length c.reads.line.items (vec_len c.reads.line) c.reads.line.ok.0 c.if-is_empty.ensures in
+    let part = c.reads.buffers.line in
+    let begun = nonempty_from_length part.items (vec_len part) part.ok.0 c.if-is_empty.ensures in
     let some : line ≢ [] = λ empty. begun (sym c.deref.ensures.value ∙ empty) in
     let course : Course = record { read = so_far.read; written = so_far.written; line = line } in
     let served : IsServed c.args.kind course =

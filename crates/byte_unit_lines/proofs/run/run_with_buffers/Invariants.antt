@@ -10,9 +10,11 @@ abbrev pub invariant-reads : goal.invariant-reads
 invariant-reads g l =
     let remaining = g.R.Read.remaining in
     let contents = g.W.Write.contents in
+    let buffers = l.buffers in
     (so_far : HasServed l.kind (remaining (reader_of l.initial.reader)) (remaining (reader_of l.reader))
-    (contents (writer_of l.initial.writer)) (contents (writer_of l.writer)) l.line.items l.waiting.items)
-    × IsWithin line_end l.longest (length l.initial.buffer) l.initial.line l.initial.waiting so_far.read l.line l.waiting
+    (contents (writer_of l.initial.writer)) (contents (writer_of l.writer)) buffers.line.items buffers.waiting.items)
+    × IsWithin line_end l.longest (length l.initial.buffer) l.initial.buffers.line l.initial.buffers.waiting
+    so_far.read buffers.line buffers.waiting
 
 abbrev pub decreases-reads : goal.decreases-reads
 decreases-reads g l = reads_left l.reader
