@@ -93,9 +93,8 @@ fn parse_each(
 )
     requires { IsLayout (length «data».now) (offsets_of offsets) (length sizes.old)
         (length codes.old) }
-    ensures { AreParsed as_written asked.kind asked.ignore_case «data».now (offsets_of offsets.entry)
-        (length codes.old) codes.new
-        sizes.new }
+    ensures { AreParsed as_written asked.kind asked.ignore_case «data».now
+        (offsets_of offsets.entry) (length codes.old) codes.new sizes.new }
 {
     for i in 0..codes.len() {
         let (code, size) = parse_one(offsets.text_at(data, i), asked);

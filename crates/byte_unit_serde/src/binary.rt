@@ -50,7 +50,8 @@ impl DeserializeString for Binary {
 
 /// Returns how the string of the size is formatted: without a width, as `write_as` requires.
 fn spec_of(size: Byte) -> FormatSpec
-    ensures string { (text : List ℕ) → IsText InBytes size result text → IsBinaryString InBytes size text }
+    ensures string { (text : List ℕ) → IsText InBytes size result text
+        → IsBinaryString InBytes size text }
     ensures narrow { result.width ≡ None }
 {
     let (_, unit) = size.get_recoverable_unit(false, 3);

@@ -47,7 +47,8 @@ impl<W, R: DeserializeString> Lists<W, R> {
     ) -> Result<Vec<R::Value>, F::Error>
         ensures list { IfOk result (λ values.
             ReadsSeq R.means F.gives F.stays from.old from.new values.items) }
-        ensures error { IfErr result (IsListError R.means F.gives F.stays F.begin_returns F.next_returns
+        ensures error { IfErr result
+            (IsListError R.means F.gives F.stays F.begin_returns F.next_returns
             (Reading R.parses F.string_returns F.rejects) F.refuses from.old from.new) }
     {
         F::begin_list(from)?;

@@ -27,7 +27,8 @@ pub(crate) fn write_as<S: Sink>(
     requires bound { size < size_limit }
     requires width { spec.width ≡ None }
     ensures written { OnOk result
-        (WritesSizeAs (λ size. IsText kind size spec) size (S.written out.old) (S.written out.new)) }
+        (WritesSizeAs (λ size. IsText kind size spec) size
+        (S.written out.old) (S.written out.new)) }
     ensures exact { WritingSizeAs (λ size. IsText kind size spec)
         S.str_returns size out.old result out.new }
 {

@@ -33,7 +33,8 @@ impl Bit {
         spec: FormatSpec,
         out: &mut [u8],
     ) -> usize
-        ensures written { WritesForm (IsApproximateForm InBits unit_type self spec) out.old out.new result }
+        ensures written { WritesForm
+            (IsApproximateForm InBits unit_type self spec) out.old out.new result }
         ensures narrow { result ≤ most_adjusted_text spec }
     {
         self.get_appropriate_unit(unit_type).write_text(spec, out)
