@@ -43,10 +43,10 @@ fn convert<R: Read + Drop>(
         errors: FusedWriter::new(rt.stderr()),
     };
     let ended = run(rt.alloc(), options, &mut streams);
-    if streams.writer.closed() {
-        return CLOSED;
-    }
     if let Err(error) = ended {
+        if streams.writer.closed() {
+            return CLOSED;
+        }
         if let Some(text) = message(error) {
             // Ignored on failure: the exit status reports the ending too.
             let _ = eprintln!(rt; "byte-unit: {text}");
