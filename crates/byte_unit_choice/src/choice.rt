@@ -193,8 +193,17 @@ pub fn largest_unit(size: u128, family: Family, unit_type: UnitType, own_bits: u
     let in_bits = size.saturating_mul(own_bits);
     // The largest unit is first. Prefixes that are surely too large are left out, and others may be too large.
     for row in multiples_within(family, in_bits, PREFIXES as u32) {
-        if row.bits <= in_bits && unit_type.takes(row.unit.is_binary_multiples()) {
-            return Some(row.unit);
+        if row.bits > in_bits {
+            continue;
+        }
+        let unit = row.unit;
+        let is_of_type = match unit_type {
+            UnitType::Binary => unit.is_binary_multiples(),
+            UnitType::Decimal => !unit.is_binary_multiples(),
+            UnitType::Both => true,
+        };
+        if is_of_type {
+            return Some(unit);
         }
     }
     None
