@@ -15,7 +15,7 @@ use Rattle.byte_unit_base.specs.Kinds.{bits_in, own_unit}
 use Rattle.byte_unit_choice.specs.Family.{own_family, InFamily}
 use Rattle.byte_unit_choice.specs.Choice.{IsLargest, IsLargestOrOwn, NoneHas, IsEligibleUnit, IsAppropriate}
 use Rattle.byte_unit_base.specs.Version.{current}
-use Rattle.byte_unit_choice.specs.declared.family.Family.{Family}
+use Rattle.byte_unit_choice.specs.declared.choice.Family.{Family}
 use Rattle.byte_unit_choice.specs.AdjustedSize.{AdjustedSize, IsAdjustedReading, size_answer}
 use Rattle.byte_unit_base.specs.Parsed.{parsed_size}
 use Rattle.byte_unit_choice.specs.ParsedAdjusted.{first_not_above, largest_unit_of, in_largest_unit_of, parsed_adjusted}

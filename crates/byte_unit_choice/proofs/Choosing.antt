@@ -11,7 +11,7 @@ use Rattle.byte_unit_choice.specs.Choice.{IsRecoveredIn}
 use Rattle.byte_unit_base.specs.Kinds.{bits_in, own_unit}
 use Rattle.byte_unit_base.specs.declared.kind.Kind.{Kind}
 use Rattle.byte_unit_base.specs.declared.kind.Kind.TheVariants.{Byte, Bit}
-use Rattle.byte_unit_choice.specs.declared.family.Family.{Family}
+use Rattle.byte_unit_choice.specs.declared.choice.Family.{Family}
 use Rattle.byte_unit_choice.proofs.Falling.{in_falling, le_of_falls, current_falls}
 
 -- a unit has at least one bit

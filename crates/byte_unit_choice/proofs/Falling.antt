@@ -10,8 +10,8 @@ use Rattle.byte_unit_base.specs.Shape.{Shape, shape, bits}
 use Rattle.byte_unit_base.specs.Version.{current}
 use Rattle.byte_unit_choice.specs.Family.{HasKind, InFamily}
 use Rattle.byte_unit_choice.specs.Multiples.{units_of_prefix, units_of_prefixes, prefix_count}
-use Rattle.byte_unit_choice.specs.declared.family.Family.{Family}
-use Rattle.byte_unit_choice.specs.declared.family.Family.TheVariants.{All}
+use Rattle.byte_unit_choice.specs.declared.choice.Family.{Family}
+use Rattle.byte_unit_choice.specs.declared.choice.Family.TheVariants.{All}
 
 -- the unit is one of these
 abbrev pub IsIn : Shape → List Shape → Type 0

@@ -17,7 +17,7 @@ use Rattle.byte_unit_base.specs.Kinds.{bits_in}
 use Rattle.byte_unit_choice.specs.Choice.{IsLargest, IsExactUnit, IsChosen, CountsChoice, places_within, most_steps}
 use Rattle.byte_unit_base.specs.declared.kind.Kind.{Kind}
 use Rattle.byte_unit_base.specs.declared.kind.Kind.TheVariants.{Byte, Bit}
-use Rattle.byte_unit_choice.specs.declared.family.Family.{Family}
+use Rattle.byte_unit_choice.specs.declared.choice.Family.{Family}
 use Rattle.byte_unit_choice.proofs.Choosing.{some_bits}
 use Rattle.byte_unit_choice.proofs.Quotients.{stated_where_exact}
 use Rattle.byte_unit_choice.proofs.SizePowers.{eight_times}

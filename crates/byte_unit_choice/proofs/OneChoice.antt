@@ -9,7 +9,7 @@ use Rattle.byte_unit_base.specs.Shape.{Shape, shape, bits, twos, fives}
 use Rattle.byte_unit_choice.specs.Choice.{IsLargest, IsExactUnitIn, places_within}
 use Rattle.byte_unit_choice.specs.ChoiceLaws.{ChoicesAreOne}
 use Rattle.byte_unit_base.specs.Version.{Version}
-use Rattle.byte_unit_choice.specs.declared.family.Family.{Family}
+use Rattle.byte_unit_choice.specs.declared.choice.Family.{Family}
 use Rattle.byte_unit_choice.proofs.Choosing.{some_bits}
 
 -- 2^a * 5^b has the exponents a of 2 and b of 5

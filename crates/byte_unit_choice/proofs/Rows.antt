@@ -18,7 +18,7 @@ use Rattle.byte_unit_choice.specs.Choice.{IsLargest, NoneHas}
 use Rattle.byte_unit_choice.specs.Multiples.{ListsUnits, ShapeRow, row_of, row_shape, units_of_prefixes, prefix_count}
 use Rattle.byte_unit_base.specs.declared.unit.Unit.TheVariants.{Bit}
 use Rattle.byte_unit_choice.specs.declared.tables.UnitRow.{UnitRow}
-use Rattle.byte_unit_choice.specs.declared.family.Family.{Family}
+use Rattle.byte_unit_choice.specs.declared.choice.Family.{Family}
 use Rattle.byte_unit_choice.proofs.Falling.{IsIn, Remain, falls, in_falling, all_in_family, current_falls, falls_after}
 use Rattle.byte_unit_choice.proofs.Falling.{le_of_falls, units_per_prefix, drop_prefixes}
 use Rattle.byte_unit_choice.proofs.Choosing.{small_bits, some_bits}

@@ -17,7 +17,7 @@ use Rattle.byte_unit_choice.proofs.Quotients.{whole_takes_none}
 use Rattle.byte_unit_choice.proofs.Rows.{HasPowers, IsMultiple}
 use Rattle.byte_unit_base.specs.declared.kind.Kind.{Kind}
 use Rattle.byte_unit_base.specs.declared.kind.Kind.TheVariants.{Byte, Bit}
-use Rattle.byte_unit_choice.specs.declared.family.Family.{Family}
+use Rattle.byte_unit_choice.specs.declared.choice.Family.{Family}
 use Rattle.byte_unit_choice.specs.Multiples.{ShapeRow}
 
 some_bits_in : (kind : Kind) (size : ℕ) → size ≢ 0 → size * bits_in kind ≢ 0

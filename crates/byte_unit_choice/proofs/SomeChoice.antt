@@ -11,8 +11,8 @@ use Rattle.byte_unit_choice.specs.Family.{HasKind}
 use Rattle.byte_unit_choice.specs.Multiples.{units_of_prefixes}
 use Rattle.byte_unit_choice.specs.Choice.{IsExactUnitIn, places_within}
 use Rattle.byte_unit_choice.specs.ChoiceLaws.{EachSizeHasAChoiceOrNone}
-use Rattle.byte_unit_choice.specs.declared.family.Family.{Family}
-use Rattle.byte_unit_choice.specs.declared.family.Family.TheVariants.{All, Bytes}
+use Rattle.byte_unit_choice.specs.declared.choice.Family.{Family}
+use Rattle.byte_unit_choice.specs.declared.choice.Family.TheVariants.{All, Bytes}
 use Rattle.byte_unit_choice.proofs.Falling.{IsIn, in_falling}
 
 -- the fact holds, or it does not

@@ -10,8 +10,8 @@ use Rattle.byte_unit_base.specs.Kinds.{bits_in, own_unit}
 use Rattle.byte_unit_choice.specs.Family.{own_family, InFamily, IsOfType}
 use Rattle.byte_unit_base.specs.declared.kind.Kind.{Kind}
 use Rattle.byte_unit_base.specs.declared.kind.Kind.TheVariants.{Byte, Bit}
-use Rattle.byte_unit_choice.specs.declared.family.Family.{Family}
-use Rattle.byte_unit_choice.specs.declared.family.Family.TheVariants.{All}
+use Rattle.byte_unit_choice.specs.declared.choice.Family.{Family}
+use Rattle.byte_unit_choice.specs.declared.choice.Family.TheVariants.{All}
 use Rattle.byte_unit_choice.specs.declared.unit_type.UnitType.{UnitType}
 use Rattle.byte_unit_base.specs.Units.{shape_of}
 use Rattle.byte_unit_base.specs.declared.unit.Unit.{Unit as UnitName}

@@ -9,7 +9,7 @@ use Rattle.byte_unit_choice.specs.Family.{InFamily}
 use Rattle.byte_unit_choice.specs.Choice.{IsChosenIn, NoneHas, IsExactUnitIn}
 use Rattle.byte_unit_base.specs.Kinds.{bits_in}
 use Rattle.byte_unit_base.specs.declared.kind.Kind.{Kind}
-use Rattle.byte_unit_choice.specs.declared.family.Family.{Family}
+use Rattle.byte_unit_choice.specs.declared.choice.Family.{Family}
 
 -- the size is a whole number of this unit
 abbrev pub Divides : Shape → ℕ → Type 0

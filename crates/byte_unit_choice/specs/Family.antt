@@ -4,8 +4,8 @@ use Rattle.byte_unit_base.specs.Shape.{Shape}
 use Rattle.byte_unit_base.specs.Version.{Version}
 use Rattle.byte_unit_base.specs.declared.kind.Kind.{Kind}
 use Rattle.byte_unit_base.specs.declared.kind.Kind.TheVariants.{Byte, Bit}
-use Rattle.byte_unit_choice.specs.declared.family.Family.{Family}
-use Rattle.byte_unit_choice.specs.declared.family.Family.TheVariants.{All, Bytes, Bits}
+use Rattle.byte_unit_choice.specs.declared.choice.Family.{Family}
+use Rattle.byte_unit_choice.specs.declared.choice.Family.TheVariants.{All, Bytes, Bits}
 use Rattle.byte_unit_choice.specs.declared.unit_type.UnitType.{UnitType}
 use Rattle.byte_unit_choice.specs.declared.unit_type.UnitType.TheVariants.{Binary, Decimal, Both}
 

@@ -5,8 +5,8 @@ use Rattle.byte_unit_base.specs.Units.{shape_of}
 use Rattle.byte_unit_base.specs.Version.{current}
 use Rattle.byte_unit_choice.specs.Family.{HasPrefix}
 use Rattle.byte_unit_choice.specs.declared.tables.UnitRow.{UnitRow}
-use Rattle.byte_unit_choice.specs.declared.family.Family.{Family}
-use Rattle.byte_unit_choice.specs.declared.family.Family.TheVariants.{All, Bytes, Bits}
+use Rattle.byte_unit_choice.specs.declared.choice.Family.{Family}
+use Rattle.byte_unit_choice.specs.declared.choice.Family.TheVariants.{All, Bytes, Bits}
 
 -- the number of prefixes, one for each prefix letter
 abbrev pub prefix_count : ℕ

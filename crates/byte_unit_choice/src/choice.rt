@@ -1,19 +1,40 @@
-//! The choice of a unit for a size.
+//! The choice of a unit for a size: unit sets, the largest unit of a set in which a size is exact, and the largest that
+//! is not above it.
 
-ghost use Rattle.std.specs.Prelude.{◌≡◌, ◌+◌, ◌*◌, ◌<◌, ◌≤◌, ◌⊎◌, IfSome, IfNone};
+ghost use Rattle.std.specs.Prelude.{◌≡◌, ◌+◌, ◌*◌, ◌<◌, ◌≤◌, ◌⊎◌, IfSome, IfNone, map};
 ghost use Rattle.byte_unit_math.specs.Bounds.{scale, size_limit};
 ghost use Rattle.byte_unit_math.specs.Steps.{saturating_add};
 ghost use Rattle.byte_unit_base.specs.Shape.{bits};
 ghost use Rattle.byte_unit_base.specs.Kinds.{bits_in};
 ghost use Rattle.byte_unit_base.specs.Units.{shape_of};
 ghost use Rattle.byte_unit_choice.specs.Choice.{IsLargest, NoneHas, IsExactUnit, IsChosen, IsEligibleUnit, CountsChoice, most_steps};
+ghost use Rattle.byte_unit_choice.specs.Choice.{IsRecovered, IsAppropriate};
+ghost use Rattle.byte_unit_choice.specs.Multiples.{ListsUnits, row_of, row_shape, units_of_prefixes, prefix_count};
 ghost use Rattle.byte_unit_base.specs.declared.kind.Kind.{Kind};
 
-use crate::{Family, UnitType};
-use byte_unit_base::{PREFIXES, Unit};
+use crate::UnitType;
+use crate::tables::{ALL, BITS, BYTES, UnitRow};
+use byte_unit_base::{Kind, PREFIXES, Unit};
 use byte_unit_math::{
     DECIMAL_PLACES, Decimal, Factors, Steps, exact_number, factored_quotient, factors_of,
 };
+
+/// The set of units that a choice may take. All of them have a prefix: `Bit` and `B` are in no set.
+///
+/// # Examples
+/// ```rust
+/// assert_eq!(rt; largest_unit(1000, Family::All, UnitType::Both, 8), Some(Unit::KB));
+/// assert_eq!(rt; largest_unit(1000, Family::Bits, UnitType::Both, 8), Some(Unit::Kibit));
+/// ```
+#[derive(Clone, Copy, Debug, PartialEq, Eq)]
+pub enum Family {
+    /// All units with a prefix.
+    All,
+    /// Those of bytes, as `KB` and `KiB`.
+    Bytes,
+    /// Those of bits, as `Kbit` and `Kibit`.
+    Bits,
+}
 
 /// Up to this many places a number is computed from the factors of the size: in any unit their product fits 128 bits.
 const FEW_PLACES: u32 = 5;
@@ -70,7 +91,7 @@ pub fn choose_unit(
     // A unit of the n-th prefix has an exponent of 2 of 10 n or more, or one of 5 of 3 n. For most sizes that leaves
     // few prefixes.
     let first = (most_twos / 10).max(most_fives / 3);
-    for row in family.multiples_within(in_bits, first) {
+    for row in multiples_within(family, in_bits, first) {
         // Non-short-circuiting `&`: one branch instead of three that are hard to predict.
         if (row.bits <= in_bits) & (row.twos <= most_twos) & (row.fives <= most_fives) {
             let lacking = row.twos.saturating_sub(twos);
@@ -86,6 +107,67 @@ pub fn choose_unit(
         }
     }
     None
+}
+
+/// Returns the size in the largest unit, not above it, in which it is exact within `precision` decimal places: the
+/// number and the unit. If there is no such unit, returns the size itself in `B` or `Bit`.
+///
+/// The unit is of the size's own kind, or of either kind if `allow` is set. A precision above 28 counts as 28.
+///
+/// Precondition (proved at every call): `size < 10^30`.
+///
+/// `steps` is raised as by `choose_unit`: by at most 116 for bytes and by at most 119 for bits. At precision 27,
+/// `7 << 87` bytes take 116 steps, and `7 << 90` bits take 119 if `allow` is set.
+///
+/// # Examples
+/// ```rust
+/// let (number, unit) = recoverable_unit(50_840_000, Kind::Byte, false, 2, &mut Steps::new());
+/// assert!(rt; number == Decimal::from_digits(50, 84, 2) && unit == Unit::MB);
+/// ```
+#[inline(always)]
+pub fn recoverable_unit(
+    size: u128,
+    kind: Kind,
+    allow: bool,
+    precision: usize,
+    steps: &mut Steps,
+) -> (Decimal, Unit)
+    requires { size < size_limit }
+    ensures recovered { IsRecovered kind allow size precision result.1 }
+    ensures exact { result.0 * bits (shape_of result.1) ≡ size * bits_in kind * scale }
+    ensures steps { CountsChoice size result.0 steps.old steps.new }
+    ensures few_steps { steps.new ≤ saturating_add steps.old (most_steps kind) }
+{
+    let family = match (kind, allow) {
+        (_, true) => Family::All,
+        (Kind::Byte, false) => Family::Bytes,
+        (Kind::Bit, false) => Family::Bits,
+    };
+    match choose_unit(size, family, kind.bits(), precision, steps) {
+        Some(chosen) => chosen,
+        None => (Decimal::from_digits(size, 0, 0), kind.unit()),
+    }
+}
+
+/// Returns the size in the largest unit, not above it, that divides it: the number and the unit. If there is no such
+/// unit, returns the size itself in `B` or `Bit`.
+///
+/// The unit is of the size's own kind, or of either kind if `allow` is set.
+///
+/// Precondition (proved at every call): `size < 10^30`.
+///
+/// # Examples
+/// ```rust
+/// assert_eq!(rt; exact_unit(50_840_000, Kind::Byte, false), (50_840, Unit::KB));
+/// assert_eq!(rt; exact_unit(16, Kind::Bit, true), (16, Unit::Bit));
+/// ```
+pub fn exact_unit(size: u128, kind: Kind, allow: bool) -> (u128, Unit)
+    requires { size < size_limit }
+    ensures recovered { IsRecovered kind allow size 0 result.1 }
+    ensures exact { result.0 * bits (shape_of result.1) ≡ size * bits_in kind }
+{
+    let (number, unit) = recoverable_unit(size, kind, allow, 0, &mut Steps::new());
+    (number.whole(), unit)
 }
 
 /// Returns the largest unit of the unit set and of the type that is not above the size. Returns `None` if there is
@@ -110,10 +192,56 @@ pub fn largest_unit(size: u128, family: Family, unit_type: UnitType, own_bits: u
     // Every unit is far below `u128::MAX`, so saturation changes nothing.
     let in_bits = size.saturating_mul(own_bits);
     // The largest unit is first. Prefixes that are surely too large are left out, and others may be too large.
-    for row in family.multiples_within(in_bits, PREFIXES as u32) {
-        if row.bits <= in_bits && unit_type.takes(row.unit.is_binary_multiples()) {
-            return Some(row.unit);
+    for row in multiples_within(family, in_bits, PREFIXES as u32) {
+        if row.bits > in_bits {
+            continue;
+        }
+        let unit = row.unit;
+        let is_of_type = match unit_type {
+            UnitType::Binary => unit.is_binary_multiples(),
+            UnitType::Decimal => !unit.is_binary_multiples(),
+            UnitType::Both => true,
+        };
+        if is_of_type {
+            return Some(unit);
         }
     }
     None
+}
+
+/// Returns the largest unit of the size's own kind and of the type that is not above the size. If there is none,
+/// returns `B` or `Bit`.
+///
+/// # Examples
+/// ```rust
+/// assert_eq!(rt; appropriate_unit(10_000, Kind::Byte, UnitType::Both), Unit::KiB);
+/// assert_eq!(rt; appropriate_unit(1000, Kind::Byte, UnitType::Binary), Unit::B);
+/// ```
+#[inline(always)]
+pub fn appropriate_unit(size: u128, kind: Kind, unit_type: UnitType) -> Unit
+    ensures { IsAppropriate kind unit_type size result }
+{
+    let family = match kind {
+        Kind::Byte => Family::Bytes,
+        Kind::Bit => Family::Bits,
+    };
+    largest_unit(size, family, unit_type, kind.bits()).unwrap_or(kind.unit())
+}
+
+/// Returns the units of the first `first` prefixes, the largest first, without those whose prefix is too large for a
+/// size of `in_bits` bits: the number of bits of a unit of the n-th prefix has at least 10 n binary digits.
+///
+/// `#[inline(always)]`: most callers have a constant unit set.
+#[inline(always)]
+fn multiples_within(family: Family, in_bits: u128, first: u32) -> &'static [UnitRow]
+    ensures { ListsUnits family in_bits first result.now }
+{
+    let digits = u128::BITS - in_bits.leading_zeros();
+    let prefixes = PREFIXES.min((digits / 10).min(first) as usize);
+    let units: &[UnitRow] = match family {
+        Family::All => &ALL,
+        Family::Bytes => &BYTES,
+        Family::Bits => &BITS,
+    };
+    &units[units.len() / PREFIXES * (PREFIXES - prefixes)..]
 }

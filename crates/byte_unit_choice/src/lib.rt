@@ -4,14 +4,12 @@
 //! number of bits of its own unit, 8 or 1.
 #![tactic(auto)]
 
-pub use crate::choice::{choose_unit, largest_unit};
-pub use crate::family::Family;
-pub use crate::recover::{appropriate_unit, exact_unit, recoverable_unit};
+pub use crate::choice::{
+    Family, appropriate_unit, choose_unit, exact_unit, largest_unit, recoverable_unit,
+};
 pub use crate::unit_type::UnitType;
 
 mod choice;
-mod family;
 pub mod laws;
-mod recover;
 mod tables;
 mod unit_type;

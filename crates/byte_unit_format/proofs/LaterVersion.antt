@@ -19,7 +19,7 @@ use Rattle.byte_unit_format.specs.Forms.{places_of}
 use Rattle.byte_unit_format.specs.VersionLaws.{AcceptedTextsStay, SizeFormsStay, AppropriateUnitsStay}
 use Rattle.byte_unit_format.specs.VersionLaws.{AdjustedFormsStay}
 use Rattle.byte_unit_base.specs.declared.kind.Kind.{Kind}
-use Rattle.byte_unit_choice.specs.declared.family.Family.{Family}
+use Rattle.byte_unit_choice.specs.declared.choice.Family.{Family}
 use Rattle.byte_unit_format.specs.declared.spec.FormatSpec.{FormatSpec}
 use Rattle.byte_unit_format.proofs.NarrowTexts.{prefix_of, unit_bits, bits_in_positive, prefix_at_least}
 use Rattle.byte_unit_format.proofs.FewPlaces.{exponent_below}

@@ -5,7 +5,7 @@ use Rattle.byte_unit_base.specs.Units.{shape_of}
 use Rattle.byte_unit_base.specs.Kinds.{bits_in}
 use Rattle.byte_unit_choice.proofs.Quotients.{whole_number}
 use Rattle.byte_unit_choice.proofs.Choosing.{some_bits, exact_where_recovered}
-use Rattle.byte_unit_choice.proofs.recover.exact_unit.Goals as goal
+use Rattle.byte_unit_choice.proofs.choice.exact_unit.Goals as goal
 
 pub returns-clause-exact : goal.returns-clause-exact
 returns-clause-exact c =

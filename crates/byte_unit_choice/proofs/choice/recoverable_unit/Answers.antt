@@ -4,7 +4,7 @@ use Rattle.byte_unit_math.specs.Bounds.{scale}
 use Rattle.byte_unit_base.specs.Units.{shape_of}
 use Rattle.byte_unit_choice.proofs.Choosing.{own_number}
 use Rattle.byte_unit_choice.proofs.SizePowers.{counted_whole}
-use Rattle.byte_unit_choice.proofs.recover.recoverable_unit.Goals as goal
+use Rattle.byte_unit_choice.proofs.choice.recoverable_unit.Goals as goal
 
 pub returns-in-None-clause-exact : goal.returns-in-None-clause-exact
 returns-in-None-clause-exact c =

@@ -5,19 +5,19 @@ use Rattle.std.proofs.lemmas.List.{length-drop, take_all}
 use Rattle.std.specs.Int.{w128, leading_zeros}
 use Rattle.byte_unit_choice.specs.Multiples.{row_of, row_shape, units_of_prefixes, prefix_count}
 use Rattle.byte_unit_choice.proofs.Rows.{rows_behind, prefix_within}
-use Rattle.byte_unit_choice.proofs.family.Family.multiples_within.Goals as goal
-use Rattle.byte_unit_choice.proofs.family.Family.multiples_within.Goals.{in-All, in-Bytes, in-Bits}
+use Rattle.byte_unit_choice.proofs.choice.multiples_within.Goals as goal
+use Rattle.byte_unit_choice.proofs.choice.multiples_within.Goals.{in-All, in-Bytes, in-Bits}
 
 pub returns : goal.returns
 returns c =
-    let all : map row_shape c.match-self.units.now ≡ map row_of (units_of_prefixes c.args.self prefix_count) =
-    elim c.match-self.branch [ in-All w ↦ search rules | in-Bytes w ↦ search rules | in-Bits w ↦ search rules ] in
-    let rows = c.match-self.units.now in
+    let all : map row_shape c.match-family.units.now ≡ map row_of (units_of_prefixes c.args.family prefix_count) =
+    elim c.match-family.branch [ in-All w ↦ search rules | in-Bytes w ↦ search rules | in-Bits w ↦ search rules ] in
+    let rows = c.match-family.units.now in
     let prefixes = c.min-prefixes.result in
     let skipped = length rows / prefix_count * (prefix_count - prefixes) in
     let whole : take (length rows - skipped) (drop skipped rows) ≡ drop skipped rows =
     take_all (length rows - skipped) (drop skipped rows) (omega (arith, length-drop skipped rows)) in
-    let behind = rows_behind c.args.self rows prefixes skipped all (omega (arith, c.min-prefixes.ensures)) refl in
+    let behind = rows_behind c.args.family rows prefixes skipped all (omega (arith, c.min-prefixes.ensures)) refl in
     let small : c.args.in_bits < 2 ^ 128 = omega (arith, c.ranges.in_bits.fits) in
     record {
       prefixes = prefixes;
