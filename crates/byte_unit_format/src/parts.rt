@@ -110,7 +110,10 @@ impl TextParts<'_> {
     {
         let name = put_short(self.name.as_bytes(), out, end);
         let behind = put_run(b' ', self.after, out, name);
-        let point = self.fraction.put(out, behind);
+        let point = match self.fraction {
+            Fraction::Last(digits, places) => put_fraction(digits, places, out, behind),
+            Fraction::First(e, places) => put_first(e, places, out, behind),
+        };
         let digits = put_u128(self.whole, out, point);
         let sign = put_short(self.sign.as_bytes(), out, digits);
         put_run(b' ', self.before, out, sign)
@@ -146,20 +149,6 @@ impl Fraction<'_> {
                 push_ascii(text, &bytes[start..]);
             }
             Fraction::First(e, places) => push_first(text, e, *places),
-        }
-    }
-
-    /// Writes the point and the digits so that they end before `end`, and returns the index where they begin.
-    #[inline(always)]
-    fn put(&self, out: &mut [u8], end: usize) -> usize
-        requires room { length (fraction_of self.now) ≤ end }
-        requires within { end ≤ length out.old }
-        requires short { FitsPlaces self.now }
-        ensures { IsPutAscii (fraction_of self.now) end out.old out.new result }
-    {
-        match self {
-            Fraction::Last(digits, places) => put_fraction(*digits, *places, out, end),
-            Fraction::First(e, places) => put_first(e, *places, out, end),
         }
     }
 }
