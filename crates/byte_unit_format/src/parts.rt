@@ -4,7 +4,7 @@ ghost use Rattle.std.specs.Prelude.{◌≡◌, ◌+◌, ◌^◌, ◌≤◌, ◌+
 ghost use Rattle.byte_unit_math.specs.Numeral.{fraction_text};
 ghost use Rattle.byte_unit_math.specs.Padded.{pad_of};
 ghost use Rattle.byte_unit_math.specs.PutBefore.{IsPutBefore};
-ghost use Rattle.byte_unit_format.specs.Pushed.{IsPushed, IsPutAscii};
+ghost use Rattle.byte_unit_format.specs.Pushed.{IsPushed};
 ghost use Rattle.byte_unit_format.specs.Room.{spare_capacity, AppendsForm};
 ghost use Rattle.byte_unit_format.specs.TextParts.{fraction_of, places_in, FitsPlaces, IsReady, parts_text};
 ghost use Rattle.byte_unit_format.specs.Written.{WritesForm};
@@ -158,8 +158,9 @@ impl Fraction<'_> {
 fn put_first(e: &Expansion, places: u32, out: &mut [u8], end: usize) -> usize
     requires room { length (fraction_text (pad_of places e.now).digits) ≤ end }
     requires within { end ≤ length out.old }
-    ensures { let text = fraction_text (pad_of places e.now).digits in
-        IsPutAscii text end out.old out.new result }
+    ensures put { let text = fraction_text (pad_of places e.now).digits in
+        IsPutBefore text end out.old out.new result }
+    ensures ascii { IsAscii (fraction_text (pad_of places e.now).digits) }
 {
     if places == 0 {
         return end;
