@@ -3,11 +3,9 @@
 ghost use Rattle.std.specs.Prelude.{◌≡◌, ℕ, ◌*◌, ◌^◌, ◌<◌, ◌≤◌, List, length, IfSome, Some};
 ghost use Rattle.std.specs.Fmt.{DisplaysOnOk, DisplaysStyledOnOk};
 ghost use Rattle.byte_unit_math.specs.Finite.{IsExpansion};
-ghost use Rattle.byte_unit_math.specs.Nearest.{IsNearest};
 ghost use Rattle.byte_unit_math.specs.ShortExpansion.{IsShortExpansion};
 ghost use Rattle.byte_unit_math.specs.Numeral.{numeral, text_of};
 ghost use Rattle.byte_unit_math.specs.Padded.{pad_of};
-ghost use Rattle.byte_unit_math.specs.declared.expansion.Ties.TheVariants.{Even};
 ghost use Rattle.byte_unit_base.specs.Shape.{bits};
 ghost use Rattle.byte_unit_math.specs.Bounds.{places_of_decimal, size_limit};
 ghost use Rattle.byte_unit_base.specs.Units.{shape_of};
@@ -19,8 +17,7 @@ ghost use Rattle.byte_unit_format.specs.TextParts.{IsReady, parts_text};
 ghost use Rattle.byte_unit_format.specs.Room.{AppendsForm};
 ghost use Rattle.byte_unit_format.specs.Written.{WritesForm};
 ghost use Rattle.byte_unit_format.specs.Forms.{text_limit};
-ghost use Rattle.byte_unit_format.specs.Adjusted.{IsNumeralBy, IsAdjustedForm, adjusted_text, has_no_prefix};
-ghost use Rattle.byte_unit_format.specs.Adjusted.{most_adjusted_text};
+ghost use Rattle.byte_unit_format.specs.Adjusted.{IsNumeralBy, IsAdjustedForm, adjusted_text, most_adjusted_text};
 
 use crate::FormatSpec;
 use crate::layout::{append_layout, layout_len, layout_parts, write_layout};
@@ -141,6 +138,7 @@ pub fn append_adjusted<A: Allocator>(
 /// assert!(rt; out == *b"1.536 KB.");
 /// ```
 #[inline(always)]
+#[tactic(auto, using(crate::proofs::AdjustedForms::scaled_size_small))]
 pub fn write_adjusted(size: u128, kind: Kind, unit: Unit, spec: FormatSpec, out: &mut [u8]) -> usize
     requires { size < size_limit }
     ensures written { WritesForm (IsAdjustedForm kind size unit spec) out.old out.new result }
@@ -150,7 +148,8 @@ pub fn write_adjusted(size: u128, kind: Kind, unit: Unit, spec: FormatSpec, out:
     let rounding = rounding_of(unit, spec);
     match rounding {
         Rounding::To(places) if places <= FEW_PLACES => {
-            let number = rounded_to_few(size, kind, unit, places);
+            let scaled = size * kind.bits() * power_of_ten(places);
+            let number = rounded_quotient(scaled, unit.as_bits_u128());
             scaled_parts(number, places, unit, spec).write(out)
         }
         _ => write_slow(size, Target { kind, unit }, rounding, spec, out),
@@ -218,7 +217,7 @@ fn rounding_of(unit: Unit, spec: FormatSpec) -> Rounding
         Some(precision) => {
             if spec.alternate {
                 Rounding::AtMost(u32::from(precision.min(ALTERNATE_PLACES)))
-            } else if is_single(unit) {
+            } else if matches!(unit, Unit::Bit | Unit::B) {
                 Rounding::Exact
             } else {
                 Rounding::To(u32::from(precision))
@@ -306,19 +305,6 @@ fn round(number: &mut Expansion, rounding: Rounding) -> u32
     }
 }
 
-/// Returns the size in the unit times 10^places, rounded to a whole number, ties to even.
-#[inline(always)]
-#[tactic(auto, using(crate::proofs::AdjustedForms::scaled_size_small))]
-fn rounded_to_few(size: u128, kind: Kind, unit: Unit, places: u32) -> u128
-    requires size { size < size_limit }
-    requires places { places ≤ FEW_PLACES }
-    ensures { let unit = shape_of unit in
-        IsNearest (size * bits_in kind) (bits unit) places Even result }
-{
-    let scaled = size * kind.bits() * power_of_ten(places);
-    rounded_quotient(scaled, unit.as_bits_u128())
-}
-
 /// Returns the parts of a number, which is scaled by 10^places, with its unit.
 #[inline(always)]
 #[tactic(auto, using(crate::proofs::AdjustedForms::scaled_text, byte_unit_math::proofs::Digits::one_le_pow10))]
@@ -350,11 +336,4 @@ pub fn number_in_unit(size: u128, kind: Kind, unit: Unit) -> Expansion
 {
     let (twos, fives) = unit.powers();
     Expansion::new(size * kind.bits(), twos, fives)
-}
-
-/// Returns whether the unit has no prefix.
-fn is_single(unit: Unit) -> bool
-    ensures { result ≡ has_no_prefix (shape_of unit) }
-{
-    matches!(unit, Unit::Bit | Unit::B)
 }

@@ -11,7 +11,7 @@ ghost use Rattle.byte_unit_format.specs.NamedSpecs.{alternate_spec};
 ghost use Rattle.byte_unit_format.specs.UnitFraction.{HasPrefix, unit_fraction_text, thousandths_text};
 ghost use Rattle.byte_unit_format.specs.Written.{WritesForm};
 
-use crate::put::put;
+use crate::parts::put;
 use crate::thousandths::{UnitFraction, split};
 use byte_unit_base::{Kind, prefix_letter};
 use byte_unit_math::{decimal_len, put_u128};

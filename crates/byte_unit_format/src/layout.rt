@@ -9,7 +9,6 @@ ghost use Rattle.byte_unit_format.specs.TextParts.{fraction_of, places_in, FitsP
 ghost use Rattle.byte_unit_format.specs.Written.{WritesForm};
 
 use crate::parts::{Fraction, TextParts};
-use crate::plain::padding;
 use crate::spec::{Align, FormatSpec, Sign};
 use byte_unit_base::Unit;
 use byte_unit_math::{Expansion, decimal_len};
@@ -97,7 +96,10 @@ pub(crate) fn layout_parts<'a>(
         Sign::Minus => 0,
     };
     let columns = number + gap + name.len();
-    let pad = padding(columns, spec.width);
+    let pad = match spec.width {
+        None => 0,
+        Some(width) => usize::from(width).saturating_sub(columns),
+    };
     let before = match spec.align {
         Some(Align::Right) => pad,
         Some(Align::Left) | Some(Align::Center) | None => 0,

@@ -11,7 +11,6 @@ pub mod laws;
 mod layout;
 mod parts;
 mod plain;
-mod put;
 mod spec;
 mod thousandths;
 mod with_digits;

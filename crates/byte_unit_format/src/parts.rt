@@ -1,16 +1,15 @@
 //! The parts of a formatted text, and how they are written.
 
-ghost use Rattle.std.specs.Prelude.{◌≡◌, ◌+◌, ◌^◌, ◌≤◌, length, IsAscii};
+ghost use Rattle.std.specs.Prelude.{◌≡◌, ◌+◌, ◌^◌, ◌≤◌, ◌++◌, length, take, drop, replicate, IsAscii};
 ghost use Rattle.byte_unit_math.specs.Numeral.{fraction_text};
 ghost use Rattle.byte_unit_math.specs.Padded.{pad_of};
 ghost use Rattle.byte_unit_math.specs.PutBefore.{IsPutBefore};
-ghost use Rattle.byte_unit_format.specs.Pushed.{IsPushed, IsPutAscii};
+ghost use Rattle.byte_unit_format.specs.Pushed.{IsPushed};
 ghost use Rattle.byte_unit_format.specs.Room.{spare_capacity, AppendsForm};
 ghost use Rattle.byte_unit_format.specs.TextParts.{fraction_of, places_in, FitsPlaces, IsReady, parts_text};
 ghost use Rattle.byte_unit_format.specs.Written.{WritesForm};
 
 use crate::capacity::{push, push_ascii, push_run, reserve};
-use crate::put::{put, put_run, put_short};
 use byte_unit_math::{DecimalDigits, Expansion, glyphs_of, put_fraction, put_u128};
 use std::alloc::{AllocError, Allocator};
 
@@ -111,7 +110,10 @@ impl TextParts<'_> {
     {
         let name = put_short(self.name.as_bytes(), out, end);
         let behind = put_run(b' ', self.after, out, name);
-        let point = self.fraction.put(out, behind);
+        let point = match self.fraction {
+            Fraction::Last(digits, places) => put_fraction(digits, places, out, behind),
+            Fraction::First(e, places) => put_first(e, places, out, behind),
+        };
         let digits = put_u128(self.whole, out, point);
         let sign = put_short(self.sign.as_bytes(), out, digits);
         put_run(b' ', self.before, out, sign)
@@ -149,20 +151,6 @@ impl Fraction<'_> {
             Fraction::First(e, places) => push_first(text, e, *places),
         }
     }
-
-    /// Writes the point and the digits so that they end before `end`, and returns the index where they begin.
-    #[inline(always)]
-    fn put(&self, out: &mut [u8], end: usize) -> usize
-        requires room { length (fraction_of self.now) ≤ end }
-        requires within { end ≤ length out.old }
-        requires short { FitsPlaces self.now }
-        ensures { IsPutAscii (fraction_of self.now) end out.old out.new result }
-    {
-        match self {
-            Fraction::Last(digits, places) => put_fraction(*digits, *places, out, end),
-            Fraction::First(e, places) => put_first(e, *places, out, end),
-        }
-    }
 }
 
 /// Writes the point and `places` digits of an expansion, or nothing if `places` is 0.
@@ -170,8 +158,9 @@ impl Fraction<'_> {
 fn put_first(e: &Expansion, places: u32, out: &mut [u8], end: usize) -> usize
     requires room { length (fraction_text (pad_of places e.now).digits) ≤ end }
     requires within { end ≤ length out.old }
-    ensures { let text = fraction_text (pad_of places e.now).digits in
-        IsPutAscii text end out.old out.new result }
+    ensures put { let text = fraction_text (pad_of places e.now).digits in
+        IsPutBefore text end out.old out.new result }
+    ensures ascii { IsAscii (fraction_text (pad_of places e.now).digits) }
 {
     if places == 0 {
         return end;
@@ -194,4 +183,50 @@ fn push_first<A: Allocator>(text: &mut String<A>, e: &Expansion, places: u32)
         push_ascii(text, &glyphs_of(e)[..shown]);
         push_run(text, b'0', places as usize - shown);
     }
+}
+
+/// Writes bytes so that they end before the index `end`, and returns the index where they begin.
+#[inline(always)]
+pub(crate) fn put(bytes: &[u8], out: &mut [u8], end: usize) -> usize
+    requires room { length bytes.now ≤ end }
+    requires within { end ≤ length out.old }
+    ensures begins { result + length bytes.now ≡ end }
+    ensures before { take result out.new ≡ take result out.old }
+    ensures bytes { drop result out.new ≡ bytes.now ++ drop end out.old }
+{
+    let start = end - bytes.len();
+    out[start..end].copy_from_slice(bytes);
+    start
+}
+
+/// Writes `count` copies of a byte so that they end before the index `end`, and returns the index where they begin.
+#[inline(always)]
+fn put_run(byte: u8, count: usize, out: &mut [u8], end: usize) -> usize
+    requires room { count ≤ end }
+    requires within { end ≤ length out.old }
+    ensures { IsPutBefore (replicate count byte) end out.old out.new result }
+{
+    let start = end - count;
+    out[start..end].fill(byte);
+    start
+}
+
+/// Writes at most three bytes as `put`, without a loop: the last, the middle and the first byte are all.
+#[inline(always)]
+#[tactic(auto, using(crate::proofs::TextParts::short_put))]
+fn put_short(bytes: &[u8], out: &mut [u8], end: usize) -> usize
+    requires short { length bytes.now ≤ 3 }
+    requires room { length bytes.now ≤ end }
+    requires within { end ≤ length out.old }
+    ensures { IsPutBefore bytes.now end out.old out.new result }
+{
+    let len = bytes.len();
+    if len == 0 {
+        return end;
+    }
+    let start = end - len;
+    out[start + (len - 1)] = bytes[len - 1];
+    out[start + len / 2] = bytes[len / 2];
+    out[start] = bytes[0];
+    start
 }

@@ -1,8 +1,8 @@
 //! Formatting of a whole number: digits only.
 
-ghost use Rattle.std.specs.Prelude.{◌≡◌, ◌+◌, ◌≤◌, length, max};
+ghost use Rattle.std.specs.Prelude.{◌≡◌, ◌≤◌, length};
 ghost use Rattle.byte_unit_format.specs.Room.{AppendsForm};
-ghost use Rattle.byte_unit_format.specs.Plain.{plain, padding_for};
+ghost use Rattle.byte_unit_format.specs.Plain.{plain};
 ghost use Rattle.byte_unit_format.specs.TextParts.{IsReady, parts_text};
 ghost use Rattle.byte_unit_format.specs.Written.{WritesForm};
 
@@ -66,7 +66,10 @@ pub(crate) fn plain_parts(size: u128, spec: FormatSpec) -> TextParts<'static>
         Sign::Unset | Sign::Minus => "",
     };
     let columns = sign.len() + decimal_len(size);
-    let pad = padding(columns, spec.width);
+    let pad = match spec.width {
+        None => 0,
+        Some(width) => usize::from(width).saturating_sub(columns),
+    };
     let before = match spec.align {
         Some(Align::Left) => 0,
         Some(Align::Center) => pad / 2,
@@ -80,17 +83,5 @@ pub(crate) fn plain_parts(size: u128, spec: FormatSpec) -> TextParts<'static>
         after: pad - before,
         name: "",
         len: columns + pad,
-    }
-}
-
-/// Returns the padding needed to reach the requested width.
-#[inline(always)]
-pub(crate) fn padding(columns: usize, width: Option<u16>) -> usize
-    ensures exact { result ≡ padding_for width columns }
-    ensures bound { result + columns ≤ max u16.MAX columns }
-{
-    match width {
-        None => 0,
-        Some(width) => usize::from(width).saturating_sub(columns),
     }
 }

@@ -9,7 +9,7 @@ ghost use Rattle.byte_unit_format.specs.NamedSpecs.{alternate_spec};
 ghost use Rattle.byte_unit_format.specs.WithDigits.{IsTextWithDigits, PutsWithDigits, cut_digits, with_digits_text};
 
 use crate::alternate::{own_letter, put_split};
-use crate::put::put;
+use crate::parts::put;
 use crate::thousandths::{UnitFraction, binary_power, in_eighths};
 use byte_unit_base::{Kind, prefix_letter};
 use byte_unit_math::{PADDED_DIGITS, put_padded_digits};

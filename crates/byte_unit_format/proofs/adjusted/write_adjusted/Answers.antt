@@ -1,6 +1,7 @@
 -- The number, rounded by one division, with its unit is the adjusted text.
-use Rattle.std.proofs.Common.{refl}
+use Rattle.std.proofs.Common.{◌*◌, refl}
 use Rattle.byte_unit_math.specs.Numeral.{numeral}
+use Rattle.byte_unit_base.specs.Kinds.{bits_in}
 use Rattle.byte_unit_format.specs.Adjusted.{IsAdjustedForm}
 use Rattle.byte_unit_format.specs.TextParts.{parts_text}
 use Rattle.byte_unit_format.proofs.TextParts.{writes_form}
@@ -10,12 +11,14 @@ use Rattle.byte_unit_format.proofs.adjusted.write_adjusted.Goals as goal
 
 pub returns-in-To-clause-written : goal.returns-in-To-clause-written
 returns-in-To-clause-written c =
-    let number = c.rounded_to_few-number.result in
+    let number = c.rounded_quotient-number.result in
+    let nearest = c.rounded_quotient-number.ensures (c.args.size * bits_in c.args.kind) c.in-To.places
+    (rw (c.bits.ensures.bits, c.power_of_ten.ensures) refl) in
     let by = c.rounding_of-rounding.ensures in
     let form : IsAdjustedForm c.args.kind c.args.size c.args.unit c.args.spec (parts_text c.scaled_parts.result) =
     rw c.scaled_parts.ensures.text
     (adjusted_by_rounding (numeral number c.in-To.places) by
-    (rw c.in-To.is (number, c.rounded_to_few-number.ensures, refl))) in
+    (rw c.in-To.is (number, rw (← c.as_bits_u128.ensures.bits) nearest, refl))) in
     writes_form (parts_text c.scaled_parts.result) form c.write.ensures.written
 
 pub returns-in-To-clause-narrow : goal.returns-in-To-clause-narrow

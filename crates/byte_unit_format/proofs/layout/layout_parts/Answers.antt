@@ -12,10 +12,10 @@ returns-clause-text c =
     let whole = decimal c.args.whole in
     let fraction = fraction_of c.args.fraction in
     let unit = c.as_str-name.result.now in
-    let pad = c.padding-pad.result in
+    let pad = c.match-spec-2.pad in
     let gap_is : c.match-spec.gap ≡ gap_of spec.sign unit = search rules in
-    let before_is : c.match-spec-2.before ≡ layout_left_padding spec.align pad = search rules in
+    let before_is : c.match-spec-3.before ≡ layout_left_padding spec.align pad = search rules in
     let pad_is : pad ≡ layout_padding (whole ++ fraction) unit spec =
     grind (arith, length-append {A = ℕ} whole fraction, gap_is) in
-    layout_of_parts (whole ++ fraction) unit spec pad c.match-spec-2.before c.match-spec.gap pad_is before_is gap_is
+    layout_of_parts (whole ++ fraction) unit spec pad c.match-spec-3.before c.match-spec.gap pad_is before_is gap_is
     ∙ ap (λ unit. layout (whole ++ fraction) unit spec) c.as_str-name.ensures

@@ -1,7 +1,7 @@
 -- The bytes are written one by one, or there are none.
 use Rattle.std.proofs.Common.{◌++◌, drop, ap, sym, arith}
 use Rattle.std.proofs.lemmas.List.{nil_from_length}
-use Rattle.byte_unit_format.proofs.put.put_short.Goals as goal
+use Rattle.byte_unit_format.proofs.parts.put_short.Goals as goal
 
 pub returns-then-len-eq0 : goal.returns-then-len-eq0
 returns-then-len-eq0 c =
