@@ -33,8 +33,10 @@ IsFormOf values form =
     IsForm (form_without values.human_readable) values.kind values.ignore_case (text_of values.to) form
 
 -- the byte between two fields, by the delimiter that is given: with `--blanks` a space, in place of any blank
-abbrev pub separator_of : Bool → Option ℕ → Option ℕ
-separator_of blanks delimiter = if blanks then Some 32 else delimiter
+abbrev pub IsSeparator : Values → Option ℕ → Type 0
+IsSeparator values separator =
+    (delimiter : Option ℕ) × IsDelimiter (text_of values.delimiter) delimiter
+    × (separator ≡ (if values.blanks then Some 32 else delimiter))
 
 -- the options of a call with these values and fields. Operands are records that end with a zero byte, and none of them
 -- is a header
@@ -46,8 +48,7 @@ pub record AreOptions (values : Values) (ranges : List FieldRange) (options : Op
   pub suffix : options.suffix.now ≡ unwrap_or (text_of values.suffix) []
   pub precision : options.precision ≡ precision_of values.human_readable values.precision
   pub padding : IsPadding (text_of values.padding) options.width options.align_left
-  pub delimiter : (delimiter : Option ℕ) × IsDelimiter (text_of values.delimiter) delimiter
-      × (options.delimiter ≡ separator_of values.blanks delimiter)
+  pub delimiter : IsSeparator values options.delimiter
   pub blanks : options.blanks ≡ values.blanks
   pub fields : options.fields.now ≡ ranges
   pub record_end : options.record_end ≡ (if values.has_operands then 0 else if values.zero_terminated then 0 else 10)
@@ -100,6 +101,12 @@ pub record IsWrongField (values : Values) (wrong : Wrong) : Type 0 where
   pub option : wrong.option.now ≡ codes "--field"
   pub value : text_of values.field ≡ text_of wrong.value
   pub reason : wrong.reason ≡ NoDelimiter
+
+-- `--delimiter` is not one byte; or it is right, and nothing separates the fields that `--field` names
+abbrev pub IsWrongSeparator : Values → Wrong → Type 0
+IsWrongSeparator values wrong =
+    IsWrongOf (codes "--delimiter") values.delimiter (MeansNothing IsDelimiter Delimiter) wrong
+    ⊎ (delimiter : Option ℕ) × IsDelimiter (text_of values.delimiter) delimiter × IsWrongField values wrong
 
 -- all options are right that are looked at before `--delimiter`
 abbrev pub FormIsRight : Values → Type 0

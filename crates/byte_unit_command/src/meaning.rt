@@ -3,12 +3,12 @@
 ghost use Rattle.std.specs.Prelude.{◌≡◌, ℕ, Bool, MatchOption, MatchResult, IfOk, IfErr, codes};
 ghost use Rattle.byte_unit_command.specs.CallOptions.{AreOptions, IsFirstWrong, IsWrongOf};
 ghost use Rattle.byte_unit_command.specs.CallOptions.{IsFormOf, IsWithinExact, IsWrongForm};
-ghost use Rattle.byte_unit_command.specs.CallOptions.{IsWrongNoUnit, AreFieldsSeparated, IsWrongField};
-ghost use Rattle.byte_unit_command.specs.CallOptions.{separator_of as separator_in};
+ghost use Rattle.byte_unit_command.specs.CallOptions.{IsWrongNoUnit, AreFieldsSeparated};
+ghost use Rattle.byte_unit_command.specs.CallOptions.{IsSeparator, IsWrongSeparator};
 ghost use Rattle.byte_unit_command.specs.Field.{ignores_case};
 ghost use Rattle.byte_unit_command.specs.Meaning.{IsFrom, IsShownForm};
 ghost use Rattle.byte_unit_command.specs.Meaning.{IsUnitName, IsNoUnitName};
-ghost use Rattle.byte_unit_command.specs.Meaning.{IsDelimiter, IsPadding, IsNoPadding, IsWidth};
+ghost use Rattle.byte_unit_command.specs.Meaning.{IsPadding, IsNoPadding, IsWidth};
 ghost use Rattle.byte_unit_command.specs.Meaning.{IsMode, MeansNothing, IsLimit, IsNoLimit};
 ghost use Rattle.byte_unit_command.specs.Prefixes.{IsReadingBy};
 ghost use Rattle.byte_unit_command.specs.Values.{text_of};
@@ -40,8 +40,7 @@ pub fn options_of<'a>(
     let binary = from_of(values.from)?;
     let given = form_of(values)?;
     let form = shown_form(values.no_unit, given)?;
-    let mark = delimiter_of(values.delimiter)?;
-    let delimiter = separator_of(values, mark)?;
+    let delimiter = separator_of(values)?;
     let (width, align_left) = padding_of(values.padding)?;
     let invalid = invalid_of(values.invalid)?;
     let max = limit_of("--max", values.max, binary, kind, values.ignore_case)?;
@@ -182,41 +181,33 @@ fn unit_of(value: &str, kind: Kind, ignore_case: bool) -> Result<Unit, ValueErro
     }
 }
 
-/// Returns the delimiter.
+/// Returns the byte between two fields: a space if they are between blanks, and else the delimiter. Returns `None` if a
+/// record is one field.
 ///
 /// # Errors
 ///
-/// Returns an error if the value is neither one byte nor `\t`, nor empty.
-fn delimiter_of(value: Option<&str>) -> Result<Option<u8>, Wrong<'_>>
-    ensures ok { IfOk result (IsDelimiter (text_of value.entry)) }
-    ensures err { IfErr result (IsWrongOf (codes "--delimiter") value.entry
-        (MeansNothing IsDelimiter ValueError.Delimiter)) }
+/// Returns an error if the delimiter is neither one byte nor `\t`, nor empty; or if nothing separates the fields that
+/// `--field` names.
+fn separator_of<'a>(values: &Values<'a>) -> Result<Option<u8>, Wrong<'a>>
+    ensures ok { IfOk result (λ separator. IsSeparator values.now separator
+        × AreFieldsSeparated values.now) }
+    ensures err { IfErr result (IsWrongSeparator values.now) }
 {
-    let Some(value) = value else {
-        return Ok(None);
+    let delimiter = match values.delimiter {
+        None => None,
+        Some(value) => match value.as_bytes() {
+            [] => None,
+            [byte] => Some(*byte),
+            b"\\t" => Some(b'\t'),
+            _ => {
+                return Err(Wrong {
+                    option: "--delimiter",
+                    value: Some(value),
+                    reason: ValueError::Delimiter,
+                });
+            }
+        },
     };
-    match value.as_bytes() {
-        [] => Ok(None),
-        [byte] => Ok(Some(*byte)),
-        b"\\t" => Ok(Some(b'\t')),
-        _ => Err(Wrong {
-            option: "--delimiter",
-            value: Some(value),
-            reason: ValueError::Delimiter,
-        }),
-    }
-}
-
-/// Returns the byte between two fields: a space if they are between blanks, and else the delimiter.
-///
-/// # Errors
-///
-/// Returns an error if nothing separates the fields that `--field` names.
-fn separator_of<'a>(values: &Values<'a>, delimiter: Option<u8>) -> Result<Option<u8>, Wrong<'a>>
-    ensures ok { IfOk result (λ separator. AreFieldsSeparated values.now
-        × (separator ≡ separator_in values.now.blanks delimiter)) }
-    ensures err { IfErr result (IsWrongField values.now) }
-{
     if values.blanks {
         return Ok(Some(b' '));
     }

@@ -1,10 +1,10 @@
 -- The first option that is wrong: those that are looked at before it are right.
 use Rattle.std.proofs.Common.{ℕ, Bool, Option, inl, inr}
 use Rattle.byte_unit_command.specs.CallOptions.{AreFieldsSeparated, FieldsAreRight, FormIsRight, IsFirstWrong, IsFormOf}
-use Rattle.byte_unit_command.specs.CallOptions.{IsWrongForm}
+use Rattle.byte_unit_command.specs.CallOptions.{IsSeparator, IsWrongForm, IsWrongSeparator}
 use Rattle.byte_unit_command.specs.CallOptions.{IsWithinExact, wrong_delimiter, wrong_field, wrong_invalid, wrong_max}
 use Rattle.byte_unit_command.specs.CallOptions.{wrong_min, wrong_no_unit, wrong_padding, wrong_precision, wrong_to}
-use Rattle.byte_unit_command.specs.Meaning.{IsDelimiter, IsFrom, IsShownForm}
+use Rattle.byte_unit_command.specs.Meaning.{IsFrom, IsShownForm}
 use Rattle.byte_unit_command.specs.Values.{text_of}
 use Rattle.byte_unit_command.specs.declared.options.Form.{Form}
 use Rattle.byte_unit_command.specs.declared.values.Values.{Values}
@@ -21,11 +21,17 @@ form_wrong : (values : Values) (wrong : Wrong) (binary : Bool) → IsFrom (text_
 form_wrong values wrong binary is_from (inl is) = wrong_to binary is_from is
 form_wrong values wrong binary is_from (inr (form, is_form, is)) = wrong_precision binary is_from form is_form is
 
-fields_right : (values : Values) (given form : Form) (mark : Option ℕ) → IsFormOf values given
-    → IsWithinExact given values.precision → IsShownForm values.no_unit given form
-    → IsDelimiter (text_of values.delimiter) mark → AreFieldsSeparated values → FieldsAreRight values
-fields_right values given form mark is within shown delimits separated =
+fields_right : (values : Values) (given form : Form) (separator : Option ℕ)
+    → IsFormOf values given × IsWithinExact given values.precision → IsShownForm values.no_unit given form
+    → IsSeparator values separator × AreFieldsSeparated values → FieldsAreRight values
+fields_right values given form separator (is, within) shown ((mark, delimits, _), separated) =
     (form_right values given form is within shown, (mark, delimits), separated)
+
+separator_wrong : (values : Values) (wrong : Wrong) (binary : Bool) → IsFrom (text_of values.from) binary
+    → FormIsRight values → IsWrongSeparator values wrong → IsFirstWrong values wrong
+separator_wrong values wrong binary is_from form (inl is) = wrong_delimiter binary is_from form is
+separator_wrong values wrong binary is_from form (inr (mark, delimits, is)) =
+    wrong_field binary is_from form mark delimits is
 
 pub returns-in_err-given-clause-err : goal.returns-in_err-given-clause-err
 returns-in_err-given-clause-err c =
@@ -38,47 +44,40 @@ returns-in_err-form-clause-err c =
     (wrong_no_unit _ c.in_ok-binary.ensures.ok _ c.in_ok-given.ensures.ok.0 c.in_ok-given.ensures.ok.1
     c.in_err-form.ensures.err)
 
-pub returns-in_err-mark-clause-err : goal.returns-in_err-mark-clause-err
-returns-in_err-mark-clause-err c =
-    let form = form_right c.args.values.now _ _ c.in_ok-given.ensures.ok.0 c.in_ok-given.ensures.ok.1
-    c.in_ok-form.ensures.ok in
-    IfErr-passed (IsFirstWrong c.args.values.now) _ _ c.from_residual-in_err-mark.ensures.1
-    (wrong_delimiter _ c.in_ok-binary.ensures.ok form c.in_err-mark.ensures.err)
-
 pub returns-in_err-delimiter-clause-err : goal.returns-in_err-delimiter-clause-err
 returns-in_err-delimiter-clause-err c =
     let form = form_right c.args.values.now _ _ c.in_ok-given.ensures.ok.0 c.in_ok-given.ensures.ok.1
     c.in_ok-form.ensures.ok in
     IfErr-passed (IsFirstWrong c.args.values.now) _ _ c.from_residual-in_err-delimiter.ensures.1
-    (wrong_field _ c.in_ok-binary.ensures.ok form _ c.in_ok-mark.ensures.ok c.in_err-delimiter.ensures.err)
+    (separator_wrong c.args.values.now _ _ c.in_ok-binary.ensures.ok form c.in_err-delimiter.ensures.err)
 
 pub returns-in_err-width-clause-err : goal.returns-in_err-width-clause-err
 returns-in_err-width-clause-err c =
-    let fields = fields_right c.args.values.now _ _ _ c.in_ok-given.ensures.ok.0
-    c.in_ok-given.ensures.ok.1 c.in_ok-form.ensures.ok c.in_ok-mark.ensures.ok c.in_ok-delimiter.ensures.ok.0 in
+    let fields = fields_right c.args.values.now _ _ _ c.in_ok-given.ensures.ok c.in_ok-form.ensures.ok
+    c.in_ok-delimiter.ensures.ok in
     IfErr-passed (IsFirstWrong c.args.values.now) _ _ c.from_residual-in_err-width.ensures.1
     (wrong_padding _ c.in_ok-binary.ensures.ok fields c.in_err-width.ensures.err)
 
 pub returns-in_err-invalid-clause-err : goal.returns-in_err-invalid-clause-err
 returns-in_err-invalid-clause-err c =
-    let fields = fields_right c.args.values.now _ _ _ c.in_ok-given.ensures.ok.0
-    c.in_ok-given.ensures.ok.1 c.in_ok-form.ensures.ok c.in_ok-mark.ensures.ok c.in_ok-delimiter.ensures.ok.0 in
+    let fields = fields_right c.args.values.now _ _ _ c.in_ok-given.ensures.ok c.in_ok-form.ensures.ok
+    c.in_ok-delimiter.ensures.ok in
     IfErr-passed (IsFirstWrong c.args.values.now) _ _ c.from_residual-in_err-invalid.ensures.1
     (wrong_invalid _ c.in_ok-binary.ensures.ok (fields, (_, _, c.in_ok-width.ensures.ok))
     c.in_err-invalid.ensures.err)
 
 pub returns-in_err-max-clause-err : goal.returns-in_err-max-clause-err
 returns-in_err-max-clause-err c =
-    let fields = fields_right c.args.values.now _ _ _ c.in_ok-given.ensures.ok.0
-    c.in_ok-given.ensures.ok.1 c.in_ok-form.ensures.ok c.in_ok-mark.ensures.ok c.in_ok-delimiter.ensures.ok.0 in
+    let fields = fields_right c.args.values.now _ _ _ c.in_ok-given.ensures.ok c.in_ok-form.ensures.ok
+    c.in_ok-delimiter.ensures.ok in
     IfErr-passed (IsFirstWrong c.args.values.now) _ _ c.from_residual-in_err-max.ensures.1
     (wrong_max _ c.in_ok-binary.ensures.ok
     ((fields, (_, _, c.in_ok-width.ensures.ok)), (_, c.in_ok-invalid.ensures.ok)) c.in_err-max.ensures.err)
 
 pub returns-in_err-min-clause-err : goal.returns-in_err-min-clause-err
 returns-in_err-min-clause-err c =
-    let fields = fields_right c.args.values.now _ _ _ c.in_ok-given.ensures.ok.0
-    c.in_ok-given.ensures.ok.1 c.in_ok-form.ensures.ok c.in_ok-mark.ensures.ok c.in_ok-delimiter.ensures.ok.0 in
+    let fields = fields_right c.args.values.now _ _ _ c.in_ok-given.ensures.ok c.in_ok-form.ensures.ok
+    c.in_ok-delimiter.ensures.ok in
     IfErr-passed (IsFirstWrong c.args.values.now) _ _ c.from_residual-in_err-min.ensures.1
     (wrong_min _ c.in_ok-binary.ensures.ok ((fields, (_, _, c.in_ok-width.ensures.ok)), (_, c.in_ok-invalid.ensures.ok))
     _ c.in_ok-max.ensures.ok c.in_err-min.ensures.err)
