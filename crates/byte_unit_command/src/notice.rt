@@ -16,7 +16,6 @@ use crate::error::RunError;
 use crate::options::{Invalid, Options};
 use crate::quote::add_quoted;
 use crate::size::{parse, without_suffix};
-use crate::tally::{is_above, is_below};
 use crate::wrong_character::{names_character, wrong_character};
 use byte_unit::ParseError;
 use byte_unit_stream::{FusedWriter, write_whole};
@@ -177,7 +176,8 @@ pub(crate) fn add_limit_notice<A: Allocator>(
         × (messages_of notices.new ≡ messages_of notices.old ++ text)) }
     ensures kept { IsPrefix (messages_of notices.old) (messages_of notices.new) }
 {
-    let (above, below) = (is_above(options, size), is_below(options, size));
+    let above = options.max.is_some_and(|most| most < size);
+    let below = options.min.is_some_and(|least| size < least);
     let field = Field {
         number,
         bytes: field,

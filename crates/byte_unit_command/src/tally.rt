@@ -2,7 +2,7 @@
 
 ghost use Rattle.std.specs.Prelude.{◌≡◌};
 ghost use Rattle.byte_unit_command.specs.RunState.{tally_with};
-ghost use Rattle.byte_unit_command.specs.Sums.{is_beyond as has_beyond, is_above as has_above, is_below as has_below};
+ghost use Rattle.byte_unit_command.specs.Sums.{is_beyond};
 
 use crate::options::Options;
 
@@ -31,33 +31,14 @@ impl Tally {
     /// Counts a size. Returns `true` if it is above the maximum or below the minimum.
     pub(crate) fn add(&mut self, options: &Options, size: u128) -> bool
         ensures tally { self.new ≡ tally_with options.now self.old (Some size) }
-        ensures beyond { result ≡ has_beyond options.now size }
+        ensures beyond { result ≡ is_beyond options.now size }
     {
         self.total = self.total.saturating_add(size).min(TOTAL_LIMIT);
-        let beyond = is_above(options, size) || is_below(options, size);
+        let beyond = options.max.is_some_and(|most| most < size)
+            || options.min.is_some_and(|least| size < least);
         if beyond {
             self.beyond = true;
         }
         beyond
-    }
-}
-
-/// Returns `true` if the size is above the maximum.
-pub(crate) fn is_above(options: &Options, size: u128) -> bool
-    ensures { result ≡ has_above options.now.max size }
-{
-    match options.max {
-        Some(most) => most < size,
-        None => false,
-    }
-}
-
-/// Returns `true` if the size is below the minimum.
-pub(crate) fn is_below(options: &Options, size: u128) -> bool
-    ensures { result ≡ has_below options.now.min size }
-{
-    match options.min {
-        Some(least) => size < least,
-        None => false,
     }
 }

@@ -1,7 +1,8 @@
 -- The message about the maximum, and then that about the minimum.
-use Rattle.std.proofs.Common.{◌++◌, refl, ap, subst, ◌∙◌, append_assoc}
+use Rattle.std.proofs.Common.{◌≡◌, ◌++◌, refl, ap, subst, ◌∙◌, append_assoc, rules}
 use Rattle.byte_unit_command.specs.Messages.{IsMessageIf}
 use Rattle.byte_unit_command.specs.RunState.{messages_of}
+use Rattle.byte_unit_command.specs.Sums.{is_above, is_below}
 use Rattle.byte_unit_command.specs.declared.notice.FieldError.TheVariants.{Above, Below}
 use Rattle.std.proofs.lemmas.Result.{on_ok_weaker}
 use Rattle.byte_unit_command.proofs.notice.add_limit_notice.Goals as goal
@@ -9,21 +10,22 @@ use Rattle.byte_unit_command.proofs.notice.add_limit_notice.Goals as goal
 pub returns-clause-ok : goal.returns-clause-ok
 returns-clause-ok g c =
     let options = c.args.options.now in
+    let size = c.args.size in
     let word = c.args.place.now.word.now in
     let place = c.args.place.now.number in
     let number = c.args.number in
     let field = c.args.field.now in
     let before = messages_of c.args.notices.now in
     let above = c.in_ok-add_message_if.ensures.ok in
-    let is_above = subst (λ told. IsMessageIf told options word place number field Above above.0)
-    c.is_above-above.ensures above.1 in
+    let above_is : c.is_some_and-above.result ≡ is_above options.max size = search rules in
+    let below_is : c.is_some_and-below.result ≡ is_below options.min size = search rules in
     on_ok_weaker c.add_message_if-2.result (λ below. (
       above.0 ++ below.0,
       (
         above.0,
         below.0,
-        is_above,
-        subst (λ told. IsMessageIf told options word place number field Below below.0) c.is_below-below.ensures below.1,
+        subst (λ told. IsMessageIf told options word place number field Above above.0) above_is above.1,
+        subst (λ told. IsMessageIf told options word place number field Below below.0) below_is below.1,
         refl,
       ),
       below.2 ∙ ap (λ messages. messages ++ below.0) above.2 ∙ append_assoc before above.0 below.0,
