@@ -11,13 +11,13 @@ ghost use Rattle.byte_unit_command.specs.CallEnds.{AbortsNext, Extends, FieldIsA
 ghost use Rattle.byte_unit_command.specs.CallEnds.{FieldsAreAdded, FieldsAreRejected, FieldsStop, KeepsMessages};
 ghost use Rattle.byte_unit_command.specs.CallEnds.{RecordStops};
 
-use crate::blanks::{between, end_of_first};
+use crate::blanks::{between, end_of_first, gap_of, width_of};
 use crate::error::{RunError, RunResult};
 use crate::notice::{Notices, Place, add_limit_notice, add_reject_notice};
 use crate::options::{FieldRange, Invalid, Options};
 use crate::size::accepted;
 use crate::tally::Tally;
-use crate::text::add_placed;
+use crate::text::add_in_width;
 use std::alloc::Allocator;
 
 /// Converts records. Keeps how far the run has come, and what is not written yet.
@@ -214,7 +214,14 @@ impl<A: Allocator> Converter<A> {
         if self.tally.add(options, size) {
             add_limit_notice(options, &self.place, number, field, size, &mut self.notices)?;
         }
-        add_placed::<BLANKS, A>(options, number, field, size, digits, &mut self.waiting)?;
+        let (gap, width) = if BLANKS {
+            // The blank that separates the field stays, and without a width the size takes the columns of the field.
+            (gap_of(number > 1, field), width_of(options, number, field))
+        } else {
+            (&field[..0], options.width as usize)
+        };
+        self.waiting.extend_from_slice(gap)?;
+        add_in_width(options, width, size, digits, &mut self.waiting)?;
         Ok(())
     }
 

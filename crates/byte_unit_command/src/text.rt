@@ -4,14 +4,10 @@ ghost use Rattle.std.specs.Prelude.{◌≡◌, ◌+◌, ◌<◌, ◌≤◌, ◌+
 ghost use Rattle.std.specs.Prelude.{vec_len, vec_capacity};
 ghost use Rattle.byte_unit.specs.Bounds.{size_limit};
 ghost use Rattle.byte_unit.specs.Forms.{text_limit};
-ghost use Rattle.byte_unit_command.specs.Capacity.{field_room, form_max, text_room, unit_text_max};
-ghost use Rattle.byte_unit_command.specs.Field.{IsPlaced};
-ghost use Rattle.byte_unit_command.specs.Fields.{at_blanks};
-ghost use Rattle.byte_unit_command.specs.RunState.{Grows, HasRoom};
+ghost use Rattle.byte_unit_command.specs.Capacity.{form_max, text_room, unit_text_max};
 ghost use Rattle.byte_unit_stream.specs.Prefix.{IsPrefix};
 ghost use Rattle.byte_unit_command.specs.Shown.{BeginsWithForm, IsFormText, IsShown, padded};
 
-use crate::blanks::{gap_of, width_of};
 use crate::options::{Form, Kind, Options, Unit};
 use byte_unit::FormatSpec;
 use byte_unit_choice::appropriate_unit;
@@ -20,43 +16,6 @@ use std::alloc::{AllocError, Allocator};
 
 /// The most bytes of a text that are copied in one piece of a constant length.
 pub(crate) const AT_ONCE: usize = 64;
-
-/// Appends the text of a size that replaces a field, by the number of the field in its record, from 1. If blanks
-/// separate the fields, the blank before the field is first, unless it is the first field, and the size takes at least
-/// the width of the options or the columns that the field has.
-///
-/// Preconditions (proved at every call): `BLANKS` says whether fields are between blanks, `size` is less than 10^30,
-/// and `digits` has capacity for any text.
-///
-/// # Errors
-///
-/// Returns `AllocError` if allocation fails.
-#[inline(always)]
-pub(crate) fn add_placed<const BLANKS: bool, A: Allocator>(
-    options: &Options,
-    number: u64,
-    field: &[u8],
-    size: u128,
-    digits: &mut [u8],
-    text: &mut Vec<u8, A>,
-) -> Result<(), AllocError>
-    requires blanks { at_blanks options.now ≡ BLANKS }
-    requires size { size < size_limit }
-    requires capacity { text_limit ≤ length digits.old }
-    ensures ok { OnOk result ((placed : List ℕ) × IsPlaced options.now number field.now size placed
-        × (text.new.items ≡ text.old.items ++ placed)) }
-    ensures kept { IsPrefix text.old.items text.new.items }
-    ensures succeeds { HasRoom text.old (field_room options.now (length field.now)) → IsOk result }
-    ensures len { Grows text.old text.new (field_room options.now (length field.now)) }
-    ensures capacity { vec_capacity text.old ≤ vec_capacity text.new }
-{
-    if BLANKS {
-        text.extend_from_slice(gap_of(number > 1, field))?;
-        let width = width_of(options, number, field);
-        return add_in_width(options, width, size, digits, text);
-    }
-    add_in_width(options, options.width as usize, size, digits, text)
-}
 
 /// Appends the text of a size in at least `width` columns to `text`. `digits` is a buffer for it.
 ///

@@ -1,13 +1,21 @@
 -- A field that is not chosen is copied. A size adds its text, and the messages about it if it is beyond a limit.
-use Rattle.std.proofs.Common.{rules, ◌≡◌, ◌∷◌, ℕ, Bool, false, true≢false, List, [], ◌++◌, Some, sym, ap, subst, ◌∙◌}
-use Rattle.std.proofs.Common.{append-nil}
+use Rattle.std.proofs.Common.{rules, ◌≡◌, ◌∷◌, ℕ, Bool, true, false, true≢false, List, [], ◌++◌, Some, sym, ap, subst}
+use Rattle.std.proofs.Common.{◌∙◌, append-nil, append_assoc, length}
+use Rattle.byte_unit_command.specs.Capacity.{field_room}
+use Rattle.byte_unit_command.specs.CallEnds.{Extends, KeepsMessages}
+use Rattle.byte_unit_command.specs.Field.{IsPlaced}
+use Rattle.byte_unit_command.specs.Fields.{at_blanks, gap_by, gap_of, width_by, width_of}
 use Rattle.byte_unit_command.specs.Messages.{AreLimitMessages}
 use Rattle.byte_unit_command.specs.RunState.{State, messages_of, state_of}
+use Rattle.byte_unit_command.specs.Shown.{IsShown}
 use Rattle.byte_unit_command.proofs.Converting.{AddsField-other, AddsField-size, AreLimitMessages-none, after-is}
 use Rattle.byte_unit_command.proofs.Converting.{kept_messages-same}
-use Rattle.byte_unit_stream.proofs.Prefixes.{IsPrefix-self}
+use Rattle.byte_unit_stream.proofs.Prefixes.{IsPrefix-same, IsPrefix-self, IsPrefix-trans}
 use Rattle.byte_unit_command.proofs.Untold.{within-untold}
+use Rattle.byte_unit_command.proofs.converter.Converter.add_field.Given.{Over}
+use Rattle.byte_unit_command.proofs.converter.Converter.add_field.Goals.{After-add_in_width, Joined-add, Joined-this-ne0}
 use Rattle.byte_unit_command.proofs.converter.Converter.add_field.Goals.{then-add+in_ok-add_limit_notice, else-add}
+use Rattle.byte_unit_command.proofs.converter.Converter.add_field.Goals.{then-this-ne0, else-this-ne0}
 use Rattle.byte_unit_command.proofs.converter.Converter.add_field.Goals as goal
 
 pub returns-then-not-chosen-clause-ok : goal.returns-then-not-chosen-clause-ok
@@ -17,16 +25,36 @@ returns-then-not-chosen-clause-ok g c =
     AddsField-other c.args.options.now c.args.number c.args.field.now old _
     (c.requires.no c.if-not-chosen.true) (ap With c.in_ok-extend_from_slice.ensures.items)
 
+-- the blank that separates the field, and the columns of the size
+spaces : (g : Over) (c : Joined-this-ne0 g)
+    → (c.if-this-ne0.width.0.now ≡ gap_of c.args.options.now c.args.number c.args.field.now)
+    × (c.if-this-ne0.width.1 ≡ width_of c.args.options.now c.args.number c.args.field.now)
+spaces g c =
+    let options = c.args.options.now in
+    let gap : Bool → List ℕ = λ blanks. gap_by blanks c.args.number c.args.field.now in
+    let width : Bool → ℕ = λ blanks. width_by blanks options.width c.args.number c.args.field.now in
+    elim c.if-this-ne0.branch [
+      | then-this-ne0 w ↦
+          let at : true ≡ at_blanks options = search rules in (
+            ap (λ both. both.0.now) w.width-is ∙ w.gap_of.ensures.items ∙ ap gap at,
+            ap (λ both. both.1) w.width-is ∙ w.width_of.ensures.width ∙ ap width at,
+          )
+      | else-this-ne0 w ↦
+          let at : false ≡ at_blanks options = search rules in
+          (ap (λ both. both.0.now) w.width-is ∙ ap gap at, ap (λ both. both.1) w.width-is ∙ ap width at)
+    ]
+
 pub returns-clause-ok : goal.returns-clause-ok
 returns-clause-ok g c =
     let options = c.args.options.now in
     let old : State = state_of c.args.self.now in
+    let number = c.args.number in
     let field = c.args.field.now in
     let size = c.in-Some.size in
     let between : State = state_of c.if-add.self in
-    let Told : Type 0 = (text : List ℕ) × AreLimitMessages options old.word old.place c.args.number field size text
+    let Counted : Type 0 = (text : List ℕ) × AreLimitMessages options old.word old.place number field size text
     × (between ≡ record old { tally = c.add.new.self; messages = old.messages ++ text }) in
-    let told : Told = elim c.if-add.branch [
+    let counted : Counted = elim c.if-add.branch [
       | then-add+in_ok-add_limit_notice w ↦
           let own = w.in_ok-add_limit_notice.ensures.ok in (
             own.0,
@@ -35,34 +63,82 @@ returns-clause-ok g c =
           )
       | else-add w ↦ (
         [],
-        AreLimitMessages-none options old.word old.place c.args.number field size
+        AreLimitMessages-none options old.word old.place number field size
             (subst (λ (yes : Bool). yes ≡ false) c.add.ensures.beyond w.if-add.false),
         ap state_of w.self-is ∙ ap (λ messages. record old { tally = c.add.new.self; messages = messages })
             (sym (append-nil old.messages)),
       )
     ] in
-    let added = c.in_ok-add_placed.ensures.ok in
-    AddsField-size options c.args.number field old _ size added.0 told.0 (c.requires.yes c.if-not-chosen.false)
-    c.in-Some.ensures.some added.1 told.1
-    (after-is options old between added.0 told.0 (Some size ∷ []) c.add.new.self told.2 c.add.ensures.tally
-    c.add_placed.new.text.items (added.2 ∙ ap (λ (state : State). state.out ++ added.0) told.2))
+    let gap = c.if-this-ne0.width.0.now in
+    let shown = c.in_ok-add_in_width.ensures.ok in
+    let text = gap ++ shown.0 in
+    let spaces = spaces g (goal.at.returns-clause-ok g c).Joined-this-ne0 in
+    let placed : IsPlaced options number field size text = record {
+      shown = shown.0;
+      is_shown = subst (λ width. IsShown (record options { width = width }) size shown.0) spaces.1 shown.1;
+      text_is = ap (λ gap. gap ++ shown.0) spaces.0;
+    } in
+    AddsField-size options number field old _ size text counted.0 (c.requires.yes c.if-not-chosen.false)
+    c.in-Some.ensures.some placed counted.1
+    (after-is options old between text counted.0 (Some size ∷ []) c.add.new.self counted.2 c.add.ensures.tally
+    c.add_in_width.new.text.items (shown.2 ∙ ap (λ items. items ++ shown.0) c.in_ok-extend_from_slice-2.ensures.items
+    ∙ append_assoc between.out gap shown.0 ∙ ap (λ (state : State). state.out ++ text) counted.2))
 
-pub returns-clause-kept_messages : goal.returns-clause-kept_messages
-returns-clause-kept_messages g c = elim c.if-add.branch [
-  | then-add+in_ok-add_limit_notice w ↦
-      kept_messages-same c.args.self.now _ _ w.self-is w.in_ok-add_limit_notice.ensures.kept
-  | else-add w ↦
-      kept_messages-same c.args.self.now _ _ w.self-is (IsPrefix-self (messages_of c.args.self.now.notices))
-]
-
-pub returns-in_err-add_placed-clause-kept_messages : goal.returns-in_err-add_placed-clause-kept_messages
-returns-in_err-add_placed-clause-kept_messages g c =
-    let none = IsPrefix-self (messages_of c.args.self.now.notices) in
+-- before the text is appended, messages were, or none
+told : (g : Over) (c : Joined-add g)
+    → KeepsMessages c.args.self.now c.if-add.self × (c.if-add.self.waiting ≡ c.args.self.now.waiting)
+told g c =
+    let old = c.args.self.now in
+    let kept = kept_messages-same old in
     elim c.if-add.branch [
       | then-add+in_ok-add_limit_notice w ↦
-          kept_messages-same c.args.self.now _ _ w.self-is w.in_ok-add_limit_notice.ensures.kept
-      | else-add w ↦ kept_messages-same c.args.self.now _ _ w.self-is none
+          (kept _ _ w.self-is w.in_ok-add_limit_notice.ensures.kept, ap (λ at. at.waiting) w.self-is)
+      | else-add w ↦ (kept _ _ w.self-is (IsPrefix-self (messages_of old.notices)), ap (λ at. at.waiting) w.self-is)
     ]
+
+pub returns-clause-kept_messages : goal.returns-clause-kept_messages
+returns-clause-kept_messages g c = (told g (goal.at.returns-clause-kept_messages g c).Joined-add).0
+
+pub returns-in_err-extend_from_slice-2-clause-kept_messages :
+    goal.returns-in_err-extend_from_slice-2-clause-kept_messages
+returns-in_err-extend_from_slice-2-clause-kept_messages g c =
+    (told g (goal.at.returns-in_err-extend_from_slice-2-clause-kept_messages g c).Joined-add).0
+
+pub returns-in_err-add_in_width-clause-kept_messages : goal.returns-in_err-add_in_width-clause-kept_messages
+returns-in_err-add_in_width-clause-kept_messages g c =
+    (told g (goal.at.returns-in_err-add_in_width-clause-kept_messages g c).Joined-add).0
+
+-- the bytes that are appended have the room of the field
+extends : (g : Over) (c : After-add_in_width g) → c.if-add.self.waiting ≡ c.args.self.now.waiting
+    → Extends (field_room c.args.options.now (length c.args.field.now)) c.args.self.now
+    (record c.if-add.self { waiting = c.add_in_width.new.text })
+extends g c same = record {
+  kept =
+      rw same at (IsPrefix-trans c.if-add.self.waiting.items c.extend_from_slice-2.new.self.items
+      c.add_in_width.new.text.items (c.if-this-ne0.width.0.now, c.in_ok-extend_from_slice-2.ensures.items)
+      c.add_in_width.ensures.kept);
+  len = search rules;
+  capacity = search rules;
+}
+
+pub returns-clause-extends : goal.returns-clause-extends
+returns-clause-extends g c =
+    let at = goal.at.returns-clause-extends g c in extends g at.After-add_in_width (told g at.Joined-add).1
+
+pub returns-in_err-add_in_width-clause-extends : goal.returns-in_err-add_in_width-clause-extends
+returns-in_err-add_in_width-clause-extends g c =
+    let at = goal.at.returns-in_err-add_in_width-clause-extends g c in
+    extends g at.After-add_in_width (told g at.Joined-add).1
+
+pub returns-in_err-extend_from_slice-2-clause-extends : goal.returns-in_err-extend_from_slice-2-clause-extends
+returns-in_err-extend_from_slice-2-clause-extends g c =
+    let same = (told g (goal.at.returns-in_err-extend_from_slice-2-clause-extends g c).Joined-add).1 in
+    let old = c.args.self.now.waiting.items in record {
+      kept =
+          IsPrefix-same old (c.in_err-extend_from_slice-2.ensures.items ∙ ap (λ at. at.items) same) (IsPrefix-self old);
+      len = search rules;
+      capacity = search rules;
+    }
 
 -- a size about which there is no message is beyond no limit
 pub returns-in_err-add_limit_notice-clause-stops : goal.returns-in_err-add_limit_notice-clause-stops
