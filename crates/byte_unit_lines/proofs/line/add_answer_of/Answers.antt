@@ -1,50 +1,39 @@
 -- What is appended in each case: that the line is not UTF-8, the words of the error, or the size with its two texts.
-use Rattle.std.proofs.Common.{◌≡◌, ℕ, ap, sym, ◌∙◌, arith, cond, eqb, not, take}
+use Rattle.std.proofs.Common.{◌≡◌, ap, sym, ◌∙◌, arith, cond, eqb, not, take}
 use Rattle.std.proofs.lemmas.Bool.{eq-eqb, ne_eqb}
-use Rattle.byte_unit.specs.declared.Kind.{Kind}
 use Rattle.byte_unit.specs.declared.Kind.TheVariants.{Byte, Bit}
 use Rattle.byte_unit_lines.proofs.Messages.{adds_size, adds_error, adds_not_text}
-use Rattle.byte_unit_lines.proofs.line.add_answer_of.Goals.{then-this-ne0, else-this-ne0}
+use Rattle.byte_unit_lines.proofs.line.add_answer_of.Given.{Over}
+use Rattle.byte_unit_lines.proofs.line.add_answer_of.Goals.{Joined-this-ne0, then-this-ne0, else-this-ne0}
 use Rattle.byte_unit_lines.proofs.line.add_answer_of.Goals as goal
 
--- the kind that is taken, as the contract has it
-bits_kind : (bits : ℕ) (kind : Kind) → (bits ≡ 0 → ⊥) → kind ≡ Bit → kind ≡ cond (not (eqb bits 0)) Bit Byte
-bits_kind bits kind some is = is ∙ sym (ap (λ no. cond (not no) Bit Byte) (ne_eqb bits 0 some))
-
-bytes_kind : (bits : ℕ) (kind : Kind) → bits ≡ 0 → kind ≡ Byte → kind ≡ cond (not (eqb bits 0)) Bit Byte
-bytes_kind bits kind none is = is ∙ sym (ap (λ no. cond (not no) Bit Byte) (eq-eqb bits 0 none))
+-- the kind that is taken is that of the contract
+kind_is : (g : Over) (c : Joined-this-ne0 g) → c.if-this-ne0.kind ≡ cond (not (eqb g.row.BITS 0)) Bit Byte
+kind_is g c = elim c.if-this-ne0.branch [
+  | then-this-ne0 w ↦ w.kind-is ∙ sym (ap (λ no. cond (not no) Bit Byte) (ne_eqb g.row.BITS 0 w.if-this-ne0.true))
+  | else-this-ne0 w ↦ w.kind-is ∙ sym (ap (λ no. cond (not no) Bit Byte) (eq-eqb g.row.BITS 0 w.if-this-ne0.false))
+]
 
 pub returns-in-None-clause-ok : goal.returns-in-None-clause-ok
 returns-in-None-clause-ok g c =
     let added = c.extend_from_slice in
-    let kind = c.if-this-ne0.kind in
-    let kind_is : kind ≡ cond (not (eqb g.row.BITS 0)) Bit Byte = elim c.if-this-ne0.branch [
-      | then-this-ne0 w ↦ bits_kind g.row.BITS kind w.if-this-ne0.true w.kind-is
-      | else-this-ne0 w ↦ bytes_kind g.row.BITS kind w.if-this-ne0.false w.kind-is
-    ] in
-    rw kind_is at (adds_not_text kind (take c.args.len c.args.bytes.now) added.result c.args.out.now.items
-    c.in-None.ensures.reading added.ensures.items)
+    let is = kind_is g (goal.at.returns-in-None-clause-ok g c).Joined-this-ne0 in
+    rw is at (adds_not_text c.if-this-ne0.kind (take c.args.len c.args.bytes.now) added.result
+    c.args.out.now.items c.in-None.ensures.reading added.ensures.items)
 
 pub returns-in-Some-Err-clause-ok : goal.returns-in-Some-Err-clause-ok
 returns-in-Some-Err-clause-ok g c =
     let added = c.extend_from_slice-in-Some-Err in
-    let kind = c.if-this-ne0.kind in
-    let kind_is : kind ≡ cond (not (eqb g.row.BITS 0)) Bit Byte = elim c.if-this-ne0.branch [
-      | then-this-ne0 w ↦ bits_kind g.row.BITS kind w.if-this-ne0.true w.kind-is
-      | else-this-ne0 w ↦ bytes_kind g.row.BITS kind w.if-this-ne0.false w.kind-is
-    ] in
-    rw kind_is at (adds_error kind (take c.args.len c.args.bytes.now) added.result c.args.out.now.items
-    (rw c.in-Some-Err.field-0-is at c.in-Some-Err.ensures.reading) c.fault_line_of.ensures added.ensures.items)
+    let is = kind_is g (goal.at.returns-in-Some-Err-clause-ok g c).Joined-this-ne0 in
+    rw is at (adds_error c.if-this-ne0.kind (take c.args.len c.args.bytes.now) added.result
+    c.args.out.now.items (rw c.in-Some-Err.field-0-is at c.in-Some-Err.ensures.reading) c.fault_line_of.ensures
+    added.ensures.items)
 
 pub returns-in-Some-Ok-clause-ok : goal.returns-in-Some-Ok-clause-ok
 returns-in-Some-Ok-clause-ok g c =
     let end = c.write_with_digits-end in
     let added = c.extend_from_slice-in-Some-Ok in
-    let kind = c.if-this-ne0.kind in
-    let kind_is : kind ≡ cond (not (eqb g.row.BITS 0)) Bit Byte = elim c.if-this-ne0.branch [
-      | then-this-ne0 w ↦ bits_kind g.row.BITS kind w.if-this-ne0.true w.kind-is
-      | else-this-ne0 w ↦ bytes_kind g.row.BITS kind w.if-this-ne0.false w.kind-is
-    ] in
-    rw kind_is at (adds_size kind (take c.args.len c.args.bytes.now) added.result c.args.out.now.items _
-    (rw c.in-Some-Ok.field-0-is at c.in-Some-Ok.ensures.reading) end.ensures.text
+    let is = kind_is g (goal.at.returns-in-Some-Ok-clause-ok g c).Joined-this-ne0 in
+    rw is at (adds_size c.if-this-ne0.kind (take c.args.len c.args.bytes.now) added.result
+    c.args.out.now.items _ (rw c.in-Some-Ok.field-0-is at c.in-Some-Ok.ensures.reading) end.ensures.text
     (omega (arith, end.ensures.bound, end.auto.out)) added.ensures.items)

@@ -11,7 +11,9 @@ use Rattle.byte_unit_command.proofs.Telling.{WritesAndTells-by}
 use Rattle.byte_unit_stream.proofs.ChunkRecords.{empty_from_length}
 use Rattle.byte_unit_stream.specs.Prefix.{IsPrefix}
 use Rattle.byte_unit_stream.specs.Streams.{writer_of}
+use Rattle.byte_unit_command.proofs.converter.Converter.finish.Given.{Over}
 use Rattle.byte_unit_command.proofs.converter.Converter.finish.Goals.{then-not-is_empty+in_ok-added, else-not-is_empty}
+use Rattle.byte_unit_command.proofs.converter.Converter.finish.Goals.{Joined-not-is_empty}
 use Rattle.byte_unit_command.proofs.converter.Converter.finish.Goals as goal
 
 pub returns-in_err-added-clause-written : goal.returns-in_err-added-clause-written
@@ -33,15 +35,18 @@ returns-in_err-added-clause-written g c =
     WritesAndTells-by [] (Appends-nil (g.W.Write.contents (writer_of c.args.writer.now))) c.tell.ensures.told
     (IsFinished-passed _ _ _ _ _ c.from_residual.result error c.from_residual.ensures.1 at)
 
-pub returns-in_err-write_with_total-clause-written : goal.returns-in_err-write_with_total-clause-written
-returns-in_err-write_with_total-clause-written g c =
+-- the last record is converted and told before the writing begins
+converts_last : (g : Over) (c : Joined-not-is_empty g)
+    → ConvertsLast g.E.Write.contents c.args.options.now c.args.part.now c.args.self.now c.if-not-is_empty.self
+    c.args.errors.now c.if-not-is_empty.errors
+converts_last g c =
     let old = c.args.self.now in
     let joined = c.if-not-is_empty in
     let told = c.args.errors.now in
     let tells = g.E.Write.contents in
     let options = c.args.options.now in
     let part = c.args.part.now in
-    let last : ConvertsLast tells options part old joined.self told joined.errors = elim joined.branch [
+    elim joined.branch [
       | then-not-is_empty+in_ok-added w ↦
           ConvertsLast-one tells options part old told c.requires.empty c.requires.untold w.add_record-added.new.self
           joined.self w.tell.new.self w.tell.new.errors joined.errors w.if-not-is_empty.ensures
@@ -49,79 +54,42 @@ returns-in_err-write_with_total-clause-written g c =
       | else-not-is_empty w ↦
           ConvertsLast-none tells options part old told c.requires.empty joined.self joined.errors
           (empty_from_length part (length part) refl w.if-not-is_empty.ensures) w.self-is w.errors-is
-    ] in
+    ]
+
+pub returns-in_err-write_with_total-clause-written : goal.returns-in_err-write_with_total-clause-written
+returns-in_err-write_with_total-clause-written g c =
+    let last = converts_last g (goal.at.returns-in_err-write_with_total-clause-written g c).Joined-not-is_empty in
     let error = c.in_err-write_with_total.field-0.0 in
     let written = c.in_err-write_with_total.ensures.written in
     let passed = c.from_residual-in_err-write_with_total in
-    let at = IsFinished-total_error part last.adds (search rules) error written.0 written.2 in
+    let at = IsFinished-total_error c.args.part.now last.adds (search rules) error written.0 written.2 in
     WritesAndTells-by written.0 written.1 last.told
     (IsFinished-passed _ _ _ _ _ passed.result error passed.ensures.1 at)
 
 pub returns-in_err-write_whole-clause-written : goal.returns-in_err-write_whole-clause-written
 returns-in_err-write_whole-clause-written g c =
-    let old = c.args.self.now in
-    let joined = c.if-not-is_empty in
-    let told = c.args.errors.now in
-    let tells = g.E.Write.contents in
-    let options = c.args.options.now in
-    let part = c.args.part.now in
-    let last : ConvertsLast tells options part old joined.self told joined.errors = elim joined.branch [
-      | then-not-is_empty+in_ok-added w ↦
-          ConvertsLast-one tells options part old told c.requires.empty c.requires.untold w.add_record-added.new.self
-          joined.self w.tell.new.self w.tell.new.errors joined.errors w.if-not-is_empty.ensures
-          w.in_ok-added.ensures.ok w.tell.ensures.told w.self-is w.errors-is
-      | else-not-is_empty w ↦
-          ConvertsLast-none tells options part old told c.requires.empty joined.self joined.errors
-          (empty_from_length part (length part) refl w.if-not-is_empty.ensures) w.self-is w.errors-is
-    ] in
+    let last = converts_last g (goal.at.returns-in_err-write_whole-clause-written g c).Joined-not-is_empty in
     let failed = c.in_err-write_whole in
     let written = failed.ensures.err in
-    let begins : IsPrefix written.0 joined.self.waiting.items =
+    let begins : IsPrefix written.0 c.if-not-is_empty.self.waiting.items =
     subst (IsPrefix written.0) c.deref.ensures.value written.2 in
     let passed = c.from_residual-in_err-write_whole in
-    let at = IsFinished-plain_error part last.adds failed.field-0.0 written.0 failed.ensures.write begins in
+    let at = IsFinished-plain_error c.args.part.now last.adds failed.field-0.0 written.0 failed.ensures.write begins in
     WritesAndTells-by written.0 written.1 last.told
     (IsFinished-passed _ _ _ _ _ passed.result failed.field-0.0 passed.ensures.1 at)
 
 pub returns-in_ok-write_with_total-clause-written : goal.returns-in_ok-write_with_total-clause-written
 returns-in_ok-write_with_total-clause-written g c =
-    let old = c.args.self.now in
-    let joined = c.if-not-is_empty in
-    let told = c.args.errors.now in
-    let tells = g.E.Write.contents in
-    let options = c.args.options.now in
-    let part = c.args.part.now in
-    let last : ConvertsLast tells options part old joined.self told joined.errors = elim joined.branch [
-      | then-not-is_empty+in_ok-added w ↦
-          ConvertsLast-one tells options part old told c.requires.empty c.requires.untold w.add_record-added.new.self
-          joined.self w.tell.new.self w.tell.new.errors joined.errors w.if-not-is_empty.ensures
-          w.in_ok-added.ensures.ok w.tell.ensures.told w.self-is w.errors-is
-      | else-not-is_empty w ↦
-          ConvertsLast-none tells options part old told c.requires.empty joined.self joined.errors
-          (empty_from_length part (length part) refl w.if-not-is_empty.ensures) w.self-is w.errors-is
-    ] in
+    let last = converts_last g (goal.at.returns-in_ok-write_with_total-clause-written g c).Joined-not-is_empty in
     let written = c.in_ok-write_with_total.ensures.written in
     WritesAndTells-by written.0 written.1 last.told
-    (IsFinished-total_ok part last.adds (search rules) written.0 written.2)
+    (IsFinished-total_ok c.args.part.now last.adds (search rules) written.0 written.2)
 
 pub returns-in_ok-write_whole-clause-written : goal.returns-in_ok-write_whole-clause-written
 returns-in_ok-write_whole-clause-written g c =
-    let old = c.args.self.now in
-    let joined = c.if-not-is_empty in
-    let told = c.args.errors.now in
-    let tells = g.E.Write.contents in
-    let options = c.args.options.now in
-    let part = c.args.part.now in
-    let last : ConvertsLast tells options part old joined.self told joined.errors = elim joined.branch [
-      | then-not-is_empty+in_ok-added w ↦
-          ConvertsLast-one tells options part old told c.requires.empty c.requires.untold w.add_record-added.new.self
-          joined.self w.tell.new.self w.tell.new.errors joined.errors w.if-not-is_empty.ensures
-          w.in_ok-added.ensures.ok w.tell.ensures.told w.self-is w.errors-is
-      | else-not-is_empty w ↦
-          ConvertsLast-none tells options part old told c.requires.empty joined.self joined.errors
-          (empty_from_length part (length part) refl w.if-not-is_empty.ensures) w.self-is w.errors-is
-    ] in
+    let last = converts_last g (goal.at.returns-in_ok-write_whole-clause-written g c).Joined-not-is_empty in
     let held = g.W.Write.contents (writer_of c.args.writer.now) in
     let holds = g.W.Write.contents (writer_of c.write_whole.new.writer) in
     let wrote = subst (Appends held holds) c.deref.ensures.value c.in_ok-write_whole.ensures.ok in
-    WritesAndTells-by joined.self.waiting.items wrote last.told (IsFinished-plain_ok part last.adds (search rules))
+    WritesAndTells-by c.if-not-is_empty.self.waiting.items wrote last.told
+    (IsFinished-plain_ok c.args.part.now last.adds (search rules))
