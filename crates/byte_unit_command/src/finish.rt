@@ -42,7 +42,8 @@ impl<A: Allocator> Converter<A> {
         requires empty { self.old.waiting.items ≡ [] }
         requires untold { messages_of self.old.notices ≡ [] }
         requires capacity { text_limit ≤ length digits.old }
-        ensures written { WritesAndTells W.contents E.contents writer.old writer.new errors.old errors.new
+        ensures written { WritesAndTells W.contents E.contents
+            writer.old writer.new errors.old errors.new
             (IsFinished options.now part.now (idle (state_of self.old)) result) }
         ensures failed { IsErrOf result RunError.Write → IsTrue (writing_failed writer.new) }
         ensures memory { HasRoom self.old.waiting (end_room options.now (length part.now))

@@ -49,7 +49,8 @@ pub fn run<R: Read, W: Write, E: Write>(
     options: &Options,
     streams: &mut Streams<R, W, E>,
 ) -> Result<Tally, RunError>
-    ensures run { IsRunOf R.remaining W.contents E.contents options.now streams.old streams.new result }
+    ensures run { IsRunOf R.remaining W.contents E.contents options.now
+        streams.old streams.new result }
     ensures read_failed { IsErrOf result RunError.Read
         → IsTrue (reading_failed streams.new.reader) }
     ensures write_failed { IsErrOf result RunError.Write
@@ -133,7 +134,8 @@ pub fn run_with_buffers<A: Allocator, R: Read, W: Write, E: Write>(
     requires empty { AreEmpty buffers.old }
     requires some { 0 < length buffer.old }
     requires capacity { text_limit ≤ length digits.old }
-    ensures run { IsRunOf R.remaining W.contents E.contents options.now streams.old streams.new result }
+    ensures run { IsRunOf R.remaining W.contents E.contents options.now
+        streams.old streams.new result }
     ensures memory { HaveCapacity options.now longest (length buffer.old) buffers.old
         → IsErrOf result RunError.Memory
         → IsMemoryDue R.remaining options.now longest streams.old streams.new }

@@ -1,12 +1,13 @@
 //! Writes and appends the text of a size.
 
-ghost use Rattle.std.specs.Prelude.{◌≡◌, ◌+◌, ◌<◌, ◌≤◌, ◌++◌, ℕ, List, cond, length, max, replicate, OnOk, IsOk};
+ghost use Rattle.std.specs.Prelude.{◌≡◌, ◌+◌, ◌<◌, ◌≤◌, ◌++◌, ℕ, List, length, max, replicate, OnOk, IsOk};
 ghost use Rattle.std.specs.Prelude.{vec_len, vec_capacity};
 ghost use Rattle.byte_unit.specs.Bounds.{size_limit};
 ghost use Rattle.byte_unit.specs.Forms.{text_limit};
 ghost use Rattle.byte_unit_command.specs.Capacity.{form_max, text_room, unit_text_max};
 ghost use Rattle.byte_unit_stream.specs.Prefix.{IsPrefix};
 ghost use Rattle.byte_unit_command.specs.Shown.{BeginsWithForm, IsFormText, IsShown, padded};
+ghost use Rattle.byte_unit_command.specs.Values.{kind_of};
 
 use crate::options::{Form, Kind, Options, Unit};
 use byte_unit::FormatSpec;
@@ -169,7 +170,7 @@ fn write_as<const BITS: bool>(options: &Options, size: u128, out: &mut [u8]) -> 
     requires size { size < size_limit }
     requires capacity { text_limit ≤ length out.old }
     ensures written { BeginsWithForm
-        (IsFormText (cond BITS Kind.Bit Kind.Byte) options.now.form options.now.precision size)
+        (IsFormText (kind_of BITS) options.now.form options.now.precision size)
         out.new result }
     ensures small { result < text_limit }
     ensures narrow { result ≤ form_max options.now.form options.now.precision }
@@ -212,7 +213,9 @@ fn write_as<const BITS: bool>(options: &Options, size: u128, out: &mut [u8]) -> 
 fn write_number(size: u128, kind: Kind, unit: Unit, precision: Option<u16>, out: &mut [u8]) -> usize
     requires size { size < size_limit }
     requires capacity { text_limit ≤ length out.old }
-    ensures written { BeginsWithForm (IsFormText kind (Form.NumberOf unit) precision size) out.new result }
+    ensures written { BeginsWithForm
+        (IsFormText kind (Form.NumberOf unit) precision size)
+        out.new result }
     ensures small { result < text_limit }
     ensures narrow { result ≤ unit_text_max precision }
 {
