@@ -1,5 +1,5 @@
 //! Products of a decimal and a unit's size, rounded up to a whole number.
-ghost use Rattle.std.specs.Prelude.{◌≡◌, ℕ, ◌+◌, ◌-◌, ◌*◌, ◌/◌, ◌%◌, ◌^◌, ◌<◌, ◌≤◌, IfSome, IfNone, SomeIff};
+ghost use Rattle.std.specs.Prelude.{◌≡◌, ℕ, ◌+◌, ◌-◌, ◌*◌, ◌/◌, ◌%◌, ◌^◌, ◌<◌, ◌≤◌, IfSome, IfNone};
 ghost use Rattle.byte_unit_math.specs.Bounds.{bits_limit, places_of_decimal, unit_limit};
 ghost use Rattle.byte_unit_math.specs.Least.{IsLeastSize};
 ghost use Rattle.byte_unit_math.specs.RoundedUp.{group_limit, half_limit, IsRoundedUp};
@@ -57,8 +57,13 @@ pub fn least_size(d: Decimal, unit_size: u128, limit: u128) -> Option<u128>
         let part = carry_of_group(high % GROUP, unit_size, part);
         carry_of_group(high / GROUP, unit_size, part)
     };
-    // A number of more than 128 bits exceeds each limit.
-    let size = checked_mul_add(whole, unit_size, part)?;
+    let size = if whole < 1 << 64 && unit_size < 1 << 64 {
+        // Numbers of 64 bits take one multiplication, and their sum no test.
+        u128::from(whole as u64) * u128::from(unit_size as u64) + part
+    } else {
+        // A number of more than 128 bits exceeds each limit.
+        whole.checked_mul(unit_size)?.checked_add(part)?
+    };
     (size < limit).then_some(size)
 }
 
@@ -87,19 +92,6 @@ pub fn least_size_counted(
 {
     steps.advance_by(GROUPS);
     least_size(d, unit_size, limit)
-}
-
-/// Returns `number * unit_size + part`, or `None` if it needs more than 128 bits. Numbers of 64 bits take one
-/// multiplication, and their sum no test.
-#[inline(always)]
-fn checked_mul_add(number: u128, unit_size: u128, part: u128) -> Option<u128>
-    requires { part ≤ unit_size }
-    ensures { SomeIff result (number * unit_size + part < 2 ^ 128) (number * unit_size + part) }
-{
-    if number < 1 << 64 && unit_size < 1 << 64 {
-        return Some(u128::from(number as u64) * u128::from(unit_size as u64) + part);
-    }
-    number.checked_mul(unit_size)?.checked_add(part)
 }
 
 /// Splits the fraction `digits / 10^places`, as 28 digits, into its first and its last 14.

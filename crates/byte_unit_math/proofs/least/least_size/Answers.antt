@@ -1,17 +1,19 @@
 -- The result is the least size of the number of units, or `None` if that reaches the limit.
-use Rattle.std.proofs.Common.{ℕ, ◌+◌, ◌-◌, ◌*◌, ◌^◌, ◌≤◌, arith}
+use Rattle.std.proofs.Common.{◌≡◌, ℕ, ◌+◌, ◌-◌, ◌*◌, ◌^◌, ◌≤◌, arith}
 use Rattle.std.proofs.lemmas.Bool.Decides.{nat_tests}
 use Rattle.byte_unit_math.specs.Bounds.{places_of_decimal}
 use Rattle.byte_unit_math.specs.Least.{IsLeastSize}
 use Rattle.byte_unit_math.proofs.RoundedUp.{IsRoundedUp-groups, IsLeastSize-halves, IsLeastSize-parts, in_first_group}
 use Rattle.byte_unit_math.proofs.RoundedUp.{IsLeastSize-group, IfNone-always, IfNone-below}
 use Rattle.byte_unit_math.proofs.Scales.{ten_power_at}
-use Rattle.byte_unit_math.proofs.least.least_size.Goals.{After-checked_mul_add, then-places-le-GROUP_PLACES}
+use Rattle.byte_unit_math.proofs.least.least_size.Goals.{Joined-places-le-GROUP_PLACES, then-places-le-GROUP_PLACES}
 use Rattle.byte_unit_math.proofs.least.least_size.Goals.{else-places-le-GROUP_PLACES}
+use Rattle.byte_unit_math.proofs.least.least_size.Goals.{Joined-whole, then-whole+then-unit_size}
+use Rattle.byte_unit_math.proofs.least.least_size.Goals.{else-whole+in_ok-checked_mul+in_ok-size}
 use Rattle.byte_unit_math.proofs.least.least_size.Goals as goal
 
 -- The part that the code computes is the least size of the fraction.
-fraction_least : (c : After-checked_mul_add)
+fraction_least : (c : Joined-places-le-GROUP_PLACES)
     → IsLeastSize (c.parts-whole.result.1 * 10 ^ (places_of_decimal - c.parts-whole.result.2)) c.args.unit_size
     c.if-places-le-GROUP_PLACES.part
 fraction_least c =
@@ -36,7 +38,7 @@ fraction_least c =
     ]
 
 -- With the whole part it is the least size of the decimal.
-size_least : (c : After-checked_mul_add)
+size_least : (c : Joined-places-le-GROUP_PLACES)
     → IsLeastSize c.args.d c.args.unit_size
     (c.parts-whole.result.0 * c.args.unit_size + c.if-places-le-GROUP_PLACES.part)
 size_least c =
@@ -44,20 +46,41 @@ size_least c =
     c.parts-whole.ensures.whole_is c.parts-whole.ensures.digits_are (fraction_least c)
 
 -- If it reaches the limit, each size that is large enough does.
-not_below : (c : After-checked_mul_add)
+not_below : (c : Joined-places-le-GROUP_PLACES)
     → c.args.limit ≤ c.parts-whole.result.0 * c.args.unit_size + c.if-places-le-GROUP_PLACES.part
     → (n : ℕ) → IsLeastSize c.args.d c.args.unit_size n → c.args.limit ≤ n
 not_below c reached n h = omega (arith, reached, (size_least c).least n h.has)
 
+pub returns-in_err-checked_mul-clause-none : goal.returns-in_err-checked_mul-clause-none
+returns-in_err-checked_mul-clause-none c = IfNone-always _ _
+    (not_below (goal.at.returns-in_err-checked_mul-clause-none c).Joined-places-le-GROUP_PLACES
+    (omega (arith, c.in_err-checked_mul.ensures)))
+
 pub returns-in_err-size-clause-none : goal.returns-in_err-size-clause-none
 returns-in_err-size-clause-none c = IfNone-always _ _
-    (not_below (goal.at.returns-in_err-size-clause-none c).After-checked_mul_add
-    (omega (arith, c.in_err-size.ensures)))
+    (not_below (goal.at.returns-in_err-size-clause-none c).Joined-places-le-GROUP_PLACES
+    (omega (arith, c.in_ok-checked_mul.ensures, c.in_err-size.ensures)))
+
+-- The sum is taken in both branches.
+size_is : (c : Joined-whole)
+    → c.if-whole.size ≡ c.parts-whole.result.0 * c.args.unit_size + c.if-places-le-GROUP_PLACES.part
+size_is c = elim c.if-whole.branch [
+  | then-whole+then-unit_size w ↦
+      let whole : w.from.result ≡ c.parts-whole.result.0 = omega (arith, w.from.ensures) in
+      let unit : w.from-then-unit_size.result ≡ c.args.unit_size = omega (arith, w.from-then-unit_size.ensures) in
+      rw (whole, unit) at w.size-is
+  | else-whole+in_ok-checked_mul+in_ok-size w ↦
+      omega (arith, w.size-is, w.in_ok-checked_mul.ensures, w.in_ok-size.ensures)
+]
 
 pub returns-clause-least : goal.returns-clause-least
 returns-clause-least c =
-    let least = size_least (goal.at.returns-clause-least c).After-checked_mul_add in grind (arith, nat_tests, least)
+    let at = goal.at.returns-clause-least c in
+    let least = rw (← size_is at.Joined-whole) at (size_least at.Joined-places-le-GROUP_PLACES) in
+    grind (arith, nat_tests, least)
 
 pub returns-clause-none : goal.returns-clause-none
-returns-clause-none c = rw c.then_some.ensures (IfNone-below c.in_ok-size.size c.args.limit _ (λ reached.
-    not_below (goal.at.returns-clause-none c).After-checked_mul_add (omega (arith, reached, c.in_ok-size.ensures))))
+returns-clause-none c =
+    let at = goal.at.returns-clause-none c in
+    rw c.then_some.ensures (IfNone-below c.if-whole.size c.args.limit _ (λ reached.
+    not_below at.Joined-places-le-GROUP_PLACES (omega (arith, reached, size_is at.Joined-whole))))
