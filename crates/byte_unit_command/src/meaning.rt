@@ -186,8 +186,8 @@ fn unit_of(value: &str, kind: Kind, ignore_case: bool) -> Result<Unit, ValueErro
 ///
 /// # Errors
 ///
-/// Returns an error if the delimiter is neither one byte nor `\t`, nor empty; or if nothing separates the fields that
-/// `--field` names.
+/// Returns an error if the delimiter is not empty, one byte or `\t`, or if `--field` is given and nothing separates the
+/// fields.
 fn separator_of<'a>(values: &Values<'a>) -> Result<Option<u8>, Wrong<'a>>
     ensures ok { IfOk result (λ separator. IsSeparator values.now separator
         × AreFieldsSeparated values.now) }

@@ -1,4 +1,4 @@
-//! The parts of a formatted text, and how they are written.
+//! The parts of a formatted text, and writing backwards into a buffer.
 
 ghost use Rattle.std.specs.Prelude.{◌≡◌, ◌+◌, ◌^◌, ◌≤◌, ◌++◌, length, take, drop, replicate, IsAscii};
 ghost use Rattle.byte_unit_math.specs.Numeral.{fraction_text};
