@@ -94,14 +94,7 @@ pub fn run<R: Read, W: Write>(
 {
     let mut buffer = [0u8; CHUNK];
     let mut buffers = Buffers::new(alloc);
-    run_with_buffers(
-        &mut buffers,
-        usize::MAX,
-        &mut buffer,
-        reader,
-        writer,
-        kind,
-    )
+    run_with_buffers(&mut buffers, usize::MAX, &mut buffer, reader, writer, kind)
 }
 
 /// Does what [`run`] does, with any allocator, for lines of at most `longest` bytes, in reads of at most the length of
@@ -154,14 +147,7 @@ pub fn run_with_capacity<A: Allocator, R: Read, W: Write>(
     buffers
         .waiting
         .try_reserve_exact(chunk.checked_mul(ANSWER_MAX).ok_or(AllocError)?)?;
-    Ok(run_with_buffers(
-        &mut buffers,
-        longest,
-        buffer,
-        reader,
-        writer,
-        kind,
-    ))
+    Ok(run_with_buffers(&mut buffers, longest, buffer, reader, writer, kind))
 }
 
 /// Does what [`run`] does, for lines of at most `longest` bytes, in the caller's buffers; it reads into `buffer`.
@@ -187,8 +173,7 @@ pub fn run_with_buffers<A: Allocator, R: Read, W: Write>(
         × HasRead R.remaining reader.old reader.new read
         × HasWritten W.contents writer.old writer.new written
         × IsWritten kind read result written }
-    ensures memory {
-        HaveCapacity longest (length buffer.old) buffers.old.line buffers.old.waiting
+    ensures memory { HaveCapacity longest (length buffer.old) buffers.old.line buffers.old.waiting
         → IsErrOf result RunError.Memory → (read : List ℕ)
         × HasRead R.remaining reader.old reader.new read × (longest < longest_line read) }
     ensures bound { OnOk result ((read : List ℕ)
@@ -204,13 +189,7 @@ pub fn run_with_buffers<A: Allocator, R: Read, W: Write>(
             Some(0) => break 'reads,
             Some(n) => {
                 let piece = &buffer[..n];
-                match answer_piece(
-                    &mut buffers.line,
-                    piece,
-                    kind,
-                    &mut buffers.waiting,
-                    writer,
-                ) {
+                match answer_piece(&mut buffers.line, piece, kind, &mut buffers.waiting, writer) {
                     Ok(()) => {}
                     Err(error) => {
                         // For the proof: a report that was begun has an answer to each unanswered line too.
@@ -227,7 +206,12 @@ pub fn run_with_buffers<A: Allocator, R: Read, W: Write>(
     if buffers.line.is_empty() {
         Ok(())
     } else {
-        add_answer(&buffers.line, buffers.line.len(), kind, &mut buffers.waiting)?;
+        add_answer(
+            &buffers.line,
+            buffers.line.len(),
+            kind,
+            &mut buffers.waiting,
+        )?;
         write_whole(writer, &buffers.waiting, RunError::Write)
     }
 }
