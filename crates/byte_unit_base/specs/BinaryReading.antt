@@ -4,7 +4,7 @@ use Rattle.std.specs.Prelude.{ℕ, Bool, true, List, Option, Result, if◌then�
 use Rattle.byte_unit_base.specs.Shape.{Shape, shape}
 use Rattle.byte_unit_base.specs.Version.{current}
 use Rattle.byte_unit_base.specs.Fault.{Fault}
-use Rattle.byte_unit_base.specs.Accepted.{IsReadAs, IsAcceptedAs, ExceedsAs, IsRejectedAs}
+use Rattle.byte_unit_base.specs.Accepted.{IsReadAs, IsAcceptedAs, IsRejectedAs}
 use Rattle.byte_unit_base.specs.SizeReading.{IsReadingAs, IsBytesReadingAs}
 use Rattle.byte_unit_base.specs.declared.errors.ParseError.{ParseError}
 use Rattle.byte_unit_base.specs.declared.kind.Kind.{Kind}
@@ -21,11 +21,6 @@ IsBinaryRead = IsReadAs binary_of current
 -- The string is accepted as the size n, if decimal prefixes mean binary ones.
 abbrev pub IsBinaryAccepted : Kind → Bool → List ℕ → ℕ → Type 0
 IsBinaryAccepted = IsAcceptedAs binary_of current
-
--- The string is in the grammar, but its size, with this number as it is written, is 10^30 or more, if decimal prefixes
--- mean binary ones.
-abbrev pub BinaryExceeds : Kind → Bool → List ℕ → ℕ → Type 0
-BinaryExceeds = ExceedsAs binary_of current
 
 -- The string is rejected with this error, if decimal prefixes mean binary ones.
 abbrev pub IsBinaryRejected : Kind → Bool → List ℕ → Fault → Type 0
