@@ -1,15 +1,15 @@
 //! The choice of a unit for a size: unit sets, the largest unit of a set in which a size is exact, and the largest that
 //! is not above it.
 
-ghost use Rattle.std.specs.Prelude.{◌≡◌, ◌+◌, ◌*◌, ◌<◌, ◌≤◌, ◌⊎◌, IfSome, IfNone, map};
+ghost use Rattle.std.specs.Prelude.{◌≡◌, ◌+◌, ◌*◌, ◌<◌, ◌≤◌, ◌⊎◌, IfSome, IfNone};
 ghost use Rattle.byte_unit_math.specs.Bounds.{scale, size_limit};
 ghost use Rattle.byte_unit_math.specs.Steps.{saturating_add};
 ghost use Rattle.byte_unit_base.specs.Shape.{bits};
 ghost use Rattle.byte_unit_base.specs.Kinds.{bits_in};
 ghost use Rattle.byte_unit_base.specs.Units.{shape_of};
-ghost use Rattle.byte_unit_choice.specs.Choice.{IsLargest, NoneHas, IsExactUnit, IsChosen, IsEligibleUnit, CountsChoice, most_steps};
-ghost use Rattle.byte_unit_choice.specs.Choice.{IsRecovered, IsAppropriate};
-ghost use Rattle.byte_unit_choice.specs.Multiples.{ListsUnits, row_of, row_shape, units_of_prefixes, prefix_count};
+ghost use Rattle.byte_unit_choice.specs.Choice.{IsLargest, NoneHas, IsExactUnit, IsChosen, IsEligibleUnit};
+ghost use Rattle.byte_unit_choice.specs.Choice.{CountsChoice, most_steps, IsRecovered, IsAppropriate};
+ghost use Rattle.byte_unit_choice.specs.Multiples.{ListsUnits};
 ghost use Rattle.byte_unit_base.specs.declared.kind.Kind.{Kind};
 
 use crate::UnitType;

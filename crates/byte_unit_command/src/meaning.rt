@@ -1,6 +1,6 @@
 //! What the values of the options of a call mean.
 
-ghost use Rattle.std.specs.Prelude.{◌≡◌, ℕ, Bool, MatchOption, MatchResult, IfOk, IfErr, codes};
+ghost use Rattle.std.specs.Prelude.{ℕ, Bool, MatchOption, MatchResult, IfOk, IfErr, codes};
 ghost use Rattle.byte_unit_command.specs.CallOptions.{AreOptions, IsFirstWrong, IsWrongOf};
 ghost use Rattle.byte_unit_command.specs.CallOptions.{IsFormOf, IsWithinExact, IsWrongForm};
 ghost use Rattle.byte_unit_command.specs.CallOptions.{IsWrongNoUnit, AreFieldsSeparated};

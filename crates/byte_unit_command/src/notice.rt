@@ -1,6 +1,6 @@
 //! Messages about fields, for standard error.
 
-ghost use Rattle.std.specs.Prelude.{◌≡◌, ◌++◌, [], take, length, List, ℕ, OnOk, IsOk, true, false};
+ghost use Rattle.std.specs.Prelude.{◌≡◌, ◌++◌, [], take, List, ℕ, OnOk, IsOk, true, false};
 ghost use Rattle.std.specs.String.{string_bytes};
 ghost use Rattle.byte_unit_command.specs.Field.{IsNoSize};
 ghost use Rattle.byte_unit_command.specs.Fields.{IsChosen};

@@ -1,6 +1,6 @@
 //! Error messages with context, for a program that only prints its errors.
 
-ghost use Rattle.std.specs.Prelude.{◌≡◌, ℕ, IfOk, IsOk, false};
+ghost use Rattle.std.specs.Prelude.{ℕ, IfOk, IsOk, false};
 ghost use Rattle.byte_unit.specs.Accepted.{IsAccepted};
 ghost use Rattle.byte_unit.specs.declared.Kind.TheVariants.{Byte as InBytes};
 

@@ -1,7 +1,7 @@
 //! Prints a table of quotas: what each user has used, and what remains or is over the quota.
 #![tactic(auto)]
 
-ghost use Rattle.std.specs.Prelude.{◌+◌, ◌<◌, SomeIff, sum_by};
+ghost use Rattle.std.specs.Prelude.{◌<◌, SomeIff, sum_by};
 ghost use Rattle.byte_unit.specs.Bounds.{size_limit};
 ghost use Rattle.example_quotas.specs.Quotas.{IsBalance};
 

@@ -1,7 +1,7 @@
 //! Prints a report on transfers: the size, duration and rate of each, and of all together.
 #![tactic(auto)]
 
-ghost use Rattle.std.specs.Prelude.{◌≡◌, ◌+◌, ◌*◌, ◌/◌, ◌^◌, ◌<◌, SomeIff};
+ghost use Rattle.std.specs.Prelude.{◌+◌, ◌*◌, ◌/◌, ◌^◌, ◌<◌, SomeIff};
 ghost use Rattle.byte_unit.specs.Bounds.{size_limit};
 
 use anyhow::{Context, Result, anyhow};
