@@ -171,7 +171,8 @@ static void parse_piece(const piece *piece, uint32_t flags, byte_unit_number *si
     Py_END_ALLOW_THREADS
 }
 
-/* Parses the texts of a list. If it is strict, stops at the first that is rejected. */
+/* Parses the texts of a list. Returns false, with an error set, if there is no memory, an item is no text or, if it is
+ * strict, a text is rejected: `rejected` is the row of the first of these, or `count`. */
 static bool parse_list(PyObject *module, PyObject *list, uint32_t flags, bool is_strict, column *column)
 {
     size_t first = 0, count = (size_t)PyList_Size(list), rejected = count;

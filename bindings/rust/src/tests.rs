@@ -102,7 +102,7 @@ fn errors_of_units() {
     }
 }
 
-/// Returns the message of an error here, or the empty string.
+/// Returns the message of an error here, or the empty string. For bits the flag changes nothing.
 fn message(text: &str, kind: Kind, ignore_case: bool) -> String {
     match kind {
         Kind::Byte => Byte::parse_str(text, ignore_case).err(),
@@ -129,7 +129,8 @@ fn messages() {
     assert!(calls / 2 < errors && errors < calls);
 }
 
-/// Compares the messages of a string here with those of the library, and returns the number of errors.
+/// Compares the messages of a string here with those of the library, by each kind and flag, and returns how many of the
+/// four are errors.
 fn compare_messages(text: &str) -> u32 {
     let mut errors = 0;
     for kind in KINDS {
@@ -158,7 +159,8 @@ fn messages_of_units() {
     assert!(calls / 2 < errors && errors < calls);
 }
 
-/// Compares the messages of a unit here with those of the library, and returns the number of errors.
+/// Compares the messages of a unit here with those of the library, by each preference and flag, and returns how many of
+/// the four are errors.
 fn compare_messages_of_units(text: &str) -> u32 {
     let mut errors = 0;
     for (kind, prefer_byte) in [(Kind::Byte, true), (Kind::Bit, false)] {

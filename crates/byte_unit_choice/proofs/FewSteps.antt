@@ -46,6 +46,7 @@ few_powers n a b h small =
 abbrev greatest : Bool → Shape
 greatest bit = shape 9 true bit
 
+-- by computation, for bytes and for bits: each decimal unit up to the last prefix is smaller than it
 known_decimal_units : (bit : Bool)
     → agree_below (λ n. ltb (bits (shape n false bit)) (bits (greatest bit))) (λ n. true) (prefix_count + 1) ≡ true
 known_decimal_units true = refl

@@ -31,6 +31,7 @@ module _ (options : Options) (word : List ℕ) (place number : ℕ) (field : Lis
   IsMessage-some : (reason : FieldError) → IsMessage options word place number field reason [] → ⊥
   IsMessage-some reason (words, character, are, place, is) = cc
 
+  -- if the text is empty, nothing was to be told
   IsMessageIf-none : (told : Bool) (reason : FieldError) (text : List ℕ) → text ≡ []
       → IsMessageIf told options word place number field reason text → told ≡ false
   IsMessageIf-none true reason text none is =

@@ -195,7 +195,7 @@ pub ruleset ascii_texts = (IsUtf8-from_ascii, IsAscii-take)
 -- What the proof of a fraction's text uses.
 pub ruleset fractions_written = (pow10_fits, length_of_one_and_digits, one_becomes_point, fraction_ascii)
 
--- A number of more than k digits is written as the number without them, and these digits.
+-- A number of more than k digits is written as the number without the last k, and these. What comes after them stays.
 pub digits_before :
     (k n : ℕ) (behind : List ℕ) → 10 ^ k ≤ n → n < 2 ^ 128
     → decimal n ++ behind ≡ decimal (n / 10 ^ k) ++ (glyphs (last_digits k (n % 10 ^ k)) ++ behind)

@@ -1,4 +1,5 @@
--- What was read so far is served, no answer is pending, and the line that was begun is within the limit.
+-- What was read so far is served, and no answer is pending. The line that was begun is at most `longest`, each line that
+-- ended is shorter than that and a read together, and no buffer has less capacity than at first.
 use Rattle.std.proofs.Common.{length}
 use Rattle.byte_unit_stream.specs.Streams.{reader_of, writer_of, reads_left}
 use Rattle.byte_unit_stream.proofs.Longest.{IsWithin}
