@@ -1,7 +1,8 @@
 // The calls of the library over a module of WebAssembly, whose memory is handled here. Sizes are BigInts.
 
-export const UNITS = Object.freeze(["b", "B", ..."KMGTPEZYR"].flatMap(
-    prefix => prefix === "b" || prefix === "B" ? [prefix] : [prefix + "b", prefix + "ib", prefix + "B", prefix + "iB"]));
+const PREFIXES = [..."KMGTPEZYR"];
+export const UNITS = Object.freeze(["b", "B", ...PREFIXES.flatMap(
+    prefix => [`${prefix}b`, `${prefix}ib`, `${prefix}B`, `${prefix}iB`])]);
 const CODES = ["ok", "no_value", "not_number", "number_too_long", "exceeded_bounds", "unit", "not_utf8",
     "invalid_argument"];
 const TYPES = { binary: 0, decimal: 1, both: 2 };

@@ -9,7 +9,7 @@ from .pages import with_parts
 
 TABLES, SCAN = "crates/byte_unit_base/src/unit/tables.rt", "crates/byte_unit_base/src/unit/scan.rt"
 CONSTANTS = "crates/byte_unit_byte/src/byte/constants.rt"
-HEADER, RUST = "bindings/c/byte_unit.h", "bindings/rust/src"
+HEADER, RUST, JAVASCRIPT = "bindings/c/byte_unit.h", "bindings/rust/src", "bindings/js/library.js"
 
 
 def prefixes():
@@ -52,3 +52,5 @@ def made():
     lists = ["    &[%s]," % ", ".join(map(repr, row)) for row in expected()]
     yield f"{RUST}/library.rs", with_parts(
         f"{RUST}/library.rs", (r"^const EXPECTED: ", r"\n\];", f"[&[char]; {len(lists)}] = [\n" + "\n".join(lists)))
+    letters = "".join(prefixes())
+    yield JAVASCRIPT, with_parts(JAVASCRIPT, (r'^const PREFIXES = \[\.\.\."', r'"\];', letters))
