@@ -91,10 +91,17 @@ fn cell(alloc: Global, size: Byte) -> Result<String, AllocError> {
         .to_text(alloc, CELL)
 }
 
+/// Formats a quota as a cell of the table, in the largest unit that states it exactly with at most two digits after the
+/// point: `1 MiB`, not `1.05 MB`.
+fn quota_cell(alloc: Global, quota: Byte) -> Result<String, AllocError> {
+    let (_, unit) = quota.get_recoverable_unit(false, 2);
+    quota.get_adjusted_unit(unit).to_text(alloc, CELL)
+}
+
 /// Formats a row of the table.
 fn row(alloc: Global, user: &User) -> Result<String, AllocError> {
     let used = cell(alloc, user.used)?;
-    let quota = cell(alloc, user.quota)?;
+    let quota = quota_cell(alloc, user.quota)?;
     let name = user.name.as_str();
     match balance_of(user.used, user.quota) {
         Balance::Left(left) => {
