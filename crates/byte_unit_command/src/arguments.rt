@@ -10,9 +10,10 @@ use std::alloc::{AllocError, Global};
 /// The units, the examples and the statuses at the end of the help. No line has more than 80 columns.
 const AFTER_HELP: &str = "\
 A SIZE is a number and a unit, such as 1.5 GiB, 100MB or 4096. A unit is a
-prefix, a suffix, or both. K, M, G, T, P, E, Z, Y and R are powers of 1000, or
-of 1024 with --from=iec; Ki, Mi .. Ri are powers of 1024. B is bytes; b, bit
-and bits are bits. Without a suffix, sizes are bytes, or bits with --bits.
+prefix, one of B, b, bit and bits, or both. K, M, G, T, P, E, Z, Y and R are
+powers of 1000, or of 1024 with --from=iec; Ki, Mi .. Ri are powers of 1024. B
+is bytes; b, bit and bits are bits. A number or a prefix alone is in bytes, or
+in bits with --bits.
 
 The programs du, df and ls with -h mean 1024 by K: use --from=iec. PREFIXES is
 iec, or one of auto, si and iec-i, with which K is 1000.
