@@ -172,7 +172,7 @@ fn write_as<const BITS: bool>(options: &Options, size: u128, out: &mut [u8]) -> 
     ensures written { BeginsWithForm
         (IsFormText (kind_of BITS) options.now.form options.now.precision size)
         out.new result }
-    ensures small { result < text_limit }
+    ensures bound { result < text_limit }
     ensures narrow { result ≤ form_max options.now.form options.now.precision }
 {
     let kind = if BITS { Kind::Bit } else { Kind::Byte };
@@ -216,7 +216,7 @@ fn write_number(size: u128, kind: Kind, unit: Unit, precision: Option<u16>, out:
     ensures written { BeginsWithForm
         (IsFormText kind (Form.NumberOf unit) precision size)
         out.new result }
-    ensures small { result < text_limit }
+    ensures bound { result < text_limit }
     ensures narrow { result ≤ unit_text_max precision }
 {
     let rounded = FormatSpec {
