@@ -21,7 +21,7 @@ impl AdjustedBit {
     /// Returns the JSON string of the adjusted size: its text by `FormatSpec::ALTERNATE`, or that of the size if it
     /// is `Bit::MAX`.
     ///
-    /// The string is read back as the same size, in the unit that is appropriate for it, if the size is `Bit::MAX`, or
+    /// The string round-trips to the same size, in the unit that is appropriate for it, if the size is `Bit::MAX`, or
     /// in its unit has at most 28 digits after the point. Otherwise [`AdjustedBit::from_json`] rejects it.
     ///
     /// # Errors

@@ -20,7 +20,7 @@ impl AdjustedByte {
     /// Returns the JSON string of the adjusted size: its text by `FormatSpec::ALTERNATE`, or that of the size if it
     /// is `Byte::MAX`.
     ///
-    /// The string is read back as the same size, in the unit that is appropriate for it, if the size is `Byte::MAX`, or
+    /// The string round-trips to the same size, in the unit that is appropriate for it, if the size is `Byte::MAX`, or
     /// in its unit has at most 28 digits after the point. Otherwise [`AdjustedByte::from_json`] rejects it.
     ///
     /// # Errors
