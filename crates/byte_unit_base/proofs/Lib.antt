@@ -1,6 +1,5 @@
 -- The lemmas that the proofs of this crate rest on, from the lists of characters up to the parsers.
 pub mod Lists
-pub mod ExpectedLists
 pub mod Lines
 pub mod Options
 pub mod Trim

@@ -1,10 +1,10 @@
 -- The binary reading: a decimal prefix means the binary one, so `10m` is by 1024. The grammar is the same. An input is
 -- given by its UTF-8 bytes, and a number is scaled by 10^28.
-use Rattle.std.specs.Prelude.{ℕ, Bool, true, List, Option, Result, if◌then◌else◌, nat_lt}
+use Rattle.std.specs.Prelude.{ℕ, Bool, true, false, List, Option, Result, if◌then◌else◌, nat_lt}
 use Rattle.byte_unit_base.specs.Shape.{Shape, shape}
 use Rattle.byte_unit_base.specs.Version.{current}
 use Rattle.byte_unit_base.specs.Fault.{Fault}
-use Rattle.byte_unit_base.specs.Accepted.{IsReadAs, IsAcceptedAs, IsRejectedAs}
+use Rattle.byte_unit_base.specs.Accepted.{as_written, IsReadAs, IsAcceptedAs, IsRejectedAs}
 use Rattle.byte_unit_base.specs.SizeReading.{IsReadingAs, IsBytesReadingAs}
 use Rattle.byte_unit_base.specs.declared.errors.ParseError.{ParseError}
 use Rattle.byte_unit_base.specs.declared.kind.Kind.{Kind}
@@ -12,6 +12,11 @@ use Rattle.byte_unit_base.specs.declared.kind.Kind.{Kind}
 -- the unit with the binary prefix of the same letter; a unit without a prefix, or with a binary one, is itself
 abbrev pub binary_of : Shape → Shape
 binary_of unit = if nat_lt 0 unit.power then shape unit.power true unit.bit else unit
+
+-- the unit that is meant: the binary unit if decimal prefixes mean binary ones, and else the unit that is written
+abbrev pub unit_meant : Bool → Shape → Shape
+unit_meant true = binary_of
+unit_meant false = as_written
 
 -- without the white space at its ends, the input is `number` of some unit, and `n` is that number of the unit's binary
 -- unit, rounded up to a whole number of bytes or bits

@@ -3,9 +3,9 @@
 use Rattle.std.specs.Prelude.{◌≡◌, ⊤, ℕ, Bool, nat_eq, List, Option, Some, Result, Ok, Err}
 use Rattle.std.specs.Str.{IsUtf8}
 use Rattle.byte_unit_base.specs.ErrorPosition.{IsSizePosition, IsUnitPosition}
-use Rattle.byte_unit_base.specs.Errors.{size_fault}
+use Rattle.byte_unit_base.specs.Errors.{size_fault, unit_fault}
 use Rattle.byte_unit_base.specs.Kinds.{flags_for}
-use Rattle.byte_unit_base.specs.PartsReading.{IsStopAt, stop_fault}
+use Rattle.byte_unit_base.specs.PartsReading.{IsStopAt, stop_fault, unit_stop_fault}
 use Rattle.byte_unit_base.specs.Readings.{IsNumberReading, IsUnitReading}
 use Rattle.byte_unit_base.specs.Shape.{Shape}
 use Rattle.byte_unit_base.specs.SizeReading.{IsReadingAs}
@@ -14,10 +14,12 @@ use Rattle.byte_unit_base.specs.declared.errors.ParseError.{ParseError}
 use Rattle.byte_unit_base.specs.declared.errors.UnitParseError.{UnitParseError}
 use Rattle.byte_unit_base.specs.declared.kind.Kind.{Kind}
 use Rattle.byte_unit_base.specs.declared.read.stop.Reason.{Reason}
+use Rattle.byte_unit_base.specs.declared.read.stop.Stop.{Stop}
 use Rattle.byte_unit_base.specs.declared.read.stop.Reason.TheVariants.{TooLong}
 use Rattle.byte_unit_base.specs.declared.size.Outcome.{Outcome}
 use Rattle.byte_unit_base.specs.declared.size.Outcome.TheVariants.{Accepted, Stopped}
 use Rattle.byte_unit_base.specs.declared.unit.Unit.{Unit as UnitName}
+use Rattle.byte_unit_base.specs.declared.unit.scan.UnitStop.{UnitStop}
 
 -- the error of a parser that stops for this reason, by this character or by the end, is that of the string that the
 -- bytes are, in each reading
@@ -44,8 +46,25 @@ IsOutcome kind ignore_case bytes (Accepted unit number) =
     IsUtf8 bytes × IsNumberReading (flags_for kind ignore_case) bytes (Ok (number, unit))
 IsOutcome kind ignore_case bytes (Stopped reason place) = IsStopAt (flags_for kind ignore_case) bytes place reason
 
--- the result of parsing a unit, where an error has its position
-abbrev pub IsPlacedUnitReading : Flags → List ℕ → Result UnitName (UnitParseError × ℕ) → Type 0
-IsPlacedUnitReading flags bytes (Ok unit) = IsUnitReading flags bytes (Ok unit)
-IsPlacedUnitReading flags bytes (Err rejected) =
-    IsUnitReading flags bytes (Err rejected.0) × IsUnitPosition bytes (Some rejected.1)
+-- the number and the unit of the string; or the character before which the parser stops in it, or its end, and why: the
+-- error by these is that of the string
+abbrev pub IsNumberOrStop : Flags → List ℕ → Result (UnitName × ℕ) (Stop × Option ℕ) → Type 0
+IsNumberOrStop flags bytes (Ok (unit, number)) = IsNumberReading flags bytes (Ok (number, unit))
+IsNumberOrStop flags bytes (Err (stop, next)) = (error : ParseError)
+    → size_fault error ≡ stop_fault flags (nat_eq stop.place 0) stop.reason next
+    → IsNumberReading flags bytes (Err error)
+
+-- the same for a size of this kind, where the error is that of the size in each reading
+abbrev pub IsSizeOrStop : Kind → Bool → List ℕ → Result (UnitName × ℕ) (Stop × Option ℕ) → Type 0
+IsSizeOrStop kind ignore_case bytes (Ok (unit, number)) =
+    IsNumberReading (flags_for kind ignore_case) bytes (Ok (number, unit))
+IsSizeOrStop kind ignore_case bytes (Err (stop, next)) =
+    IsErrorOfString kind ignore_case bytes (nat_eq stop.place 0) stop.reason next
+
+-- the unit of the string; or what was read before the parser stops in it, the character there, or its end, and the
+-- position: the error by these is that of the string
+abbrev pub IsUnitOrStop : Flags → List ℕ → Result UnitName (UnitStop × Option ℕ × ℕ) → Type 0
+IsUnitOrStop flags bytes (Ok unit) = IsUnitReading flags bytes (Ok unit)
+IsUnitOrStop flags bytes (Err (stop, next, position)) =
+    ((error : UnitParseError) → unit_fault error ≡ unit_stop_fault flags stop next → IsUnitReading flags bytes (Err error))
+    × IsUnitPosition bytes (Some position)

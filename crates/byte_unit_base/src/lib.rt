@@ -8,8 +8,8 @@ pub use crate::errors::{
 };
 pub use crate::kind::Kind;
 pub use crate::read::read_size;
-pub use crate::read::stop::{Reason, error_at};
-pub use crate::unit::scan::{Expected, Flags};
+pub use crate::read::stop::{Reason, Stop, error_at};
+pub use crate::unit::scan::{Expected, Flags, UnitStop};
 pub use crate::unit::tables::{PREFIXES, prefix_letter, unit_at};
 pub use crate::unit::{Unit, unit_with_prefix};
 

@@ -6,14 +6,13 @@ ghost use Rattle.std.specs.Prelude.{◌≡◌, ◌+◌, ◌≤◌, length, drop}
 ghost use Rattle.std.specs.Str.{chars, IsUtf8};
 ghost use Rattle.byte_unit_base.specs.SizeText.{trim_of};
 ghost use Rattle.byte_unit_base.specs.ErrorPosition.{leading_white, IsSizePosition};
-ghost use Rattle.byte_unit_base.specs.Outcome.{IsPlacedUnitReading};
+ghost use Rattle.byte_unit_base.specs.Outcome.{IsUnitOrStop};
 ghost use Rattle.byte_unit_base.specs.PlaceReading.{IsWholeLen, IsPlacesLen, IsNumberPlace, IsUnitPlace, IsSizePlace};
-ghost use Rattle.byte_unit_base.specs.Spelling.{flags_of};
 
 use crate::read::number::{leading_spaces, read_unit};
 use crate::read::stop::first_char;
-use crate::unit::scan::Flags;
-use crate::{Unit, UnitParseError};
+use crate::Unit;
+use crate::unit::scan::{Flags, UnitStop};
 use byte_unit_math::{DECIMAL_PLACES, WHOLE_LIMIT};
 
 /// Returns the index in bytes of the first wrong character of a string that is not in the grammar of sizes: up to there
@@ -67,35 +66,29 @@ impl Unit {
     }
 }
 
-/// Parses a unit as [`Unit::parse_str`] does. An error has its position, as [`Unit::error_position`] returns it.
+/// Parses a unit as [`Unit::parse_str`] does, and leaves the error to be made by [`UnitStop::error_before`].
 ///
 /// # Errors
-/// As `Unit::parse_str`.
+/// Returns what was read before the parser stops, the character there, or `None` at the end, and the position, as
+/// [`Unit::error_position`] returns it.
 ///
 /// # Examples
 /// ```rust
-/// assert!(rt; matches!(position::parse_unit("KiB", false, true), Ok(Unit::KiB)));
-/// assert!(rt; matches!(position::parse_unit(" Kix", false, true), Err((_, 3))));
+/// let flags = size::flags_for(Kind::Byte, false);
+/// assert!(rt; matches!(position::read_unit_text("KiB", flags), Ok(Unit::KiB)));
+/// assert!(rt; matches!(position::read_unit_text(" Kix", flags), Err((_, Some('x'), 3))));
 /// ```
 #[inline(always)]
-pub fn parse_unit(
-    s: &str,
-    ignore_case: bool,
-    prefer_byte: bool,
-) -> Result<Unit, (UnitParseError, usize)>
-    ensures { IsPlacedUnitReading (flags_of ignore_case prefer_byte) s.now result }
+pub fn read_unit_text(s: &str, flags: Flags) -> Result<Unit, (UnitStop, Option<char>, usize)>
+    ensures { IsUnitOrStop flags s.now result }
 {
-    let flags = Flags {
-        ignore_case,
-        prefer_byte,
-    };
     let text = s.trim();
     let bytes = text.as_bytes();
     match read_unit(bytes, bytes, 0, flags) {
         Ok(unit) => Ok(unit),
         Err(stop) => {
-            let error = stop.0.error_before(first_char(&text[stop.1..]), flags);
-            Err((error, leading_len(s) + stop.1))
+            let next = first_char(&text[stop.1..]);
+            Err((stop.0, next, leading_len(s) + stop.1))
         }
     }
 }

@@ -6,9 +6,10 @@ ghost use Rattle.byte_unit_base.specs.Spelling.{flags_of};
 ghost use Rattle.byte_unit_base.specs.SizeText.{trim_of};
 ghost use Rattle.byte_unit_base.specs.PartsReading.{HasVisibleEnds};
 ghost use Rattle.byte_unit_base.specs.Readings.{IsNumberReading};
+ghost use Rattle.byte_unit_base.specs.Outcome.{IsNumberOrStop};
 
 use crate::read::number::read_parts;
-use crate::read::stop::{error_at, first_char};
+use crate::read::stop::{Stop, error_at, first_char};
 use crate::unit::scan::Flags;
 use crate::{ParseError, Unit};
 use byte_unit_math::Decimal;
@@ -59,6 +60,27 @@ pub fn read_size(
             let next = first_char(&text[stop.place..]);
             Err(error_at(next, stop.place == 0, stop.reason, flags))
         }
+    }
+}
+
+/// Parses a number and a unit as [`read_size`] does, and leaves the error to be made by [`error_at`].
+///
+/// `read_size` does not call it: one result of both is in memory, and a string takes some 10 instructions more.
+///
+/// # Errors
+/// Returns the character before which the parser stops, or `None` at the end, and where it stops in the trimmed string.
+#[inline(always)]
+pub(crate) fn read_or_stop(
+    s: &str,
+    flags: Flags,
+) -> Result<(Unit, Decimal), (Stop, Option<char>)>
+    ensures { IsNumberOrStop flags s.now result }
+{
+    let text = trimmed(s);
+    let bytes = text.as_bytes();
+    match read_parts::<true>(bytes, bytes, flags) {
+        Ok(found) => Ok(found),
+        Err(stop) => Err((stop, first_char(&text[stop.place..]))),
     }
 }
 

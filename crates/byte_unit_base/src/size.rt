@@ -1,22 +1,24 @@
 //! Sizes of either kind, as numbers below the limit: what the size types have in common.
 
 ghost use Rattle.std.specs.Prelude.{◌≡◌, ℕ, Bool, List, ◌+◌, ◌*◌, ◌<◌, ◌≤◌, SomeIff, IfSome, IfOk, IsTrue, Ok, Err};
-ghost use Rattle.std.specs.Prelude.{length, take, drop};
-ghost use Rattle.std.specs.Str.{IsAscii};
+ghost use Rattle.std.specs.Prelude.{MatchOption, length, take, drop};
+ghost use Rattle.std.specs.Str.{IsAscii, IsUtf8};
 ghost use Rattle.byte_unit_math.specs.Bounds.{size_limit};
 ghost use Rattle.byte_unit_base.specs.Kinds.{bits_in, flags_for};
 ghost use Rattle.byte_unit_base.specs.Readings.{IsNumberReading};
-ghost use Rattle.byte_unit_base.specs.SizeReading.{IsSizeReading, IsBytesReading};
+ghost use Rattle.byte_unit_base.specs.BinaryReading.{unit_meant};
+ghost use Rattle.byte_unit_base.specs.SizeReading.{IsReadingAs, IsBytesReadingAs, IsNotUtf8, IsSizeReading, IsBytesReading};
+ghost use Rattle.byte_unit_base.specs.Units.{shape_of};
 ghost use Rattle.byte_unit_base.specs.SizeOrNone.{IsSizeOfUnit, IsSizeOfDecimal};
 ghost use Rattle.byte_unit_base.specs.Line.{IsLine};
 ghost use Rattle.byte_unit_base.specs.PartsReading.{HasVisibleEnds};
-ghost use Rattle.byte_unit_base.specs.Outcome.{IsCharOfStops, IsOutcome};
+ghost use Rattle.byte_unit_base.specs.Outcome.{IsCharOfStops, IsOutcome, IsSizeOrStop};
 
-use crate::read::has_visible_ends;
+use crate::read::{has_visible_ends, read_or_stop};
 use crate::read::number::read_parts;
-use crate::read::stop::{Reason, error_at, first_ascii};
+use crate::read::stop::{Reason, Stop, error_at, first_ascii};
 use crate::unit::scan::Flags;
-use crate::{Kind, ParseError, Unit, ValueParseError, read_size};
+use crate::{Kind, ParseError, Unit, ValueParseError, binary, read_size};
 use byte_unit_math::{Decimal, least_size};
 use std::str;
 
@@ -109,9 +111,23 @@ pub fn parse(s: &str, ignore_case: bool, kind: Kind) -> Result<u128, ParseError>
     ensures reading { IsSizeReading kind ignore_case s.now result }
     ensures bound { IfOk result (λ n. n < size_limit) }
 {
+    parse_as::<false>(s, ignore_case, kind)
+}
+
+/// Parses a size from a string as [`parse`] does, or with `BINARY` as [`binary::parse`] does: a decimal prefix then
+/// means the binary one.
+#[inline(always)]
+pub(crate) fn parse_as<const BINARY: bool>(
+    s: &str,
+    ignore_case: bool,
+    kind: Kind,
+) -> Result<u128, ParseError>
+    ensures reading { IsReadingAs (unit_meant BINARY) kind ignore_case s.now result }
+    ensures bound { IfOk result (λ n. n < size_limit) }
+{
     let flags = flags_for(kind, ignore_case);
     match read_size(s, flags.ignore_case, flags.prefer_byte) {
-        Ok(found) => size_of(found, kind),
+        Ok(found) => size_of::<BINARY>(found, kind),
         Err(error) => Err(error),
     }
 }
@@ -131,12 +147,12 @@ pub fn parse_bytes(bytes: &[u8], ignore_case: bool, kind: Kind) -> Option<Result
     ensures reading { IsBytesReading kind ignore_case bytes.now result }
     ensures bound { IfSome result (λ answer. IfOk answer (λ n. n < size_limit)) }
 {
-    parse_line(bytes, bytes.len(), ignore_case, kind)
+    parse_line::<false>(bytes, bytes.len(), ignore_case, kind)
 }
 
 /// Parses a size from the line at the beginning of bytes, its first `len` bytes, as [`parse_bytes`] does from these.
 ///
-/// Eight bytes at a time are loaded, past the end of the line too.
+/// With `BINARY` a decimal prefix means the binary one. Eight bytes at a time are loaded, past the end of the line too.
 ///
 /// Precondition (proved at every call): `len <= bytes.len()`, and the line ends there: the next byte is a line feed, or
 /// there is none.
@@ -146,31 +162,32 @@ pub fn parse_bytes(bytes: &[u8], ignore_case: bool, kind: Kind) -> Option<Result
 ///
 /// # Examples
 /// ```rust
-/// assert!(rt; matches!(size::parse_line(b"1.5 KiB\n12\n", 7, false, Kind::Byte), Some(Ok(1536))));
-/// assert!(rt; matches!(size::parse_line(b"12", 2, false, Kind::Byte), Some(Ok(12))));
+/// assert!(rt; matches!(size::parse_line::<false>(b"1 KB\n12\n", 4, false, Kind::Byte), Some(Ok(1000))));
+/// assert!(rt; matches!(size::parse_line::<true>(b"1 KB", 4, false, Kind::Byte), Some(Ok(1024))));
 /// ```
 #[inline(always)]
-pub fn parse_line(
+pub fn parse_line<const BINARY: bool>(
     bytes: &[u8],
     len: usize,
     ignore_case: bool,
     kind: Kind,
 ) -> Option<Result<u128, ParseError>>
     requires { IsLine bytes.now len }
-    ensures reading { IsBytesReading kind ignore_case (take len bytes.now) result }
+    ensures reading { IsBytesReadingAs (unit_meant BINARY) kind ignore_case (take len bytes.now)
+        result }
     ensures bound { IfSome result (λ answer. IfOk answer (λ n. n < size_limit)) }
 {
     let line = &bytes[..len];
     let flags = flags_for(kind, ignore_case);
     match read_parts::<false>(line, bytes, flags) {
-        Ok(found) => Some(size_of((found.1, found.0), kind)),
+        Ok(found) => Some(size_of::<BINARY>((found.1, found.0), kind)),
         Err(stop) => {
             if is_visible_ascii(line, stop.place) {
                 let next = first_ascii(&line[stop.place..]);
                 // Returned here: as one result with that of the call below, LLVM would clear its memory for each line.
                 return Some(Err(error_at(next, stop.place == 0, stop.reason, flags)));
             }
-            parse_text(line, ignore_case, kind)
+            parse_text::<BINARY>(line, ignore_case, kind)
         }
     }
 }
@@ -261,27 +278,63 @@ fn is_visible_ascii(bytes: &[u8], from: usize) -> bool
     has_visible_ends(bytes) && is_ascii_from(bytes, from)
 }
 
-/// Parses as `parse_bytes` does, from the string that the bytes are, trimmed.
+/// Parses as [`parse_line`] does, from the string that bytes are, trimmed.
 ///
 /// # Errors
 /// As `parse_bytes`.
 ///
 /// # Examples
 /// ```rust
-/// assert!(rt; matches!(size::parse_text(b" 1 KiB ", false, Kind::Byte), Some(Ok(1024))));
+/// assert!(rt; matches!(size::parse_text::<false>(b" 1 KB ", false, Kind::Byte), Some(Ok(1000))));
+/// assert!(rt; matches!(size::parse_text::<true>(b" 1 KB ", false, Kind::Byte), Some(Ok(1024))));
 /// ```
 #[cold]
 #[inline(never)]
 #[tactic(auto, using(crate::proofs::Computed::test_of_not_utf8))]
-pub fn parse_text(bytes: &[u8], ignore_case: bool, kind: Kind) -> Option<Result<u128, ParseError>>
-    ensures reading { IsBytesReading kind ignore_case bytes.now result }
+pub fn parse_text<const BINARY: bool>(
+    bytes: &[u8],
+    ignore_case: bool,
+    kind: Kind,
+) -> Option<Result<u128, ParseError>>
+    ensures reading { IsBytesReadingAs (unit_meant BINARY) kind ignore_case bytes.now result }
     ensures bound { IfSome result (λ answer. IfOk answer (λ n. n < size_limit)) }
 {
     let text = str::from_utf8(bytes).ok()?;
-    Some(parse(text, ignore_case, kind))
+    // These, and not `parse_as`, so that a program has the parser of strings once for each reading.
+    Some(if BINARY {
+        binary::parse(text, ignore_case, kind)
+    } else {
+        parse(text, ignore_case, kind)
+    })
 }
 
-/// Returns the result of `parse` for a string with this number and this unit.
+/// Parses the number and the unit of a size from the string that bytes are, trimmed, and leaves the error to be made by
+/// [`error_at`](crate::error_at). Returns `None` if the bytes are not UTF-8.
+///
+/// # Errors
+/// Returns the character before which the parser stops, or `None` at the end, and where it stops in the trimmed string.
+///
+/// # Examples
+/// ```rust
+/// let stopped = size::read_text(b" 1 Kx ", false, Kind::Byte);
+/// assert!(rt; matches!(stopped, Some(Err((Stop { place: 3, reason: Reason::InUnit(_) }, Some('x'))))));
+/// ```
+#[inline(always)]
+#[tactic(auto, using(crate::proofs::Computed::test_of_not_utf8))]
+pub fn read_text(
+    bytes: &[u8],
+    ignore_case: bool,
+    kind: Kind,
+) -> Option<Result<(Unit, Decimal), (Stop, Option<char>)>>
+    ensures { MatchOption result (IsNotUtf8 bytes.now)
+        (λ read. IsUtf8 bytes.now × IsSizeOrStop kind ignore_case bytes.now read) }
+{
+    let text = str::from_utf8(bytes).ok()?;
+    Some(read_or_stop(text, flags_for(kind, ignore_case)))
+}
+
+/// Returns the result of parsing a string with this number and this unit, or with `BINARY` this number of its binary
+/// unit.
 ///
 /// `#[inline(always)]`: a call would return the result through memory.
 ///
@@ -290,20 +343,29 @@ pub fn parse_text(bytes: &[u8], ignore_case: bool, kind: Kind) -> Option<Result<
 ///
 /// # Examples
 /// ```rust
-/// let found = (Decimal::from_digits(1, 5, 1), Unit::KiB);
-/// assert!(rt; matches!(size::size_of(found, Kind::Byte), Ok(1536)));
+/// let found = (Decimal::from_digits(1, 5, 1), Unit::KB);
+/// assert!(rt; matches!(size::size_of::<false>(found, Kind::Byte), Ok(1500)));
+/// assert!(rt; matches!(size::size_of::<true>(found, Kind::Byte), Ok(1536)));
 /// ```
 #[inline(always)]
-pub fn size_of(found: (Decimal, Unit), kind: Kind) -> Result<u128, ParseError>
+pub fn size_of<const BINARY: bool>(found: (Decimal, Unit), kind: Kind) -> Result<u128, ParseError>
     ensures reading { (ignore_case : Bool) (bytes : List ℕ)
         → IsNumberReading (flags_for kind ignore_case) bytes (Ok found)
-        → IsSizeReading kind ignore_case bytes result }
+        → IsReadingAs (unit_meant BINARY) kind ignore_case bytes result }
     ensures bound { IfOk result (λ n. n < size_limit) }
 {
-    match from_decimal(found.0, found.1, kind) {
+    match from_decimal(found.0, unit_meant::<BINARY>(found.1), kind) {
         Some(size) => Ok(size),
         None => Err(ParseError::Value(ValueParseError::ExceededBounds(found.0))),
     }
+}
+
+/// Returns the unit that a reading takes for a unit that is written: with `BINARY` its binary unit, and else itself.
+#[inline(always)]
+fn unit_meant<const BINARY: bool>(unit: Unit) -> Unit
+    ensures { shape_of result ≡ unit_meant BINARY (shape_of unit) }
+{
+    if BINARY { unit.to_binary() } else { unit }
 }
 
 /// Returns the flags for parsing a size of the kind. For bits `ignore_case` has no effect.

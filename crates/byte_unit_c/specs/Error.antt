@@ -2,6 +2,11 @@
 use Rattle.std.specs.Prelude.{◌≡◌, ℕ, ◌-◌, Bool, false, List, [], ◌++◌, length, map, take, replicate, nat_lt, slice_set}
 use Rattle.std.specs.Prelude.{if◌then◌else◌, Option, Some}
 use Rattle.byte_unit_base.specs.Fault.{Fault, bad_unit, not_number, no_value, too_long, exceeded}
+use Rattle.byte_unit_base.specs.Errors.{unit_fault}
+use Rattle.byte_unit_base.specs.PartsReading.{unit_stop_fault}
+use Rattle.byte_unit_base.specs.declared.unit.scan.Flags.{Flags}
+use Rattle.byte_unit_base.specs.declared.errors.UnitParseError.{UnitParseError}
+use Rattle.byte_unit_base.specs.declared.unit.scan.UnitStop.{UnitStop}
 use Rattle.byte_unit_c.specs.declared.error.Error.{Error}
 use Rattle.byte_unit_c.specs.Values.{AreDecimalParts}
 
@@ -64,3 +69,10 @@ IsWrittenAt position fault old new =
 abbrev pub IsErrorWritten : (Option ℕ → Type 0) → Fault → List Error → List Error → Type 0
 IsErrorWritten IsPosition fault old new =
     (position : ℕ) × IsPositionOf IsPosition fault position × IsWrittenAt position fault old new
+
+-- Private: the details of the error of a unit in which a parser stops, by the character there, are written with this
+-- position
+abbrev pub IsUnitStopWritten : Flags → UnitStop → Option ℕ → ℕ → List Error → List Error → Type 0
+IsUnitStopWritten flags stop next position old new =
+    (error : UnitParseError) × (unit_fault error ≡ unit_stop_fault flags stop next)
+    × IsWrittenAt position (unit_fault error) old new

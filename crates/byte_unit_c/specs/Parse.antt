@@ -65,6 +65,13 @@ IsExplanation None old new needed =
 IsExplanation (Some (Ok n)) old new needed = (needed ≡ 0) × (new ≡ old)
 IsExplanation (Some (Err e)) old new needed = (0 < needed) × WritesForm (IsErrorText e) old new needed
 
+-- Private: what a call that explains with these flags returns and writes, where a unit `u` that is read counts as
+-- `meant u`
+abbrev pub Explains : (Shape → Shape) → ParseFlags → List ℕ → List ℕ → List ℕ → ℕ → Type 0
+Explains meant asked bytes old new needed =
+    (answer : Option (Result ℕ ParseError)) × IsBytesReadingAs meant asked.kind asked.ignore_case bytes answer
+    × IsExplanation answer old new needed
+
 -- the message of the error of a unit, or that the bytes are not UTF-8, of at least one byte; 0, and nothing is written,
 -- if the string spells a unit
 abbrev pub IsUnitExplanation : Option (Result UnitName UnitParseError) → List ℕ → List ℕ → ℕ → Type 0

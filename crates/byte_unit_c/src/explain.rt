@@ -4,20 +4,19 @@ ghost use Rattle.std.specs.Prelude.{◌≡◌, ℕ, ◌≤◌, Option, Some, Res
 ghost use Rattle.byte_unit_base.specs.Errors.{size_fault};
 ghost use Rattle.byte_unit_base.specs.PartsReading.{stop_fault};
 ghost use Rattle.byte_unit_base.specs.SizeReading.{IsBytesReading};
-ghost use Rattle.byte_unit_base.specs.BinaryReading.{IsBinaryBytesReading};
+ghost use Rattle.byte_unit_base.specs.BinaryReading.{unit_meant, IsBinaryBytesReading};
 ghost use Rattle.byte_unit_base.specs.declared.errors.ParseError.{ParseError};
 ghost use Rattle.byte_unit_base.specs.declared.errors.UnitParseError.{UnitParseError};
 ghost use Rattle.byte_unit_base.specs.declared.unit.Unit.{Unit as UnitName};
 ghost use Rattle.byte_unit_format.specs.Written.{WritesForm};
 ghost use Rattle.byte_unit_c.specs.Flags.{parse_flags_at, binary_flags_at, prefers_byte};
-ghost use Rattle.byte_unit_c.specs.Parse.{IsUnitBytesReading, IsExplanation, IsUnitExplanation};
+ghost use Rattle.byte_unit_c.specs.Parse.{Explains, IsUnitBytesReading, IsExplanation, IsUnitExplanation};
 
-use crate::binary::explain_binary;
 use crate::flags::{ParseFlags, binary_flags_at, parse_flags_at};
 use crate::message::{write_message, write_not_utf8, write_unit_message, write_unknown_flag};
-use crate::parse::read_unit;
+use crate::parse::{read_unit, unit_flags};
 use byte_unit_base::size::Outcome;
-use byte_unit_base::{Flags, Kind, ParseError, Reason, error_at, size};
+use byte_unit_base::{Flags, ParseError, Reason, error_at, size};
 
 /// Writes the error message for a string that is rejected to the start of `out`, and returns its length, at most 256
 /// bytes. Returns the length and writes nothing if `out` is shorter. Returns 0 if and only if the string represents a
@@ -40,36 +39,58 @@ pub extern "C" fn byte_unit_explain(text: &[u8], flags: u32, out: &mut [u8]) -> 
     ensures bound { result ≤ 256 }
 {
     match parse_flags_at(flags) {
-        Some(asked) => explain_as(text, asked.kind, asked.ignore_case, out),
+        Some(asked) => explain_as::<false>(text, asked, out),
         None => match binary_flags_at(flags) {
-            Some(asked) => explain_binary(text, asked, out),
+            Some(asked) => explain_as::<true>(text, asked, out),
             None => write_unknown_flag(out),
         },
     }
 }
 
-/// Explains as `byte_unit_explain` does, with known flags.
-fn explain_as(text: &[u8], kind: Kind, ignore_case: bool, out: &mut [u8]) -> usize
-    ensures reading { (answer : Option (Result ℕ ParseError))
-        × IsBytesReading kind ignore_case text.now answer
-        × IsExplanation answer out.old out.new result }
+/// Explains as `byte_unit_explain` does, with known flags. With `BINARY` a decimal prefix means the binary one.
+fn explain_as<const BINARY: bool>(text: &[u8], asked: ParseFlags, out: &mut [u8]) -> usize
+    ensures reading { Explains (unit_meant BINARY) asked text.now out.old out.new result }
     ensures bound { result ≤ 256 }
 {
-    match size::read_bytes(text, ignore_case, kind) {
+    match size::read_bytes(text, asked.ignore_case, asked.kind) {
         Outcome::Accepted(unit, number) => {
-            explain_result(Some(size::size_of((number, unit), kind)), out)
+            explain_size(size::size_of::<BINARY>((number, unit), asked.kind), out)
         }
         Outcome::Stopped(reason, place) => match size::visible_next(text, place) {
             Some(next) => {
-                let flags = size::flags_for(kind, ignore_case);
+                let flags = size::flags_for(asked.kind, asked.ignore_case);
                 write_stop_message(next, place == 0, reason, flags, out)
             }
-            None => explain_result(size::parse_text(text, ignore_case, kind), out),
+            None => explain_string::<BINARY>(text, asked, out),
         },
     }
 }
 
+/// Explains as `explain_as` does, from the string that the bytes are, trimmed.
+#[cold]
+#[inline(never)]
+fn explain_string<const BINARY: bool>(text: &[u8], asked: ParseFlags, out: &mut [u8]) -> usize
+    ensures reading { Explains (unit_meant BINARY) asked text.now out.old out.new result }
+    ensures bound { result ≤ 256 }
+{
+    match size::read_text(text, asked.ignore_case, asked.kind) {
+        None => write_not_utf8(out),
+        Some(Ok(found)) => {
+            let (unit, number) = found;
+            explain_size(size::size_of::<BINARY>((number, unit), asked.kind), out)
+        }
+        Some(Err(stopped)) => {
+            let (stop, next) = stopped;
+            let flags = size::flags_for(asked.kind, asked.ignore_case);
+            write_stop_message(next, stop.place == 0, stop.reason, flags, out)
+        }
+    }
+}
+
 /// Writes the message of the error of a parser that stops for this reason, by the character there.
+///
+/// `#[inline(always)]`: a call costs a rejected text some 25 instructions.
+#[inline(always)]
 fn write_stop_message(
     next: Option<char>,
     at_start: bool,
@@ -82,26 +103,22 @@ fn write_stop_message(
     ensures bound { result ≤ 256 }
 {
     match reason {
-        Reason::InUnit(stop) => {
-            let error = stop.error_before(next, flags);
-            write_unit_message(&error, Some(stop.expected_before(next, flags)), out)
-        }
+        Reason::InUnit(stop) => write_unit_message(stop, next, flags, out),
         _ => write_message(&error_at(next, at_start, reason, flags), out),
     }
 }
 
-/// Writes the message of the result of a parser, if it is an error, and returns its length.
+/// Writes the message of the error of a number and a unit, if their size is too large, and returns its length.
 ///
-/// `#[inline(always)]`: each caller knows which result it has, which is then never in memory.
+/// `#[inline(always)]`: the result is then never in memory.
 #[inline(always)]
-pub fn explain_result(answer: Option<Result<u128, ParseError>>, out: &mut [u8]) -> usize
-    ensures text { IsExplanation answer out.old out.new result }
+fn explain_size(answer: Result<u128, ParseError>, out: &mut [u8]) -> usize
+    ensures text { IsExplanation (Some answer) out.old out.new result }
     ensures bound { result ≤ 256 }
 {
     match answer {
-        Some(Ok(_)) => 0,
-        Some(Err(error)) => write_message(&error, out),
-        None => write_not_utf8(out),
+        Ok(_) => 0,
+        Err(error) => write_message(&error, out),
     }
 }
 
@@ -134,9 +151,13 @@ fn explain_unit_as(text: &[u8], asked: ParseFlags, out: &mut [u8]) -> usize
         × IsUnitExplanation answer out.old out.new result }
     ensures bound { result ≤ 256 }
 {
-    match read_unit(text, asked.kind, asked.ignore_case) {
+    let flags = unit_flags(asked);
+    match read_unit(text, flags) {
         Some(Ok(_)) => 0,
-        Some(Err(rejected)) => write_message(&ParseError::Unit(rejected.0), out),
+        Some(Err(stopped)) => {
+            let (stop, next, _) = stopped;
+            write_unit_message(stop, next, flags, out)
+        }
         None => write_not_utf8(out),
     }
 }

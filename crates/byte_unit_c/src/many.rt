@@ -1,7 +1,7 @@
 //! Parsing of many texts in one call.
 
 ghost use Rattle.std.specs.Prelude.{◌≡◌, ◌↔◌, IsTrue, length};
-ghost use Rattle.byte_unit_base.specs.Accepted.{as_written};
+ghost use Rattle.byte_unit_base.specs.BinaryReading.{unit_meant};
 ghost use Rattle.byte_unit_base.specs.Errors.{size_fault};
 ghost use Rattle.byte_unit_c.specs.Error.{code_of};
 ghost use Rattle.byte_unit_c.specs.Many.{offsets_of, IsLayout, IsParsed, AreParsed, AreManyReturned};
@@ -68,7 +68,7 @@ fn parse_many(
     if !is_layout(data, offsets, sizes.len(), codes.len()) {
         return INVALID_ARGUMENT;
     }
-    parse_each(data, offsets, asked, sizes, codes);
+    parse_each::<false>(data, offsets, asked, sizes, codes);
     OK
 }
 
@@ -81,10 +81,10 @@ pub fn is_layout(data: &[u8], offsets: Offsets<'_>, sizes_len: usize, codes_len:
     sizes_len == texts && codes_len == texts && offsets.ascend_to(data.len())
 }
 
-/// Parses each text, and writes its code and its size.
+/// Parses each text, and writes its code and its size. With `BINARY` decimal prefixes mean binary ones.
 ///
-/// Precondition: the offsets and lengths are a layout.
-fn parse_each(
+/// Precondition (proved at every call): the offsets and lengths are a layout.
+pub fn parse_each<const BINARY: bool>(
     data: &[u8],
     offsets: Offsets<'_>,
     asked: ParseFlags,
@@ -93,11 +93,11 @@ fn parse_each(
 )
     requires { IsLayout (length «data».now) (offsets_of offsets) (length sizes.old)
         (length codes.old) }
-    ensures { AreParsed as_written asked.kind asked.ignore_case «data».now
+    ensures { AreParsed (unit_meant BINARY) asked.kind asked.ignore_case «data».now
         (offsets_of offsets.entry) (length codes.old) codes.new sizes.new }
 {
     for i in 0..codes.len() {
-        let (code, size) = parse_one(offsets.text_at(data, i), asked);
+        let (code, size) = parse_one::<BINARY>(offsets.text_at(data, i), asked);
         codes[i] = code;
         sizes[i] = size;
     }
@@ -105,10 +105,10 @@ fn parse_each(
 
 /// Parses one text to its code and its size, which is 0 if there is none.
 #[inline(always)]
-fn parse_one(text: &[u8], asked: ParseFlags) -> (u8, Number)
-    ensures { IsParsed as_written asked.kind asked.ignore_case text.now result.0 result.1 }
+fn parse_one<const BINARY: bool>(text: &[u8], asked: ParseFlags) -> (u8, Number)
+    ensures { IsParsed (unit_meant BINARY) asked.kind asked.ignore_case text.now result.0 result.1 }
 {
-    match size::parse_bytes(text, asked.ignore_case, asked.kind) {
+    match size::parse_line::<BINARY>(text, text.len(), asked.ignore_case, asked.kind) {
         Some(Ok(size)) => (OK as u8, Number::new(size)),
         Some(Err(error)) => (code_of(error), Number::ZERO),
         None => (NOT_UTF8 as u8, Number::ZERO),
@@ -117,7 +117,7 @@ fn parse_one(text: &[u8], asked: ParseFlags) -> (u8, Number)
 
 /// Returns the code of an error.
 #[cold]
-pub fn code_of(error: ParseError) -> u8
+fn code_of(error: ParseError) -> u8
     ensures { result ≡ code_of (size_fault error) }
 {
     match error {

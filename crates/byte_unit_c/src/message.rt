@@ -6,12 +6,15 @@ ghost use Rattle.std.specs.Fmt.Cut.{IsTextOrCut};
 ghost use Rattle.std.specs.Fmt.InlineText.{inline_text};
 ghost use Rattle.byte_unit_base.specs.Expected.{expected_codes, expects_end};
 ghost use Rattle.byte_unit_base.specs.FaultText.{parse_text, expected_text};
+ghost use Rattle.byte_unit_base.specs.Errors.{unit_fault};
+ghost use Rattle.byte_unit_base.specs.PartsReading.{unit_stop_fault};
 ghost use Rattle.byte_unit_base.specs.declared.errors.ParseError.TheVariants.{Unit as UnitError};
+ghost use Rattle.byte_unit_base.specs.declared.errors.UnitParseError.{UnitParseError};
 ghost use Rattle.byte_unit_format.specs.Written.{WritesForm};
 ghost use Rattle.byte_unit_c.specs.Parse.{IsErrorText};
 
 use crate::texts::write;
-use byte_unit_base::{Expected, ParseError, UnitParseError, ValueParseError};
+use byte_unit_base::{Expected, Flags, ParseError, UnitParseError, UnitStop, ValueParseError};
 use std::fmt::InlineText;
 
 /// Writes the message of an error to the start of `out` if it fits, and returns its length, at most 256 bytes.
@@ -27,33 +30,30 @@ pub fn write_message(error: &ParseError, out: &mut [u8]) -> usize
         ParseError::Value(ValueParseError::NotNumber(c)) if is_plain(*c) => {
             write_quoted(*c as u8, b"' is not a number", out)
         }
-        ParseError::Unit(unit) => {
-            write_unit_message(unit, Expected::of(unit.expected_characters), out)
-        }
         _ => write_formatted(error, out),
     }
 }
 
-/// Writes the message of an error in the unit, as `write_message` does.
-///
-/// Precondition (proved at every call): `expected` is what the error names as expected, if it is given.
+/// Writes the message of the error of a parser of a unit that stops here, as `write_message` does, by the character
+/// there.
 #[inline(always)]
 pub fn write_unit_message(
-    unit: &UnitParseError,
-    expected: Option<Expected>,
+    stop: UnitStop,
+    next: Option<char>,
+    flags: Flags,
     out: &mut [u8],
 ) -> usize
-    requires { IfSome expected
-        (λ expected. expected_codes expected ≡ unit.now.expected_characters.now) }
     ensures some { 0 < result }
-    ensures text { WritesForm (IsErrorText (UnitError unit.now)) out.old out.new result }
+    ensures text { (error : UnitParseError) × (unit_fault error ≡ unit_stop_fault flags stop next)
+        × WritesForm (IsErrorText (UnitError error)) out.old out.new result }
     ensures bound { result ≤ 256 }
 {
-    match expected {
-        Some(expected) if is_known(unit, expected) => {
-            write_quoted(unit.character as u8, rest_of_message(expected), out)
-        }
-        _ => write_formatted(&ParseError::Unit(*unit), out),
+    let error = stop.error_before(next, flags);
+    let expected = stop.expected_before(next, flags);
+    if is_known(&error, expected) {
+        write_quoted(error.character as u8, rest_of_message(expected), out)
+    } else {
+        write_formatted(&ParseError::Unit(error), out)
     }
 }
 

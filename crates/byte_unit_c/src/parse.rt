@@ -2,11 +2,11 @@
 
 ghost use Rattle.std.specs.Prelude.{◌≡◌, ℕ, Bool, Option, Some, Result, Err, IfSome, IfNone, MatchOption};
 ghost use Rattle.std.specs.Str.{IsUtf8};
-ghost use Rattle.byte_unit_base.specs.Accepted.{as_written};
+ghost use Rattle.byte_unit_base.specs.BinaryReading.{unit_meant};
 ghost use Rattle.byte_unit_base.specs.Errors.{size_fault};
 ghost use Rattle.byte_unit_base.specs.ErrorPosition.{IsSizePosition};
 ghost use Rattle.byte_unit_base.specs.Kinds.{flags_for};
-ghost use Rattle.byte_unit_base.specs.Outcome.{IsPlacedUnitReading};
+ghost use Rattle.byte_unit_base.specs.Outcome.{IsUnitOrStop};
 ghost use Rattle.byte_unit_base.specs.PartsReading.{IsStopAt};
 ghost use Rattle.byte_unit_base.specs.Shape.{Shape};
 ghost use Rattle.byte_unit_base.specs.SizeReading.{IsBytesReading, IsBytesReadingAs};
@@ -17,7 +17,7 @@ ghost use Rattle.byte_unit_base.specs.declared.errors.UnitParseError.{UnitParseE
 ghost use Rattle.byte_unit_base.specs.declared.unit.Unit.{Unit as UnitName};
 ghost use Rattle.byte_unit_c.specs.Flags.{parse_flags_at, prefers_byte};
 ghost use Rattle.byte_unit_base.specs.declared.kind.Kind.{Kind};
-ghost use Rattle.byte_unit_c.specs.Error.{invalid_argument, code_of, IsWrittenAt, IsErrorWritten};
+ghost use Rattle.byte_unit_c.specs.Error.{invalid_argument, code_of, IsWrittenAt, IsErrorWritten, IsUnitStopWritten};
 ghost use Rattle.byte_unit_c.specs.Parse.{IsReturned, IsUnitBytesReading, IsUnitReturned, Parses};
 
 use crate::codes::code_of;
@@ -25,9 +25,9 @@ use crate::error::{Error, INVALID_ARGUMENT, NOT_UTF8, OK, UNIT, bytes_of};
 use crate::flags::{ParseFlags, parse_flags_at};
 use crate::position;
 use crate::values::Number;
-use byte_unit_base::position::parse_unit;
+use byte_unit_base::position::read_unit_text;
 use byte_unit_base::size::Outcome;
-use byte_unit_base::{Kind, ParseError, Reason, Unit, UnitParseError, error_at, size};
+use byte_unit_base::{Flags, Kind, ParseError, Reason, Unit, UnitStop, error_at, size};
 use std::str;
 
 /// Parses a size, rounded up to the next whole byte, or to the next whole bit with the flag `BITS` (1). Sizes are below
@@ -54,25 +54,32 @@ pub extern "C" fn byte_unit_parse_to(
         ((result ≡ invalid_argument) × (size.new ≡ size.old) × (error.new ≡ error.old)) }
 {
     match parse_flags_at(flags) {
-        Some(asked) => parse_as(text, asked, size, error),
+        Some(asked) => parse_as::<false>(text, asked, size, error),
         None => INVALID_ARGUMENT,
     }
 }
 
-/// Parses as `byte_unit_parse_to` does, with known flags.
+/// Parses as `byte_unit_parse_to` does, with known flags. With `BINARY` a decimal prefix means the binary one: a call
+/// without it takes no instruction more for it.
 #[inline(always)]
-fn parse_as(text: &[u8], asked: ParseFlags, size: &mut Number, errors: &mut [Error]) -> u32
-    ensures { Parses as_written asked text.now result size.old size.new errors.old errors.new }
+pub fn parse_as<const BINARY: bool>(
+    text: &[u8],
+    asked: ParseFlags,
+    size: &mut Number,
+    errors: &mut [Error],
+) -> u32
+    ensures { Parses (unit_meant BINARY) asked text.now result size.old size.new errors.old
+        errors.new }
 {
     match size::read_bytes(text, asked.ignore_case, asked.kind) {
         Outcome::Accepted(unit, number) => {
-            let answer = Some(size::size_of((number, unit), asked.kind));
+            let answer = Some(size::size_of::<BINARY>((number, unit), asked.kind));
             write_result(text, answer, size, errors)
         }
         Outcome::Stopped(reason, place) => match reason {
-            Reason::InUnit(_) => parse_stopped(text, place, reason, asked, size, errors),
-            Reason::NoDigit => parse_stopped(text, place, reason, asked, size, errors),
-            Reason::TooLong => parse_too_long(text, place, asked, size, errors),
+            Reason::InUnit(_) => parse_stopped::<BINARY>(text, place, reason, asked, size, errors),
+            Reason::NoDigit => parse_stopped::<BINARY>(text, place, reason, asked, size, errors),
+            Reason::TooLong => parse_too_long::<BINARY>(text, place, asked, size, errors),
         },
     }
 }
@@ -83,7 +90,7 @@ fn parse_as(text: &[u8], asked: ParseFlags, size: &mut Number, errors: &mut [Err
 /// Each reason has a call of its own, which does not test it again. `#[inline(always)]`: a call costs a rejected text
 /// some 30 instructions.
 #[inline(always)]
-fn parse_stopped(
+fn parse_stopped<const BINARY: bool>(
     text: &[u8],
     place: usize,
     reason: Reason,
@@ -92,18 +99,19 @@ fn parse_stopped(
     errors: &mut [Error],
 ) -> u32
     requires { IsStopAt (flags_for asked.kind asked.ignore_case) text.now place reason }
-    ensures { Parses as_written asked text.now result size.old size.new errors.old errors.new }
+    ensures { Parses (unit_meant BINARY) asked text.now result size.old size.new errors.old
+        errors.new }
 {
     match write_stop(text, place, reason, asked, errors) {
         Some(code) => code,
-        None => parse_as_string(text, asked, size, errors),
+        None => parse_as_string::<BINARY>(text, asked, size, errors),
     }
 }
 
 /// Does what `parse_stopped` does for a number that is too long, in a function that is not inlined, since that is rare.
 #[cold]
 #[inline(never)]
-fn parse_too_long(
+fn parse_too_long<const BINARY: bool>(
     text: &[u8],
     place: usize,
     asked: ParseFlags,
@@ -111,18 +119,25 @@ fn parse_too_long(
     errors: &mut [Error],
 ) -> u32
     requires { IsStopAt (flags_for asked.kind asked.ignore_case) text.now place TooLong }
-    ensures { Parses as_written asked text.now result size.old size.new errors.old errors.new }
+    ensures { Parses (unit_meant BINARY) asked text.now result size.old size.new errors.old
+        errors.new }
 {
-    parse_stopped(text, place, Reason::TooLong, asked, size, errors)
+    parse_stopped::<BINARY>(text, place, Reason::TooLong, asked, size, errors)
 }
 
 /// Parses as `parse_as` does, from the string that the bytes are.
 #[cold]
 #[inline(never)]
-fn parse_as_string(text: &[u8], asked: ParseFlags, size: &mut Number, errors: &mut [Error]) -> u32
-    ensures { Parses as_written asked text.now result size.old size.new errors.old errors.new }
+fn parse_as_string<const BINARY: bool>(
+    text: &[u8],
+    asked: ParseFlags,
+    size: &mut Number,
+    errors: &mut [Error],
+) -> u32
+    ensures { Parses (unit_meant BINARY) asked text.now result size.old size.new errors.old
+        errors.new }
 {
-    let answer = size::parse_text(text, asked.ignore_case, asked.kind);
+    let answer = size::parse_text::<BINARY>(text, asked.ignore_case, asked.kind);
     write_result(text, answer, size, errors)
 }
 
@@ -131,7 +146,7 @@ fn parse_as_string(text: &[u8], asked: ParseFlags, size: &mut Number, errors: &m
 ///
 /// `#[inline(always)]`: the error of a unit, whose parts are written, is then never in memory.
 #[inline(always)]
-pub(crate) fn write_stop(
+fn write_stop(
     text: &[u8],
     place: usize,
     reason: Reason,
@@ -150,10 +165,7 @@ pub(crate) fn write_stop(
     let flags = size::flags_for(asked.kind, asked.ignore_case);
     Some(match reason {
         Reason::InUnit(stop) => {
-            let expected = bytes_of(stop.expected_before(next, flags));
-            let error = stop.error_before(next, flags);
-            let may_end = error.also_expect_no_character;
-            Error::of_unit_parts(error.character, expected, may_end, place).write(errors);
+            write_unit_stop(stop, next, flags, place, errors);
             UNIT
         }
         Reason::NoDigit => write_error(error_at(next, place == 0, reason, flags), place, errors),
@@ -165,11 +177,28 @@ pub(crate) fn write_stop(
     })
 }
 
+/// Writes the error of a parser of a unit that stops at this place, by the character there.
+#[inline(always)]
+fn write_unit_stop(
+    stop: UnitStop,
+    next: Option<char>,
+    flags: Flags,
+    place: usize,
+    errors: &mut [Error],
+)
+    ensures { IsUnitStopWritten flags stop next place errors.old errors.new }
+{
+    let expected = bytes_of(stop.expected_before(next, flags));
+    let error = stop.error_before(next, flags);
+    let may_end = error.also_expect_no_character;
+    Error::of_unit_parts(error.character, expected, may_end, place).write(errors);
+}
+
 /// Writes the result of a parser, and returns its code.
 ///
 /// `#[inline(always)]`: each caller knows which result it has, which is then never in memory.
 #[inline(always)]
-pub fn write_result(
+fn write_result(
     text: &[u8],
     answer: Option<Result<u128, ParseError>>,
     size: &mut Number,
@@ -246,42 +275,46 @@ fn parse_unit_as(text: &[u8], asked: ParseFlags, unit: &mut u32, errors: &mut [E
         × IsUnitBytesReading asked.ignore_case (prefers_byte asked.kind) text.now answer
         × IsUnitReturned text.now answer result unit.old unit.new errors.old errors.new }
 {
-    match read_unit(text, asked.kind, asked.ignore_case) {
+    let flags = unit_flags(asked);
+    match read_unit(text, flags) {
         Some(Ok(found)) => {
             *unit = code_of(found);
             OK
         }
-        Some(Err(rejected)) => {
-            Error::of_unit(rejected.0, rejected.1).write(errors);
+        Some(Err(stopped)) => {
+            let (stop, next, position) = stopped;
+            write_unit_stop(stop, next, flags, position, errors);
             UNIT
         }
         None => NOT_UTF8,
     }
 }
 
-/// Parses a unit from bytes, as `parse_unit` does from a string. A unit with no suffix is of this kind. Returns
-/// `None` if the bytes are not UTF-8.
+/// Parses a unit from bytes, as `read_unit_text` does from a string. Returns `None` if the bytes are not UTF-8.
 #[inline(always)]
 pub(crate) fn read_unit(
     bytes: &[u8],
-    kind: Kind,
-    ignore_case: bool,
-) -> Option<Result<Unit, (UnitParseError, usize)>>
-    ensures { MatchOption result (¬ IsUtf8 bytes.now) (λ answer. IsUtf8 bytes.now
-        × IsPlacedUnitReading (flags_of ignore_case (prefers_byte kind)) bytes.now answer) }
+    flags: Flags,
+) -> Option<Result<Unit, (UnitStop, Option<char>, usize)>>
+    ensures { MatchOption result (¬ IsUtf8 bytes.now)
+        (λ read. IsUtf8 bytes.now × IsUnitOrStop flags bytes.now read) }
 {
     match str::from_utf8(bytes) {
-        Ok(text) => Some(parse_unit(text, ignore_case, prefers_byte(kind))),
+        Ok(text) => Some(read_unit_text(text, flags)),
         Err(_) => None,
     }
 }
 
-/// Whether a unit with no suffix is of bytes, by the kind of sizes.
-fn prefers_byte(kind: Kind) -> bool
-    ensures { result ≡ prefers_byte kind }
+/// Returns the flags for parsing a unit: one with no suffix is of the kind of sizes.
+pub(crate) fn unit_flags(asked: ParseFlags) -> Flags
+    ensures { result ≡ flags_of asked.ignore_case (prefers_byte asked.kind) }
 {
-    match kind {
+    let prefer_byte = match asked.kind {
         Kind::Byte => true,
         Kind::Bit => false,
+    };
+    Flags {
+        ignore_case: asked.ignore_case,
+        prefer_byte,
     }
 }

@@ -54,7 +54,7 @@ fn add_answer_of<const BITS: bool, A: Allocator>(
     ensures growth { GrowsByAnswer out.old out.new result }
 {
     let kind = if BITS { Kind::Bit } else { Kind::Byte };
-    match size::parse_line(bytes, len, false, kind) {
+    match size::parse_line::<false>(bytes, len, false, kind) {
         None => out.extend_from_slice(b"not text\n"),
         Some(Err(error)) => out.extend_from_slice(fault_line_of(&error)),
         Some(Ok(size)) => {

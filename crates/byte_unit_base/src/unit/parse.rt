@@ -2,6 +2,7 @@
 
 ghost use Rattle.byte_unit_base.specs.Spelling.{flags_of};
 
+use crate::unit::scan::Flags;
 use crate::{Unit, UnitParseError, position};
 use std::str::FromStr;
 
@@ -29,9 +30,16 @@ impl Unit {
     pub fn parse_str(s: &str, ignore_case: bool, prefer_byte: bool) -> Result<Unit, UnitParseError>
         ensures { IsUnitReading (flags_of ignore_case prefer_byte) s.now result }
     {
-        match position::parse_unit(s, ignore_case, prefer_byte) {
+        let flags = Flags {
+            ignore_case,
+            prefer_byte,
+        };
+        match position::read_unit_text(s, flags) {
             Ok(unit) => Ok(unit),
-            Err(rejected) => Err(rejected.0),
+            Err(stopped) => {
+                let (stop, next, _) = stopped;
+                Err(stop.error_before(next, flags))
+            }
         }
     }
 }

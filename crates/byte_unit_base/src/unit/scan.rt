@@ -115,39 +115,6 @@ impl UnitStop {
 
 impl Expected {
     ghost use Rattle.byte_unit_base.specs.Expected.{expected_codes, expects_end};
-    ghost use Rattle.std.specs.Prelude.{IfNone, IfSome};
-
-    /// Each of the lists.
-    const ALL: [Expected; 8] = [
-        Expected::Beginning,
-        Expected::EitherB,
-        Expected::UpperB,
-        Expected::LowerB,
-        Expected::I,
-        Expected::T,
-        Expected::S,
-        Expected::Nothing,
-    ];
-
-    /// Returns which of the lists these characters are, or `None` if no parser expects them.
-    ///
-    /// # Examples
-    /// ```rust
-    /// assert!(rt; matches!(Expected::of(&['B', 'b']), Some(Expected::EitherB)));
-    /// assert!(rt; Expected::of(&['x']).is_none());
-    /// ```
-    pub fn of(characters: &[char]) -> Option<Expected>
-        ensures some { IfSome result (λ expected. expected_codes expected ≡ characters.now) }
-        ensures none { IfNone result
-            ((expected : Expected) → ¬ (expected_codes expected ≡ characters.now)) }
-    {
-        for expected in Expected::ALL {
-            if expected.characters() == characters {
-                return Some(expected);
-            }
-        }
-        None
-    }
 
     /// Returns whether the string could end in place of the characters.
     ///

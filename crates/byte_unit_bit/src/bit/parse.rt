@@ -80,7 +80,7 @@ impl Bit {
         requires { IsLine bytes.now len }
         ensures { IsBytesReading InBits false (take len bytes.now) result }
     {
-        match size::parse_line(bytes, len, false, Kind::Bit)? {
+        match size::parse_line::<false>(bytes, len, false, Kind::Bit)? {
             Ok(size) => Some(Ok(Bit { size })),
             Err(error) => Some(Err(error)),
         }

@@ -83,7 +83,7 @@ impl Byte {
         requires { IsLine bytes.now len }
         ensures { IsBytesReading InBytes ignore_case (take len bytes.now) result }
     {
-        match size::parse_line(bytes, len, ignore_case, Kind::Byte)? {
+        match size::parse_line::<false>(bytes, len, ignore_case, Kind::Byte)? {
             Ok(size) => Some(Ok(Byte { size })),
             Err(error) => Some(Err(error)),
         }

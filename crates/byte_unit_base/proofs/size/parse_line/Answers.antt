@@ -1,9 +1,9 @@
 -- The first bytes are a line with which the bytes begin, and its number and unit are those of the string. If it is
 -- visible ASCII, its error by the character where the parser stops is that of the string too.
-use Rattle.std.proofs.Common.{take, nat_eq, ap, ◌∙◌}
+use Rattle.std.proofs.Common.{take, nat_eq, ap, ◌∙◌, eqb, not}
 use Rattle.std.specs.Str.{chars}
 use Rattle.std.proofs.lemmas.List.{take_rest}
-use Rattle.byte_unit_base.specs.Accepted.{as_written}
+use Rattle.byte_unit_base.specs.BinaryReading.{unit_meant}
 use Rattle.byte_unit_base.specs.Kinds.{flags_for}
 use Rattle.byte_unit_base.specs.PartsReading.{IsStopAt, next_char, stop_fault}
 use Rattle.byte_unit_base.proofs.Lines.{first_line}
@@ -11,10 +11,10 @@ use Rattle.byte_unit_base.proofs.SizeOfText.{ascii_stop, bytes_number, visible_s
 use Rattle.byte_unit_base.proofs.size.parse_line.Goals as goal
 
 pub read_parts-requires : goal.read_parts-requires
-read_parts-requires c = first_line c.args.bytes.now c.args.len c.requires
+read_parts-requires g c = first_line c.args.bytes.now c.args.len c.requires
 
 pub returns-in-Ok-clause-reading : goal.returns-in-Ok-clause-reading
-returns-in-Ok-clause-reading c =
+returns-in-Ok-clause-reading g c =
     let found = c.in-Ok.found in
     let line = take c.args.len c.args.bytes.now in
     let number = bytes_number (flags_for c.args.kind c.args.ignore_case) line found.1 found.0
@@ -22,7 +22,7 @@ returns-in-Ok-clause-reading c =
     (number.0, c.size_of.ensures.reading c.args.ignore_case _ number.1)
 
 pub returns-then-is_visible_ascii-clause-reading : goal.returns-then-is_visible_ascii-clause-reading
-returns-then-is_visible_ascii-clause-reading c =
+returns-then-is_visible_ascii-clause-reading g c =
     let line = take c.args.len c.args.bytes.now in
     let flags = flags_for c.args.kind c.args.ignore_case in
     let place = c.in-Err.stop.place in
@@ -34,5 +34,5 @@ returns-then-is_visible_ascii-clause-reading c =
     let next_is = c.first_ascii-next.ensures ∙ ap (λ rest. next_char (chars rest)) (take_rest line place) in
     let fault_is = error_is ∙ ap (stop_fault flags (nat_eq place 0) reason) next_is in (
       utf8,
-      visible_stop as_written c.args.kind c.args.ignore_case line place reason c.error_at.result utf8 ends stop fault_is,
+      visible_stop (unit_meant (not (eqb g.row.BINARY 0))) c.args.kind c.args.ignore_case line place reason c.error_at.result utf8 ends stop fault_is,
     )

@@ -1,13 +1,16 @@
--- A number and a unit whose size is below the limit are accepted as it; if the size is too large, the error is
--- `ExceededBounds`.
-use Rattle.byte_unit_base.specs.Accepted.{as_written}
+-- A number of the unit that is meant whose size is below the limit is accepted as it; if the size is too large, the
+-- error is `ExceededBounds`.
+use Rattle.std.proofs.Common.{eqb, not}
+use Rattle.byte_unit_base.specs.BinaryReading.{unit_meant}
 use Rattle.byte_unit_base.proofs.SizeOfText.{reading_of_size, reading_of_excess}
 use Rattle.byte_unit_base.proofs.size.size_of.Goals as goal
 
 pub returns-in-Some-clause-reading : goal.returns-in-Some-clause-reading
-returns-in-Some-clause-reading c = λ ignore_case bytes reading.
-    reading_of_size as_written c.args.kind ignore_case bytes c.args.found c.in-Some.size reading c.in-Some.ensures.size
+returns-in-Some-clause-reading g c = λ ignore_case bytes reading.
+    reading_of_size (unit_meant (not (eqb g.row.BINARY 0))) c.args.kind ignore_case bytes c.args.found c.in-Some.size reading
+    (rw c.unit_meant.ensures at c.in-Some.ensures.size)
 
 pub returns-in-None-clause-reading : goal.returns-in-None-clause-reading
-returns-in-None-clause-reading c = λ ignore_case bytes reading.
-    reading_of_excess as_written c.args.kind ignore_case bytes c.args.found reading c.in-None.ensures.size
+returns-in-None-clause-reading g c = λ ignore_case bytes reading.
+    reading_of_excess (unit_meant (not (eqb g.row.BINARY 0))) c.args.kind ignore_case bytes c.args.found reading
+    (rw c.unit_meant.ensures at c.in-None.ensures.size)

@@ -1,18 +1,19 @@
 -- The message is that of the number and the unit, or of the error where the parser stops.
 use Rattle.std.specs.Prelude.{Err, Some}
-use Rattle.byte_unit_base.specs.Accepted.{as_written}
+use Rattle.std.proofs.Common.{eqb, not}
+use Rattle.byte_unit_base.specs.BinaryReading.{unit_meant}
 use Rattle.byte_unit_c.proofs.explain.explain_as.Goals as goal
 
 pub returns-in-Accepted-clause-reading : goal.returns-in-Accepted-clause-reading
-returns-in-Accepted-clause-reading c =
+returns-in-Accepted-clause-reading g c =
     let found = c.in-Accepted.ensures in
-    let reading = c.size_of.ensures.reading c.args.ignore_case c.args.text.now found.1 in
-    (Some c.size_of.result, (found.0, reading), c.explain_result.ensures.text)
+    let reading = c.size_of.ensures.reading c.args.asked.ignore_case c.args.text.now found.1 in
+    (Some c.size_of.result, (found.0, reading), c.explain_size.ensures.text)
 
 pub returns-in-Some-clause-reading : goal.returns-in-Some-clause-reading
-returns-in-Some-clause-reading c =
+returns-in-Some-clause-reading g c =
     let text = c.write_stop_message.ensures.text in
     let error_is = rw c.flags_for-flags.ensures at text.1 in
-    let stops = c.in-Some.ensures c.args.kind c.args.ignore_case c.in-Stopped.reason c.in-Stopped.ensures in
+    let stops = c.in-Some.ensures c.args.asked.kind c.args.asked.ignore_case c.in-Stopped.reason c.in-Stopped.ensures in
     let is = stops.0 text.0 error_is in
-    (Some (Err text.0), (is.0, is.1 as_written), text.2)
+    (Some (Err text.0), (is.0, is.1 (unit_meant (not (eqb g.row.BINARY 0)))), text.2)

@@ -1,19 +1,18 @@
--- The message is that of the error.
+-- The message is that of the error where the parser stops.
 use Rattle.std.proofs.Common.{Some, Ok, Err, refl, subst}
-use Rattle.byte_unit_base.specs.Outcome.{IsPlacedUnitReading}
-use Rattle.byte_unit_base.specs.Spelling.{flags_of}
-use Rattle.byte_unit_c.specs.Flags.{prefers_byte}
+use Rattle.byte_unit_base.specs.Outcome.{IsUnitOrStop}
 use Rattle.byte_unit_c.proofs.explain.explain_unit_as.Goals as goal
 
 pub returns-in-Some-Ok-clause-reading : goal.returns-in-Some-Ok-clause-reading
 returns-in-Some-Ok-clause-reading c =
-    let flags = flags_of c.args.asked.ignore_case (prefers_byte c.args.asked.kind) in
-    let placed = subst (IsPlacedUnitReading flags c.args.text.now) c.in-Some-Ok.field-0-is c.in-Some-Ok.ensures.1 in
-    (Some (Ok c.in-Some-Ok.field-0-0), (c.in-Some-Ok.ensures.0, placed), (refl, refl))
+    let read = subst (IsUnitOrStop c.unit_flags-flags.result c.args.text.now) c.in-Some-Ok.field-0-is c.in-Some-Ok.ensures.1 in
+    let reading = rw c.unit_flags-flags.ensures at read in
+    (Some (Ok c.in-Some-Ok.field-0-0), (c.in-Some-Ok.ensures.0, reading), (refl, refl))
 
 pub returns-in-Some-Err-clause-reading : goal.returns-in-Some-Err-clause-reading
 returns-in-Some-Err-clause-reading c =
-    let rejected = c.in-Some-Err.rejected in
-    let flags = flags_of c.args.asked.ignore_case (prefers_byte c.args.asked.kind) in
-    let placed = subst (IsPlacedUnitReading flags c.args.text.now) c.in-Some-Err.field-0-is c.in-Some-Err.ensures.1 in
-    (Some (Err rejected.0), (c.in-Some-Err.ensures.0, placed.0), (c.write_message.ensures.some, c.write_message.ensures.text))
+    let stops = subst (IsUnitOrStop c.unit_flags-flags.result c.args.text.now) c.in-Some-Err.field-0-is c.in-Some-Err.ensures.1 in
+    -- the error of the unit, that it is the one where the parser stops, and its message
+    let text = c.write_unit_message.ensures.text in
+    let reading = rw c.unit_flags-flags.ensures at (stops.0 text.0 text.1) in
+    (Some (Err text.0), (c.in-Some-Err.ensures.0, reading), (c.write_unit_message.ensures.some, text.2))

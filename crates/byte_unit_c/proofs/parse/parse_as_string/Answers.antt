@@ -1,8 +1,9 @@
 -- The result is that of the string.
-use Rattle.byte_unit_base.specs.Accepted.{as_written}
+use Rattle.std.proofs.Common.{eqb, not}
+use Rattle.byte_unit_base.specs.BinaryReading.{unit_meant}
 use Rattle.byte_unit_c.proofs.parse.parse_as_string.Goals as goal
 
 pub returns : goal.returns
-returns c =
+returns g c =
     let reading = c.parse_text-answer.ensures.reading in
-    (c.parse_text-answer.result, reading, c.write_result.ensures as_written c.args.asked.kind c.args.asked.ignore_case reading)
+    (c.parse_text-answer.result, reading, c.write_result.ensures (unit_meant (not (eqb g.row.BINARY 0))) c.args.asked.kind c.args.asked.ignore_case reading)

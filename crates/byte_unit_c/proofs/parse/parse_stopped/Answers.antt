@@ -1,17 +1,17 @@
 -- The result is the error where the parser stops, or that of the string.
-use Rattle.std.proofs.Common.{List, Some, Err, refl, subst}
-use Rattle.byte_unit_base.specs.Accepted.{as_written}
+use Rattle.std.proofs.Common.{List, Some, Err, refl, subst, eqb, not}
+use Rattle.byte_unit_base.specs.BinaryReading.{unit_meant}
 use Rattle.byte_unit_c.specs.declared.error.Error.{Error}
 use Rattle.byte_unit_c.specs.Parse.{IsReturned}
 use Rattle.byte_unit_c.proofs.parse.parse_stopped.Goals as goal
 
 pub returns-in-Some : goal.returns-in-Some
-returns-in-Some c =
+returns-in-Some g c =
     let stops = c.in-Some.ensures.some in
-    (Some (Err stops.0), stops.1 as_written, (stops.2, stops.3, refl))
+    (Some (Err stops.0), stops.1 (unit_meant (not (eqb g.row.BINARY 0))), (stops.2, stops.3, refl))
 
 pub returns-in-None : goal.returns-in-None
-returns-in-None c =
+returns-in-None g c =
     let parsed = c.parse_as_string.ensures in
     let R : List Error → Type 0 = λ old. IsReturned c.args.text.now parsed.0 c.parse_as_string.result c.args.size.now
     c.parse_as_string.new.size old c.parse_as_string.new.errors in

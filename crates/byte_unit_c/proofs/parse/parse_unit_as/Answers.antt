@@ -1,23 +1,21 @@
--- The details of the error, and its position in the string, are what is written.
+-- The unit of the string, or the details of its error and its position, are what is written.
 use Rattle.std.proofs.Common.{Some, Ok, Err, refl, subst}
-use Rattle.byte_unit_base.specs.Outcome.{IsPlacedUnitReading}
-use Rattle.byte_unit_base.specs.Spelling.{flags_of}
-use Rattle.byte_unit_c.specs.Flags.{prefers_byte}
+use Rattle.byte_unit_base.specs.Outcome.{IsUnitOrStop}
 use Rattle.byte_unit_c.proofs.parse.parse_unit_as.Goals as goal
 
 pub returns-in-Some-Ok : goal.returns-in-Some-Ok
 returns-in-Some-Ok c =
-    let flags = flags_of c.args.asked.ignore_case (prefers_byte c.args.asked.kind) in
-    let placed = subst (IsPlacedUnitReading flags c.args.text.now) c.in-Some-Ok.field-0-is c.in-Some-Ok.ensures.1 in
-    (Some (Ok c.in-Some-Ok.found), (c.in-Some-Ok.ensures.0, placed), (refl, c.code_of.ensures, refl))
+    let read = subst (IsUnitOrStop c.unit_flags-flags.result c.args.text.now) c.in-Some-Ok.field-0-is c.in-Some-Ok.ensures.1 in
+    let reading = rw c.unit_flags-flags.ensures at read in
+    (Some (Ok c.in-Some-Ok.found), (c.in-Some-Ok.ensures.0, reading), (refl, c.code_of.ensures, refl))
 
 pub returns-in-Some-Err : goal.returns-in-Some-Err
 returns-in-Some-Err c =
-    let rejected = c.in-Some-Err.rejected in
-    let flags = flags_of c.args.asked.ignore_case (prefers_byte c.args.asked.kind) in
-    let placed = subst (IsPlacedUnitReading flags c.args.text.now) c.in-Some-Err.field-0-is c.in-Some-Err.ensures.1 in
-    let is = c.of_unit.ensures in (
-      Some (Err rejected.0),
-      (c.in-Some-Err.ensures.0, placed.0),
-      (refl, (rejected.1, placed.1, (c.of_unit.result, is.details, is.position, c.write.ensures)), refl),
+    let stops = subst (IsUnitOrStop c.unit_flags-flags.result c.args.text.now) c.in-Some-Err.field-0-is c.in-Some-Err.ensures.1 in
+    -- the error of the unit, that it is the one where the parser stops, and that it is written
+    let written = c.write_unit_stop.ensures in
+    let reading = rw c.unit_flags-flags.ensures at (stops.0 written.0 written.1) in (
+      Some (Err written.0),
+      (c.in-Some-Err.ensures.0, reading),
+      (refl, (c.in-Some-Err.stopped.2, stops.1, written.2), refl),
     )

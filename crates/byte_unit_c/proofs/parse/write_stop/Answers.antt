@@ -2,13 +2,11 @@
 use Rattle.std.proofs.Common.{refl, sym, ap, subst, ◌∙◌, nat_eq}
 use Rattle.byte_unit_base.specs.Accepted.{as_written}
 use Rattle.byte_unit_base.specs.ErrorPosition.{IsSizePosition}
-use Rattle.byte_unit_base.specs.Errors.{unit_fault}
-use Rattle.byte_unit_base.specs.Expected.{named_in}
 use Rattle.byte_unit_base.specs.Kinds.{flags_for}
 use Rattle.byte_unit_base.specs.Outcome.{IsPositionOfStop}
 use Rattle.byte_unit_base.specs.PartsReading.{stop_fault}
 use Rattle.byte_unit_base.specs.declared.errors.ParseError.TheVariants.{Unit as UnitError}
-use Rattle.byte_unit_c.specs.Error.{expected_bytes, IsErrorOf, IsPositionOf}
+use Rattle.byte_unit_c.specs.Error.{IsPositionOf}
 use Rattle.byte_unit_c.proofs.Positions.{at_missing_digit}
 use Rattle.byte_unit_c.proofs.parse.write_stop.Goals as goal
 
@@ -17,25 +15,17 @@ returns-in-InUnit-clause-some c =
     let at_start = nat_eq c.args.place 0 in
     let next = c.in_ok-next.next in
     let stops = c.in_ok-next.ensures c.args.asked.kind c.args.asked.ignore_case c.args.reason c.requires in
-    let error = c.error_before-error.result in
-    let fault_is = c.error_before-error.ensures
+    -- the error of the unit, that it is the one where the parser stops, and that it is written
+    let written = c.write_unit_stop.ensures in
+    let fault_is = written.1
     ∙ (ap (λ reason. stop_fault c.flags_for-flags.result at_start reason next) (sym c.in-InUnit.is)
     ∙ ap (λ flags. stop_fault flags at_start c.args.reason next) c.flags_for-flags.ensures) in
-    let is = stops.0 (UnitError error) fault_is in
-    let bytes_are = c.bytes_of-expected.ensures
-    ∙ ap expected_bytes (c.expected_before.ensures ∙ ap named_in (sym c.error_before-error.ensures)) in
-    let details : IsErrorOf (unit_fault error) c.of_unit_parts.result =
-    rw (← c.error.view_is)
-    (c.of_unit_parts.ensures.details c.error.inside.expected_characters.now (rw (← c.error.view_is) at bytes_are)) in
+    let is = stops.0 (UnitError written.0) fault_is in
     let position = subst (IsPositionOfStop c.args.text.now c.args.place) c.in-InUnit.is stops.1 in (
-      UnitError error,
+      UnitError written.0,
       (λ meant. (is.0, is.1 meant)),
       refl,
-      (
-        c.args.place,
-        position,
-        (c.of_unit_parts.result, details, c.of_unit_parts.ensures.position, c.write.ensures),
-      ),
+      (c.args.place, position, written.2),
     )
 
 pub returns-in-NoDigit-clause-some : goal.returns-in-NoDigit-clause-some

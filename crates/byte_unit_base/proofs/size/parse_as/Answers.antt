@@ -1,11 +1,13 @@
 -- The reading of a size from that of its number and unit, and its error from theirs.
-use Rattle.byte_unit_base.specs.Accepted.{as_written}
+use Rattle.std.proofs.Common.{eqb, not}
+use Rattle.byte_unit_base.specs.BinaryReading.{unit_meant}
 use Rattle.byte_unit_base.proofs.SizeOfText.{reading_of_fault}
-use Rattle.byte_unit_base.proofs.size.parse.Goals as goal
+use Rattle.byte_unit_base.proofs.size.parse_as.Goals as goal
 
 pub returns-in-Ok-clause-reading : goal.returns-in-Ok-clause-reading
-returns-in-Ok-clause-reading c =
+returns-in-Ok-clause-reading g c =
     c.size_of.ensures.reading c.args.ignore_case c.args.s.now (rw c.flags_for-flags.ensures at c.in-Ok.ensures)
 
 pub returns-in-Err-clause-reading : goal.returns-in-Err-clause-reading
-returns-in-Err-clause-reading c = reading_of_fault as_written _ _ _ _ (rw c.flags_for-flags.ensures at c.in-Err.ensures)
+returns-in-Err-clause-reading g c =
+    reading_of_fault (unit_meant (not (eqb g.row.BINARY 0))) _ _ _ _ (rw c.flags_for-flags.ensures at c.in-Err.ensures)

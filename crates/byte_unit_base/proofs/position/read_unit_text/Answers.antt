@@ -1,8 +1,8 @@
--- The unit that the trimmed string spells, or the error of the rest of it, where the parser stops, and its position.
+-- The unit that the trimmed string spells, or where the parser stops in it: the error by what follows is the string's.
 use Rattle.std.proofs.Common.{Ok, Err, ap, sym, subst, ◌∙◌}
 use Rattle.std.specs.Str.{chars, IsUtf8}
 use Rattle.byte_unit_base.specs.Version.{current}
-use Rattle.byte_unit_base.specs.Spelling.{Spells, flags_of}
+use Rattle.byte_unit_base.specs.Spelling.{Spells}
 use Rattle.byte_unit_base.specs.Units.{shape_of}
 use Rattle.byte_unit_base.specs.Scan.{read}
 use Rattle.byte_unit_base.specs.UnitScan.{unit_scan, start}
@@ -13,11 +13,11 @@ use Rattle.byte_unit_base.proofs.SizeRest.{boundary_at}
 use Rattle.byte_unit_base.proofs.Trim.{chars-trim}
 use Rattle.byte_unit_base.proofs.UnitReads.{unit_reading, unit_scan_is}
 use Rattle.byte_unit_base.proofs.UnitStops.{run_ascii, spelled_chars, stop_read}
-use Rattle.byte_unit_base.proofs.position.parse_unit.Goals as goal
+use Rattle.byte_unit_base.proofs.position.read_unit_text.Goals as goal
 
 pub range_from-requires : goal.range_from-requires
 range_from-requires c =
-    let flags = flags_of c.args.ignore_case c.args.prefer_byte in
+    let flags = c.args.flags in
     let text = c.trim-text.result.now in
     let stop = c.in-Err.stop in
     let stops = (subst (λ text. IsUnitStop flags text stop.0 stop.1) c.as_bytes-bytes.ensures.value c.in-Err.ensures) in
@@ -27,7 +27,7 @@ range_from-requires c =
 
 pub returns-in-Ok : goal.returns-in-Ok
 returns-in-Ok c =
-    let flags = flags_of c.args.ignore_case c.args.prefer_byte in
+    let flags = c.args.flags in
     let text = c.trim-text.result.now in
     let unit = shape_of c.in-Ok.unit in
     let spells = subst (λ text. Spells current flags text unit) c.as_bytes-bytes.ensures.value c.in-Ok.ensures in
@@ -37,17 +37,18 @@ returns-in-Ok c =
 
 pub returns-in-Err : goal.returns-in-Err
 returns-in-Err c =
-    let flags = flags_of c.args.ignore_case c.args.prefer_byte in
+    let flags = c.args.flags in
     let text = c.trim-text.result.now in
     let stop = c.in-Err.stop in
     let stops = subst (λ text. IsUnitStop flags text stop.0 stop.1) c.as_bytes-bytes.ensures.value c.in-Err.ensures in
     let utf8 = subst IsUtf8 c.as_bytes-bytes.ensures.value c.as_bytes-bytes.ensures.utf8 in
-    let error_is = c.error_before-error.ensures
-    ∙ ap (unit_stop_fault flags stop.0) (c.first_char.ensures ∙ ap (λ rest. next_char (chars rest)) c.range_from.ensures.value) in
     let trimmed = ap chars c.trim-text.ensures.trim ∙ chars-trim c.args.s.now c.utf8.s in
+    let next_is = c.first_char-next.ensures ∙ ap (λ rest. next_char (chars rest)) c.range_from.ensures.value in
     let position = unit_position c.args.s.now text trimmed utf8 c.leading_len.result stop.1 c.leading_len.ensures.start
     (stop_place flags text stop.0 stop.1 stops) in (
-      unit_reading flags c.args.s.now (Err c.error_before-error.result)
-          (ap Err error_is ∙ (sym (stop_read flags text stop.1 stop.0 stops utf8) ∙ ap (read (unit_scan flags) start) trimmed)),
+      (λ error fault_is.
+          let error_is = fault_is ∙ ap (unit_stop_fault flags stop.0) next_is in
+          unit_reading flags c.args.s.now (Err error)
+          (ap Err error_is ∙ (sym (stop_read flags text stop.1 stop.0 stops utf8) ∙ ap (read (unit_scan flags) start) trimmed))),
       position,
     )
