@@ -6,9 +6,11 @@ use Rattle.byte_unit_base.proofs.ExpectedLists.{position_of, position_of-small, 
 use Rattle.byte_unit_base.specs.declared.unit.scan.Expected.TheVariants.{Beginning}
 use Rattle.byte_unit_base.proofs.unit.scan.Expected.of.Goals as goal
 
+-- no list is before the first one
 pub loop-expected-init : goal.loop-expected-init
 loop-expected-init c = λ expected before same. absurd (omega (arith, before))
 
+-- a list at a position up to this one is either the one at the position, which differs, or an earlier one
 pub loop-expected-preserved : goal.loop-expected-preserved
 loop-expected-preserved c = λ expected before same.
     let index = c.loop-expected.expected-index in
@@ -20,6 +22,7 @@ loop-expected-preserved c = λ expected before same.
     (λ less. c.loop-expected.invariant expected less.1 same)
     (leb_tells index (position_of expected))
 
+-- after the loop, all lists have been compared
 pub returns-clause-none : goal.returns-clause-none
 returns-clause-none c = λ expected same.
     c.loop-expected.invariant expected (omega (arith, position_of-small expected, c.loop-expected-test.false)) same
