@@ -1,4 +1,9 @@
 -- The binary reading of an input is the reading of the input with an `i` after its decimal prefix.
+--
+-- A meaning `m` of a text is a number and a unit, `m.0`, and that the text represents them, `m.1`; an error `f` is the
+-- error, and that the text has it; `some` is the text up to a decimal prefix, the suffix after it, and that this is the
+-- prefix. Of a meaning `r`, `r.0` is the number and `r.1` the unit. That a text is one with an `i`, as `h`, is the text
+-- before the `i`, that after it, the prefix, and an equation.
 use Rattle.std.proofs.Common.{◌≡◌, ◌↔◌, ℕ, ◌<◌, Bool, true, false, ◌⊎◌, inl, inr, ⊎_elim, List, [], ◌∷◌, ◌++◌, length}
 use Rattle.std.proofs.Common.{replicate, Result, Ok, Err, refl, sym, ap, subst, ◌∙◌, arith, append_assoc}
 use Rattle.std.specs.Prelude.{nat_lt}
@@ -35,6 +40,7 @@ one_answer flags text = Scans.one_answer (size_scan_is flags) text
 
 -- the text has a decimal prefix
 module _ (flags : Flags) (text front suffix : List ℕ) (h : HasDecimalPrefix flags text front suffix) where
+  -- the letter, an `i` or nothing, and the suffix spell the binary or the decimal unit
   spells_with : (infix_part : List ℕ) (binary : Bool) → SpellsBinary infix_part binary
       → Spells current flags (h.letter ∷ (infix_part ++ suffix)) (shape h.power binary h.bit)
   spells_with infix_part binary is = inr record {
@@ -51,7 +57,7 @@ module _ (flags : Flags) (text front suffix : List ℕ) (h : HasDecimalPrefix fl
     count_is = h.suffix_is;
   }
 
-  -- with an `i` or nothing after the letter, it is the number of the binary or of the decimal unit
+  -- with an `i` or nothing after the letter, the text is the number of the binary or of the decimal unit
   abbrev size_with : (infix_part : List ℕ) (binary : Bool) → SpellsBinary infix_part binary
       → IsSizeText current flags (front ++ (infix_part ++ suffix)) h.number (shape h.power binary h.bit)
   size_with infix_part binary is =
@@ -67,13 +73,16 @@ module _ (flags : Flags) (text front suffix : List ℕ) (h : HasDecimalPrefix fl
         unit_is = spells_with infix_part binary is;
       }
 
+  -- the text itself is the number of the decimal unit
   decimal_size : IsSizeText current flags text h.number (shape h.power false h.bit)
   decimal_size = subst (λ t. IsSizeText current flags t h.number (shape h.power false h.bit)) (sym h.text_is)
       (size_with [] false (inl (refl, refl)))
 
+  -- with an `i` after the letter, the text is the number of the binary unit
   abbrev binary_size : IsSizeText current flags (front ++ letter_i ∷ suffix) h.number (shape h.power true h.bit)
   binary_size = size_with (letter_i ∷ []) true (inr (refl, refl))
 
+  -- the binary unit of the decimal unit is the unit with the binary prefix
   binary_unit : binary_of (shape h.power false h.bit) ≡ shape h.power true h.bit
   binary_unit = let some : nat_lt 0 h.power ≡ true = grind (arith, nat_tests, h.letter_is.0) in rw some refl
 
@@ -81,17 +90,18 @@ module _ (flags : Flags) (text front suffix : List ℕ) (h : HasDecimalPrefix fl
 abbrev SomePrefix : Flags → List ℕ → Type 0
 SomePrefix flags text = (front suffix : List ℕ) × HasDecimalPrefix flags text front suffix
 
--- a unit without a prefix, or with a binary one, is its own binary unit
-
+-- a unit without a prefix is its own binary unit
 plain_same : (unit : Shape) → unit.power ≡ 0 → binary_of unit ≡ unit
 plain_same unit e = let none : nat_lt 0 unit.power ≡ false = grind (arith, nat_tests, e) in rw none refl
 
+-- a unit with a binary prefix is its own binary unit
 binary_same : (unit : Shape) → unit.binary ≡ true → binary_of unit ≡ unit
 binary_same unit e = cond_both (nat_lt 0 unit.power) _ _ (λ s. s ≡ unit)
     (λ _. ap (λ binary. shape unit.power binary unit.bit) (sym e)) (λ _. refl)
 
 -- the text is a number of the unit: its prefix is decimal, or the unit is its own binary unit
 module _ (flags : Flags) (text : List ℕ) (number : ℕ) (unit : Shape) (h : IsSizeText current flags text number unit) where
+  -- if nothing follows the prefix letter, the text has a decimal prefix
   decimal_prefix : (m : SpellsMultiple current flags h.unit_part unit) → m.prefix_is.infix_part ≡ []
       → SomePrefix flags text
   decimal_prefix m none =
@@ -118,15 +128,18 @@ module _ (flags : Flags) (text : List ℕ) (number : ℕ) (unit : Shape) (h : Is
         },
       )
 
+  -- a text whose unit has a prefix has a decimal one, or its unit is its own binary unit
   multiple_cases : (m : SpellsMultiple current flags h.unit_part unit) → SpellsBinary m.prefix_is.infix_part unit.binary
       → SomePrefix flags text ⊎ (binary_of unit ≡ unit)
   multiple_cases m (inl none) = inl (decimal_prefix m none.0)
   multiple_cases m (inr some) = inr (binary_same unit some.1)
 
+  -- a text of any unit has a decimal prefix, or its unit is its own binary unit
   unit_cases : Spells current flags h.unit_part unit → SomePrefix flags text ⊎ (binary_of unit ≡ unit)
   unit_cases (inl plain) = inr (plain_same unit plain.power_is)
   unit_cases (inr m) = multiple_cases m m.prefix_is.infix_is
 
+  -- the text has a decimal prefix, or its unit is its own binary unit
   prefix_or_same : SomePrefix flags text ⊎ (binary_of unit ≡ unit)
   prefix_or_same = unit_cases h.unit_is
 
@@ -139,17 +152,21 @@ record IsBinaryText (flags : Flags) (text other : List ℕ) : Type 0 where
   pub fault_to : (fault : Fault) → IsSizeFault current flags text fault → IsSizeFault current flags other fault
   pub fault_from : (fault : Fault) → IsSizeFault current flags other fault → IsSizeFault current flags text fault
 
+-- a text is no two numbers, and no number of two units
 same_meaning : (flags : Flags) (text : List ℕ) (number other : ℕ) (unit another : Shape)
     → IsSizeText current flags text number unit → IsSizeText current flags text other another
     → ◌≡◌ {A = ℕ × Shape} (number, unit) (other, another)
 same_meaning flags text number other unit another h k =
     (one_answer flags text).one_meaning (number, unit) (other, another) h k
 
+-- a text that is a number of a unit has no error
 no_fault : (flags : Flags) (text : List ℕ) (number : ℕ) (unit : Shape) (fault : Fault)
     → IsSizeText current flags text number unit → ¬ (IsSizeFault current flags text fault)
 no_fault flags text number unit fault h k = (one_answer flags text).not_both (number, unit) fault h k
 
+-- `other` is the text with an `i` after its decimal prefix, or the text itself if it has none
 module _ (flags : Flags) (text other : List ℕ) where
+  -- a text with a decimal prefix corresponds to the text with an `i` after this prefix
   with_prefix : (front suffix : List ℕ) → HasDecimalPrefix flags text front suffix → other ≡ front ++ letter_i ∷ suffix
       → IsBinaryText flags text other
   with_prefix front suffix h e =
@@ -174,6 +191,7 @@ module _ (flags : Flags) (text other : List ℕ) where
         fault_from = λ fault k. absurd (no_fault flags other h.number binary fault as_binary k);
       }
 
+  -- a text without a decimal prefix corresponds to itself
   without_prefix : ((front suffix : List ℕ) → ¬ (HasDecimalPrefix flags text front suffix)) → other ≡ text
       → IsBinaryText flags text other
   without_prefix none e =
@@ -189,6 +207,7 @@ module _ (flags : Flags) (text other : List ℕ) where
         fault_from = λ fault k. subst (λ t. IsSizeFault current flags t fault) e k;
       }
 
+  -- a text corresponds to the one with an `i` after its decimal prefix, if it has one
   binary_text : IsWithI flags text other → IsBinaryText flags text other
   binary_text (inl h) = with_prefix h.0 h.1 h.2 h.3
   binary_text (inr h) = without_prefix h.0 h.1
@@ -202,20 +221,24 @@ module _ (meant other_meant : Shape → Shape) (kind : Kind) (ignore_case : Bool
     → IsReadAs meant current kind ignore_case bytes number n)
     (fault_to : (fault : Fault) → HasFault kind ignore_case bytes fault → HasFault kind ignore_case other fault)
     (same_size : parsed_size_as meant kind ignore_case bytes ≡ parsed_size_as other_meant kind ignore_case other) where
+  -- a size that the other reading accepts is accepted
   accepted_from : (n : ℕ) → IsAcceptedAs other_meant current kind ignore_case other n
       → IsAcceptedAs meant current kind ignore_case bytes n
   accepted_from n a = record { number = a.number; is_read = read_from a.number n a.is_read; below = a.below }
 
+  -- a number whose size is too large in the other reading is too large
   exceeds_from : (number : ℕ) → ExceedsAs other_meant current kind ignore_case other number
       → ExceedsAs meant current kind ignore_case bytes number
   exceeds_from number e = record { size = e.size; is_read = read_from number e.size e.is_read; above = e.above }
 
+  -- an error is an error in the other reading
   rejected_to : (fault : Fault) → IsRejectedAs meant current kind ignore_case bytes fault
       → IsRejectedAs other_meant current kind ignore_case other fault
   rejected_to fault (inl e) =
       inl (e.0, e.1, record { size = e.2.size; is_read = read_to e.0 e.2.size e.2.is_read; above = e.2.above })
   rejected_to fault (inr f) = inr (fault_to fault f)
 
+  -- a result is a result of the other reading
   reading_to : (result : Result ℕ ParseError) → IsReadingAs meant kind ignore_case bytes result
       → IsReadingAs other_meant kind ignore_case other result
   reading_to (Ok n) r = record {
@@ -240,6 +263,7 @@ module _ (meant other_meant : Shape → Shape) (kind : Kind) (ignore_case : Bool
 -- the binary reading of the input is the reading of the other
 module _ (kind : Kind) (ignore_case : Bool) (bytes other : List ℕ)
     (is : IsBinaryText (flags_for kind ignore_case) (trim_of bytes) (trim_of other)) where
+  -- what the binary reading reads is read of the other input as written
   binary_to : (number n : ℕ) → IsBinaryRead kind ignore_case bytes number n
       → IsReadAs as_written current kind ignore_case other number n
   binary_to number n r = record {
@@ -248,6 +272,7 @@ module _ (kind : Kind) (ignore_case : Bool) (bytes other : List ℕ)
     is_least = r.is_least;
   }
 
+  -- what is read of the other input as written is what the binary reading reads
   binary_from : (number n : ℕ) → IsReadAs as_written current kind ignore_case other number n
       → IsBinaryRead kind ignore_case bytes number n
   binary_from number n r =
@@ -273,6 +298,7 @@ module _ (kind : Kind) (ignore_case : Bool) (bytes other : List ℕ)
       ∙ sym (ap (size_of_parsed as_written kind) ((of_other.is_fault f.0).1 (is.fault_to f.0 f.1))))
       (one_answer flags (trim_of bytes)).some
 
+  -- a result is one of the binary reading if and only if it is one of the other input as written
   same_reading : (result : Result ℕ ParseError)
       → IsBinaryReading kind ignore_case bytes result ↔ IsSizeReading kind ignore_case other result
   same_reading result = (
@@ -289,6 +315,7 @@ readings_with_i kind ignore_case bytes other h =
 
 -- trimming changes nothing of a text with an `i` after its prefix
 
+-- a text that begins with a visible character does not begin with white space
 visible_start : (front rest : List ℕ) → IsVisible front → 0 < length front → StartsWithoutSpace (front ++ rest)
 visible_start [] rest h some = absurd (omega (arith, some))
 visible_start (c ∷ cs) rest h some = record {
@@ -298,6 +325,7 @@ visible_start (c ∷ cs) rest h some = record {
   head_is = visible_not_white c (and_parts _ _ h).0;
 }
 
+-- a text that ends in a visible character does not end in white space
 visible_end : (front text : List ℕ) → IsVisible text → 0 < length text → EndsWithoutSpace (front ++ text)
 visible_end front [] h some = absurd (omega (arith, some))
 visible_end front (c ∷ []) h some = record {
@@ -322,7 +350,9 @@ size_trimmed flags text number unit h some =
     ∙ nothing_to_drop text (subst StartsWithoutSpace (sym h.text_is) start)
     (subst EndsWithoutSpace (append_assoc h.number_part gap h.unit_part ∙ sym h.text_is) end)
 
+-- an input, for which a text with an `i` is found
 module _ (flags : Flags) (bytes : List ℕ) where
+  -- an input with a decimal prefix has a text with an `i` after it
   text_with_i : (front suffix : List ℕ) → HasDecimalPrefix flags (trim_of bytes) front suffix
       → (other : List ℕ) × IsWithI flags (trim_of bytes) (trim_of other)
   text_with_i front suffix h =
@@ -332,6 +362,7 @@ module _ (flags : Flags) (bytes : List ℕ) where
       let kept = size_trimmed flags other h.number (shape h.power true h.bit) is some in
       (other, inl (front, suffix, h, kept))
 
+  -- an input whose unit is its own binary unit has no decimal prefix
   no_prefix : (meaning : ℕ × Shape) → Represents flags (trim_of bytes) meaning → binary_of meaning.1 ≡ meaning.1
       → (front suffix : List ℕ) → ¬ (HasDecimalPrefix flags (trim_of bytes) front suffix)
   no_prefix meaning is same front suffix h =
@@ -342,10 +373,12 @@ module _ (flags : Flags) (bytes : List ℕ) where
       let binary : true ≡ false = ap (λ u. u.binary) (sym (binary_unit flags text front suffix h) ∙ unit) in
       let z : ⊥ = cc in z
 
+  -- an input without a decimal prefix is its own text with an `i`
   itself : ((front suffix : List ℕ) → ¬ (HasDecimalPrefix flags (trim_of bytes) front suffix))
       → (other : List ℕ) × IsWithI flags (trim_of bytes) (trim_of other)
   itself none = (bytes, inr (none, refl))
 
+  -- each input has such a text, whether it is a size or has an error
   some_with_i : (other : List ℕ) × IsWithI flags (trim_of bytes) (trim_of other)
   some_with_i = ⊎_elim
       (λ m. ⊎_elim (λ some. text_with_i some.0 some.1 some.2) (λ same. itself (no_prefix m.0 m.1 same))

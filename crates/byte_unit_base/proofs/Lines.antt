@@ -20,6 +20,7 @@ use lib.Lanes.{number_l}
 use Rattle.byte_unit_base.specs.Line.{IsLine}
 use Rattle.byte_unit_base.specs.PartsReading.{IsAfterLine, IsLineOf, first_eight}
 
+-- if a line feed (10) or nothing is at the end of a line, the bytes after the line start so
 after_line : (bytes : List ℕ) (len : ℕ) → (len < length bytes → slice_index bytes len ≡ 10)
     → IsAfterLine (drop len bytes)
 after_line [] zero after = tt
@@ -133,6 +134,7 @@ pub record HasDigits (line : List ℕ) (from end value : ℕ) : Type 0 where
   pub more : digits_len (drop from line) ≡ end - from + digits_len (drop end line)
   pub value_is : value ≡ digits_value 10 (slice_range line from end)
 
+-- no digits are a run of digits, of the value 0
 pub no_digits : (line : List ℕ) (from : ℕ) → from ≤ length line → HasDigits line from from 0
 no_digits line from within =
     let none : from - from ≡ 0 = omega arith in

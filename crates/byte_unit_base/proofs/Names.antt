@@ -49,6 +49,7 @@ is_letter c = eqb (to_ascii_uppercase c) c && ltb c 128
 known_letters : agree_below (λ n. is_letter (letter_at n)) (λ n. true) (length current.letters + 1) ≡ true
 known_letters = refl
 
+-- the letter of a known prefix is its own uppercase, and is ASCII
 letter_found : (power : ℕ) → power ≤ length current.letters
     → (to_ascii_uppercase (letter_at power) ≡ letter_at power) × (letter_at power < 128)
 letter_found power known =
@@ -91,7 +92,9 @@ with_prefix s h = let some : nat_lt 0 s.power ≡ true = grind (arith, nat_tests
 without_prefix : (s : Shape) → s.power ≤ 0 → unit_name_in current s ≡ count_of s.bit
 without_prefix s h = let none : nat_lt 0 s.power ≡ false = grind (arith, nat_tests) in rw none refl
 
+-- a known unit, whose last letter tells the kind under these flags
 module _ (flags : Flags) (s : Shape) (h : IsKnown s) (says : SaysKind flags s.bit) where
+  -- the name of a unit with a prefix spells it
   spells_multiple : 0 < s.power → Spells current flags (unit_name_in current s) s
   spells_multiple some = inr record {
     prefix_part = letter_at s.power ∷ infix_of s.binary;
@@ -107,6 +110,7 @@ module _ (flags : Flags) (s : Shape) (h : IsKnown s) (says : SaysKind flags s.bi
     count_is = count_spells flags s.bit says;
   }
 
+  -- the name of a unit without a prefix spells it
   spells_plain : s.power ≤ 0 → Spells current flags (unit_name_in current s) s
   spells_plain none =
       let zero : s.power ≡ 0 = omega (arith, none) in
@@ -136,6 +140,7 @@ name_end s =
     let front = (if some then letter_at s.power ∷ [] else []) ++ (if some && s.binary then codes "i" else []) in
     record { front = front; last = end.0; text_is = ap (λ t. front ++ t) end.1; last_is = end.2 }
 
+-- the name of each unit of the crate has no white space at its ends
 is_trimmed : (unit : UnitName) → trim_of (unit_name unit) ≡ unit_name unit
 unfolding chars
 is_trimmed Bit = refl

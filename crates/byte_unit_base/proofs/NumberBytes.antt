@@ -44,7 +44,7 @@ pub last_digits_are :
     → (bits + (2 ^ 64 - front * 10 ^ 19 % 2 ^ 64)) % 2 ^ 64 ≡ behind
 last_digits_are value front behind bits value_is below bits_are = omega (arith, value_is, below, bits_are)
 
--- one digit more of a text of digits
+-- the value of digits with one digit more is ten times theirs, plus the digit
 pub one_digit_more : (ds : List ℕ) (i value digit next : ℕ) → AllDigits 10 ds → i < length ds
     → value ≡ digits_value 10 (take i ds) → digit ≡ get_or ds i 0 → next ≡ value * 10 + (digit - 48)
     → next ≡ digits_value 10 (take (i + 1) ds)

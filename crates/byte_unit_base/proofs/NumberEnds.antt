@@ -1,5 +1,10 @@
 -- The parser reads the digits of a number at once. It gets to the state that the state machine has after them, or stops
 -- where the machine has an error.
+--
+-- Of the place where the parser of a unit stops, `stop.0` is the state there, `stop.1.0` that the text leads to it, and
+-- `stop.1.1` that no unit ends there. Of a whole part, `whole_is.0` is its numeral. Of a run, `holds.0` is that its
+-- state is at the number, and `holds.1` its parser state; of digits, `digits.0` is that the first one is a digit, and
+-- `digits.1` that the rest are.
 use Rattle.std.proofs.Common.{◌≡◌, ◌≢◌, ℕ, zero, suc, ◌+◌, ◌-◌, ◌*◌, ◌^◌, ◌<◌, ◌≤◌, false, nat_eq, eqb, inl, inr, List, [], ◌∷◌}
 use Rattle.std.proofs.Common.{◌++◌, None, Err, length, take, drop, get_or, replicate, refl, sym, ap, subst, ◌∙◌, arith}
 use Rattle.std.proofs.Common.{append_assoc}
@@ -42,6 +47,7 @@ use Rattle.byte_unit_base.specs.UnitScan.{start}
 
 -- what follows a number
 
+-- a property of the first character, if there is one, gives each weaker property of it
 first_map : (Has Both : ℕ → Type 0) → ((c : ℕ) → Has c → Both c) → (text : List ℕ) → IsFirst Has text → IsFirst Both text
 first_map Has Both both [] has = tt
 first_map Has Both both (c ∷ cs) has = both c has
@@ -50,6 +56,7 @@ first_map Has Both both (c ∷ cs) has = both c has
 abbrev EndsWhole : ℕ → Type 0
 EndsWhole c = IsNoDigit c × (eqb c 46 ≡ false)
 
+-- if neither a digit nor a point is at an index, the bytes from there on start with neither
 no_point_first : (bytes : List ℕ) (end : ℕ) → (end < length bytes → get_or bytes end 0 ≢ point)
     → IsFirst IsNoDigit (drop end bytes) → IsFirst EndsWhole (drop end bytes)
 no_point_first [] zero other none = tt
@@ -64,10 +71,12 @@ none_after bytes end is =
     let all : end ≡ digits_len bytes = omega (arith, is) in
     no_digit_first (drop end bytes) (ap (λ n. digits_len (drop n bytes)) all ∙ ends_digits bytes)
 
+-- at the beginning there is no step for a character that is no digit
 no_first_step : (c : ℕ) → IsNoDigit c → size_step Beginning c ≡ None
 unfolding size_step
 no_first_step c none = rw none refl
 
+-- after the point there is no step for a character that is no digit
 no_point_step : (w c : ℕ) → IsNoDigit c → size_step (Point w) c ≡ None
 unfolding size_step
 no_point_step w c none = rw none refl
@@ -94,6 +103,7 @@ stops_at_start bytes none flags = record {
 module _ (bytes : List ℕ) (end whole : ℕ) (run_is : end ≡ 0 + digits_len (drop 0 bytes)) (within : end ≤ length bytes)
     (some : end ≡ 0 → ⊥)
     (small : whole < whole_limit) (exact : whole < whole_limit → whole ≡ digits_value 10 (take end bytes)) where
+  -- these digits are a whole part
   whole_is : IsWholePart current (take end bytes) whole
   whole_is = (
     (omega (arith, length-take-le end bytes within, some), digits_of_run bytes end run_is),
@@ -122,24 +132,30 @@ module _ (bytes : List ℕ) (end whole : ℕ) (run_is : end ≡ 0 + digits_len (
 
   -- a point follows
   module _ (inside : end ≡ length bytes → ⊥) (point_is : get_or bytes end 0 ≡ point) where
+    -- the bytes after the point
     abbrev rest : List ℕ
     rest = drop (end + 1) bytes
 
+    -- the point is within the bytes
     pointed_within : end + 1 ≤ length bytes
     pointed_within = omega (arith, inside, within)
 
+    -- the bytes up to the point are the whole part and the point
     pointed_text : take (end + 1) bytes ≡ take end bytes ++ point ∷ []
     pointed_text = take_more bytes end 0 (omega (arith, inside, within)) ∙ ap (λ c. take end bytes ++ c ∷ []) point_is
 
+    -- the bytes up to the point are a whole part with a point, as the grammar has it
     abbrev pointed : IsPointed current (take (end + 1) bytes) whole
     pointed = record { whole = take end bytes; text_is = pointed_text; whole_is = whole_is }
 
+    -- the bytes up to the point are ASCII
     pointed_ascii : IsAscii (take (end + 1) bytes)
     pointed_ascii =
         subst IsAscii (sym pointed_text)
         (IsAscii-append (take end bytes) (point ∷ []) (IsAscii-from_digits (take end bytes) whole_is.0.1)
         (IsAscii-cons point [] (omega arith) IsAscii-nil))
 
+    -- the result for the bytes is that for the bytes after the point, from the state after the point
     read_rest : (flags : Flags)
         → read (size_scan flags) Beginning (chars bytes) ≡ read (size_scan flags) (Point whole) (chars rest)
     read_rest flags =
@@ -172,18 +188,23 @@ module _ (bytes : List ℕ) (end whole : ℕ) (run_is : end ≡ 0 + digits_len (
 
     -- digits of a fraction follow the point, as std finds and reads them
     module _ (stop : ℕ) (stop_is : stop ≡ end + 1 + digits_len rest) (stop_within : stop ≤ length bytes) where
+      -- the number of digits of the fraction
       abbrev places : ℕ
       places = stop - (end + 1)
 
+      -- the digits of the fraction
       abbrev digits : List ℕ
       digits = take places rest
 
+      -- their number is that of the digits which std finds after the point
       places_are : places ≡ 0 + digits_len (drop 0 rest)
       places_are = omega (arith, stop_is)
 
+      -- the digits of the fraction are decimal digits
       digits_are : AllDigits 10 digits
       digits_are = digits_of_run rest places places_are
 
+      -- the bytes have as many digits as the fraction
       count_is : length digits ≡ places
       count_is = length-take-le places rest (omega (arith, stop_within, length-drop {A = ℕ} (end + 1) bytes))
 
@@ -203,6 +224,7 @@ module _ (bytes : List ℕ) (end whole : ℕ) (run_is : end ≡ 0 + digits_len (
         wrong = λ utf8. tt;
       }
 
+      -- the fraction ends where its digits do
       to_stop : end + 1 + places ≡ stop
       to_stop = omega (arith, stop_is)
 
@@ -242,6 +264,7 @@ module _ (bytes : List ℕ) (end whole : ℕ) (run_is : end ≡ 0 + digits_len (
                 (subst (IsFirst IsNoDigit) rest_is (none_after rest places places_are)));
           }
 
+-- digits whose value reaches the limit of a whole part have the error of a number that is too long
 too_large_read : (flags : Flags) (ds rest : List ℕ) → AllDigits 10 ds → whole_limit ≤ digits_value 10 ds
     → read (size_scan flags) Beginning (ds ++ rest) ≡ Err too_long
 too_large_read flags [] rest digits above = absurd (omega (arith, above))

@@ -102,6 +102,7 @@ number_start whole rest bound =
       head_is = start.head_is;
     }
 
+-- the point and the digits of a fraction are ASCII
 fraction_ascii : (digits : List ℕ) → All (λ digit. digit < 10) digits → IsAscii (fraction_text digits)
 fraction_ascii [] small = IsAscii-nil
 fraction_ascii (digit ∷ digits) small = IsAscii-cons 46 (glyphs (digit ∷ digits)) (omega arith)

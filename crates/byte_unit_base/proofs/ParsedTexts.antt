@@ -1,4 +1,6 @@
 -- The laws of the parsers as functions: for each input they give its meaning or its error.
+--
+-- What is `found` is a number, `found.0`, and its unit, `found.1`.
 use Rattle.std.proofs.Common.{◌≡◌, ℕ, Bool, true, false, List, Result, Ok, Err, refl, ap, subst, arith, cond, inl, inr}
 use Rattle.std.specs.Prelude.{nat_lt}
 use Rattle.byte_unit_math.specs.Bounds.{size_limit}
@@ -36,11 +38,13 @@ gives_answer Meaning Means Fails (Err fault) one h = record {
 
 -- the unit, and the number and unit, that the state machines give
 
+-- the unit that the parser as a function gives is the one that the input spells
 pub parsed_units_are_spelled : ParsedUnitsAreSpelled
 unfolding parsed_unit
 parsed_units_are_spelled flags bytes = gives_answer _ _ _ _ (one_answer (unit_scan_is flags) (trim_of bytes))
     (reads_meaning_or_fault (unit_scan_is flags) (trim_of bytes))
 
+-- the number and unit that it gives are those that the input represents
 pub parsed_numbers_are_represented : ParsedNumbersAreRepresented
 unfolding parsed_number
 parsed_numbers_are_represented flags bytes = gives_answer _ _ _ _ (one_answer (size_scan_is flags) (trim_of bytes))
@@ -48,7 +52,9 @@ parsed_numbers_are_represented flags bytes = gives_answer _ _ _ _ (one_answer (s
 
 -- the size, by the number and the unit
 
+-- an input, `bytes`, as a size of this kind
 module _ (kind : Kind) (ignore_case : Bool) (bytes : List ℕ) where
+  -- a size that was read is accepted below the limit, and is else the error that it exceeds the limit
   by_size : (below : Bool) (number size : ℕ) → nat_lt size size_limit ≡ below
       → IsReadAs as_written current kind ignore_case bytes number size
       → IsAnswer (IsAccepted kind ignore_case bytes) (IsRejected kind ignore_case bytes)
@@ -57,6 +63,7 @@ module _ (kind : Kind) (ignore_case : Bool) (bytes : List ℕ) where
   by_size false number size e read =
       inl (number, refl, record { size = size; is_read = read; above = grind (arith, e) })
 
+  -- a number and unit give their size, rounded up, and an error stays the error
   by_number : (r : Result (ℕ × Shape) Fault)
       → IsAnswer (Represents (flags_for kind ignore_case) (trim_of bytes))
       (IsSizeFault current (flags_for kind ignore_case) (trim_of bytes)) r
@@ -68,12 +75,14 @@ module _ (kind : Kind) (ignore_case : Bool) (bytes : List ℕ) where
       record { unit = found.1; is_size = h; is_least = rounded_up_is_least kind found.0 found.1 }
   by_number (Err fault) h = inr h
 
+  -- the size that the parser as a function gives is accepted, or its error is one of the input
   size_is_answer : IsAnswer (IsAccepted kind ignore_case bytes) (IsRejected kind ignore_case bytes)
       (parsed_size kind ignore_case bytes)
   unfolding parsed_size_as parsed_number
   size_is_answer =
       by_number _ (reads_meaning_or_fault (size_scan_is (flags_for kind ignore_case)) (trim_of bytes))
 
+-- the parser as a function gives exactly the size that is accepted, or exactly the error
 pub parsed_sizes_are_accepted : ParsedSizesAreAccepted
 parsed_sizes_are_accepted kind ignore_case bytes =
     gives_answer _ _ _ _ (accepted_or_refused as_written kind ignore_case bytes) (size_is_answer kind ignore_case bytes)

@@ -1,4 +1,9 @@
 -- The position of an error: the end of the longest viable prefix, where the state machine has no further step.
+--
+-- Here `found` is a number, its unit, and that the text is both, or a unit and that the text spells it; `count` is a
+-- kind, and that the suffix spells it; `stop` is a state, that the text leads to it, and what the code keeps of it. Of
+-- a `fault`, the first part is the error, and the second that it is the one there; `wrong` is the state of a unit, that
+-- its beginning leads, and its error at the end.
 use Rattle.std.proofs.Common.{◌≡◌, ℕ, ◌+◌, ◌≤◌, Bool, not, inl, inr, List, [], ◌∷◌, Option, Some, None}
 use Rattle.std.proofs.Common.{length, take, drop, refl, sym, ap, subst, ◌∙◌, arith}
 use Rattle.std.specs.Str.{chars, encode_utf8_all, IsUtf8, IsAscii}
@@ -30,6 +35,7 @@ use Rattle.byte_unit_base.proofs.Trim.{trim_visible, no_leading_white}
 
 -- what a text spells under some flags, it spells under any: a unit, of bits or of bytes by the flags
 
+-- a suffix under some flags is one under any flags, perhaps of the other kind
 count_any : (flags other : Flags) (text : List ℕ) (bit : Bool) → SpellsCount flags text bit
     → (of : Bool) × SpellsCount other text of
 count_any flags other text bit (inl h) = (_, inl (h.0, refl))
@@ -38,6 +44,7 @@ count_any flags other text bit (inr (inr (inl h))) = (_, inr (inr (inl (h.0, ref
 count_any flags other text bit (inr (inr (inr (inl h)))) = (_, inr (inr (inr (inl (h.0, refl)))))
 count_any flags other text bit (inr (inr (inr (inr h)))) = (_, inr (inr (inr (inr (h.0, refl)))))
 
+-- a unit under some flags is one under any flags, perhaps of the other kind
 pub spells_any : (flags other : Flags) (text : List ℕ) (unit : Shape) → Spells current flags text unit
     → (of : Shape) × Spells current other text of
 spells_any flags other text unit (inl plain) =
@@ -57,6 +64,7 @@ spells_any flags other text unit (inr multiple) =
 
 -- a unit that cannot end in its state ends in `bi`
 
+-- a state of the parser of a unit without a unit is the one after `bi`
 no_unit : (flags : Flags) (m : Multiple) (w : Word) → unit_of flags (scan_of m w) ≡ None
     → fault_at_end (word_parser_state m w) ≡ Some stops_at_bi
 no_unit flags m Bi none = refl
@@ -94,6 +102,7 @@ none_left bytes place utf8 within ascii none =
 
 -- `s` is a string, and `text` it without the white space at its ends
 module _ (s text : List ℕ) (trimmed : chars text ≡ trim_of s) (utf8 : IsUtf8 text) where
+  -- if the text is wrong at a place, the error of a size in the string is there, after the leading white space
   size_error : (flags : Flags) (place : ℕ) → IsWrongAt text place
       → IsErrorAt (IsViableSizePrefix current) flags s (leading_white s + place)
   size_error flags place wrong =
@@ -118,6 +127,7 @@ module _ (s text : List ℕ) (trimmed : chars text ≡ trim_of s) (utf8 : IsUtf8
         position_is = ap (λ n. leading_white s + n) (sym (length-take-le place text wrong.within));
       }
 
+  -- the error of a unit in the string is where its longest beginning ends, after the leading white space
   unit_error : (flags : Flags) (place : ℕ) (scan : UnitScan) → IsLeadingUnit text scan place
       → (place ≡ length text → fault_at_end (unit_parser_state scan) ≡ Some stops_at_bi)
       → IsErrorAt (IsViableUnitPrefix current) flags s (leading_white s + place)
@@ -151,6 +161,7 @@ module _ (s text : List ℕ) (trimmed : chars text ≡ trim_of s) (utf8 : IsUtf8
       → IsSizePosition s (Some (start + place))
   size_position start place start_is wrong flags = rw start_is (size_error flags place wrong)
 
+  -- if the text is a size, the string has no position of an error
   pub no_size_position : IsSizePlace text None → IsSizePosition s None
   no_size_position is flags fault first =
       let found = is flags in
@@ -159,10 +170,12 @@ module _ (s text : List ℕ) (trimmed : chars text ≡ trim_of s) (utf8 : IsUtf8
       (size_of_chars flags text found.0 found.1 found.2) in
       (one_answer (size_scan_is flags) (trim_of s)).not_both (found.0, found.1) fault size first
 
+  -- the position of the error of a unit in the string is that of the place in the text
   pub unit_position : (start place : ℕ) → start ≡ leading_white s → IsUnitPlace text (Some place)
       → IsUnitPosition s (Some (start + place))
   unit_position start place start_is wrong flags = rw start_is (unit_error flags place wrong.0 wrong.1 wrong.2)
 
+  -- if the text is a unit, the string has no position of an error
   pub no_unit_position : IsUnitPlace text None → IsUnitPosition s None
   no_unit_position is flags fault first =
       let found = is flags in
@@ -172,6 +185,7 @@ module _ (s text : List ℕ) (trimmed : chars text ≡ trim_of s) (utf8 : IsUtf8
 
 -- a string with nothing to trim
 module _ (bytes : List ℕ) (utf8 : IsUtf8 bytes) (ends : HasVisibleEnds bytes) (place : ℕ) where
+  -- the place where it is wrong is the position of its error, since no white space precedes it
   untrimmed : IsWrongAt bytes place → IsSizePosition bytes (Some place)
   untrimmed wrong =
       let at : leading_white bytes + place ≡ place = omega (arith, no_leading_white bytes utf8 ends) in

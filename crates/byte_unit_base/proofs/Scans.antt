@@ -1,5 +1,9 @@
 -- A state machine that reads an input character by character, over any set of states: what it returns, the longest
 -- viable prefix and the error after it.
+--
+-- A step that is known to succeed, as `goes`, `t` or `u`, is the state after it, and that it is this state. What a
+-- field of the record of a state machine gives, as `r` or `g`, is a state or a rest of the input, and then what is
+-- known of it.
 use Rattle.std.proofs.Common.{◌≡◌, ℕ, ◌⊎◌, inl, inr, List, [], ◌∷◌, ◌++◌, Option, Some, None, Result, Ok, Err}
 use Rattle.std.proofs.Common.{option_and_then, sym, refl, ap, subst, ◌∙◌, append-nil, ⊎_elim, append_assoc}
 use Rattle.std.specs.Prelude.{◌↔◌, ⊤, IfOk, IfErr, IsOkAnd}
@@ -12,6 +16,7 @@ use Rattle.byte_unit_base.proofs.Options.{none_or_some, some_passed}
 
 -- the state after a text
 
+-- the steps of any state machine
 module _ {S : Type 0} (step : S → ℕ → Option S) where
   -- if the first character has a step, the rest is read from the next state
   pub run_step : (s t : S) (c : ℕ) (xs : List ℕ) → step s c ≡ Some t → run step s (c ∷ xs) ≡ run step t xs
@@ -37,6 +42,7 @@ module _ {S : Type 0} (step : S → ℕ → Option S) where
   CannotStep s [] = ⊤
   CannotStep s (c ∷ rest) = step s c ≡ None
 
+-- a property of the state and of the text that led to it, which each step keeps
 module _ {S : Type 0} (step : S → ℕ → Option S) (Holds : S → List ℕ → Type 0)
     (keeps : (s t : S) (c : ℕ) (text : List ℕ) → step s c ≡ Some t → Holds s text → Holds t (text ++ c ∷ [])) where
   -- what holds at the start, and after each step if before it, holds at the state after a text
@@ -48,6 +54,7 @@ module _ {S : Type 0} (step : S → ℕ → Option S) (Holds : S → List ℕ �
       subst (Holds t) (append_assoc front (c ∷ []) xs)
       (run_keeps xs (front ++ c ∷ []) u.0 t u.2 (keeps s u.0 c front u.1 p))
 
+-- a state machine with the results at its states
 module _ {S Meaning : Type 0} (scan : Scan S Meaning) where
   -- if the next character has a step, the result is that of the rest from the next state
   pub read_some : (s t : S) (c : ℕ) (cs : List ℕ) → scan.step s c ≡ Some t → read scan s (c ∷ cs) ≡ read scan t cs
@@ -106,6 +113,8 @@ pub record IsScanOf {S Meaning : Type 0} (scan : Scan S Meaning) (Reached : S �
   -- each state can be completed: with some rest, the input has a meaning
   pub goes_on : (s : S) → (rest : List ℕ) × (meaning : Meaning) × (read scan s rest ≡ Ok meaning)
 
+-- a state machine that accepts exactly the inputs which have a meaning, and whose states are those after viable
+-- prefixes
 module _ {S Meaning : Type 0} {scan : Scan S Meaning} {Reached : S → List ℕ → Type 0}
     {IsViable : ParserState → List ℕ → Type 0}
     {Means : List ℕ → Meaning → Type 0} (is : IsScanOf scan Reached IsViable Means) where
@@ -145,6 +154,7 @@ module _ {S Meaning : Type 0} {scan : Scan S Meaning} {Reached : S → List ℕ 
     fault_is = h;
   }
 
+  -- the result at the end of an input is a meaning of it, or its error, by the error of the parser state
   answer_at_end : (s : S) (text front : List ℕ) → text ≡ front ++ [] → run scan.step scan.start front ≡ Some s
       → (o : Option Fault) → fault_at_end (scan.place s) ≡ o → EndsIn (Means text) o (scan.at_end s)
       → Answers text (scan.at_end s)
@@ -152,6 +162,7 @@ module _ {S Meaning : Type 0} {scan : Scan S Meaning} {Reached : S → List ℕ 
   answer_at_end s text front t e (Some fault) at ends =
       subst (Answers text) (sym ends) (first_fault s text front [] fault t e tt at)
 
+  -- from the state after a beginning of the input, the result for the rest is a meaning of the input, or its error
   answer_from : (s : S) (text front rest : List ℕ) → text ≡ front ++ rest → run scan.step scan.start front ≡ Some s
       → Answers text (read scan s rest)
   answer_from s text front [] t e =
@@ -178,6 +189,7 @@ module _ {S Meaning : Type 0} {scan : Scan S Meaning} {Reached : S → List ℕ 
       let r = is.meaning_read text meaning h in
       ap (read scan scan.start) (sym (append-nil text)) ∙ (read_through scan scan.start r.0 text [] r.1 ∙ r.2)
 
+  -- after the longest viable prefix, the result for the rest is the error of its parser state
   fault_of_rest : (s : S) (front rest : List ℕ) (fault : Fault) → Reached s front → NoLongerFront IsViable front rest
       → IsFaultAfter current scan.flags (scan.place s) rest fault → read scan s rest ≡ Err fault
   fault_of_rest s front [] fault r longest h =
@@ -199,6 +211,7 @@ module _ {S Meaning : Type 0} {scan : Scan S Meaning} {Reached : S → List ℕ 
       ap (read scan scan.start) h.longest.text_is
       ∙ (read_through scan scan.start r.state h.front h.rest r.run_is ∙ rest)
 
+  -- a result that is a meaning of the input, or its error, gives one of the two
   some_answer : (text : List ℕ) (answer : Result Meaning Fault) → Answers text answer
       → ((meaning : Meaning) × Means text meaning)
       ⊎ ((fault : Fault) × IsFirstFault IsViable current scan.flags text fault)
@@ -214,6 +227,7 @@ module _ {S Meaning : Type 0} {scan : Scan S Meaning} {Reached : S → List ℕ 
     not_both = λ m f h k. let e = sym (reads_meaning text m h) ∙ reads_fault text f k in absurd (let z : ⊥ = cc in z);
   }
 
+  -- each viable prefix can be completed to an input that has a meaning
   front_begins : (text : List ℕ) (place : ParserState) → IsViable place text → CanBecome Meaning Means text
   front_begins text place h =
       let r = is.front_read place text h in
@@ -221,6 +235,7 @@ module _ {S Meaning : Type 0} {scan : Scan S Meaning} {Reached : S → List ℕ 
       let e = read_through scan scan.start r.state text g.0 r.run_is ∙ g.2 in
       (g.0, g.1, subst (Answers (text ++ g.0)) e (reads_meaning_or_fault (text ++ g.0)))
 
+  -- each beginning of an input that has a meaning is a viable prefix
   beginning_is_front : (text rest : List ℕ) (meaning : Meaning) → Means (text ++ rest) meaning
       → (place : ParserState) × IsViable place text
   beginning_is_front text rest meaning h =

@@ -1,5 +1,9 @@
 -- The inputs of the grammar of sizes are visible characters of ASCII, and spaces between a number and a unit. So only
 -- spaces after a number without a unit can be trimmed, and what is left is the same number and unit.
+--
+-- Of a spelling `h` of a suffix or an infix, `h.0` is its text, and `h.1` what it means. Of the visible characters of a
+-- text, `p.0` is that the first one is visible, and `p.1` that the rest are. That `is` a prefix letter has the two
+-- bounds of its position, and an equation.
 use Rattle.std.proofs.Common.{◌≡◌, ℕ, zero, suc, ◌-◌, ◌<◌, Bool, true, false, cond, nat_eq, inl, inr, List, [], ◌∷◌}
 use Rattle.std.proofs.Common.{◌++◌, length, replicate, refl, ap, sym, subst, ◌∙◌, arith, append-nil}
 use Rattle.std.specs.List.{list_all}
@@ -27,6 +31,7 @@ use Rattle.byte_unit_base.proofs.Trim.{visible_not_white}
 abbrev pub IsVisible : List ℕ → Type 0
 IsVisible text = list_all is_ascii_graphic text ≡ true
 
+-- two texts of visible characters are one when put together
 visible_append : (xs ys : List ℕ) → IsVisible xs → IsVisible ys → IsVisible (xs ++ ys)
 visible_append xs ys h k = list_all-append is_ascii_graphic xs ys ∙ and_from _ _ h k
 
@@ -37,6 +42,7 @@ visible_ascii (c ∷ cs) h =
     let p = and_parts (is_ascii_graphic c) (list_all is_ascii_graphic cs) h in
     IsAscii-cons c cs (grind (arith, nat_tests, p.0)) (visible_ascii cs p.1)
 
+-- a text is of visible characters if it is in lowercase
 text_visible : (text : List ℕ) → IsVisible (str_to_ascii_lowercase text) → IsVisible text
 text_visible [] h = refl
 text_visible (c ∷ cs) h =
@@ -44,12 +50,14 @@ text_visible (c ∷ cs) h =
     let p = and_parts (is_ascii_graphic (to_ascii_lowercase c)) (list_all is_ascii_graphic lower) h in
     and_from _ _ (grind (arith, nat_tests, p.0)) (text_visible cs p.1)
 
+-- decimal digits are visible
 digits_visible : (text : List ℕ) → AllDigits 10 text → IsVisible text
 digits_visible [] h = refl
 digits_visible (c ∷ cs) h = and_from _ _ (grind (arith, nat_tests, h.0)) (digits_visible cs h.1)
 
 -- spellings
 
+-- the suffix of a unit is visible
 count_visible : (flags : Flags) (text : List ℕ) (bit : Bool) → SpellsCount flags text bit → IsVisible text
 count_visible flags text bit (inl h) = ap (list_all is_ascii_graphic) h.0
 count_visible flags text bit (inr (inl h)) = ap (list_all is_ascii_graphic) h.0
@@ -57,10 +65,12 @@ count_visible flags text bit (inr (inr (inl h))) = ap (list_all is_ascii_graphic
 count_visible flags text bit (inr (inr (inr (inl h)))) = text_visible text (ap (list_all is_ascii_graphic) h.0)
 count_visible flags text bit (inr (inr (inr (inr h)))) = text_visible text (ap (list_all is_ascii_graphic) h.0)
 
+-- what follows the letter of a prefix is visible
 binary_visible : (text : List ℕ) (binary : Bool) → SpellsBinary text binary → IsVisible text
 binary_visible text binary (inl h) = ap (list_all is_ascii_graphic) h.0
 binary_visible text binary (inr h) = text_visible text (ap (list_all is_ascii_graphic) h.0)
 
+-- a prefix is visible
 prefix_visible : (text : List ℕ) (power : ℕ) (binary : Bool) → SpellsPrefix current text power binary → IsVisible text
 prefix_visible text power binary h =
     let is = h.letter_is in
@@ -131,7 +141,7 @@ gap_kept (suc spaces) unit_part h =
 -- the bytes are a number and a unit
 module _ (flags : Flags) (bytes : List ℕ) (number : ℕ) (unit : Shape) (h : IsSizeText current flags bytes number unit)
   where
-    -- they are ASCII
+    -- the bytes of a number and a unit are ASCII
     pub size_ascii : IsAscii bytes
     size_ascii =
         let gap = IsAscii-from_all (replicate h.spaces space) (All-replicate (λ c. c < 128) h.spaces space (omega arith)) in
@@ -141,11 +151,11 @@ module _ (flags : Flags) (bytes : List ℕ) (number : ℕ) (unit : Shape) (h : I
         (number_ascii h.number_part number h.number_is)
         (IsAscii-append (replicate h.spaces space) h.unit_part gap spelling))
 
-    -- they are their characters
+    -- their characters are the same number and unit
     pub size_of_chars : IsSizeText current flags (chars bytes) number unit
     size_of_chars = subst (λ text. IsSizeText current flags text number unit) (sym (chars-IsAscii bytes size_ascii)) h
 
-    -- they are these when trimmed
+    -- trimmed, they are the same number and unit
     pub trimmed_size : IsSizeText current flags (trim_of bytes) number unit
     trimmed_size =
         let digits = number_visible h.number_part number h.number_is in

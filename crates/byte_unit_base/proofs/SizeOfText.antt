@@ -1,5 +1,8 @@
 -- What the parser of a size returns, by the result of parsing its number and unit, in each reading: `meant` is the unit
 -- that it takes for the unit that is written.
+--
+-- Here `found` is a number, `found.0`, and its unit, `found.1`. Of a size, `size.0` is that it is the least one of
+-- them, and `size.1` that it is below the limit.
 use Rattle.std.proofs.Common.{◌≡◌, ℕ, Bool, List, Some, None, Ok, Err, sym, ap, arith, inl, inr, refl, ◌∙◌}
 use Rattle.std.proofs.Common.{take, drop, nat_eq, subst, take-append-drop}
 use Rattle.std.specs.Str.{IsUtf8, IsAscii, chars}
@@ -44,7 +47,9 @@ found_as_read {number} reading read =
 -- the parser as a function finds the number and unit that the parser found, rounds the number up, and gives the result
 -- by the size
 
+-- an input, `bytes`, in one reading
 module _ (meant : Shape → Shape) (kind : Kind) (ignore_case : Bool) (bytes : List ℕ) where
+  -- for the number and unit of the input, the result is the size by its limit
   parsed_found : (found : ℕ × UnitName)
       → IsSizeText current (flags_for kind ignore_case) (trim_of bytes) found.0 (shape_of found.1)
       → parsed_size_as meant kind ignore_case bytes
@@ -54,6 +59,7 @@ module _ (meant : Shape → Shape) (kind : Kind) (ignore_case : Bool) (bytes : L
       ap (size_of_parsed meant kind)
       (reads_meaning (size_scan_is (flags_for kind ignore_case)) (trim_of bytes) (with_shape found) h)
 
+  -- for an input with an error, the result is this error
   parsed_fault : (error : ParseError)
       → IsSizeFault current (flags_for kind ignore_case) (trim_of bytes) (size_fault error)
       → parsed_size_as meant kind ignore_case bytes ≡ Err (size_fault error)
@@ -62,7 +68,7 @@ module _ (meant : Shape → Shape) (kind : Kind) (ignore_case : Bool) (bytes : L
       ap (size_of_parsed meant kind)
       (reads_fault (size_scan_is (flags_for kind ignore_case)) (trim_of bytes) (size_fault error) h)
 
-  -- the result if the number and unit give a size
+  -- if the size of the number and unit is below the limit, it is the result
   pub reading_of_size : (found : ℕ × UnitName) (n : ℕ)
       → IsNumberReading (flags_for kind ignore_case) bytes (Ok found)
       → IsSizeOrNone (IsLeastOf kind found.0 (meant (shape_of found.1))) (Some n)
@@ -86,7 +92,7 @@ module _ (meant : Shape → Shape) (kind : Kind) (ignore_case : Bool) (bytes : L
             ∙ (ap (size_within_limit found.0) same ∙ size_within found.0 n size.1));
       }
 
-  -- the result if the size of the number and unit reaches the limit: an error with the number
+  -- if the size of the number and unit reaches the limit, the result is the error with the number
   pub reading_of_excess : (found : ℕ × UnitName)
       → IsNumberReading (flags_for kind ignore_case) bytes (Ok found)
       → IsSizeOrNone (IsLeastOf kind found.0 (meant (shape_of found.1))) None

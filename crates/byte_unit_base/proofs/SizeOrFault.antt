@@ -1,5 +1,8 @@
 -- Each input is accepted as one size, or rejected with one error, in each reading: `meant` is the unit that it takes
 -- for the unit that is written.
+--
+-- An error `e` of a size that is too large is the number, that the error is of this number, and that its size is too
+-- large. What is `read` is a number and a unit, `read.0`, and that the input represents them.
 use Rattle.std.proofs.Common.{◌≡◌, ℕ, Bool, List, ◌⊎◌, inl, inr, ⊎_elim, sym, ap, subst, arith, ◌∙◌, refl}
 use Rattle.std.proofs.lemmas.Bool.{cases_lt}
 use Rattle.byte_unit_base.specs.Shape.{Shape}
@@ -16,7 +19,9 @@ use Rattle.byte_unit_base.proofs.Rounding.{least_exists, least_is_unique}
 use Rattle.byte_unit_base.proofs.Scans
 use Rattle.byte_unit_base.proofs.SizeReads.{size_scan_is}
 
+-- an input, `text`, in one reading
 module _ (meant : Shape → Shape) (kind : Kind) (ignore_case : Bool) (text : List ℕ) where
+  -- an input is one number of one unit, or has one error
   one_answer : IsOneAnswer (ℕ × Shape) (Represents (flags_for kind ignore_case) (trim_of text))
       (HasFault kind ignore_case text)
   one_answer = Scans.one_answer (size_scan_is (flags_for kind ignore_case)) (trim_of text)
@@ -43,6 +48,7 @@ module _ (meant : Shape → Shape) (kind : Kind) (ignore_case : Bool) (text : Li
       let same = same_read a.number number n e.size a.is_read e.is_read in
       omega (arith, same.1, a.below, e.above)
 
+  -- an input is accepted, or its size is too large, or it is not in the grammar
   some_of_three : ((n : ℕ) × IsAcceptedAs meant current kind ignore_case text n)
       ⊎ (((number : ℕ) × ExceedsAs meant current kind ignore_case text number)
       ⊎ ((fault : Fault) × HasFault kind ignore_case text fault))
@@ -77,6 +83,7 @@ module _ (meant : Shape → Shape) (kind : Kind) (ignore_case : Bool) (text : Li
   refusal (inl e) = (exceeded e.0, inl (e.0, refl, e.1))
   refusal (inr f) = (f.0, inr f.1)
 
+  -- an input is rejected with one error only
   one_refusal : (fault other : Fault) → IsRejectedAs meant current kind ignore_case text fault
       → IsRejectedAs meant current kind ignore_case text other
       → fault ≡ other
@@ -85,6 +92,7 @@ module _ (meant : Shape → Shape) (kind : Kind) (ignore_case : Bool) (text : Li
   one_refusal fault other (inr f) (inl e) = absurd (one_of_three.no_fault_of_excess e.0 fault e.2 f)
   one_refusal fault other (inr f) (inr g) = one_of_three.one_fault fault other f g
 
+  -- an input that is accepted is not rejected
   no_refusal : (n : ℕ) (fault : Fault) → IsAcceptedAs meant current kind ignore_case text n
       → ¬ (IsRejectedAs meant current kind ignore_case text fault)
   no_refusal n fault a (inl e) = one_of_three.no_excess n e.0 a e.2

@@ -1,5 +1,8 @@
 -- What is known of the text that led to a state of the state machine of sizes, and that each step adds its character to
 -- it.
+--
+-- The parts of a step `k` are: what is known of the character, for one more digit also its limit, and the next state.
+-- Within a unit they are: the next state of the unit, its step, and the next state.
 use Rattle.std.proofs.Common.{◌≡◌, ℕ, ◌+◌, ◌-◌, ◌*◌, ◌^◌, ◌<◌, ◌≤◌, inl, inr, List, [], ◌∷◌, ◌++◌, length, replicate}
 use Rattle.std.proofs.Common.{sym, refl, ap, subst, ◌∙◌, arith, append_assoc, append-nil, length-append}
 use Rattle.std.specs.Char.{digit_value}
@@ -64,6 +67,7 @@ fraction_number w f j text r = record {
   number_is = refl;
 }
 
+-- after a number and the beginning of a unit, one character more continues the unit
 unit_grows : (n c : ℕ) (s : UnitScan) (t : SizeScan) (text : List ℕ) → UnitReached n s text → UnitStep n s c t
     → SizeReached t (text ++ c ∷ [])
 unit_grows n c s t text r k =
@@ -106,6 +110,7 @@ number_grows n spaces c t text number e h (inr k) = unit_grows n c unit_start t 
   reached = Reached-start;
 }) k
 
+-- digits with one digit more are digits
 digits_push_is : (text : List ℕ) (c : ℕ) → IsNumeral 10 text → digit_value c < 10 → IsNumeral 10 (text ++ c ∷ [])
 digits_push_is text c h k = (omega (arith, length-append text (c ∷ [])), digits_push 10 text c h.1 k)
 

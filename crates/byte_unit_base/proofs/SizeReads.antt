@@ -1,5 +1,9 @@
 -- The parser of a number and a unit: its state machine accepts exactly the inputs of the grammar, so it returns the
 -- number and unit of an input, or its error.
+--
+-- What is `found` is a number and its unit. Of a state within a unit, `r.0` is what is known of the text that led to
+-- it, and `r.1` that a unit has begun. Of the end of an input, `e.0` is the unit, `e.1` that it is spelled, and `e.2`
+-- an equation of the result.
 use Rattle.std.proofs.Common.{◌≡◌, ◌≢◌, ℕ, ◌<◌, ◌*◌, inl, inr, List, [], ◌∷◌, ◌++◌, Option, Some, None, Result, Ok, Err}
 use Rattle.std.proofs.Common.{IfErr, length, nat_eq, drop, replicate, sym, refl, ap, ◌∙◌, arith, append-nil}
 use Rattle.std.specs.Prelude.{IsOkAnd}
@@ -41,6 +45,7 @@ use Rattle.byte_unit_base.proofs.SizeRuns.{size_text_runs, size_front_runs}
 
 -- the text that led to a state is a viable prefix
 
+-- a number and a viable prefix of a unit are a viable prefix of both
 front_in_unit : (n : ℕ) (s : UnitScan) (place : ParserState) (text : List ℕ) (r : UnitReached n s text)
     → IsViableUnitPrefix current place r.unit_part → IsNumberAndUnitPrefix current place text
 front_in_unit n s place text r h = record {
@@ -53,6 +58,7 @@ front_in_unit n s place text r h = record {
   unit_is = h;
 }
 
+-- the text that led to a state within a unit is a viable prefix of a size
 size_front_in_unit : (n : ℕ) (m : Multiple) (w : Word) (text : List ℕ) (r : UnitReached n (scan_of m w) text)
     → 0 < length r.unit_part → IsViableSizePrefix current (word_parser_state m w) text
 size_front_in_unit n m Bi text r some = front_in_unit n _ after_bi text r (unit_front m Bi r.unit_part r.reached)
@@ -62,6 +68,7 @@ size_front_in_unit n One Empty text r some =
     absurd (omega (arith, some, ap length none))
 size_front_in_unit n m w text r some = front_in_unit n _ (word_parser_state m w) text r (unit_front m w r.unit_part r.reached)
 
+-- the text that led to any state is a viable prefix of a size, with the parser state of the state
 size_front : (s : SizeScan) (text : List ℕ) → SizeReached s text → IsViableSizePrefix current (size_parser_state s) text
 size_front Beginning text r = r
 size_front (Whole w) text r = (w, r)
@@ -72,6 +79,7 @@ size_front (UnitAt n s) text r = size_front_in_unit n s.multiple s.word text r.0
 
 -- the result for an input that ends in a state
 
+-- an input that ends after a number, or after spaces, is the number without a unit
 number_at_end : (flags : Flags) (n : ℕ) (text number : List ℕ) (k : ℕ) → text ≡ number ++ (replicate k 32 ++ [])
     → IsNumberText current number n → EndsIn (Represents flags text) None (size_or_fault n (unit_of flags unit_start))
 number_at_end flags n text number k e h = (
@@ -98,6 +106,7 @@ unit_at_end_of flags n text unit_part states None None e = absurd (let k : ⊥ =
 unit_at_end_of flags n text unit_part states None (Some unit) e =
     let same : unit ≡ e.0 = cc (e.2) in ((n, e.0), states e.0 e.1, ap (λ x. Ok (n, x)) same)
 
+-- an input that ends in a state has the error of its parser state, or is a number and a unit
 size_ends : (flags : Flags) (s : SizeScan) (text : List ℕ) → SizeReached s text
     → EndsIn (Represents flags text) (fault_at_end (size_parser_state s)) (size_at_end flags s)
 size_ends flags Beginning text r = refl
@@ -131,11 +140,13 @@ size_ends flags (UnitAt n s) text r =
 abbrev GoesOn : Flags → SizeScan → Type 0
 GoesOn flags s = (rest : List ℕ) × (found : ℕ × Shape) × (read (size_scan flags) s rest ≡ Ok found)
 
+-- within a unit, only `bi` must be completed: by a `t` (116)
 goes_on_in_unit : (flags : Flags) (n : ℕ) (m : Multiple) (w : Word) → GoesOn flags (UnitAt n (scan_of m w))
 unfolding size_step unit_step
 goes_on_in_unit flags n m Bi = (116 ∷ [], (n, _), refl)
 goes_on_in_unit flags n m w = ([], (n, _), refl)
 
+-- each state can be completed, at the beginning and after the point by a `0` (48)
 size_goes_on : (flags : Flags) (s : SizeScan) → GoesOn flags s
 unfolding size_step
 size_goes_on flags Beginning = (48 ∷ [], (_, _), refl)
@@ -165,6 +176,7 @@ no_bounds_after flags [] beginning fault n h = λ e. grind (arith, h, e)
 no_bounds_after flags (c ∷ cs) in_whole fault n h = λ e. grind (arith, h, e)
 no_bounds_after flags _ _ fault n h = λ e. grind (arith, h, e)
 
+-- the state machine never gives the error of a size that is too large: the limit of a size is tested after it
 read_no_bounds : (flags : Flags) (text : List ℕ) (r : Result (ℕ × UnitName) ParseError)
     → size_result r ≡ read (size_scan flags) Beginning text → IfErr r (λ error. (n : ℕ) → size_fault error ≢ exceeded n)
 read_no_bounds flags text (Ok x) e = tt
@@ -174,6 +186,7 @@ read_no_bounds flags text (Err x) e = λ n.
 
 -- what the contracts of the parsers say, and the laws
 
+-- a result that has this number and this unit's shape has both
 parts_meant : (r : Result (ℕ × UnitName) ParseError) (n : ℕ) (unit : Shape)
     → IsOkAnd r (λ found. with_shape found ≡ (n, unit)) → IsOkAnd r (λ found. (found.0 ≡ n) × (shape_of found.1 ≡ unit))
 parts_meant (Ok found) n unit e = (ap (λ x. x.0) e, ap (λ x. x.1) e)

@@ -1,5 +1,7 @@
 -- What the state machine of sizes returns where the parser stops: the rest of an input is a unit, or starts with an
 -- error.
+--
+-- Of digits, `digits.0` is that the first one is a digit, and `digits.1` that the rest are.
 use Rattle.std.proofs.Common.{◌≡◌, ℕ, zero, suc, ◌+◌, ◌*◌, ◌<◌, true, false, eqb, ⊎_elim}
 use Rattle.std.proofs.Common.{List, [], ◌∷◌, ◌++◌, Option, Some, None, Result, Ok, Err, length, replicate, refl, sym, ap, subst, ◌∙◌}
 use Rattle.std.proofs.Common.{arith, take, drop, ◌≤◌, take-append-drop}
@@ -31,6 +33,7 @@ use Rattle.byte_unit_base.proofs.SizeRuns.{step_point, step_whole, step_pointed,
 
 -- the first character of bytes that are UTF-8
 
+-- what holds of the first byte, and of each character past ASCII, holds of the first character that is encoded
 first_of : (Has : ℕ → Type 0) → ((c : ℕ) → 128 ≤ c → Has c) → (bytes text : List ℕ) → bytes ≡ encode_utf8_all text
     → IsFirst Has bytes → IsFirst Has text
 first_of Has wide bytes [] e first = tt
@@ -46,16 +49,19 @@ first_char Has wide bytes utf8 first = first_of Has wide bytes (chars bytes) (sy
 
 -- the first bytes of a text, and the rest of it
 
+-- the characters of the bytes are the first bytes, if these are ASCII, and the characters of the rest
 pub text_from : (bytes : List ℕ) (end : ℕ) → IsAscii (take end bytes) → chars bytes ≡ take end bytes ++ chars (drop end bytes)
 text_from bytes end ascii = ap chars (sym (take-append-drop end bytes))
     ∙ (chars-append (take end bytes) (drop end bytes) (IsUtf8-from_ascii (take end bytes) ascii)
     ∙ ap (λ front. front ++ chars (drop end bytes)) (chars-IsAscii (take end bytes) ascii))
 
+-- a character ends where the first bytes, if these are ASCII, end
 pub boundary_at : (bytes : List ℕ) (end : ℕ) → IsUtf8 bytes → end ≤ length bytes → IsAscii (take end bytes)
     → IsCharBoundary bytes end
 boundary_at bytes end utf8 within ascii =
     IsCharBoundary-from_take bytes end utf8 within (IsUtf8-from_ascii (take end bytes) ascii)
 
+-- so the rest is UTF-8
 pub utf8_from : (bytes : List ℕ) (end : ℕ) → IsUtf8 bytes → end ≤ length bytes → IsAscii (take end bytes)
     → IsUtf8 (drop end bytes)
 utf8_from bytes end utf8 within ascii = IsUtf8-drop bytes end utf8 (boundary_at bytes end utf8 within ascii)
@@ -77,14 +83,14 @@ no_digit_first (b ∷ bs) e = grind (arith, nat_tests, e)
 
 -- a missing digit
 
--- the error of an input that does not start with a digit
+-- an input that does not start with a digit has the error of a missing digit, by its first character
 pub missing_at_start : (flags : Flags) (text : List ℕ) → IsFirst IsNoDigit text
     → read (size_scan flags) Beginning text ≡ Err (missing_digit true (next_char text))
 unfolding size_step
 missing_at_start flags [] none = refl
 missing_at_start flags (c ∷ cs) none = read_none (size_scan flags) Beginning c cs (rw none refl)
 
--- the error of an input in which no digit follows the point
+-- an input in which no digit follows the point has the error of a missing digit, by the character there
 pub missing_after_point : (flags : Flags) (w : ℕ) (text : List ℕ) → IsFirst IsNoDigit text
     → read (size_scan flags) (Point w) text ≡ Err (missing_digit false (next_char text))
 unfolding size_step
@@ -93,10 +99,11 @@ missing_after_point flags w (c ∷ cs) none = read_none (size_scan flags) (Point
 
 -- a digit too many
 
+-- a character with the value of a digit is one
 digit_is : (c : ℕ) → digit_value c < 10 → is_digit c ≡ true
 digit_is c small = grind (arith, nat_tests)
 
--- the error of a whole part that reaches the limit
+-- a whole part that reaches the limit has the error of a number that is too long
 pub too_large : (flags : Flags) (ds rest : List ℕ) (w : ℕ) → AllDigits 10 ds → w < whole_limit
     → whole_limit ≤ digits_value_after 10 w ds → read (size_scan flags) (Whole w) (ds ++ rest) ≡ Err too_long
 unfolding size_step
@@ -110,7 +117,7 @@ too_large flags (c ∷ cs) rest w digits below above =
     ∙ rw (digit_is c digits.0) refl)
     (cases_lt next whole_limit)
 
--- the error of a fraction that gets more digits than fit
+-- a fraction that gets more than 28 digits has the error of a number that is too long
 too_many_more : (flags : Flags) (ds rest : List ℕ) (w f j : ℕ) → AllDigits 10 ds → j ≤ places_of_decimal
     → places_of_decimal < j + length ds → read (size_scan flags) (Fraction w f j) (ds ++ rest) ≡ Err too_long
 unfolding size_step
@@ -123,7 +130,7 @@ too_many_more flags (c ∷ cs) rest w f j digits few many = ⊎_elim
     ∙ rw (digit_is c digits.0) refl)
     (cases_lt j places_of_decimal)
 
--- the error of a fraction of more than 28 digits
+-- a fraction of more than 28 digits has the error of a number that is too long
 pub too_many_places : (flags : Flags) (ds rest : List ℕ) (w : ℕ) → AllDigits 10 ds → places_of_decimal < length ds
     → read (size_scan flags) (Point w) (ds ++ rest) ≡ Err too_long
 too_many_places flags [] rest w digits many = absurd (omega (arith, many))
@@ -161,6 +168,7 @@ abbrev pub with_number : ℕ → Result Shape Fault → Result (ℕ × Shape) Fa
 with_number n (Ok unit) = Ok (n, unit)
 with_number n (Err fault) = Err fault
 
+-- the result at the end is the number with the result of the unit
 end_with_number : (n : ℕ) (unit : Option Shape) → size_or_fault n unit ≡ with_number n (unit_at_end unit)
 end_with_number n None = refl
 end_with_number n (Some unit) = refl
@@ -187,7 +195,7 @@ read_in_unit flags n u [] = end_with_number n (unit_of flags u)
 read_in_unit flags n u (c ∷ cs) =
     first_of_unit flags n c (UnitAt n u) u cs refl refl (λ t. read_in_unit flags n t cs) (unit_step u c) refl
 
--- and so is a unit that begins after a number
+-- a unit that begins after a number is read as by the parser of a unit
 read_first_of_unit : (flags : Flags) (n : ℕ) (s : SizeScan) (unit : List ℕ)
     → size_at_end flags s ≡ size_or_fault n (unit_of flags start)
     → IsFirst (EndsNumber s n) unit → IsFirst IsNoSpace unit
@@ -198,6 +206,7 @@ read_first_of_unit flags n s (c ∷ cs) at_end next other =
     first_of_unit flags n c s start cs (next.step_is ∙ rw no_space refl) (next.fault_is flags)
     (λ t. read_in_unit flags n t cs) (unit_step start c) refl
 
+-- after spaces, each character and the end go on as after the number
 pub ends_gap : (n : ℕ) (text : List ℕ) → IsFirst (EndsNumber (Gap n) n) text
 unfolding size_step
 ends_gap n [] = tt

@@ -1,4 +1,8 @@
 -- The state machine of sizes reads each number with its unit, and each viable prefix of one, to its end.
+--
+-- Of a numeral `h`, `h.0` is that it is not empty, and `h.1` that it has digits only: first one, then the rest. Of a
+-- whole part `h`, `h.0` is its numeral, `h.1` its value and `h.2` the limit. A step or run that is known to succeed is
+-- a pair: the state after it, and that it is this state.
 use Rattle.std.proofs.Common.{◌≡◌, ◌≢◌, ℕ, zero, suc, ◌+◌, ◌*◌, ◌<◌, ◌≤◌, inl, inr, ⊎_elim, List, [], ◌∷◌, ◌++◌, Some}
 use Rattle.std.proofs.Common.{None, Ok, length, replicate, sym, refl, ap, ◌∙◌, arith, append-nil}
 use Rattle.std.specs.Option.{option_map}
@@ -30,7 +34,7 @@ pub step_first : (c : ℕ) → digit_value c < 10 → size_step Beginning c ≡ 
 unfolding size_step
 step_first c h = grind (arith, nat_tests)
 
--- one more digit of a whole part, below its limit
+-- one more digit that keeps a whole part below its limit continues the whole part
 pub step_whole : (w c : ℕ) → digit_value c < 10 → w * 10 + digit_value c < whole_limit
     → size_step (Whole w) c ≡ Some (Whole (w * 10 + digit_value c))
 unfolding size_step
@@ -41,12 +45,12 @@ pub step_point : (w : ℕ) → size_step (Whole w) 46 ≡ Some (Point w)
 unfolding size_step
 step_point w = refl
 
--- the first digit after the point
+-- the first digit after the point begins the fraction
 pub step_pointed : (w c : ℕ) → digit_value c < 10 → size_step (Point w) c ≡ Some (Fraction w (digit_value c) 1)
 unfolding size_step
 step_pointed w c h = grind (arith, nat_tests)
 
--- one more digit of a fraction of fewer than 28
+-- one more digit continues a fraction of fewer than 28 digits
 pub step_fraction : (w f j c : ℕ) → digit_value c < 10 → j < places_of_decimal
     → size_step (Fraction w f j) c ≡ Some (Fraction w (f * 10 + digit_value c) (j + 1))
 unfolding size_step
@@ -142,29 +146,33 @@ no_unit_below c small =
     let same : to_ascii_uppercase c ≡ c = grind (arith, nat_tests) in
     rw same (grind (arith, nat_tests))
 
+-- the first letter of a unit has at least the code of `A`, 65
 first_letter : (c : ℕ) (u : UnitScan) → unit_step unit_start c ≡ Some u → 65 ≤ c
 first_letter c u e =
     ⊎_elim (λ small. let none = no_unit_below c small in absurd (let k : ⊥ = cc in k)) (λ large. large) (cases_lt c 65)
 
 -- the steps after a number
 
+-- a space after a number leads to the state after spaces
 step_space : (n : ℕ) (s : SizeScan) → AtNumber n s → size_step s 32 ≡ Some (Gap n)
 unfolding size_step
 step_space n (Whole w) h = grind (arith, h)
 step_space n _ h = grind (arith, h)
 
+-- the first letter of a unit after a number leads to the state within this unit
 step_unit : (n c : ℕ) (s : SizeScan) (u : UnitScan) → AtNumber n s → unit_step unit_start c ≡ Some u
     → size_step s c ≡ Some (UnitAt n u)
 unfolding size_step
 step_unit n c (Whole w) u h e = let large = first_letter c u e in grind (arith, nat_tests, h, e)
 step_unit n c _ u h e = let large = first_letter c u e in grind (arith, nat_tests, h, e)
 
--- the result for an input that ends after a number
+-- an input that ends after a number has the result of the number without a unit
 pub number_end : (flags : Flags) (n : ℕ) (s : SizeScan) → AtNumber n s
     → size_at_end flags s ≡ size_or_fault n (unit_of flags unit_start)
 number_end flags n (Whole w) h = grind (arith, h)
 number_end flags n _ h = grind (arith, h)
 
+-- one space or more after a number lead to the state after spaces
 run_some_spaces : (n k : ℕ) (s : SizeScan) → 0 < k → AtNumber n s → run size_step s (replicate k space) ≡ Some (Gap n)
 run_some_spaces n zero s some h = absurd (omega (arith, some))
 run_some_spaces n (suc zero) s some h = run_step size_step s (Gap n) space [] (step_space n s h)
@@ -172,10 +180,12 @@ run_some_spaces n (suc (suc k)) s some h =
     run_step size_step s (Gap n) space (replicate (suc k) space) (step_space n s h)
     ∙ run_some_spaces n (suc k) (Gap n) (omega arith) refl
 
+-- any number of spaces after a number, none too, leads to a state after the number
 run_spaces : (n k : ℕ) (s : SizeScan) → AtNumber n s → RunsTo (AtNumber n) s (replicate k space)
 run_spaces n zero s h = record { state = s; run = refl; holds = h }
 run_spaces n (suc k) s h = record { state = Gap n; run = run_some_spaces n (suc k) s (omega arith) h; holds = refl }
 
+-- within a unit, the letters of the unit are read as by the parser of a unit
 pub run_in_unit : (n : ℕ) (u : UnitScan) (cs : List ℕ) (s : UnitScan) → run unit_step s cs ≡ Some u
     → run size_step (UnitAt n s) cs ≡ Some (UnitAt n u)
 unfolding size_step
@@ -189,6 +199,7 @@ pub record EndsAs (n : ℕ) (u : UnitScan) (t : SizeScan) : Type 0 where
   pub ends : (flags : Flags) → size_at_end flags t ≡ size_or_fault n (unit_of flags u)
   pub place : unit_parser_state u ≢ before_unit → size_parser_state t ≡ unit_parser_state u
 
+-- a unit after a number, or none, leads to a state that has the result of this unit
 run_unit : (n : ℕ) (u : UnitScan) (s : SizeScan) (text : List ℕ) → AtNumber n s → run unit_step unit_start text ≡ Some u
     → RunsTo (EndsAs n u) s text
 run_unit n u s [] h k =
@@ -234,6 +245,7 @@ size_text_runs flags text n s h =
     let r = run_numbered n h.spaces s h.number_part h.unit_part text h.text_is h.number_is u.run in
     record { state = r.state; run = r.run; holds = r.holds.ends flags ∙ ap (size_or_fault n) u.unit }
 
+-- a number and a viable prefix of a unit that has begun are read to a state with the parser state of the unit
 sized_front : (flags : Flags) (place : ParserState) (text : List ℕ) → place ≢ before_unit → IsNumberAndUnitPrefix current place text
     → IsScanned (size_scan flags) place text
 sized_front flags place text moved h =

@@ -30,6 +30,7 @@ StepOf (Fraction w f j) c t =
 StepOf (Gap n) c t = AfterNumber n c t
 StepOf (UnitAt n s) c t = UnitStep n s c t
 
+-- a step after a number is one of its cases: a space, or the first character of a unit
 after_number_cases : (n c : ℕ) (t : SizeScan) → after_number n c ≡ Some t → AfterNumber n c t
 after_number_cases n c t e = grind (arith, nat_tests, some_mapped)
 

@@ -14,12 +14,14 @@ use Rattle.byte_unit_base.specs.ErrorPosition.{leading_white}
 use Rattle.byte_unit_base.specs.SizeText.{trim_of}
 use Rattle.byte_unit_base.specs.PartsReading.{HasVisibleEnds}
 
+-- without leading white space, characters still are Unicode scalar values
 scalars_skip : (cs : List ℕ) → all_scalars cs ≡ true → all_scalars (skip_leading_whitespace cs) ≡ true
 scalars_skip [] e = refl
 scalars_skip (c ∷ cs) e =
     let rest = scalars_skip cs (and_parts _ _ e).1 in
     cond_both (is_whitespace c) _ _ (λ kept. all_scalars kept ≡ true) (λ _. rest) (λ _. e)
 
+-- without trailing white space, characters still are Unicode scalar values
 scalars_drop : (cs : List ℕ) → all_scalars cs ≡ true → all_scalars (drop_trailing_whitespace cs) ≡ true
 scalars_drop [] e = refl
 scalars_drop (c ∷ cs) e =
@@ -27,6 +29,7 @@ scalars_drop (c ∷ cs) e =
     cond_both (is_whitespace c && nat_eq (length (drop_trailing_whitespace cs)) 0) _ _ (λ kept. all_scalars kept ≡ true)
     (λ _. refl) (λ _. and_from _ _ parts.0 (scalars_drop cs parts.1))
 
+-- the characters of a string without leading white space are the characters without it
 chars-trim_start : (bs : List ℕ) → IsUtf8 bs → chars (trim_start bs) ≡ skip_leading_whitespace (chars bs)
 unfolding trim_start
 chars-trim_start bs u =
@@ -71,12 +74,15 @@ nothing_to_drop text start end =
 
 -- visible ends
 
+-- a visible character of ASCII is no white space
 pub visible_not_white : (c : ℕ) → is_ascii_graphic c ≡ true → is_whitespace c ≡ false
 visible_not_white c e = grind (arith, nat_tests)
 
+-- a visible character is a text of ASCII
 visible_ascii : (c : ℕ) → is_ascii_graphic c ≡ true → IsAscii (c ∷ [])
 visible_ascii c e = IsAscii-cons c [] (grind (arith, nat_tests)) IsAscii-nil
 
+-- a string with visible ends does not start with white space
 visible_start : (bytes : List ℕ) → HasVisibleEnds bytes → StartsWithoutSpace (chars bytes)
 visible_start [] ends = absurd (omega (arith, ends.some))
 visible_start (c ∷ cs) ends =
@@ -89,6 +95,7 @@ visible_start (c ∷ cs) ends =
       head_is = visible_not_white c ends.start;
     }
 
+-- a string with visible ends does not end in white space
 visible_end : (bytes : List ℕ) → IsUtf8 bytes → HasVisibleEnds bytes → EndsWithoutSpace (chars bytes)
 visible_end bytes utf8 ends =
     let place = length bytes - 1 in
@@ -112,7 +119,7 @@ visible_end bytes utf8 ends =
 pub trim_visible : (bytes : List ℕ) → IsUtf8 bytes → HasVisibleEnds bytes → trim_of bytes ≡ chars bytes
 trim_visible bytes utf8 ends = nothing_to_drop (chars bytes) (visible_start bytes ends) (visible_end bytes utf8 ends)
 
--- and no white space at its start
+-- a string with visible characters of ASCII at both ends has no white space at its start
 pub no_leading_white : (bytes : List ℕ) → IsUtf8 bytes → HasVisibleEnds bytes → leading_white bytes ≡ 0
 unfolding trim_start
 no_leading_white bytes utf8 ends =

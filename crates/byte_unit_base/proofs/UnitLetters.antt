@@ -29,7 +29,7 @@ power_in_table letter below =
     let is = λ (c : ℕ). eqb (slice_index_or LETTER_POWERS c 0) (letter_power c) in
     eqb→eq _ (letter_power letter) (every_below is 256 tt letter below)
 
--- there are nine prefixes
+-- the position of a letter's prefix is at most 9
 pub power_few : (letter : ℕ) → letter_power letter ≤ 9
 power_few letter =
     elim (prefix_at letter) as (λ found. prefix_at letter ≡ found → elim found [ Some p ↦ p | None ↦ 0 ] ≤ 9) [
@@ -60,10 +60,11 @@ prefix_kept zero binary = refl
 prefix_kept (suc n) true = rw (not_zero n) refl
 prefix_kept (suc n) false = rw (not_zero n) refl
 
--- two letters in either case
+-- `i` in either case: 105 is `i`, and 73 is `I`
 i_is : (c : ℕ) → (eqb c 105 || eqb c 73) ≡ is_i c
 i_is c = grind (arith, nat_tests)
 
+-- `b` in either case: 66 is `B`, and 98 is `b`
 b_is : (c : ℕ) → eqb (to_ascii_lowercase c) 98 ≡ (eqb c 66 || eqb c 98)
 b_is c = grind (arith, nat_tests)
 
@@ -81,7 +82,8 @@ suffix_walk m j w rest none _ u _ l true i false t _ s = rw (none, b_is (w % 256
 suffix_walk m j w rest none _ u _ l true i true t false s = rw (none, b_is (w % 256), l, u, i, t, s, walk) refl
 suffix_walk m j w rest none _ u _ l true i true t true s = rw (none, b_is (w % 256), l, u, i, t, s, walk) refl
 
--- the letters that a number begins with, by their lengths, are what the state machine reads of them
+-- `text` is bytes as a number: the first `k` are a prefix, and the `n` after them, in `word`, the letters of a suffix.
+-- The state machine reads both, and its state after them has this prefix and this suffix
 unit_walk : (text n : ℕ) (rest : List ℕ) (o : Option ℕ) → prefix_at (text % 256) ≡ o
     → (i : Bool) → is_i (text / 256 % 256) ≡ i
     → let power : ℕ = elim o [ Some p ↦ p | None ↦ 0 ] in let binary = not (eqb power 0) && i in

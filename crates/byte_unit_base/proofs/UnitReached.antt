@@ -1,5 +1,8 @@
 -- What is known of the text that led to a state of the state machine of units, and that the unit of a state is spelled
 -- by it.
+--
+-- Of a position `h`, `h.0` and `h.1` are its bounds, and `h.2` is that the letter is there. Of a step `v` or of the
+-- kind `bit` of a unit, the first part is the next state or the kind, and the next ones that it is this.
 use Rattle.std.proofs.Common.{◌≡◌, ℕ, suc, ◌+◌, ◌-◌, ◌<◌, ◌≤◌, inl, inr, List, [], ◌∷◌, ◌++◌, length, Option, Some, None, sym}
 use Rattle.std.proofs.Common.{refl, ap, subst, ◌∙◌, arith, Bool, true, false, cond, eqb, eqb→eq, T, append-nil}
 use Rattle.std.specs.Prelude.{slice_index}
@@ -32,6 +35,7 @@ pub record Reached (s : UnitScan) (text : List ℕ) : Type 0 where
 abbrev IsPositionIn : List ℕ → ℕ → ℕ → ℕ → Type 0
 IsPositionIn letters first u p = (first ≤ p) × (p < first + length letters) × (u ≡ slice_index letters (p - first))
 
+-- if a search compares the first letter, and else goes on with the others, the letter is at the position that it gives
 position_here : (letter : ℕ) (letters : List ℕ) (first u p : ℕ) (is : Bool) → eqb u letter ≡ is
     → (position_in letters (suc first) u ≡ Some p → IsPositionIn letters (suc first) u p)
     → cond is (Some first) (position_in letters (suc first) u) ≡ Some p → IsPositionIn (letter ∷ letters) first u p
@@ -44,6 +48,7 @@ position_here letter letters first u p false same later e =
     let next : p - first ≡ suc (p - suc first) = omega (arith, h.0) in
     (omega (arith, h.0), omega (arith, h.1), rw next h.2)
 
+-- the position that the search gives is that of the letter
 position_found : (letters : List ℕ) (first u p : ℕ) → position_in letters first u ≡ Some p
     → IsPositionIn letters first u p
 position_found [] first u p e = absurd (let k : ⊥ = cc in k)
@@ -104,7 +109,7 @@ word_grows Bi Bit c text e h = grind (arith, nat_tests, e, lower_push text c, h)
 word_grows Bit Bits c text e h = grind (arith, nat_tests, e, lower_push text c, h)
 word_grows _ _ c text e h = grind (arith, nat_tests, e)
 
--- one character more of the prefix or of the suffix
+-- if one character more continues the suffix, the text with it led to the next state
 reached_by_word : (m : Multiple) (w : Word) (t : UnitScan) (c : ℕ) (text : List ℕ)
     → option_map (scan_of m) (word_step w c) ≡ Some t → Reached (scan_of m w) text → Reached t (text ++ c ∷ [])
 reached_by_word m w t c text h r =
@@ -117,6 +122,8 @@ reached_by_word m w t c text h r =
       word_is = word_grows w v.0 c r.word v.1 r.word_is;
     })
 
+-- if one character more, before a suffix, continues the prefix or begins the suffix, the text with it led to the next
+-- state
 reached_by_prefix : (m : Multiple) (t : UnitScan) (c : ℕ) (text : List ℕ) (o : Option Multiple) → multiple_step m c ≡ o
     → or_word m o (word_step Empty c) ≡ Some t → Reached (scan_of m Empty) text → Reached t (text ++ c ∷ [])
 reached_by_prefix m t c text None e h r = reached_by_word m Empty t c text h r

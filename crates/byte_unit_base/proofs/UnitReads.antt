@@ -27,16 +27,19 @@ use Rattle.byte_unit_base.proofs.Computed.{unit_computed}
 use Rattle.byte_unit_base.proofs.UnitReached.{Reached, Reached-step, Reached-start, Spells-reached}
 use Rattle.byte_unit_base.proofs.UnitRuns.{spelling_runs, unit_front_runs}
 
+-- the text of a prefix, or of none, is a viable prefix of a unit
 empty_front : (m : Multiple) (text : List ℕ) → IsMultipleText m text → IsViableUnitPrefix current (multiple_parser_state m) text
 empty_front One text h = h
 empty_front (Decimal p) text h = (p, false, h)
 empty_front (Binary p) text h = (p, true, h)
 
+-- the text of the prefix of a state is empty or a prefix
 some_prefix : (m : Multiple) (text : List ℕ) → IsMultipleText m text → (text ≡ []) ⊎ IsPrefix current text
 some_prefix One text h = inl h
 some_prefix (Decimal p) text h = inr (p, false, h)
 some_prefix (Binary p) text h = inr (p, true, h)
 
+-- a prefix and a beginning of a suffix are a viable prefix of a unit
 word_front : (place : ParserState) (m : Multiple) (w : Word) (text : List ℕ) (r : Reached (scan_of m w) text)
     → IsWord place r.word → IsViableWordPrefix current place text
 word_front place m w text r h = record {

@@ -1,4 +1,8 @@
 -- The state machine of units reads each spelling, and each of their viable prefixes, to its end.
+--
+-- Of a spelling `h` of a suffix, an infix or a prefix letter, `h.0` is its text, or that the position is at least 1,
+-- and `h.1` what it means, or that the position is known. Of a run that is known, as `front`, `word` or `c`, the first
+-- part is the prefix or the suffix of the state, and the next ones that the text leads to it and what it means.
 use Rattle.std.proofs.Common.{◌≡◌, ℕ, zero, suc, inl, inr, ⊎_elim, List, [], ◌∷◌, Some, sym, refl, ap, subst}
 use Rattle.std.proofs.Common.{◌∙◌, arith, Bool, not}
 use Rattle.std.specs.Option.{option_map}
@@ -68,7 +72,7 @@ step_prefix : (c : ℕ) (p : ℕ) → prefix_at c ≡ Some p → unit_step start
 unfolding unit_step
 step_prefix c p e = rw (e, prefix_at) refl
 
--- each prefix letter is found at its position
+-- each prefix letter is found at its position, from 1 to 9; the second case is a position of ten or more
 letter_prefix : (c power : ℕ) → IsPrefixLetter current power c → prefix_at c ≡ Some power
 letter_prefix c zero h = absurd (omega (arith, h.0))
 letter_prefix c (suc (suc (suc (suc (suc (suc (suc (suc (suc (suc n)))))))))) h = absurd (omega (arith, h.1))
@@ -151,6 +155,7 @@ word_of after_bit m text h = (Bit, run_suffix m Bit text h, refl)
 word_of after_bits m text h = (Bits, run_suffix m Bits text h, refl)
 word_of _ m text h = absurd h
 
+-- a prefix and a beginning of a suffix are read to their end, and have their parser state there
 run_word_front : (flags : Flags) (place : ParserState) (text : List ℕ) → IsViableWordPrefix current place text
     → IsScanned (unit_scan flags) place text
 run_word_front flags place text h =

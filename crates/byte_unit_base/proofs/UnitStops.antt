@@ -1,4 +1,7 @@
 -- The parser of a unit stops after the longest beginning of a unit, in the state that the state machine has there.
+--
+-- Of a walk `w`, `w.0` is the state where it ends, and `w.1` its length. Of a step `u`, `u.0` is the state after it.
+-- What is known of a walk, as `h`, is that its length is within the text, its run, and that no step follows.
 use Rattle.std.proofs.Common.{◌≡◌, ℕ, ◌+◌, ◌<◌, ◌≤◌, List, [], ◌∷◌, ◌++◌, Some, None, Err, length, take, drop, refl}
 use Rattle.std.proofs.Common.{sym, ap, ◌∙◌, arith, ◌⊎◌, inl, inr, ⊎_elim, length-drop, replicate, one-add}
 use Rattle.std.specs.Str.{chars, encode_utf8_all, IsUtf8, IsAscii}
@@ -71,6 +74,7 @@ kept_state One Empty = refl
 kept_state m Empty = refl
 kept_state m _ = refl
 
+-- if a state has no step for the next character, and no unit at the end, the result is the error that it keeps
 stopped : (flags : Flags) (scan : UnitScan) (rest : List ℕ) → (rest ≡ [] → unit_of flags scan ≡ None)
     → IsFirst (λ c. unit_step scan c ≡ None) rest
     → read (unit_scan flags) scan rest ≡ Err (unit_stop_fault flags (unit_stop scan) (next_char rest))

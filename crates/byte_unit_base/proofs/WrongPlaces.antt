@@ -33,8 +33,7 @@ use Rattle.byte_unit_base.proofs.SizeRest.{first_char, IsNoDigit, wide_no_digit,
 use Rattle.byte_unit_base.proofs.SizeRest.{text_from, utf8_from}
 use Rattle.byte_unit_base.proofs.UnitStops.{run_ascii, no_other_step}
 
--- the first byte after the first `end` bytes
-
+-- what holds of the byte at an index, if there is one, holds of the first byte from there on
 dropped_first : (Has : ℕ → Type 0) (bytes : List ℕ) (end : ℕ) → (end < length bytes → Has (get_or bytes end 0))
     → IsFirst Has (drop end bytes)
 dropped_first Has [] zero has = tt
@@ -42,8 +41,7 @@ dropped_first Has [] (suc end) has = tt
 dropped_first Has (b ∷ bs) zero has = has (omega arith)
 dropped_first Has (b ∷ bs) (suc end) has = dropped_first Has bs end (λ inside. has (omega (arith, inside)))
 
--- no state has a step at a character past ASCII
-
+-- no step is for a character past ASCII: after a number, and so from any state
 no_number_step : (n c : ℕ) → 128 ≤ c → after_number n c ≡ None
 no_number_step n c wide =
     let no_space : eqb c 32 ≡ false = grind (arith, nat_tests) in
@@ -68,12 +66,12 @@ no_step_first s bytes end utf8 within ascii none =
     first_char (λ c. size_step s c ≡ None) (wide_no_step s) (drop end bytes) (utf8_from bytes end utf8 within ascii)
     (dropped_first (λ c. size_step s c ≡ None) bytes end none)
 
--- the steps that there are not
-
+-- at the beginning, and after the point, there is no step for a character that is no digit
 no_first_step : (c : ℕ) → 10 ≤ digit_value c → size_step Beginning c ≡ None
 unfolding size_step
 no_first_step c other = grind (arith, nat_tests)
 
+-- in a whole part there is none for a digit that reaches the limit
 no_whole_step : (w c : ℕ) → digit_value c < 10 → whole_limit ≤ w * 10 + digit_value c → size_step (Whole w) c ≡ None
 unfolding size_step
 no_whole_step w c digit above = grind (arith, nat_tests)
@@ -82,6 +80,7 @@ no_point_step : (w c : ℕ) → 10 ≤ digit_value c → size_step (Point w) c �
 unfolding size_step
 no_point_step w c other = grind (arith, nat_tests)
 
+-- in a fraction there is none for a digit after 28 of them
 no_fraction_step : (w f j c : ℕ) → digit_value c < 10 → places_of_decimal ≤ j → size_step (Fraction w f j) c ≡ None
 unfolding size_step
 no_fraction_step w f j c digit full = grind (arith, nat_tests)
@@ -89,14 +88,14 @@ no_fraction_step w f j c digit full = grind (arith, nat_tests)
 no_digit : (c : ℕ) → 10 ≤ digit_value c → IsNoDigit c
 no_digit c other = grind (arith, nat_tests)
 
--- what the test for a digit says of its value
-
+-- the value of a character is below ten if the test takes it for a digit, and is else not below ten
 pub digit_small : (c : ℕ) → is_ascii_digit c ≡ true → digit_value c < 10
 digit_small c digit = grind (arith, nat_tests, digit)
 
 pub digit_large : (c : ℕ) → is_ascii_digit c ≡ false → 10 ≤ digit_value c
 digit_large c other = grind (arith, nat_tests, other)
 
+-- the byte of a digit is its value plus 48, the code of `0`
 pub digit_byte : (c : ℕ) → is_ascii_digit c ≡ true → digit_value c + 48 ≡ c
 digit_byte c digit = grind (arith, nat_tests, digit)
 
@@ -117,7 +116,7 @@ module _ (bytes : List ℕ) (utf8 : IsUtf8 bytes) where
     at_end = λ all. (no_value, refl);
   }
 
-  -- the bytes begin with a whole part
+  -- the bytes begin with a whole part of the value `value`, which ends at `end`
   module _ (end : ℕ) (len : IsWholeLen bytes end) (some : end ≡ 0 → ⊥) where
     abbrev value : ℕ
     value = len.value
@@ -164,7 +163,7 @@ module _ (bytes : List ℕ) (utf8 : IsUtf8 bytes) where
           },
         )
 
-    -- a point follows
+    -- a point follows: the bytes up to it are `pointed`, and those after it are `rest`
     module _ (inside : end < length bytes) (point_is : get_or bytes end 0 ≡ point) where
       abbrev rest : List ℕ
       rest = drop (end + 1) bytes
@@ -196,7 +195,7 @@ module _ (bytes : List ℕ) (utf8 : IsUtf8 bytes) where
             at_end = λ all. (not_number point, refl);
           }
 
-      -- digits of a fraction follow the point
+      -- digits of a fraction follow the point, up to `stop`, and their value is `fraction`
       module _ (places : ℕ) {after : List ℕ} (after_is : after ≡ rest) (are_places : IsPlacesLen after places)
           (some_places : places ≡ 0 → ⊥) where
         count : IsPlacesLen rest places
@@ -290,14 +289,13 @@ module _ (bytes : List ℕ) (utf8 : IsUtf8 bytes) where
               },
             )
 
--- spaces and a unit after a number
-
 -- the state after the spaces, in which the next character ends the number
 record AfterSpaces (n : ℕ) (s : SizeScan) (spaces : ℕ) (text : List ℕ) : Type 0 where
   pub state : SizeScan
   pub run_is : run size_step s (replicate spaces space) ≡ Some state
   pub next : IsFirst (EndsNumber state n) text
 
+-- after a number, spaces lead to such a state
 after_spaces : (n spaces : ℕ) (s : SizeScan) (text : List ℕ) → IsFirst (EndsNumber s n) (replicate spaces space ++ text)
     → AfterSpaces n s spaces text
 after_spaces n zero s text next = record { state = s; run_is = refl; next = next }
@@ -323,12 +321,14 @@ unit_first : (n c : ℕ) (s : SizeScan) → EndsNumber s n c → IsNoSpace c
 unit_first n c s ends other = let no_space : eqb c 32 ≡ false = grind (arith, nat_tests, other) in
     ends.step_is ∙ rw no_space refl
 
+-- within a unit after a number there is no step where the unit alone has none
 in_unit_next : (n : ℕ) (u : UnitScan) (rest : List ℕ) → IsFirst (λ c. unit_step u c ≡ None) rest
     → IsFirst (λ c. size_step (UnitAt n u) c ≡ None) rest
 unfolding size_step
 in_unit_next n u [] next = tt
 in_unit_next n u (c ∷ cs) next = ap (option_map (UnitAt n)) next
 
+-- after a number, the beginning of a unit leads to such a state
 after_unit : (n : ℕ) (s : SizeScan) (unit rest : List ℕ) (u : UnitScan) → IsFirst (EndsNumber s n) (unit ++ rest)
     → IsFirst IsNoSpace (unit ++ rest) → run unit_step unit_start unit ≡ Some u
     → IsFirst (λ c. unit_step u c ≡ None) rest → AfterUnit u s unit rest

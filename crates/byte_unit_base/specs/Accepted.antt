@@ -32,7 +32,7 @@ pub record IsAcceptedAs
   pub is_read : IsReadAs meant version kind ignore_case text number n
   pub below : n < version.size_limit
 
--- the same for the unit that is written
+-- the input is accepted as a size in a version, by the unit that is written
 abbrev pub IsAcceptedIn : Version → Kind → Bool → List ℕ → ℕ → Type 0
 IsAcceptedIn = IsAcceptedAs as_written
 
@@ -49,7 +49,7 @@ pub record ExceedsAs
   pub is_read : IsReadAs meant version kind ignore_case text number size
   pub above : version.size_limit ≤ size
 
--- the same for the unit that is written
+-- the size of the input is too large in a version, by the unit that is written
 abbrev pub ExceedsIn : Version → Kind → Bool → List ℕ → ℕ → Type 0
 ExceedsIn = ExceedsAs as_written
 
@@ -73,7 +73,7 @@ IsRejectedAs meant version kind ignore_case text fault =
     ((number : ℕ) × (fault ≡ exceeded number) × ExceedsAs meant version kind ignore_case text number)
     ⊎ HasFaultIn version kind ignore_case text fault
 
--- the same for the unit that is written
+-- the input is rejected in a version, by the unit that is written
 abbrev pub IsRejectedIn : Version → Kind → Bool → List ℕ → Fault → Type 0
 IsRejectedIn = IsRejectedAs as_written
 

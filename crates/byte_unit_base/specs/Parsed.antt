@@ -47,6 +47,6 @@ unfoldable pub parsed_size_as : (Shape → Shape) → Kind → Bool → List ℕ
 parsed_size_as meant kind ignore_case bytes =
     size_of_parsed meant kind (parsed_number (flags_for kind ignore_case) bytes)
 
--- the same for the unit that is written
+-- the size that the input is accepted as, or the error, by the unit that is written
 abbrev pub parsed_size : Kind → Bool → List ℕ → Result ℕ Fault
 parsed_size = parsed_size_as as_written

@@ -45,7 +45,7 @@ position_in (letter ∷ letters) first u = if u == letter then Some first else p
 abbrev pub prefix_at : ℕ → Option ℕ
 prefix_at c = position_in current.letters 1 (to_ascii_uppercase c)
 
--- whether the character is `i` or `I`
+-- whether the character is `i` (105) or `I`
 abbrev pub is_i : ℕ → Bool
 is_i c = to_ascii_lowercase c == 105
 

@@ -160,6 +160,8 @@ impl Clone for JsonSizeError {
     }
 }
 
+// `output` is what `Display` writes without flags of the formatter, and `styled_output` what it writes under any.
+
 impl fmt::Display for ExceededBoundsError {
     ghost use Rattle.byte_unit_base.specs.FaultText.{exceeded_text};
 

@@ -186,6 +186,7 @@ impl Unit {
         ensures fives { result.1 ≡ fives (shape_of self) }
     {
         let Shape { power, binary, bit } = self.shape();
+        // A byte is 2^3 bits, and a decimal prefix is (2^3 * 5^3)^power.
         let byte = if bit { 0 } else { 3 };
         if binary {
             (10 * power + byte, 0)
@@ -236,6 +237,7 @@ impl fmt::Display for Unit {
     ghost use Rattle.std.specs.Prelude.{Some};
     ghost use Rattle.byte_unit_base.specs.Units.{shape_of};
 
+    // What is written without flags, and under any.
     ghost output = { λ unit. Some (unit_name unit) };
 
     ghost styled_output = { λ unit spec. Some (unit_name unit) };

@@ -1,4 +1,6 @@
 -- The parser of an adjusted size as a function: the unit that it computes is the appropriate one.
+--
+-- Of the units of a list, `members.0` is that the first one is in the unit set, and `members.1` that the others are.
 use Rattle.std.proofs.Common.{◌≡◌, ℕ, ◌*◌, ◌≤◌, true, false, List, [], ◌∷◌, Result, Ok, Err, refl, sym, ap, ◌∙◌}
 use Rattle.std.proofs.Common.{leb, arith, ⊎_elim, inl, inr, IfOk}
 use Rattle.std.specs.List.{AllByRecursion}
@@ -27,7 +29,9 @@ use Rattle.byte_unit_base.proofs.Computed.{unit_of_its_shape}
 use Rattle.byte_unit_choice.proofs.OneChoice.{same_unit}
 use Rattle.byte_unit_choice.proofs.Falling.{IsIn, falls, in_falling, all_in_family, le_of_falls, current_falls}
 
+-- a size in bits, a unit set, and the unit that is taken if no unit of the set is small enough
 module _ (family : Family) (in_bits : ℕ) (own : Shape) where
+  -- a unit of the unit set that is not above the size may be chosen, since every type of prefix is allowed
   eligible : (unit : Shape) → InFamily current family unit → bits unit ≤ in_bits
       → IsEligibleUnit family Both in_bits unit
   eligible unit member not_above = record { member = member; of_type = tt; not_above = not_above }
@@ -62,6 +66,7 @@ module _ (family : Family) (in_bits : ℕ) (own : Shape) where
       let above : ¬ (bits x ≤ in_bits) = λ below. none x (eligible x members.0 below) in
       grind (arith, nat_tests, rest, above)
 
+-- the shape that is computed is the largest one not above the size, or the base unit of the kind if there is none
 computed_shape : (kind : Kind) (size : ℕ) (unit : Shape)
     → IsLargestOrOwn kind (IsEligibleUnit (own_family kind) Both (size * bits_in kind)) unit
     → largest_unit_of kind size ≡ unit
@@ -83,6 +88,7 @@ computed_unit : (kind : Kind) (size : ℕ) (unit : UnitName) → IsAppropriate k
 computed_unit kind size unit is =
     ap unit_of_shape (computed_shape kind size (shape_of unit) is) ∙ unit_of_its_shape unit
 
+-- a parser that returns the size of the function and the appropriate unit of this size returns what the function gives
 adjusted_by_size : (kind : Kind) (bytes : List ℕ) (r : Result AdjustedSize ParseError)
     → result_map_both (λ n. n) size_fault (size_answer r) ≡ parsed_size kind false bytes
     → IfOk r (λ adjusted. IsAppropriate kind Both adjusted.size adjusted.unit)

@@ -27,14 +27,17 @@ falls bound (x ∷ xs) = leb (bits x) bound && falls (bits x) xs
 abbrev pub Remain : (Shape → Type 0) → List Shape → Type 0
 Remain Has units = (unit : Shape) → Has unit → IsIn unit units
 
+-- a unit of the first list is in both lists put together
 IsIn-left : (xs ys : List Shape) (unit : Shape) → IsIn unit xs → IsIn unit (xs ++ ys)
 IsIn-left [] ys unit h = absurd h
 IsIn-left (x ∷ xs) ys unit h = ⊎_elim inl (λ k. inr (IsIn-left xs ys unit k)) h
 
+-- a unit of the second list is in both lists put together
 IsIn-right : (xs ys : List Shape) (unit : Shape) → IsIn unit ys → IsIn unit (xs ++ ys)
 IsIn-right [] ys unit h = h
 IsIn-right (x ∷ xs) ys unit h = inr (IsIn-right xs ys unit h)
 
+-- each unit of a prefix whose kind is in the unit set is in the list of the units of this prefix
 in_prefix : (family : Family) (power : ℕ) (binary bit : Bool) → HasKind family bit
     → IsIn (shape power binary bit) (units_of_prefix family power)
 in_prefix All power true false k = grind arith
@@ -74,6 +77,7 @@ falls_after [] bound i d h within = absurd (omega (arith, within))
 falls_after (x ∷ xs) bound zero d h within = (and_parts _ _ h).1
 falls_after (x ∷ xs) bound (suc i) d h within = falls_after xs (bits x) i d (and_parts _ _ h).1 (omega (arith, within))
 
+-- the units of the first n prefix letters fall, for each n up to the number of prefixes: evaluated one by one
 known_lists_fall : (family : Family)
     → agree_below (λ n. falls unit_limit (units_of_prefixes family n)) (λ n. true) (prefix_count + 1) ≡ true
 known_lists_fall All = refl
@@ -89,6 +93,7 @@ current_falls family n few =
 abbrev pub units_per_prefix : Family → ℕ
 units_per_prefix family = length (units_of_prefixes family prefix_count) / prefix_count
 
+-- each prefix letter has the same number of units in a unit set
 length_of_prefix : (family : Family) (power : ℕ) → length (units_of_prefix family power) ≡ units_per_prefix family
 length_of_prefix All power = omega arith
 length_of_prefix _ power = omega arith

@@ -1,4 +1,7 @@
 -- The greatest step count of choosing a unit.
+--
+-- The `test` whether a size is exact in a unit gives two parts, for the exponent of 2 and for that of 5; before it is
+-- applied, its parts are its two directions.
 use Rattle.std.proofs.Common.{◌≡◌, ℕ, ◌+◌, ◌-◌, ◌*◌, ◌^◌, ◌<◌, ◌≤◌, ⊎_elim, inl, inr}
 use Rattle.std.proofs.Common.{Bool, true, false, ltb, max, refl, arith, ap, ◌∙◌, subst}
 use Rattle.std.proofs.Math.Nat.{mul-le-mul_left, mul-le-mul_right, one-le-pow, pow-le-pow_left, pow-le-pow_right}

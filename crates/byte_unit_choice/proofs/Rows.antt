@@ -1,4 +1,8 @@
 -- The rows of the table of units that a size can have, and the search for the largest that has a property.
+--
+-- The highest bit `top` of a number is its index, the leading zeros before it, and the two powers of two that bound the
+-- number. Of a unit that may be found, `m.0` is that it is in the unit set, `m.1` that it is not above the size, and
+-- `m.2` that its prefix is listed.
 use Rattle.std.proofs.Common.{◌≡◌, ℕ, ◌+◌, ◌-◌, ◌*◌, ◌/◌, ◌^◌, ◌<◌, ◌≤◌, ⊎_elim, suc, Bool, true, false, List, [], ◌∷◌}
 use Rattle.std.proofs.Common.{length, map, max, drop, get_or, add-one, drop-cons, ◌&&◌, leb, arith, sym, ap, ◌∙◌, subst}
 use Rattle.std.proofs.Common.{refl}
@@ -49,11 +53,13 @@ pub record HasPowers (family : Family) (in_bits most_twos most_fives : ℕ) (uni
 abbrev reaches : Bool → Bool → ℕ → Bool
 reaches binary bit power = leb (2 ^ (10 * power - 1)) (bits (shape power binary bit))
 
+-- the units of each prefix letter have enough binary digits: evaluated one by one
 known_units_reach : (binary bit : Bool) → agree_below (reaches binary bit) (λ n. true) (prefix_count + 1) ≡ true
 known_units_reach true true = refl
 known_units_reach false true = refl
 known_units_reach _ _ = refl
 
+-- a unit with the n-th prefix letter has at least 2^(10 n - 1) bits, so 10 n binary digits
 reaches_its_prefix : (unit : Shape) → HasPrefix current unit → 2 ^ (10 * unit.power - 1) ≤ bits unit
 reaches_its_prefix unit prefix =
     leb-true _ _ (agree_below_at (reaches unit.binary unit.bit) (λ n. true) (prefix_count + 1) unit.power
@@ -90,6 +96,7 @@ rows_behind family rows prefixes skipped all few count =
     sym (drop-map row_shape skipped rows)
     ∙ (ap (drop skipped) all ∙ (drop-map row_of skipped units ∙ ap (map row_of) (ap (λ n. drop n units) here ∙ behind)))
 
+-- if the rows are those of a list of units, their units are the list
 units_of_rows : (rows : List UnitRow) (units : List Shape) → map row_shape rows ≡ map row_of units
     → map unit_in rows ≡ units
 units_of_rows [] [] e = refl

@@ -1,4 +1,7 @@
 -- Whether a size is exact in a unit follows from their exponents of 2 and 5; so does the unit that is chosen.
+--
+-- The exponents `h` of a number are that of 2, that of 5, and that these are its exponents. The two parts of
+-- `known_zeros` are for a byte and for a bit.
 use Rattle.std.proofs.Common.{◌≡◌, ◌≢◌, ℕ, ◌+◌, ◌*◌, ◌^◌, ◌<◌, ◌≤◌, ◌⊎◌, ⊎_elim, inl, inr, arith, refl, sym, ap, ◌∙◌}
 use Rattle.std.proofs.Math.Nat.{pow-le-pow_right, mul-le-mul_left}
 use Rattle.std.proofs.lemmas.Nat.{pow-add}
@@ -20,6 +23,7 @@ use Rattle.byte_unit_base.specs.declared.kind.Kind.TheVariants.{Byte, Bit}
 use Rattle.byte_unit_choice.specs.declared.choice.Family.{Family}
 use Rattle.byte_unit_choice.specs.Multiples.{ShapeRow}
 
+-- a size that is not zero is not zero bits
 some_bits_in : (kind : Kind) (size : ℕ) → size ≢ 0 → size * bits_in kind ≢ 0
 some_bits_in Byte size some = λ e. some (omega (arith, e))
 some_bits_in Bit size some = λ e. some (omega (arith, e))
@@ -42,6 +46,7 @@ eight_times size a b h =
     let p = ap (λ n. h.left * (n * 5 ^ b)) (pow-add 2 a 3) in
     record { left = h.left; product = e ∙ (omega arith ∙ sym p); odd = h.odd; no_five = h.no_five }
 
+-- 8, the bits of a byte, has three trailing zero bits, and 1 has none
 known_zeros : (trailing_zeros w128 8 ≡ 3) × (trailing_zeros w128 1 ≡ 0)
 unfolding lib.Count.count_trailing_zeros
 known_zeros = (refl, refl)
@@ -67,6 +72,7 @@ in_bits_product size own_bits left a b (inr e) h =
 -- the units with no greater exponents than those of the size plus the places are those in which it is exact
 module _ {family : Family} {in_bits most a b : ℕ} (precision : ℕ) (same : most ≡ places_within precision)
     (powers : IsTwoFive in_bits a b) where
+  -- a unit whose exponents are no greater than those of the size plus the places is one in which the size is exact
   exact_of_powers : (unit : Shape) → HasPowers family in_bits (a + most) (b + most) unit
       → IsExactUnit family in_bits precision unit
   exact_of_powers unit h = record {
@@ -76,6 +82,7 @@ module _ {family : Family} {in_bits most a b : ℕ} (precision : ℕ) (same : mo
         ((exact_by_powers in_bits (twos unit) (fives unit) a b most powers).1 (h.few_twos, h.few_fives));
   }
 
+  -- a unit in which the size is exact has no greater exponents than those of the size plus the places
   powers_of_exact : (unit : Shape) → IsExactUnit family in_bits precision unit
       → HasPowers family in_bits (a + most) (b + most) unit
   powers_of_exact unit s =

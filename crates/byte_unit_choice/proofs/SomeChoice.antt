@@ -1,4 +1,8 @@
 -- A size has a chosen unit and number, or it is exact in no unit at the precision.
+--
+-- Of what is decided of a unit, `h.0` is that it is in the unit set, and `h.1` that it is not above the size and that
+-- the size is exact in it. What is `found` is a unit, that it has the property, and that no other one with it is
+-- larger; that a size is `exact` is a count and an equation.
 use Rattle.std.proofs.Common.{ℕ, ◌*◌, ◌/◌, ◌%◌, ◌^◌, ◌-◌, ◌≤◌, ◌⊎◌, ⊎_elim, inl, inr, Bool, true, List, [], ◌∷◌, length}
 use Rattle.std.proofs.Common.{arith, refl, sym, ap, subst}
 use Rattle.std.proofs.Math.Nat.{div-add-mod', mul-mod_left}
@@ -19,14 +23,17 @@ use Rattle.byte_unit_choice.proofs.Falling.{IsIn, in_falling}
 abbrev Decided : Type 0 → Type 0
 Decided Fact = Fact ⊎ ¬ Fact
 
+-- if each of two facts holds or not, both hold or not
 both_decided : {First Second : Type 0} → Decided First → Decided Second → Decided (First × Second)
 both_decided (inl a) (inl b) = inl (a, b)
 both_decided (inl a) (inr fails) = inr (λ h. fails h.1)
 both_decided (inr fails) _ = inr (λ h. fails h.0)
 
+-- a number is at most another, or it is not
 le_decided : (a b : ℕ) → Decided (a ≤ b)
 le_decided a b = ⊎_elim (λ l. inr (λ h. omega (arith, l, h))) (λ h. inl h) (cases_lt b a)
 
+-- a unit set has units of a kind, or it has none
 kind_decided : (family : Family) (bit : Bool) → Decided (HasKind family bit)
 kind_decided All bit = inl tt
 kind_decided Bytes true = grind arith
@@ -41,6 +48,7 @@ exact_decided size unit places =
     (λ some. inr (λ e. omega (arith, ap (λ n. n % unit) e.1, mul-mod_left e.0 unit, some)))
     (cases_lt (scaled % unit) 1)
 
+-- a size is exact in a unit of the set that is not above it, or the unit is not such
 states_decided : (version : Version) (family : Family) (in_bits precision : ℕ) (unit : Shape)
     → Decided (IsExactUnitIn version family in_bits precision unit)
 states_decided version family in_bits precision unit =
@@ -62,6 +70,7 @@ LargestOrNone Has units =
     ((unit : Shape) × Has unit × ((other : Shape) → IsIn other units → Has other → bits other ≤ bits unit))
     ⊎ ((unit : Shape) → IsIn unit units → ¬ (Has unit))
 
+-- a unit `x`, before the units `xs`, of which the largest that has the property is known
 module _ (Has : Shape → Type 0) (x : Shape) (xs : List Shape) where
   -- a bound for the units that have the property is one with a unit more that is no larger, or does not have it
   bounds_more : (bound : ℕ) → (Has x → bits x ≤ bound)
@@ -70,6 +79,7 @@ module _ (Has : Shape → Type 0) (x : Shape) (xs : List Shape) where
   bounds_more bound first rest other i h =
       ⊎_elim (λ e. omega (arith, ap bits e, first (subst Has (sym e) h))) (λ k. rest other k h) i
 
+  -- with one unit more, there still is a largest unit that has the property, or none has it
   one_more : Decided (Has x) → LargestOrNone Has xs → LargestOrNone Has (x ∷ xs)
   one_more (inr fails) (inl (unit, found, low)) = inl (unit, found, bounds_more (bits unit) (λ h. absurd (fails h)) low)
   one_more (inr fails) (inr none) = inr (λ other i h. ⊎_elim (λ e. fails (subst Has (sym e) h)) (λ k. none other k h) i)

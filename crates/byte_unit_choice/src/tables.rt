@@ -32,6 +32,7 @@ macro_rules! rows {
 
 /// Makes the rows of the first prefix, for bytes and for bits, and goes on with those of the other prefixes.
 macro_rules! rows_before {
+    // 1000^n is 2^(3 n) * 5^(3 n) and 1024^n is 2^(10 n); a byte is 2^3 bits.
     ($set:ident [$($made:tt)*]
         $letter:literal $bit:ident $ibit:ident $b:ident $ib:ident $n:literal $decimal:literal $binary:literal
         $(, $($rest:tt)*)?

@@ -1,4 +1,8 @@
 -- A size has exactly one text in a given unit by each spec.
+--
+-- Of a text by a rule, as `of_text`, the parts are the expansion or the nearest decimal, that it is this, and the text
+-- of it. The same holds of `of_other`. A nearest decimal that is `found` is its number, and that it is nearest; a text
+-- that is `found` is the text, and that it is by the rule.
 use Rattle.std.proofs.Common.{◌≡◌, ℕ, ◌+◌, ◌*◌, ◌/◌, ◌%◌, ◌^◌, ◌<◌, ◌≤◌, ◌++◌, ⊎_elim, List, arith, ap, sym, refl, ◌∙◌}
 use Rattle.std.specs.Fmt.{decimal}
 use Rattle.std.proofs.Math.Nat.{div-add-mod', mod-eq_of_lt, pow-le-pow_right}
@@ -32,6 +36,7 @@ use Rattle.byte_unit_base.specs.Units.{shape_of}
 use Rattle.byte_unit_base.specs.declared.unit.Unit.{Unit as UnitName}
 use Rattle.byte_unit_format.specs.FormLaws.{SizeHasOneAdjustedForm}
 
+-- A quotient has at most one text by a rule.
 numeral_unique : (rule : Rule) (num den : ℕ) (text other : List ℕ) → 0 < den → IsNumeralBy rule num den text
     → IsNumeralBy rule num den other → text ≡ other
 numeral_unique full num den text other some of_text of_other =
@@ -55,6 +60,7 @@ adjusted_form_unique {version} {kind} {size} {unit} {spec} form other =
     form.number_is other.number_is in
     rw (form.text_is, other.text_is, same) refl
 
+-- For each quotient there is a nearest multiple of 10^-places, whichever way ties are broken.
 nearest_exists : (num den places : ℕ) (ties : Ties) → 0 < den → (q : ℕ) × IsNearest num den places ties q
 nearest_exists num den places Even some =
     let below = num * 10 ^ places / den in
@@ -77,6 +83,7 @@ nearest_exists num den places Up some =
 pow10_of_sum : (twos fives : ℕ) → 10 ^ (twos + fives) ≡ (5 ^ twos * 2 ^ fives) * (2 ^ twos * 5 ^ fives)
 pow10_of_sum twos fives = rw (pow-add 10 twos fives, mul-pow 2 5 twos, mul-pow 2 5 fives) (omega arith)
 
+-- A quotient by 2^twos * 5^fives has a text by each rule.
 numeral_exists : (rule : Rule) (num twos fives : ℕ) → 0 < 2 ^ twos * 5 ^ fives
     → (text : List ℕ) × IsNumeralBy rule num (2 ^ twos * 5 ^ fives) text
 numeral_exists full num twos fives some =

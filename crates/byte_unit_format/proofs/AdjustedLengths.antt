@@ -1,5 +1,8 @@
 -- The text of a size in a unit has at most as many bytes as the width, or as 31 digits, the point, its digits after the
 -- point, and four columns.
+--
+-- Of a number that is `found`, `found.0` is its expansion or nearest decimal, `found.1` that it is this, and `found.2`
+-- its text.
 use Rattle.std.proofs.Common.{◌≡◌, ℕ, ◌+◌, ◌*◌, ◌/◌, ◌^◌, ◌<◌, ◌≤◌, ⊎_elim, min, Bool, true, false, Option, None, Some}
 use Rattle.std.proofs.Common.{List, length, arith, ap, refl}
 use Rattle.std.specs.Fmt.{decimal}
@@ -68,7 +71,7 @@ text_length e places small few =
       length-decimal-le_wide 31 e.whole (omega arith) small (omega (arith, small)),
     )
 
--- The text of a quotient with all its digits.
+-- With all its digits, the text of a quotient that is exact at some places has at most 32 more bytes than these.
 full_length : (num den places : ℕ) (number : List ℕ) → 0 < den → num < 10 ^ 31 → IsExactAt num den places
     → (e : Finite) × IsExpansion num den e × (number ≡ text_of e) → length number ≤ 32 + places
 full_length num den places number some small exact found =
@@ -79,18 +82,20 @@ full_length num den places number some small exact found =
 rounded_whole : (num places q : ℕ) → num < 10 ^ 31 → q ≤ num * 10 ^ places → q / 10 ^ places < 10 ^ 31
 rounded_whole num places q small within = grind (arith, one_le_pow10 places)
 
+-- With all `places` digits after the point, its text has at most 32 + places bytes: 31 digits and the point.
 round_length : (num places q : ℕ) → num < 10 ^ 31 → q ≤ num * 10 ^ places → length (numeral q places) ≤ 32 + places
 round_length num places q small within =
     text_length (at_places places q) places (rounded_whole num places q small within)
     (omega (arith, length_last_digits places q))
 
+-- Without trailing zeros, the text of a number of 10^-places is no longer than with them.
 short_length : (num places q : ℕ) → num < 10 ^ 31 → q ≤ num * 10 ^ places
     → length (short_numeral q places) ≤ 32 + places
 short_length num places q small within =
     text_length (trim_expansion (at_places places q)) places (rounded_whole num places q small within)
     ((short_numeral_is_expansion q places).least places (q, refl))
 
--- The number of a size in a unit, by the precision and the alternate form.
+-- By each rule, the number of a size in a unit has at most 32 more bytes than the most digits after the point.
 numeral_length :
     (precision : Option ℕ) (alternate : Bool) (kind : Kind) (size : ℕ) (unit : UnitName) (number : List ℕ)
     → size * bits_in kind < 10 ^ 31

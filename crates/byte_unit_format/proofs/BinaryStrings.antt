@@ -1,4 +1,6 @@
 -- The string that a size is stored as for the binary reading is read as the size.
+--
+-- A `string` is the exact unit of the size, that it is this, and that the text is by it.
 use Rattle.std.proofs.Common.{◌≡◌, ◌≢◌, ◌<◌, ℕ, nat_lt, List, Bool, true, false, if◌then◌else◌, refl, sym, ◌∙◌, ap}
 use Rattle.std.proofs.Common.{arith}
 use Rattle.byte_unit_base.specs.Shape.{Shape, shape}
@@ -14,6 +16,7 @@ use Rattle.byte_unit_format.proofs.WrittenForms.{recovered_unit_unique}
 use Rattle.byte_unit_format.proofs.ReadBack.{accepted_as, digits_accepted, form_is_size, size_form_reads_back}
 use Rattle.byte_unit_format.proofs.ReadBack.{plain_form_reads_back}
 
+-- A unit with a binary prefix (`some` says that it has one) is unchanged if its prefix is made binary.
 by_power : (some : Bool) (unit : Shape) → (if some then unit.binary else false) ≡ true
     → (if some then shape unit.power true unit.bit else unit) ≡ unit
 by_power true unit prefix = ap (λ binary. shape unit.power binary unit.bit) (sym prefix)
@@ -23,6 +26,7 @@ by_power false unit prefix = refl
 itself : (unit : Shape) → has_binary_prefix unit ≡ true → binary_of unit ≡ unit
 itself unit prefix = by_power (nat_lt 0 unit.power) unit prefix
 
+-- Specs that set no sign ask for no plus sign.
 not_plus : Unset ≢ Plus
 not_plus = grind arith
 
@@ -35,6 +39,8 @@ binary_form_accepted kind ignore_case size text below form prefix =
     accepted_as binary_of kind ignore_case text form.number size form.unit (itself form.unit prefix)
     (form_is_size kind size alternate_spec ignore_case text below form) form.number_is below
 
+-- Both readings accept the string of a size, which has a unit if its exact unit has a binary prefix, and is else digits
+-- only.
 by_prefix :
     (kind : Kind) (ignore_case : Bool) (size : ℕ) (text : List ℕ) → size < current.size_limit → (unit : Shape)
     → IsRecoveredIn current kind false size default_precision unit → (is_binary : Bool)

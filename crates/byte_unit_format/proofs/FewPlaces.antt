@@ -1,4 +1,7 @@
 -- The largest prefixes in which a size has few digits after the point, and the unit of the larger one.
+--
+-- That a size is `exact` at some places is a count and an equation. The highest bit `top` of a size is its index, the
+-- leading zeros before it, and the two powers of two that bound the size.
 use Rattle.std.proofs.Common.{◌≡◌, ◌≢◌, ℕ, ◌+◌, ◌-◌, ◌*◌, ◌/◌, ◌%◌, ◌^◌, ◌<◌, ◌≤◌, ⊎_elim, inl, inr, Bool, true, false}
 use Rattle.std.proofs.Common.{min, zero, suc, arith, ap, sym, refl, ◌∙◌}
 use Rattle.std.specs.Int.{w128, leading_zeros, trailing_zeros}
@@ -52,6 +55,7 @@ power_divides base step left count low high some odd same = ⊎_elim
 pub few_thousands : (power size : ℕ) → size < size_limit → 10 ^ (3 * power) ≤ size → power ≤ 9
 few_thousands power size small at_most = grind (arith, pow-le-pow_right {n = 10} (omega arith) {i = 30} {j = 3 * power})
 
+-- The position of a binary prefix that is at most a size is at most 9, since a size is below 2^100.
 pub few_binary : (power size : ℕ) → size < size_limit → 2 ^ (10 * power) ≤ size → power ≤ 9
 few_binary power size small at_most = grind (arith, pow-le-pow_right {n = 2} (omega arith) {i = 100} {j = 10 * power})
 
@@ -163,7 +167,8 @@ left_over whole thousandths (suc (suc zero)) few left = omega (arith, left)
 left_over whole thousandths (suc (suc (suc zero))) few left = absurd (left (omega arith))
 left_over whole thousandths (suc (suc (suc (suc more)))) few left = absurd (omega (arith, few))
 
--- Else the prefix before it is the largest one, and the size is whole in it.
+-- If the thousandths lack the zeros for the places, the prefix before it is the largest one, in which the size is
+-- whole.
 pub greatest_before : {places size power : ℕ} (whole thousandths : ℕ) → places ≤ 3 → 1 ≤ power
     → 10 ^ (3 * power) ≤ size → (whole * 1000 + thousandths) * 10 ^ (3 * power) ≡ size * 1000
     → thousandths % 10 ^ (3 - places) ≢ 0 → IsGreatest places 10 3 size (power - 1)
@@ -243,6 +248,7 @@ by_prefix : {places size : ℕ} (At : ℕ → Bool → Type 0)
 by_prefix At twos tens other true fits = twos other fits
 by_prefix At twos tens other false fits = tens other fits
 
+-- a size of a kind, with at most three digits after the point
 module _ (kind : Kind) (places size : ℕ) (few : places ≤ 3) where
   -- Few places are not cut off.
   within : places_within places ≡ places

@@ -1,4 +1,6 @@
 -- What the first version of the grammar accepts and formats, the current version does in the same way.
+--
+-- Of a prefix letter, `letter_is` is the two bounds of its position, and an equation.
 use Rattle.std.proofs.Common.{◌≡◌, ℕ, ◌-◌, ◌*◌, ◌<◌, ◌≤◌, inl, inr, Bool, false, List, length, rules, arith, sym, ap}
 use Rattle.std.proofs.Common.{◌∙◌}
 use Rattle.std.specs.Prelude.{◌↔◌, slice_index}
@@ -34,6 +36,7 @@ name_stays : (power : ℕ) (binary bit : Bool) → power ≤ length first_versio
     → unit_name_in first_version (shape power binary bit) ≡ unit_name_in current (shape power binary bit)
 name_stays power binary bit known = grind (arith, nat_tests, letter_stays power)
 
+-- A prefix of the first version has the same spelling.
 prefix_stays : (text : List ℕ) (power : ℕ) (binary : Bool) → SpellsPrefix first_version text power binary
     → SpellsPrefix current text power binary
 prefix_stays text power binary h =
@@ -41,12 +44,14 @@ prefix_stays text power binary h =
     let same = h.letter_is.2 ∙ letter_stays power h.letter_is.0 h.letter_is.1 in
     search (rules, known, same)
 
+-- A unit of the first version has the same spellings.
 spelling_stays : (flags : Flags) (text : List ℕ) (unit : Shape) → Spells first_version flags text unit
     → Spells current flags text unit
 spelling_stays flags text unit (inl h) = inl h
 spelling_stays flags text unit (inr h) =
     let prefix = prefix_stays h.prefix_part unit.power unit.binary h.prefix_is in inr (search (rules, prefix))
 
+-- A number of the first version is the same number.
 number_stays : (text : List ℕ) (number : ℕ) → IsNumberText first_version text number → IsNumberText current text number
 number_stays text number (inl h) = inl (search rules)
 number_stays text number (inr h) = inr (search rules)
@@ -70,6 +75,7 @@ member_is_old kind size unit small h not_above =
     let few = exponent_below 10 (3 * unit.power) 27 size (omega arith) (omega (arith, least, fits)) small in
     record { prefix = record { some = h.prefix.some; known = omega (arith, few) }; kind = h.kind }
 
+-- A unit of a unit set in the first version is one in the current version.
 member_stays : (family : Family) (unit : Shape) → InFamily first_version family unit → InFamily current family unit
 member_stays family unit h =
     record { prefix = record { some = h.prefix.some; known = omega (arith, h.prefix.known) }; kind = h.kind }
@@ -98,6 +104,7 @@ recovered_old : (kind : Kind) (size precision : ℕ) (unit : Shape)
 recovered_old kind size precision unit (inl h) = h.has.member.prefix.known
 recovered_old kind size precision unit (inr h) = omega (arith, ap (λ s. s.power) h.1)
 
+-- A size of the first version has the same exact unit at each precision.
 recovered_stays : (kind : Kind) (size precision : ℕ) (unit : Shape) → size < first_version.size_limit
     → IsRecoveredIn first_version kind false size precision unit ↔ IsRecoveredIn current kind false size precision unit
 recovered_stays kind size precision unit small =
@@ -109,6 +116,7 @@ recovered_stays kind size precision unit small =
     λ other h. assumption (member_is_old kind size other small h.member h.not_above) in
     (same_largest kind _ _ unit there back, same_largest kind _ _ unit back there)
 
+-- A number with a unit of the first version is laid out the same.
 layout_stays : (number : List ℕ) (unit : Shape) (spec : FormatSpec) → unit.power ≤ length first_version.letters
     → layout number (unit_name_in first_version unit) spec ≡ layout number (unit_name_in current unit) spec
 layout_stays number unit spec known =

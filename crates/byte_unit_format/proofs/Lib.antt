@@ -1,3 +1,4 @@
+-- The lemmas that the proofs of this crate rest on: the parts of a text, its forms, and what is read of them.
 pub mod NamedSpecs
 pub mod WrittenForms
 pub mod TextParts

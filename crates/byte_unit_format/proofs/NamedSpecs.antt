@@ -5,5 +5,6 @@ use Rattle.byte_unit_format.specs.contracts.spec.FormatSpecPartialEq.TheImpl.{eq
 use Rattle.byte_unit_format.specs.NamedSpecs.{alternate_spec}
 use Rattle.byte_unit_format.specs.declared.spec.FormatSpec.{FormatSpec}
 
+-- A spec that the derived `==` finds equal to the alternate form is the alternate form.
 pub is_alternate : (spec : FormatSpec) → eq-value.it spec alternate_spec ≡ true → spec ≡ alternate_spec
 is_alternate spec equal = grind (arith, nat_tests)

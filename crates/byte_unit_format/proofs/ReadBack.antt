@@ -1,4 +1,6 @@
 -- A formatted size is read as the size, and what the string of an adjusted size is read as.
+--
+-- The number of an adjusted form, `number_is`, is its expansion, that it is this, and that the text is that of it.
 use Rattle.std.proofs.Common.{◌≡◌, ℕ, zero, suc, ◌<◌, List, [], ◌∷◌, ◌++◌, refl, arith, ◌≢◌, ◌+◌, ◌-◌, ◌*◌, ◌/◌, ◌%◌}
 use Rattle.std.proofs.Common.{◌≤◌, ⊎_elim, inl, inr, length, rules, sym, ap, ◌∙◌, Bool, false, append-nil, append_assoc}
 use Rattle.std.proofs.Common.{◌^◌, subst}
@@ -125,7 +127,7 @@ accepted_as meant kind ignore_case text number size unit itself is_size exact be
   below = below;
 }
 
--- Spaces, number, spaces and unit of a layout, as one text with spaces before it and none after it.
+-- A layout is a text with spaces before it and none after it: the number, spaces and the unit.
 layout_regrouped :
     (before behind gap : ℕ) (number unit : List ℕ)
     → (((spaces before ++ number) ++ spaces behind) ++ spaces gap) ++ unit
@@ -175,7 +177,7 @@ layout_is_size kind ignore_case spec e unit bounded few known says =
     let spelled = name_spells (flags_for kind ignore_case) unit known says in
     search (rules, text, number, spelled)
 
--- If that number of the unit is the size, the text is accepted as the size.
+-- If a decimal of at most 28 digits, of a unit, is the size, its text with the unit is accepted as the size.
 pub layout_accepted :
     (kind : Kind) (ignore_case : Bool) (size : ℕ) (spec : FormatSpec) (e : Finite) (unit : Shape) → IsBounded e
     → length e.digits ≤ places_of_decimal → IsKnown unit → SaysKind (flags_for kind ignore_case) unit.bit
@@ -258,7 +260,7 @@ no_unit : (kind : Kind) (ignore_case : Bool) → Spells current (flags_for kind 
 no_unit Byte ignore_case = inl record { count_is = inl (refl, refl); power_is = refl; binary_is = refl }
 no_unit Bit ignore_case = inl record { count_is = inl (refl, refl); power_is = refl; binary_is = refl }
 
--- A size formatted as digits without a plus sign is the text of that number of the base unit.
+-- A size formatted as digits without a plus sign is the text of the size as a number of its base unit.
 digits_are_size :
     (kind : Kind) (size : ℕ) (spec : FormatSpec) (ignore_case : Bool) → size < current.size_limit → spec.sign ≢ Plus
     → IsSizeText current (flags_for kind ignore_case) (trim_of (plain size spec)) (size * scale) (own_unit kind)
@@ -295,6 +297,7 @@ pub plain_form_reads_back : PlainFormReadsBack
 plain_form_reads_back kind size spec ignore_case below sign =
     digits_accepted as_written kind ignore_case size spec refl below sign
 
+-- The whole part of a quotient is at most the number that is divided.
 whole_not_above : (num den : ℕ) (e : Finite) → 1 ≤ den → IsExpansion num den e → e.whole ≤ num
 whole_not_above num den e some expansion = le_of_mul-le-mul_right {k = 10 ^ length e.digits}
     (omega (arith, expansion.exact, mul-le-mul_left (ulps_of e) some)) (one_le_pow10 (length e.digits))
@@ -352,6 +355,7 @@ form_rejected kind size unit text below form long =
     long_fault (flags_for kind false) e (spaces layout_is.0 ++ unit_name_in current shape) (trim_of text) bounded
     many text_is
 
+-- The string of an adjusted size is read as the size if it has at most 28 digits after the point.
 string_accepted : (kind : Kind) (size : ℕ) (unit : UnitName) (text : List ℕ) → size < current.size_limit
     → IsAdjustedString kind size unit text → FitsDecimal current kind size (shape_of unit)
     → IsAccepted kind false text size
@@ -361,6 +365,7 @@ string_accepted kind size unit text below (inr other) (inl greatest) = absurd (o
 string_accepted kind size unit text below (inr other) (inr exact) =
     form_accepted kind size unit text below other.1 exact
 
+-- The string of an adjusted size is rejected as too long if it has more than 28 digits after the point.
 string_rejected : (kind : Kind) (size : ℕ) (unit : UnitName) (text : List ℕ) → size < current.size_limit
     → IsAdjustedString kind size unit text → ¬ (FitsDecimal current kind size (shape_of unit))
     → IsRejected kind false text too_long

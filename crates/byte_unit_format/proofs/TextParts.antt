@@ -94,7 +94,7 @@ pub writes_form :
 writes_form {IsForm} text is_form this =
     let same = subst IsForm (sym this.is_form) is_form in search (rules, same)
 
--- The beginning of a list, by its length.
+-- The first elements of two lists put together, as many as the first list has, are the first list.
 pub front_is : {list : List ℕ} {len : ℕ} (text behind : List ℕ) → list ≡ text ++ behind → len ≡ length text
     → take len list ≡ text
 front_is text behind list_is len_is = rw list_is (take_at text behind _ (sym len_is))
@@ -147,7 +147,8 @@ short_put (a ∷ b ∷ []) out start some few within = grind (arith, common_step
 short_put (a ∷ b ∷ c ∷ []) out start some few within = grind (arith, common_steps)
 short_put (a ∷ b ∷ c ∷ d ∷ more) out start some few within = absurd (omega (arith, few))
 
--- what the calls that write the digits after a point use: the first digits of an expansion, and the last of a number
+-- what the calls that write the first digits of an expansion after a point use
 pub ruleset first_digits_put = (fraction_length, glyphs_within, common_steps)
 
+-- what the calls that write the last digits of a number after a point use
 pub ruleset last_digits_put = (piece_ascii, length_of_fraction_text, length_last_digits)

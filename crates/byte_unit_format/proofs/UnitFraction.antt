@@ -1,4 +1,6 @@
 -- A whole part and what follows it are the text of a size in its unit; how its bytes are written.
+--
+-- What is `known` of a fraction is that it is less than one, and the two bounds of the position of its prefix.
 use Rattle.std.proofs.Common.{◌≡◌, ℕ, ◌+◌, ◌-◌, ◌*◌, ◌^◌, ◌<◌, ◌≤◌, Bool, false, List, [], ◌∷◌, ◌++◌, length, take}
 use Rattle.std.proofs.Common.{drop, arith, ap, sym, subst, ◌∙◌, append-nil, append_assoc}
 use Rattle.std.specs.Prelude.{if◌then◌else◌, slice_index, codes}
@@ -30,7 +32,7 @@ use Rattle.byte_unit_format.specs.UnitFraction.{unit_fraction_text, HasPrefix, I
 use Rattle.byte_unit_format.specs.declared.thousandths.UnitFraction.{UnitFraction}
 use Rattle.byte_unit_format.specs.declared.thousandths.UnitFraction.TheVariants.{Own, Eighths, Thousandths}
 
--- Whole units and thousandths as one decimal without trailing zeros.
+-- The digits of whole units, and then those of thousandths, are the text of both as one decimal without trailing zeros.
 text_of_thousandths : (whole thousandths : ℕ) → thousandths < 1000
     → text_of (trim_expansion (at_places 3 (whole * 1000 + thousandths)))
     ≡ decimal whole ++ thousandths_text thousandths

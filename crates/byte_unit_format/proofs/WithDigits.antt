@@ -1,4 +1,7 @@
 -- The digits of a size: how many of them are zeros at their end, and where a decimal prefix cuts them.
+--
+-- The `bounds` of the digits used are that there is at least one, and that there are no more than all digits. The two
+-- `powers` of ten are the one that is at most the size, and the next one, which is above it.
 use Rattle.std.proofs.Common.{◌≡◌, ◌≢◌, ℕ, ◌+◌, ◌-◌, ◌*◌, ◌/◌, ◌%◌, ◌^◌, ◌<◌, ◌≤◌, List, [], ◌∷◌, ◌++◌, length, take}
 use Rattle.std.proofs.Common.{drop, get_or, min, suc, arith, ap, sym, refl, ◌∙◌, zero}
 use Rattle.std.specs.Fmt.{decimal}
@@ -21,7 +24,7 @@ use Rattle.byte_unit_math.proofs.Digits.{mod_next_power, one_le_pow10}
 use Rattle.byte_unit_format.specs.UnitFraction.{thousandths_text}
 use Rattle.byte_unit_format.proofs.NarrowTexts.{decimal_length}
 
--- The first digits of a number, without the last k.
+-- The first digits of a number, without the last k, are the digits of its quotient by 10^k.
 pub first_digits : (k n : ℕ) → 10 ^ k ≤ n → n < 2 ^ 128
     → take (length (decimal n) - k) (decimal n) ≡ decimal (n / 10 ^ k)
 first_digits k n wide small =
@@ -45,7 +48,7 @@ digit_of_decimal k n wide small =
       decimal_length_positive (n / 10 ^ k) small_front,
     )
 
--- A number of a number of digits is at least the power of ten with one digit more than zeros, and below the next one.
+-- A number is at least the power of ten with as many digits, and below the next power.
 pub between_powers : (n : ℕ) → 1 ≤ n → n < 2 ^ 128 → (10 ^ (length (decimal n) - 1) ≤ n) × (n < 10 ^ length (decimal n))
 between_powers n some small =
     let len = length (decimal n) in
@@ -90,11 +93,12 @@ pub take_kept : (new old : List ℕ) {few more : ℕ} → few ≤ more → take 
     → take few new ≡ take few old
 take_kept new old {few} {more} less kept = rw (← take-take few more new less, kept, take-take few more old less) refl
 
--- The digits after the point, if there are any, and if there are none.
+-- If digits are used after the cut, they are written after a point (46).
 pub cut_some : (cut used : ℕ) (digits : List ℕ) → cut < used
     → cut_digits cut used digits ≡ 46 ∷ take (used - cut) (drop cut digits)
 cut_some cut used digits more = grind (arith, nat_tests)
 
+-- If none is used after the cut, nothing is written.
 pub cut_none : (cut used : ℕ) (digits : List ℕ) → used ≤ cut → cut_digits cut used digits ≡ []
 cut_none cut used digits few = grind (arith, nat_tests)
 
@@ -103,6 +107,8 @@ pub three_elements : (list : List ℕ) (at : ℕ) → at + 3 ≤ length list
     → drop at list ≡ get_or list at 0 ∷ get_or list (at + 1) 0 ∷ get_or list (at + 2) 0 ∷ drop (at + 3) list
 three_elements list at within = grind (arith, drop_more list at 0, drop_more list (at + 1) 0, drop_more list (at + 2) 0)
 
+-- A point and three elements from an index on, cut after `count` of them, are a point and the first `count` elements
+-- from there on.
 pub three_of : (list : List ℕ) (at count : ℕ) → count ≤ 3 → at + 3 ≤ length list
     → take (count + 1) (46 ∷ get_or list at 0 ∷ get_or list (at + 1) 0 ∷ get_or list (at + 2) 0 ∷ [])
     ≡ 46 ∷ take count (drop at list)
@@ -127,7 +133,7 @@ pub record IsUsed (digits : List ℕ) (used : ℕ) : Type 0 where
   pub zeros : (i : ℕ) → used ≤ i → i < 32 → get_or digits i 0 ≡ 48
   pub last : (i : ℕ) → i + 1 ≡ used → get_or digits i 0 ≢ 48
 
--- The digit of a size at a power of ten.
+-- The digit of a size before its last k ones is, as a character, its quotient by 10^k modulo 10.
 digit_of_size : (size k : ℕ) → 10 ^ k ≤ size → size < size_limit
     → get_or (padded_digits size) (length (decimal size) - 1 - k) 0 ≡ 48 + size / 10 ^ k % 10
 digit_of_size size k wide small = grind (arith, common_steps, digit_of_decimal k size, few_digits size)
@@ -151,7 +157,7 @@ rest_is_zero size used (suc k) some small is_used behind =
     rw (pow-succ' 10 k, mod_next_power size (10 ^ k) (one_le_pow10 k), none)
     (omega (arith, rest_is_zero size used k some small is_used (omega (arith, behind))))
 
--- The index is within the digits of a size that is not 0.
+-- Of the digits of a size that is not 0, at least one is used, and no more than it has.
 pub used_within : (size used : ℕ) → 1 ≤ size → size < size_limit → IsUsed (padded_digits size) used → used ≤ 32
     → (1 ≤ used) × (used ≤ length (decimal size))
 used_within size used some small is_used within =
@@ -189,6 +195,7 @@ pub record IsCut (size : ℕ) (digits : List ℕ) (cut used power : ℕ) : Type 
   pub fraction_is : cut_digits cut used digits ≡ thousandths_text thousandths
   pub value : (size / 10 ^ (3 * power) * 1000 + thousandths) * 10 ^ (3 * power) ≡ size * 1000
 
+-- A size that reaches a decimal prefix, with at most three digits that are not trailing zeros after it, is cut there.
 pub cut_of_size :
     (size used power : ℕ) → 1 ≤ power → size < size_limit → 10 ^ (3 * power) ≤ size → IsUsed (padded_digits size) used
     → used + 3 * power ≤ length (decimal size) + 3
@@ -234,6 +241,8 @@ pub record FoundPower (size used power : ℕ) : Type 0 where
   pub known : power ≤ 9
   pub within : used ≤ length (decimal size)
 
+-- The greatest decimal prefix of a size follows from its number of digits and from that of its digits before the
+-- trailing zeros.
 pub found_power : {digits : List ℕ} {size len used power : ℕ} → digits ≡ padded_digits size
     → len ≡ length (decimal size) → size < size_limit → 4 ≤ len → IsUsed digits used → used ≤ 32
     → power ≡ min ((len - 1) / 3) ((len + 3 - used) / 3) → FoundPower size used power
@@ -269,5 +278,6 @@ not_above_digits size other some small fits =
     let less = exponent_below 10 (3 * other) (length (decimal size)) size (omega arith) fits.not_above powers.1 in
     omega (arith, less)
 
+-- The first bytes of the padded digits of a size, as many as it has digits, are its digits.
 pub first_of_padded : (size len : ℕ) → len ≡ length (decimal size) → take len (padded_digits size) ≡ decimal size
 first_of_padded size len len_is = grind (arith, common_steps)

@@ -1,4 +1,6 @@
 -- A size has exactly one text with a unit by each spec, and what the code writes of it is this text.
+--
+-- A choice `found` is a unit, a number, and that these are chosen; a form `found` is a text, and that it is the form.
 use Rattle.std.proofs.Common.{rules, ◌≡◌, ℕ, ◌*◌, inl, inr, false, List, refl, sym, ◌∙◌, ⊎_elim, ◌+◌, ◌-◌, ◌<◌, min}
 use Rattle.std.proofs.Common.{zero, suc, Bool, true, ◌∷◌, ◌++◌, length, take, replicate, arith, ap, subst}
 use Rattle.std.proofs.Math.Nat.{eq_of_mul-eq-mul_right}
@@ -54,6 +56,7 @@ size_form_unique version kind size spec text other form other_form =
     let number = eq_of_mul-eq-mul_right (bits form.unit) (some_bits form.unit) form.number other_form.number same in
     rw (form.text_is, other_form.text_is, unit, number) refl
 
+-- Each size has a text with its exact unit by each spec.
 form_exists : (version : Version) (kind : Kind) (size : ℕ) (spec : FormatSpec)
     → (form : List ℕ) × IsSizeFormIn version kind size spec form
 form_exists version kind size spec =
@@ -89,6 +92,7 @@ has_one_form version kind size spec =
       one = λ other is_other. size_form_unique version kind size spec other found.0 is_other found.1;
     }
 
+-- Zeros as characters are the character `0`, 48.
 glyphs_of_zeros : (count : ℕ) → glyphs (replicate count 0) ≡ replicate count 48
 glyphs_of_zeros zero = refl
 glyphs_of_zeros (suc count) = ap (λ list. 48 ∷ list) (glyphs_of_zeros count)

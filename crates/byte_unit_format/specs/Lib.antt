@@ -1,3 +1,4 @@
+-- The definitions of the forms in which a size is written.
 pub mod Plain
 pub mod Layout
 pub mod Forms

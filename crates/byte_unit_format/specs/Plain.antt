@@ -27,7 +27,7 @@ abbrev pub padding_for : Option ℕ → ℕ → ℕ
 padding_for None len = 0
 padding_for (Some width) len = width - len
 
--- A run of spaces.
+-- A run of spaces (32).
 abbrev pub spaces : ℕ → List ℕ
 spaces n = replicate n 32
 

@@ -35,6 +35,7 @@ unit_fraction_text kind fraction =
 -- Whole units and thousandths of one are the size, in its largest unit within the precision.
 pub record IsSplit (kind : Kind) (size precision whole : ℕ) (fraction : UnitFraction) : Type 0 where
   pub recovered : IsRecoveredIn current kind false size precision (unit_of kind fraction)
+  -- a thousandth, scaled by 10^28, is 10^25
   pub value : (whole * scale + thousandths_of fraction * 10 ^ 25) * bits (unit_of kind fraction)
       ≡ size * bits_in kind * scale
 

@@ -1,4 +1,6 @@
 //! Formatting of a size in a given unit.
+//!
+//! The `#[inline]` attributes are for speed alone: each is kept because a measurement was better with it.
 
 ghost use Rattle.std.specs.Prelude.{◌≡◌, ℕ, ◌*◌, ◌^◌, ◌<◌, ◌≤◌, List, length, IfSome, Some};
 ghost use Rattle.std.specs.Fmt.{DisplaysOnOk, DisplaysStyledOnOk};
@@ -254,6 +256,7 @@ fn short_parts(
             let number = rounded_quotient(scaled, of.unit.as_bits_u128());
             Some(scaled_parts(number, places, of.unit, spec))
         }
+        // `rounded_quotient` rounds ties to even, and here they go up.
         Rounding::AtMost(_) => None,
     }
 }
@@ -281,6 +284,7 @@ fn scaled_size(size: u128, kind: Kind, places: u32) -> Option<u128>
         return None;
     }
     let scaled = (size * kind.bits()).checked_mul(power_of_ten(places))?;
+    // The bound of `rounded_quotient`, which doubles a remainder.
     (scaled < 1 << 127).then_some(scaled)
 }
 

@@ -1,4 +1,6 @@
 //! The alternate form with no other option set, written from the beginning to the end.
+//!
+//! The `#[inline]` attributes are for speed alone: each is kept because a measurement was better with it.
 
 ghost use Rattle.std.specs.Prelude.{◌≡◌, ◌+◌, ◌-◌, ◌*◌, ◌<◌, ◌≤◌, [], ◌∷◌, ◌++◌, length, take, drop};
 ghost use Rattle.std.specs.Prelude.{◌^◌, IsAscii};
@@ -16,7 +18,7 @@ use crate::thousandths::{UnitFraction, split};
 use byte_unit_base::{Kind, prefix_letter};
 use byte_unit_math::{decimal_len, put_u128};
 
-/// The most bytes of a text without a width.
+/// The most bytes of a text without a width: 27 digits, a point, 5 digits, a space and three letters.
 pub(crate) const NARROW_TEXT: usize = 37;
 
 /// Writes the size in its unit to the beginning of `out` if it fits, and returns its length.
@@ -103,10 +105,12 @@ fn put_unit_fraction(fraction: UnitFraction, kind: Kind, out: &mut [u8], point: 
 {
     let own = own_letter(kind);
     match fraction {
+        // A space and one letter.
         UnitFraction::Own => {
             put(&[b' ', own], out, point + 2);
             point + 2
         }
+        // A point and at most three digits, in four bytes; then a space and three letters.
         UnitFraction::Eighths(eighths, power) => {
             let unit = [b' ', prefix_letter(power), b'i', own];
             let (digits, len) = digits_of_eighths(eighths);
@@ -115,6 +119,7 @@ fn put_unit_fraction(fraction: UnitFraction, kind: Kind, out: &mut [u8], point: 
             put(&unit, out, end);
             end
         }
+        // The same with two letters.
         UnitFraction::Thousandths(thousandths, power) => {
             let (digits, len) = digits_of_thousandths(thousandths);
             if len > 0 {

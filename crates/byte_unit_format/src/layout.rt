@@ -1,4 +1,6 @@
 //! Formatting of a number with its unit.
+//!
+//! The `#[inline]` attributes are for speed alone: each is kept because a measurement was better with it.
 
 ghost use Rattle.std.specs.Prelude.{◌≡◌, ◌+◌, ◌≤◌, ◌++◌, length, max};
 ghost use Rattle.std.specs.Fmt.{decimal};
@@ -92,6 +94,7 @@ pub(crate) fn layout_parts<'a>(
     let name = unit.as_str();
     let gap = match spec.sign {
         Sign::Unset => 1,
+        // The spaces and the name, of one to three letters, take four columns.
         Sign::Plus => 4 - name.len(),
         Sign::Minus => 0,
     };

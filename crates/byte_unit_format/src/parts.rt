@@ -1,4 +1,6 @@
 //! The parts of a formatted text, and writing backwards into a buffer.
+//!
+//! The `#[inline]` attributes are for speed alone: each is kept because a measurement was better with it.
 
 ghost use Rattle.std.specs.Prelude.{◌≡◌, ◌+◌, ◌^◌, ◌≤◌, ◌++◌, length, take, drop, replicate, IsAscii};
 ghost use Rattle.byte_unit_math.specs.Numeral.{fraction_text};
@@ -32,12 +34,15 @@ pub(crate) struct TextParts<'a> {
     pub before: usize,
     /// A plus sign, or the empty string.
     pub sign: &'static str,
+    /// The part of the number before the point.
     pub whole: u128,
+    /// The part of the number after the point.
     pub fraction: Fraction<'a>,
     /// Spaces after the number.
     pub after: usize,
     /// The name of a unit, at most three bytes, or the empty string.
     pub name: &'static str,
+    /// The length of the whole text, in bytes.
     pub len: usize,
 }
 

@@ -1,4 +1,6 @@
 //! The digits of a size and the size in its unit, as one text.
+//!
+//! The `#[inline]` attributes are for speed alone: each is kept because a measurement was better with it.
 
 ghost use Rattle.std.specs.Prelude.{◌≡◌, ◌≢◌, ℕ, ◌+◌, ◌-◌, ◌*◌, ◌<◌, ◌≤◌, ◌++◌, length, take, slice_index};
 ghost use Rattle.std.specs.Fmt.{decimal};
@@ -134,6 +136,7 @@ fn put_decimal(
     ensures bound { result ≤ narrow_text }
 {
     put(digits, out, PADDED_DIGITS);
+    // The fraction is written as four bytes; the unit overwrites what is not used of them.
     let end = if used > cut {
         let fraction = [b'.', digits[cut], digits[cut + 1], digits[cut + 2]];
         put(&fraction, out, cut + 4);

@@ -25,6 +25,7 @@ use Rattle.byte_unit_math.proofs.Powers.{odd_times_fives}
 -- A remainder below 2^left, times 5^count: its bits before the last `next` are the next digits, and those are the next
 -- remainder.
 module _ (rest left count next : ℕ) (split : left ≡ next + count) (below : rest < 2 ^ left) where
+  -- The product is below 2^next times 10^count.
   pub product_below : rest * 5 ^ count < 2 ^ next * 10 ^ count
   product_below =
       let two = ap (λ n. n * 5 ^ count) (power_of_sum 2 left next count split) in
@@ -32,23 +33,26 @@ module _ (rest left count next : ℕ) (split : left ≡ next + count) (below : r
       let times = mul-lt-mul_of_pos_right {k = 5 ^ count} below (omega (arith, one-le-pow count 5 (omega arith))) in
       omega (arith, times, two, ten)
 
+  -- The bits before the last `next` ones have at most `count` decimal digits.
   pub group_below : rest * 5 ^ count / 2 ^ next < 10 ^ count
   group_below =
       div_below (rest * 5 ^ count) (2 ^ next) (10 ^ count) (omega (arith, one-le-pow next 2 (omega arith)))
       (omega (arith, product_below))
 
-  -- It has at most 16 digits.
+  -- A group of at most 16 digits is below 10^16.
   pub group_small : count ≤ 16 → rest * 5 ^ count / 2 ^ next < 10 ^ 16
   group_small few =
       let power = pow-le-pow_right {n = 10} (omega arith) {i = count} {j = 16} few in
       omega (arith, group_below, power)
 
+  -- The remainder times 5^left is the group, before `next` more digits, plus the next remainder times 5^next.
   pub group_exact :
       rest * 5 ^ left ≡ rest * 5 ^ count / 2 ^ next * 10 ^ next + rest * 5 ^ count % 2 ^ next * 5 ^ next
   group_exact =
       let power = ap (λ n. rest * n) (power_of_sum 5 left next count split) in
       omega (arith, binary_count (rest * 5 ^ count) next, power)
 
+  -- The product is below 2^a * 10^b for each greater a and b, so that numerals bound it.
   product_within : (a b : ℕ) → next ≤ a → count ≤ b → rest * 5 ^ count < 2 ^ a * 10 ^ b
   product_within a b few few' =
       let powers = mul-le (2 ^ next) (10 ^ count) (2 ^ a) (10 ^ b) (pow-le-pow_right {n = 2} (omega arith) few)
@@ -62,19 +66,22 @@ module _ (rest left count next : ℕ) (split : left ≡ next + count) (below : r
       (λ long. omega (arith, product_within 80 13 (omega (arith, long, few, split, count_is)) (omega (arith, long, few, count_is))))
       (cases_lt left 81)
 
--- The array begins with groups of 16 digits, zeros before the first ones, and then has zeros. `left` digits are missing,
--- those of the remainder.
+-- The array begins with groups of 16 digits, zeros before the first ones, and then has zeros. `left` digits are
+-- missing, those of the remainder.
 pub record IsGrouped (numerator places rest left end : ℕ) (groups : List ℕ) : Type 0 where
+  -- the array has room for seven groups: 93 digits are copied of it, from within the first group
   pub few : left ≤ places
   pub size : length groups ≡ 112
   pub small : All (λ d. d < 10) groups
   pub zeros : drop end groups ≡ replicate (112 - end) 0
+  -- the digits so far and those of the remainder are the fraction
   pub below : rest < 2 ^ left
   pub exact : numerator * 5 ^ places ≡ value_of_digits (take end groups) * 10 ^ left + rest * 5 ^ left
+  -- as many groups are missing as `left` digits take, and only the first group may have fewer digits
   pub at_end : end + 16 * ((left + 15) / 16) ≡ 16 * ((places + 15) / 16)
   pub whole : 0 < end → left % 16 ≡ 0
 
--- Before the first group.
+-- Before the first group, the array of zeros is grouped: all digits are missing.
 pub IsGrouped-start : (numerator places : ℕ) → numerator < 2 ^ places
     → IsGrouped numerator places numerator places 0 (replicate 112 0)
 IsGrouped-start numerator places below = record {
@@ -88,6 +95,7 @@ IsGrouped-start numerator places below = record {
   whole = λ some. absurd (omega (arith, some));
 }
 
+-- An array that is grouped, before its next group.
 module _ (numerator places rest left end : ℕ) (groups : List ℕ)
     (h : IsGrouped numerator places rest left end groups) (limit : places ≤ expansion_places) where
   -- There is room for one more group while digits are missing.
@@ -97,25 +105,32 @@ module _ (numerator places rest left end : ℕ) (groups : List ℕ)
   -- One more group.
   module _ (some : 0 < left) (count next : ℕ) (count_is : count ≡ (left - 1) % 16 + 1) (next_is : next ≡ left - count)
       (values : List ℕ) (values_are : values ≡ last_digits 16 (rest * 5 ^ count / 2 ^ next)) where
+    -- The digits that are missing are those of this group and those after it.
     split : left ≡ next + count
     split = omega (arith, some, count_is, next_is)
 
+    -- The group has at most 16 digits.
     small_group : rest * 5 ^ count / 2 ^ next < 10 ^ 16
     small_group = group_small rest left count next split h.below (omega (arith, count_is))
 
+    -- The group is written as 16 digits.
     long : length values ≡ 16
     long = ap length values_are ∙ length_last_digits 16 (rest * 5 ^ count / 2 ^ next)
 
+    -- The groups so far are within the array.
     within : end ≤ length groups
     within = omega (arith, IsGrouped-room some, h.size)
 
+    -- There are 16 bytes of the array after the groups so far.
     middle : length (mid_of end 16 groups) ≡ 16
     middle = length-take-le 16 (drop end groups) (omega (arith, length-drop end groups, IsGrouped-room some, h.size))
 
+    -- The 16 digits represent the group.
     value : value_of_digits values ≡ rest * 5 ^ count / 2 ^ next
     value = ap value_of_digits values_are
         ∙ (value_of_last_digits 16 (rest * 5 ^ count / 2 ^ next) ∙ mod-eq_of_lt small_group)
 
+    -- With the group stored, the digits represent 10^16 times the digits before it, plus the group.
     value_next : value_of_digits (take (end + 16) (put_mid end 16 groups values))
         ≡ value_of_digits (take end groups) * 10 ^ 16 + rest * 5 ^ count / 2 ^ next
     value_next =
@@ -131,6 +146,7 @@ module _ (numerator places rest left end : ℕ) (groups : List ℕ)
         let sixteen : count ≡ 16 = omega (arith, h.whole more, some, count_is) in
         rw sixteen refl) (eq-zero-or-pos end)
 
+    -- The array with the group stored is grouped, with the next remainder.
     pub IsGrouped-more : IsGrouped numerator places (rest * 5 ^ count % 2 ^ next) next (end + 16)
         (put_mid end 16 groups values)
     IsGrouped-more =
@@ -159,6 +175,7 @@ module _ (numerator places rest left end : ℕ) (groups : List ℕ)
 -- All groups are there: the last `places` of their digits, and zeros after them, are the fraction's.
 module _ (numerator places rest end : ℕ) (groups : List ℕ) (h : IsGrouped numerator places rest 0 end groups)
     (limit : places ≤ expansion_places) (below : numerator < 2 ^ places) where
+  -- The groups end at the number of places rounded up to a multiple of 16.
   pub end_is : end ≡ 16 * ((places + 15) / 16)
   end_is = omega (arith, h.at_end)
 
@@ -166,29 +183,37 @@ module _ (numerator places rest end : ℕ) (groups : List ℕ) (h : IsGrouped nu
   abbrev copied : List ℕ
   copied = take 93 (drop (end - places) groups)
 
+  -- The last `places` digits of the groups start `places` before their end.
   start : end - places + places ≡ end
   start = omega (arith, end_is)
 
+  -- The array from there on has 112 bytes less those before it.
   behind_long : length (drop (end - places) groups) ≡ 112 - (end - places)
   behind_long = omega (arith, length-drop (end - places) groups, h.size)
 
+  -- 93 bytes are copied: those of an `Expansion`.
   pub copied_size : length copied ≡ 93
   copied_size = length-take-le 93 (drop (end - places) groups) (omega (arith, behind_long, end_is, limit))
 
+  -- The bytes that are copied are digits.
   pub copied_small : All (λ d. d < 10) copied
   copied_small = All-take (λ d. d < 10) 93 _ (All-drop (λ d. d < 10) (end - places) groups h.small)
 
+  -- The first `places` bytes of the copy are those of the array.
   front_is : take places copied ≡ take places (drop (end - places) groups)
   front_is = take-take places 93 (drop (end - places) groups) (omega (arith, limit))
 
+  -- The first `places` bytes of the copy are `places` bytes: it is long enough.
   front_size : length (take places copied) ≡ places
   front_size = length-take-le places copied (omega (arith, copied_size, limit))
 
+  -- The fraction times 10^places is below 10^places.
   number_below : numerator * 5 ^ places < 10 ^ places
   number_below =
       let times = mul-lt-mul_of_pos_right {k = 5 ^ places} below (omega (arith, one-le-pow places 5 (omega arith))) in
       omega (arith, times, ten_power places)
 
+  -- The value of the first `places` digits of the copy is below 10^places.
   front_below : value_of_digits (take places copied) < 10 ^ places
   front_below =
       let bound = value_below_power (take places copied) (All-take (λ d. d < 10) places copied copied_small) in
@@ -209,6 +234,7 @@ module _ (numerator places rest end : ℕ) (groups : List ℕ) (h : IsGrouped nu
       (same_from_place before (value_of_digits (take places copied)) 0 (numerator * 5 ^ places) (10 ^ places) front_below
       number_below whole).1
 
+  -- The copy begins with the `places` digits of the fraction.
   pub copied_front : take places copied ≡ last_digits places (numerator * 5 ^ places)
   copied_front =
       let digits = last_digits places (numerator * 5 ^ places) in
@@ -217,6 +243,7 @@ module _ (numerator places rest end : ℕ) (groups : List ℕ) (h : IsGrouped nu
       (front_size ∙ sym (length_last_digits places (numerator * 5 ^ places)))
       (front_value ∙ sym (value_of_last_digits places (numerator * 5 ^ places) ∙ mod-eq_of_lt number_below))
 
+  -- The rest of the copy is zeros.
   pub copied_zeros : drop places copied ≡ replicate (expansion_places - places) 0
   copied_zeros =
       let behind = drop (end - places) groups in
@@ -232,6 +259,7 @@ last_of_digits : (p q : ℕ) → get_or (last_digits (suc p) q) p 0 ≡ q % 10
 last_of_digits zero q = rw (pow-zero 10) (omega arith)
 last_of_digits (suc p) q = last_of_digits p q
 
+-- If digits are the last ones of a number, the last of them is the number modulo 10.
 pub last_digit_is : (places number : ℕ) (digits : List ℕ) → 0 < places → take places digits ≡ last_digits places number
     → get_or digits (places - 1) 0 ≡ number % 10
 last_digit_is zero number digits some front = absurd (omega (arith, some))
@@ -245,7 +273,7 @@ rest_ends n p some odd =
     let power = ap (λ m. n / 2 ^ p * m) (power_of_sum 10 p 1 (p - 1) (omega (arith, some))) in
     omega (arith, binary_count n p, power, odd_times_fives n p odd)
 
--- An entry of the table of powers of five, times a number.
+-- A number times an entry of the table is the number times that power of five.
 pub product_is : (rest count : ℕ) → count ≤ 16 → rest * get_or (powers_from 5 49 1) count 0 ≡ rest * 5 ^ count
 product_is rest count few =
     let entry : get_or (powers_from 5 49 1) count 0 ≡ 5 ^ count =
@@ -277,6 +305,8 @@ abbrev lessened : List ℕ → List ℕ
 lessened [] = []
 lessened (d ∷ ds) = ((48 + d + 208) % 256) ∷ lessened ds
 
+-- Digits as characters, less the character 0, are the digits themselves: adding 208 to a byte takes away 48, the
+-- character `0`.
 pub lessened_are : (ds : List ℕ) → All (λ d. d < 10) ds → lessened ds ≡ ds
 lessened_are [] small = refl
 lessened_are (d ∷ ds) small =

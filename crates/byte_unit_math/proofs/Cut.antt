@@ -62,43 +62,55 @@ module _ (e : Finite) (p : ℕ) (h : IsTrimmed e) (l : p < length e.digits) wher
   abbrev rest_power : ℕ
   rest_power = 10 ^ length (drop (p + 1) e.digits)
 
+  -- The digits after the first one that is cut off, as a number.
   abbrev rest_value : ℕ
   rest_value = value_of_digits (drop (p + 1) e.digits)
 
+  -- The digits that are cut off are the first one, times the power of ten of the others, plus the others.
   cut_value_is : cut_value ≡ get_or e.digits p 0 * rest_power + rest_value
   cut_value_is = grind (arith, common_steps, add-one, drop-cons, value_cons)
 
+  -- The others are below their power of ten.
   rest_value_small : rest_value < rest_power
   rest_value_small = value_below_power (drop (p + 1) e.digits) (All-drop (λ d. d < 10) (p + 1) e.digits h.small)
 
+  -- The power of ten of all digits is that of the p digits kept times that of the digits cut off.
   power_is : 10 ^ length e.digits ≡ 10 ^ p * (10 * rest_power)
   power_is = grind (arith, common_steps, add-one, length-drop, pow-add, pow-succ')
 
+  -- The digits that are cut off are below their power of ten.
   cut_below : cut_value < 10 * rest_power
   cut_below = grind (arith, All-get_or, cut_value_is, mul-le-mul_right, rest_value_small)
 
-  -- A comparison, scaled by 10^p.
+  -- A comparison stays when both sides are scaled by 10^p.
   scaled : {a b : ℕ} → a < b → a * 10 ^ p < b * 10 ^ p
   scaled less = mul-lt-mul_of_pos_right {k = 10 ^ p} less (one_le_pow10 p)
 
+  -- The decimal is the one cut off after p digits plus the digits cut off, which are less than one in its last digit.
   cut_lies : LiesAbove (ulps_of e) (10 ^ length e.digits) p (ulps_of (cut_after p e)) (cut_value * 10 ^ p)
   cut_lies = record { split = cut_split e p (omega (arith, l)); below = omega (arith, scaled cut_below, power_is) }
 
+  -- If the digits cut off are below half of their power of ten, they are below half of one in the last digit kept.
   below_half_from : 2 * cut_value < 10 * rest_power → 2 * (cut_value * 10 ^ p) < 10 ^ length e.digits
   below_half_from below = omega (arith, scaled below, power_is)
 
+  -- If they are above half of their power of ten, they are above half of one in the last digit kept.
   above_half_from : 10 * rest_power < 2 * cut_value → 10 ^ length e.digits < 2 * (cut_value * 10 ^ p)
   above_half_from above = omega (arith, scaled above, power_is)
 
+  -- If the first digit cut off is below 5, less than half is cut off.
   below_half : get_or e.digits p 0 < 5 → 2 * (cut_value * 10 ^ p) < 10 ^ length e.digits
   below_half small = grind (arith, below_half_from, cut_value_is, mul-le-mul_right, rest_value_small)
 
+  -- If it is above 5, more than half is cut off.
   above_half : 5 < get_or e.digits p 0 → 10 ^ length e.digits < 2 * (cut_value * 10 ^ p)
   above_half great = grind (arith, above_half_from, cut_value_is, mul-le-mul_right, rest_value_small)
 
+  -- If more than one digit is cut off, the others are not zero, since the last one is not.
   rest_value_positive : p + 1 < length e.digits → 0 < rest_value
   rest_value_positive k = grind (arith, get_or-drop, length-drop, value_by_last_digit)
 
+  -- If a single digit is cut off, and it is 5, just half is cut off.
   just_half : get_or e.digits p 0 ≡ 5 → length e.digits ≤ p + 1
       → 2 * (cut_value * 10 ^ p) ≡ 10 ^ length e.digits
   just_half five k = grind (arith, cut_value_is, length-drop, power_is, rest_value_small)
@@ -200,6 +212,7 @@ cleared i e kept ds h v few is =
       rest = drop_at (take kept i.digits) (replicate (expansion_places - kept) 0) kept size;
     })
 
+-- The decimal cut off after p digits, times 10^p, is its whole part times 10^p plus the p digits.
 scaled_cut : (e : Finite) (p : ℕ) → p ≤ length e.digits
     → ulps_of (cut_after p e) ≡ e.whole * 10 ^ p + value_of_digits (take p e.digits)
 scaled_cut e p within =
@@ -214,6 +227,7 @@ scaled_zeros e p kept h =
     let value = ap value_of_digits h.same ∙ value_append_zeros (take kept e.digits) (p - kept) in
     scaled_cut e p h.within ∙ omega (arith, product, value)
 
+-- k nines after a number, plus one, are the number plus one, times 10^k.
 fold_nines : (n k : ℕ) → fold (λ n d. n * 10 + d) n (replicate k 9) + 1 ≡ (n + 1) * 10 ^ k
 fold_nines n zero = omega arith
 fold_nines n (suc k) = rw (pow-succ' 10 k) (omega (arith, fold_nines (n * 10 + 9) k))

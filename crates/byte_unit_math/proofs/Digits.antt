@@ -52,6 +52,7 @@ same_digits (d ∷ ds) (x ∷ es) h k len e =
     let rest = same_digits ds es hs ks l parts.1 in
     λ i. parts.0 i ∷ rest i
 
+-- Zeros represent zero.
 pub value_zeros : (k : ℕ) → value_of_digits (replicate k 0) ≡ 0
 value_zeros zero = refl
 value_zeros (suc k) = value_zeros k
@@ -70,7 +71,7 @@ pub value_more : (ds : List ℕ) (i : ℕ) → i < length ds
     → value_of_digits (take (i + 1) ds) ≡ value_of_digits (take i ds) * 10 + get_or ds i 0
 value_more ds i within = grind (arith, common_steps, fold-append, take_more)
 
--- The same where that digit is set.
+-- One digit more that is set counts ten times the digits before it, and the digit.
 pub value_more_set : (ds : List ℕ) (i d : ℕ) → i < length ds
     → value_of_digits (take (i + 1) (set ds i d)) ≡ value_of_digits (take i ds) * 10 + d
 value_more_set ds i d within = grind (arith, fold-append, take_more_set)
@@ -106,21 +107,25 @@ pub record HasTrailingZeros (ds front : List ℕ) : Type 0 where
   pub zeros : ℕ
   pub list_is : ds ≡ front ++ replicate zeros 0
 
+-- One digit more in front: a zero before nothing but zeros is one of the trailing zeros.
 HasTrailingZeros-prepend : (d : ℕ) (es ds : List ℕ) → HasTrailingZeros ds es
     → HasTrailingZeros (d ∷ ds) (prepend_digit d es)
 HasTrailingZeros-prepend zero [] ds h = record { zeros = suc h.zeros; list_is = ap (λ l. zero ∷ l) h.list_is }
 HasTrailingZeros-prepend (suc d) [] ds h = record { zeros = h.zeros; list_is = ap (λ l. suc d ∷ l) h.list_is }
 HasTrailingZeros-prepend d (e ∷ es) ds h = record { zeros = h.zeros; list_is = ap (λ l. d ∷ l) h.list_is }
 
+-- Digits are those without their trailing zeros, and these zeros.
 pub HasTrailingZeros-trim : (ds : List ℕ) → HasTrailingZeros ds (trim_zeros ds)
 HasTrailingZeros-trim [] = record { zeros = 0; list_is = refl }
 HasTrailingZeros-trim (d ∷ ds) = HasTrailingZeros-prepend d (trim_zeros ds) ds (HasTrailingZeros-trim ds)
 
+-- Digits below ten stay so with one more in front.
 small_before_digit : (d : ℕ) (es : List ℕ) → d < 10 → All (λ d. d < 10) es → All (λ d. d < 10) (prepend_digit d es)
 small_before_digit zero [] h k = k
 small_before_digit (suc d) [] h k = All-cons (λ d. d < 10) (suc d) [] h k
 small_before_digit d (e ∷ es) h k = All-cons (λ d. d < 10) d (e ∷ es) h k
 
+-- Digits below ten stay so without their trailing zeros.
 pub small_without_zeros : (ds : List ℕ) → All (λ d. d < 10) ds → All (λ d. d < 10) (trim_zeros ds)
 small_without_zeros [] h = h
 small_without_zeros (d ∷ ds) h = small_before_digit d (trim_zeros ds) (All-head (λ d. d < 10) d ds h)

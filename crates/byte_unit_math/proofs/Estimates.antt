@@ -82,13 +82,14 @@ pub rest_from_bounds :
     → n - quotient * divisor ≡ n % divisor
 rest_from_bounds n divisor quotient enough close = (division_is n divisor quotient _ (omega (arith, enough)) close).1
 
--- The same where the estimate is one less.
+-- If the estimate is one less than the quotient, it is corrected by one.
 pub quotient_after : (n divisor estimate : ℕ) → estimate * divisor + divisor ≤ n → n < estimate * divisor + 2 * divisor
     → estimate + 1 ≡ n / divisor
 quotient_after n divisor estimate enough close =
     (division_is n divisor (estimate + 1) (n - estimate * divisor - divisor) (omega (arith, enough))
     (omega (arith, enough, close))).0
 
+-- If the estimate is one less than the quotient, the divisor is subtracted once more for the remainder.
 pub rest_after : (n divisor estimate : ℕ) → estimate * divisor + divisor ≤ n → n < estimate * divisor + 2 * divisor
     → n - estimate * divisor - divisor ≡ n % divisor
 rest_after n divisor estimate enough close =
@@ -110,4 +111,5 @@ long_division n divisor middle low some middle_is low_is =
 -- What the proof of the division by an inverse uses.
 pub ruleset estimates = (leading_bits_fit, product_fits, estimate_fits, IsEstimate-inverse)
 
+-- The quotient and the remainder, by an estimate that is right or one less.
 pub ruleset quotients = (quotient_from_bounds, rest_from_bounds, quotient_after, rest_after)

@@ -1,4 +1,6 @@
 -- Long division with one digit per step, the expansion of a fraction by it, and where it ends.
+--
+-- That a fraction is `exact` at some places is a count, `exact.0`, and an equation, `exact.1`.
 use Rattle.std.proofs.Common.{◌≡◌, ℕ, ◌+◌, ◌-◌, ◌*◌, ◌/◌, ◌%◌, ◌^◌, ◌<◌, ◌≤◌, ⊎_elim, arith, ap, ◌∙◌, subst, ◌≢◌, List}
 use Rattle.std.proofs.Common.{length, take, drop, set, get_or, replicate, sym, refl, length-take-le}
 use Rattle.std.proofs.Math.Nat.{div-add-mod', mul-lt-mul_of_pos_right, eq_of_mul-eq-mul_right, pow-succ', one-le-pow}
@@ -141,6 +143,7 @@ pub record IsDividing (numerator den whole rest places : ℕ) (digits : List ℕ
   pub exact : numerator * 10 ^ places ≡ (whole * 10 ^ places + value_of_digits (take places digits)) * den + rest
   pub last : rest ≡ 0 → 0 < places → 0 < get_or digits (places - 1) 0
 
+-- The digit with which a division ends is not zero, since a remainder was left before it.
 last_digit_positive : (rest den digit next : ℕ) → rest ≢ 0 → den * digit + next ≡ rest * 10 → next ≡ 0 → 0 < digit
 last_digit_positive rest den digit next h e z = grind arith
 
@@ -148,7 +151,7 @@ last_digit_positive rest den digit next h e z = grind arith
 module _ (numerator den whole rest places : ℕ) (digits : List ℕ)
     (h : IsDividing numerator den whole rest places digits) (ends : IsExactAt numerator den expansion_places)
     (some : rest ≢ 0) where
-  -- It has written fewer than 93 digits.
+  -- While a remainder is left, the division has written fewer than 93 digits.
   pub IsDividing-room : places < expansion_places
   IsDividing-room = grind (arith, mul-le-mul_right, mul-lt-mul_of_pos_right, one-le-pow, pow-succ', rest_is_zero)
 

@@ -1,3 +1,4 @@
+-- The lemmas that the proofs of this crate rest on: division, decimal digits, and terminating expansions.
 pub mod Scales
 pub mod RoundedUp
 pub mod Estimates

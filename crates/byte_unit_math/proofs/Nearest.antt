@@ -17,13 +17,17 @@ pub lies_above_quotient :
     → LiesAbove num den p quotient rest
 lies_above_quotient num den p whole quotient rest same some quotient_is rest_is = grind (arith, div-add-mod', mod_below)
 
+-- The number num * 10^p, `low` more than `count` multiples of den.
 module _ (num den p count low : ℕ) (lies : LiesAbove num den p count low) where
+  -- A multiple before `count` is at least one `den`, and the rest, below the number.
   lower_multiple : (other : ℕ) → other < count → other * den + den + low ≤ num * 10 ^ p
   lower_multiple other l = grind (arith, mul-le-mul_right)
 
+  -- A multiple after `count` is at least one `den`, less the rest, above the number.
   next_multiple : (other : ℕ) → count < other → num * 10 ^ p + den ≤ other * den + low
   next_multiple other l = grind (arith, mul-le-mul_right)
 
+  -- A multiple after the next one is at least two `den`, less the rest, above the number.
   upper_multiple : (other : ℕ) → count + 1 < other → num * 10 ^ p + den + den ≤ other * den + low
   upper_multiple other l = grind (arith, mul-le-mul_right, mul-lt-mul_of_pos_right)
 
@@ -51,6 +55,7 @@ module _ (num den p count low : ℕ) (lies : LiesAbove num den p count low) wher
   pub nearest_even_next : den < 2 * low + count % 2 → IsNearest num den p Even (count + 1)
   nearest_even_next h = grind (arith, lower_multiple, mul-le-mul_right, nearest_up, tie_even_next, upper_multiple)
 
+  -- If ties go to even and this is at most den, the multiple below is nearest.
   pub nearest_even_this : 2 * low + count % 2 ≤ den → IsNearest num den p Even count
   nearest_even_this h = grind (arith, nearest_down, tie_even_this)
 
@@ -60,6 +65,7 @@ pub rounds_up_even : (num den p : ℕ) → 0 < den → den < 2 * (num * 10 ^ p %
 rounds_up_even num den p some h =
     nearest_even_next num den p _ _ (lies_above_quotient num den p _ _ _ refl some refl refl) h
 
+-- A quotient is rounded down if twice its rest, plus one if the quotient is odd, is at most the divisor.
 pub rounds_down_even : (num den p : ℕ) → 0 < den → 2 * (num * 10 ^ p % den) + num * 10 ^ p / den % 2 ≤ den
     → IsNearest num den p Even (num * 10 ^ p / den)
 rounds_down_even num den p some h =

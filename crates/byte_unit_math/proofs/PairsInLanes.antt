@@ -1,4 +1,7 @@
 -- Digits as bytes of lanes: pairs of digits, each in one lane of 16 bits.
+--
+-- That pairs are `few` is that the first one is below 100, and that the others are; a `lane` has three parts: its tens,
+-- its units, and the rest.
 use Rattle.std.proofs.Common.{◌≡◌, ℕ, zero, suc, ◌+◌, ◌*◌, ◌/◌, ◌%◌, ◌^◌, ◌<◌, List, [], ◌∷◌, arith, refl, ◌∙◌, ap}
 use Rattle.std.specs.Simd.Lanes.{Each1}
 use Rattle.byte_unit_math.specs.Digits.{last_digits}
@@ -24,6 +27,7 @@ abbrev twice : List ℕ → ℕ
 twice [] = 0
 twice (p ∷ ps) = suc (suc (twice ps))
 
+-- Of a lane of 16 bits, the first byte is the tens of the pair, the second one the units, and what follows is the rest.
 pair_in_lane :
     (p rest : ℕ) → p < 100 → (((p / 10 + p % 10 * 256 % 65536) % 65536 + 65536 * rest) % 256 ≡ p / 10)
     × ((((p / 10 + p % 10 * 256 % 65536) % 65536 + 65536 * rest) / 256 % 256 ≡ p % 10)
@@ -48,8 +52,10 @@ pairs_of n = (n / 100000000 / 10000 / 100) ∷ (n / 100000000 / 10000 % 100) ∷
     ∷ (n / 100000000 % 10000 % 100) ∷ (n % 100000000 / 10000 / 100) ∷ (n % 100000000 / 10000 % 100)
     ∷ (n % 100000000 % 10000 / 100) ∷ (n % 100000000 % 10000 % 100) ∷ []
 
+-- Each pair is below 100.
 pub pairs_below : (n : ℕ) → n < 10 ^ 16 → Each1 (λ p. p < 100) (pairs_of n)
 pairs_below n small = grind arith
 
+-- The characters of the pairs are those of the 16 digits of the number.
 pub digits_of_pairs : (n : ℕ) → n < 10 ^ 16 → glyphs_of_pairs (pairs_of n) ≡ glyphs (last_digits 16 n)
 digits_of_pairs n small = grind arith

@@ -64,11 +64,13 @@ pub digits_of_fields : (N : ℕ) (d : Inside) → IsNormalized d → decimal_val
     → IsLeastPlaces N scale least → HasDigits (N % scale) d.digits least
 digits_of_fields N d h view least = HasDigits-at_least N d.digits d.places least (fields_have_digits N d h view) h.last
 
+-- Digits whose last one is not zero are kept.
 digits_kept : (places digits : ℕ) → (0 < places → 0 < digits % 10) → trim_digits places digits ≡ (digits, places)
 unfolding trim_digits
 digits_kept zero digits last = refl
 digits_kept (suc places) digits last = grind (arith, nat_tests)
 
+-- A zero at the end of digits is removed first.
 zero_dropped : (places digits : ℕ) → digits % 10 ≡ 0
     → trim_digits (suc places) digits ≡ trim_digits places (digits / 10)
 unfolding trim_digits
@@ -86,18 +88,20 @@ zeros_dropped (suc behind) (suc all) places digits rest count product last =
     zero_dropped all rest (omega (arith, tens))
     ∙ zeros_dropped behind all places digits (rest / 10) (omega (arith, count)) (omega (arith, tens)) last
 
+-- A fraction scaled by 10^28 has the digits of its 28 digits without trailing zeros, also if it is 0.
 trimmed : (rest : ℕ) (pair : ℕ × ℕ) → trim_digits places_of_decimal rest ≡ pair → trim_fraction rest ≡ pair
 trimmed zero pair short = sym (zeros_dropped places_of_decimal places_of_decimal 0 0 0 refl (omega arith)
     (λ some. absurd (omega (arith, some)))) ∙ short
 trimmed (suc rest) pair short = short
 
+-- A fraction has the digits and places of each form of it whose last digit is not zero.
 short_fraction_is : (rest digits places : ℕ) → HasDigits rest digits places → (0 < places → 0 < digits % 10)
     → trim_fraction rest ≡ (digits, places)
 short_fraction_is rest digits places h last = trimmed rest (digits, places)
     (zeros_dropped (places_of_decimal - places) places_of_decimal places digits rest (omega (arith, h.few)) (sym h.same)
     last)
 
--- Such digits after a whole part below 2^112 satisfy the invariant of a `Decimal`.
+-- Digits without trailing zeros, after a whole part below 2^112, satisfy the invariant of a `Decimal`.
 pub digits_are_normalized :
     (whole fraction digits places : ℕ) → whole < whole_limit → HasDigits fraction digits places
     → (0 < places → 0 < digits % 10) → IsNormalized (record { whole = whole; digits = digits; places = places })

@@ -132,7 +132,7 @@ reduced_binary number reduced shared left twos sum number_is =
       same = rw (pow-zero 5, number_is, power) (omega arith);
     }
 
--- The same for a decimal unit.
+-- A fraction of a decimal unit is the same after division of both numbers by a shared power of two.
 pub reduced_decimal : (number reduced shared left twos fives : ℕ) → twos ≡ left + fives + shared
     → number ≡ reduced * 2 ^ shared
     → SameFraction reduced (2 ^ left * 10 ^ fives) number (2 ^ twos * 5 ^ fives)
@@ -152,13 +152,13 @@ short_is_exact {num} {den} {e} h =
     let value = value_of_last_digits e.places e.digits ∙ mod-eq_of_lt h.below in
     rw (length_last_digits e.places e.digits, value) at h.is_expansion.exact
 
--- It has no more places than the fraction is exact with.
+-- A short expansion has no more places than the fraction is exact with.
 pub short_places : {num den : ℕ} {e : ShortExpansion} (places : ℕ) → IsShortExpansion num den e → IsExactAt num den places
     → e.places ≤ places
 short_places {num} {den} {e} places h exact =
     omega (arith, h.is_expansion.least places exact, length_last_digits e.places e.digits)
 
--- Its last digit is not 0, since it is exact with no fewer places.
+-- The last digit of a short expansion is not 0, since the fraction is exact with no fewer places.
 pub short_trimmed : {num den : ℕ} {e : ShortExpansion} → IsShortExpansion num den e → 0 < e.places → 0 < e.digits % 10
 short_trimmed {num} {den} {e} h some = ⊎_elim (λ last. last)
     (λ none.
@@ -173,14 +173,14 @@ short_trimmed {num} {den} {e} h some = ⊎_elim (λ last. last)
     absurd (omega (arith, some, short_places (e.places - 1) h (e.whole * before + e.digits / 10, fewer))))
     (cases_lt 0 (e.digits % 10))
 
--- Its whole part is at most the numerator.
+-- The whole part of a short expansion is at most the numerator.
 pub short_whole : {num den : ℕ} {e : ShortExpansion} → 1 ≤ den → IsShortExpansion num den e → e.whole ≤ num
 short_whole {num} {den} {e} some h =
     let once = mul-le-mul_left (e.whole * 10 ^ e.places + e.digits) some in
     let power : 0 < 10 ^ e.places = omega (arith, one-le-pow e.places 10 (omega arith)) in
     le_of_mul-le-mul_right {m = e.whole} {n = num} {k = 10 ^ e.places} (omega (arith, short_is_exact h, once)) power
 
--- Scaled by 10^28, it is the fraction scaled by 10^28.
+-- A short expansion scaled by 10^28, times the denominator, is the numerator scaled by 10^28.
 pub short_scaled : {num den : ℕ} {e : ShortExpansion} → e.places ≤ places_of_decimal → IsShortExpansion num den e
     → (e.whole * scale + e.digits * 10 ^ (places_of_decimal - e.places)) * den ≡ num * scale
 short_scaled {num} {den} {e} few h =

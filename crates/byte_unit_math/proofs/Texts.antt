@@ -1,4 +1,6 @@
 -- Expansions, their texts and nearest decimals are unique, and an expansion is found by division.
+--
+-- That a fraction is exact at some places, as `h`, is a count, `h.0`, and an equation, `h.1`.
 use Rattle.std.proofs.Common.{◌≡◌, ◌+◌, ◌-◌, ◌*◌, ◌^◌, ◌/◌, ◌<◌, ◌≤◌, ⊎_elim, ℕ, zero, suc, List, [], ◌∷◌, ◌++◌, length}
 use Rattle.std.proofs.Common.{get_or, replicate, arith, ap, sym, refl, subst, ◌∙◌, length-append, append-nil}
 use Rattle.std.specs.Prelude.{⊤}
@@ -51,15 +53,18 @@ EndsSome [] = ⊤
 EndsSome (d ∷ []) = 0 < d
 EndsSome (d ∷ e ∷ es) = EndsSome (e ∷ es)
 
+-- With a digit before them, digits still do not end in zero.
 ends_before_digit : (d : ℕ) (es : List ℕ) → EndsSome es → EndsSome (prepend_digit d es)
 ends_before_digit zero [] h = h
 ends_before_digit (suc d) [] h = omega arith
 ends_before_digit d (e ∷ es) h = h
 
+-- Digits without their trailing zeros do not end in zero.
 ends_without_zeros : (ds : List ℕ) → EndsSome (trim_zeros ds)
 ends_without_zeros [] = tt
 ends_without_zeros (d ∷ ds) = ends_before_digit d (trim_zeros ds) (ends_without_zeros ds)
 
+-- The last of digits that do not end in zero is positive.
 ends_last : (ds : List ℕ) → EndsSome ds → 0 < length ds → 0 < get_or ds (length ds - 1) 0
 ends_last [] h k = absurd (omega (arith, k))
 ends_last (d ∷ []) h k = h
@@ -112,6 +117,7 @@ text_of_padded q p e h = ap text_of (padded_is_at_places q p e h)
 pub padded_to_own_places : (e : Finite) → pad_of (length e.digits) e ≡ e
 padded_to_own_places e = grind (arith, append-nil, take_all)
 
+-- A difference times k is the difference of the numbers times k.
 difference_times : (a b k : ℕ) → abs_diff a b * k ≡ abs_diff (a * k) (b * k)
 difference_times a b k = omega (arith, mul-sub k a b, mul-sub k b a)
 
@@ -140,6 +146,7 @@ pub record SameFraction (num den num' den' : ℕ) : Type 0 where
   pub positive' : 0 < den'
   pub same : num * den' ≡ num' * den
 
+-- If a fraction is a number of 10^-p, each fraction that is equal to it is the same number of 10^-p.
 same_places :
     (num den num' den' p count : ℕ) → SameFraction num den num' den' → num' * 10 ^ p ≡ count * den'
     → num * 10 ^ p ≡ count * den
@@ -161,6 +168,7 @@ expansion_of_same_fraction num den num' den' e same h =
       least = λ p k. h.least p (k.0, same_places num den num' den' p k.0 same k.1);
     }
 
+-- A fraction that is exact with p digits after the point is expanded by these digits without their trailing zeros.
 expansion_at : (num den p : ℕ) → 0 < den → IsExactAt num den p
     → IsExpansion num den (trim_expansion (at_places p (num * 10 ^ p / den)))
 expansion_at num den p some h =

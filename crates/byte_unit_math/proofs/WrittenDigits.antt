@@ -1,4 +1,8 @@
 -- The decimal digits of a number, written from the last to the first, and their number.
+--
+-- The highest bit `top` of a number is its index, the leading zeros before it, and the two powers of two that bound the
+-- number. That a fraction `fits` is that it has digits, that they are below its power of ten, and that they are at most
+-- 38.
 use Rattle.std.specs.Fmt.{decimal}
 use Rattle.std.specs.Str.{IsAscii}
 use Rattle.std.proofs.Common.{set, ◌≡◌, ℕ, zero, suc, ◌+◌, ◌*◌, ◌^◌, ◌/◌, ◌%◌, ◌<◌, ◌-◌, ◌≤◌, ⊎_elim, List, [], ◌∷◌}
@@ -61,7 +65,7 @@ decimal_split (suc k) n wide small =
     ∙ (append_assoc (decimal (front / 10)) ((48 + front % 10) ∷ []) (glyphs (last_digits k n))
     ∙ ap (λ q. decimal q ++ glyphs (last_digits (suc k) n)) tenth))
 
--- The same with the last digits of the remainder.
+-- The quotient by 10^k, and then k digits of the remainder, write the number.
 pub decimal_cut : (k n : ℕ) → 10 ^ k ≤ n → n < 2 ^ 128
     → decimal (n / 10 ^ k) ++ glyphs (last_digits k (n % 10 ^ k)) ≡ decimal n
 decimal_cut k n wide small = rw (last_digits_of_rest k n) (sym (decimal_split k n wide small))
@@ -202,18 +206,21 @@ pub digits_before :
 digits_before k n behind wide small = ap (λ l. l ++ behind) (sym (decimal_cut k n wide small))
     ∙ append_assoc (decimal (n / 10 ^ k)) (glyphs (last_digits k (n % 10 ^ k))) behind
 
--- The same for two and for four digits, and their number.
+-- A number from 100 on is written as its quotient by 100, and two more digits.
 pub last_two : (n : ℕ) (behind : List ℕ) → 100 ≤ n → n < 2 ^ 128
     → decimal n ++ behind ≡ decimal (n / 100) ++ (glyphs (last_digits 2 (n % 100)) ++ behind)
 last_two = digits_before 2
 
+-- A number from 10000 on is written as its quotient by 10000, and four more digits.
 pub last_four : (n : ℕ) (behind : List ℕ) → 10000 ≤ n → n < 2 ^ 128
     → decimal n ++ behind ≡ decimal (n / 10000) ++ (glyphs (last_digits 4 (n % 10000)) ++ behind)
 last_four = digits_before 4
 
+-- A number from 100 on has two digits more than its quotient by 100.
 pub two_more : (n : ℕ) → 100 ≤ n → n < 2 ^ 128 → length (decimal n) ≡ length (decimal (n / 100)) + 2
 two_more = decimal_length_split 2
 
+-- A number from 10000 on has four digits more than its quotient by 10000.
 pub four_more : (n : ℕ) → 10000 ≤ n → n < 2 ^ 128 → length (decimal n) ≡ length (decimal (n / 10000)) + 4
 four_more = decimal_length_split 4
 
@@ -221,32 +228,37 @@ four_more = decimal_length_split 4
 pub ruleset groups_written =
     (decimal_one_digit, decimal_length_one, decimal_two_digits, last_two, last_four, two_more, four_more, drop-set)
 
--- What the proof of writing 18 digits at a time uses.
+-- A number from 10^18 on has 18 digits more than its quotient by 10^18.
 pub eighteen_more : (n : ℕ) → 10 ^ 18 ≤ n → n < 2 ^ 128 → length (decimal n) ≡ length (decimal (n / 10 ^ 18)) + 18
 eighteen_more = decimal_length_split 18
 
--- The lengths that the proofs of padded digits use.
+-- A number below 10^30 has at most 30 digits.
 pub few_30 : (n : ℕ) → n < 10 ^ 30 → length (decimal n) ≤ 30
 few_30 n small = length-decimal-le_wide 30 n (omega arith) small (omega (arith, small))
 
+-- A number below 10^16 has at most 16 digits.
 pub few_16 : (n : ℕ) → n < 10 ^ 16 → length (decimal n) ≤ 16
 few_16 n small = length-decimal-le_wide 16 n (omega arith) small (omega (arith, small))
 
+-- Any other number below 10^30 has 16 digits more than its quotient by 10^16.
 pub more_16 : (n : ℕ) → 10 ^ 16 ≤ n → n < 10 ^ 30 → length (decimal n) ≡ length (decimal (n / 10 ^ 16)) + 16
 more_16 n wide small = decimal_length_split 16 n wide (omega (arith, small))
 
--- A number of this many bits has the estimated number of decimal digits, or one more.
+-- The estimated number of decimal digits of a number of this many bits: 1233 / 4096 is just below log10(2).
 abbrev digits_estimate : ℕ → ℕ
 digits_estimate binary = binary * 1233 / 4096
 
+-- The estimate is within one digit for each number of at most this many bits: a test that is evaluated.
 abbrev estimate_holds_below : ℕ → Bool
 estimate_holds_below zero = true
 estimate_holds_below (suc j) = leb (10 ^ digits_estimate (suc j)) (10 * 2 ^ j) &&
     (leb (2 ^ suc j) (10 ^ suc (digits_estimate (suc j))) && estimate_holds_below j)
 
+-- The numbers of j + 1 bits have the estimated number of decimal digits, or one more.
 IsBetween : ℕ → Type 0
 IsBetween j = (10 ^ digits_estimate (suc j) ≤ 10 * 2 ^ j) × (2 ^ suc j ≤ 10 ^ suc (digits_estimate (suc j)))
 
+-- If the test holds below a count, this is so for each number of bits below it.
 is_between : (count j : ℕ) → estimate_holds_below count ≡ true → j < count → IsBetween j
 unfolding IsBetween
 is_between zero j h few = absurd (omega (arith, few))
@@ -263,15 +275,18 @@ decimal_length_between k n low high small =
     let digit = div_below n (10 ^ k) 10 (one_le_pow10 k) (omega (arith, high, pow-succ' 10 k)) in
     omega (arith, decimal_length_split k n low small, decimal_length_one (n / 10 ^ k) digit)
 
+-- A number below the power of ten of the estimate, and at least a tenth of it, has the estimated number of digits.
 digits_below_power : (few n : ℕ) → 10 ^ few ≤ 10 * n → 10 ≤ n → n < 2 ^ 128 → n < 10 ^ few → length (decimal n) ≡ few
 digits_below_power zero n low wide small below = absurd (omega (arith, wide, below))
 digits_below_power (suc few) n low wide small below = grind (arith, decimal_length_between, pow-succ')
 
 -- A number of at most 128 bits has as many digits as estimated if it is below that power of ten, or else one more.
 module _ (k n : ℕ) (few : k ≤ 128) (wide : 10 ≤ n) (small : n < 2 ^ k) where
+  -- The number fits 128 bits.
   wide_enough : n < 2 ^ 128
   wide_enough = omega (arith, small, pow-le-pow_right {n = 2} (omega arith) {i = k} {j = 128} few)
 
+  -- The number is at least a tenth of the power of ten of its estimate, and below ten times this power.
   bounds : (10 ^ digits_estimate (k - count_leading_zeros k n) ≤ 10 * n)
       × (n < 10 ^ suc (digits_estimate (k - count_leading_zeros k n)))
   unfolding IsBetween
@@ -282,17 +297,21 @@ module _ (k n : ℕ) (few : k ≤ 128) (wide : 10 ≤ n) (small : n < 2 ^ k) whe
       subst (λ b. (10 ^ digits_estimate b ≤ 10 * n) × (n < 10 ^ suc (digits_estimate b))) binary
       (omega (arith, between.0, top.2), omega (arith, between.1, top.3))
 
+  -- Below the power of ten of its estimate, it has as many digits as estimated.
   pub few_digits : n < 10 ^ digits_estimate (k - count_leading_zeros k n)
       → length (decimal n) ≡ digits_estimate (k - count_leading_zeros k n)
   few_digits below = digits_below_power _ n bounds.0 wide wide_enough below
 
+  -- At the power of ten of its estimate or above, it has one digit more than estimated.
   pub more_digits : 10 ^ digits_estimate (k - count_leading_zeros k n) ≤ n
       → length (decimal n) ≡ suc (digits_estimate (k - count_leading_zeros k n))
   more_digits reached = decimal_length_between _ n reached bounds.1 wide_enough
 
--- what the calls that write a number use of its length: in groups of 16 and of 18 digits, and by its binary digits
+-- The length of a number, as the proofs of writing it in groups of 16 digits use it.
 pub ruleset lengths_by_16 = (few_30, few_16, more_16)
 
+-- The same for groups of 18 digits.
 pub ruleset lengths_by_18 = (eighteen_more, decimal_length_positive)
 
+-- The length of a number by its binary digits.
 pub ruleset lengths_by_bits = (decimal_length_one, few_digits, more_digits)

@@ -31,6 +31,7 @@ pub record IsNormalized (d : Inside) : Type 0 where
   pub few : d.places ≤ places_of_decimal
   pub below : d.digits < 10 ^ d.places
   pub last : 0 < d.places → 0 < d.digits % 10
+  -- the fields are those of their value
   pub only : decimal_fields (decimal_value d) ≡ d
 
 -- The whole part of a number that is scaled by 10^28, and its digits after the point without trailing zeros.

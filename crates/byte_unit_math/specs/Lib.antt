@@ -1,3 +1,4 @@
+-- The definitions that the contracts of this crate are written in: limits, digits, decimals and rounding.
 pub mod Bounds
 pub mod Least
 pub mod RoundedUp

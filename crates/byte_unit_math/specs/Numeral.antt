@@ -4,11 +4,11 @@ use Rattle.std.specs.Fmt.{decimal}
 use Rattle.byte_unit_math.specs.Digits.{at_places, trim_expansion}
 use Rattle.byte_unit_math.specs.Finite.{Finite}
 
--- The digits as ASCII characters.
+-- The digits as ASCII characters, from 48, the character `0`, on.
 abbrev pub glyphs : List ℕ → List ℕ
 glyphs digits = map (λ d. 48 + d) digits
 
--- The point and the digits after it, or nothing if there are no digits.
+-- The point (46) and the digits after it, or nothing if there are no digits.
 abbrev pub fraction_text : List ℕ → List ℕ
 fraction_text [] = []
 fraction_text (d ∷ ds) = 46 ∷ glyphs (d ∷ ds)

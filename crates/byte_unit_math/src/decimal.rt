@@ -1,4 +1,6 @@
 //! Exact decimals with 28 places.
+//!
+//! The `#[inline]` attributes are for speed alone: each is kept because a measurement was better with it.
 ghost use Rattle.std.specs.Prelude.{◌≡◌, ℕ, ◌+◌, ◌*◌, ◌-◌, ◌^◌, ◌/◌, ◌%◌, ◌<◌, ◌≤◌, nat_eq, Some, SomeIff};
 ghost use Rattle.std.specs.Cmp.{partial_order_from_own_ties, partial_equiv_from_equiv};
 ghost use Rattle.std.specs.Cmp.Rules.{comparing};
@@ -28,6 +30,7 @@ pub const WHOLE_LIMIT: u128 = 5_192_296_858_534_827_628_530_496_329_220_096;
 /// In contracts it is its value scaled by 10^28: `1.5` is 15 * 10^27. Equality, order and hash are those of the value.
 #[derive(Clone, Copy, Debug, Hash)]
 pub struct Decimal {
+    /// The part before the point.
     whole: u128,
     /// The digits after the point as a number, without trailing zeros.
     digits: u128,
@@ -294,6 +297,8 @@ impl Default for Decimal {
     }
 }
 
+// In these four traits the laws that std asks for are those of natural numbers. A search over std's rules proves them.
+
 impl PartialEq for Decimal {
     ghost eq = { nat_eq };
 
@@ -336,6 +341,7 @@ impl PartialOrd for Decimal {
 
 /// Writes the whole part and, if the fraction is not zero, a point and its digits without trailing zeros.
 impl fmt::Display for Decimal {
+    // What is written without flags, and under any.
     ghost output = { λ d. Some (short_numeral d places_of_decimal) };
 
     ghost styled_output = { λ d spec. Some (short_numeral d places_of_decimal) };

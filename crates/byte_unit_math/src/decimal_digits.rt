@@ -1,4 +1,6 @@
 //! The decimal digits of a number, as ASCII.
+//!
+//! The `#[inline]` attributes are for speed alone: each is kept because a measurement was better with it.
 
 ghost use Rattle.std.specs.Prelude.{◌≡◌, ◌^◌, ◌≤◌, ◌<◌, length, IsAscii, Some};
 ghost use Rattle.std.specs.Fmt.{decimal, DisplaysOnOk, DisplaysStyledOnOk};
@@ -33,7 +35,9 @@ static PAIRS: [u8; 200] = *b"\
 /// ```
 #[derive(Drop)]
 pub struct DecimalDigits {
+    /// The digits are at the end.
     bytes: [u8; NUMBER_DIGITS],
+    /// The index of the first digit.
     start: usize,
 }
 
@@ -155,6 +159,7 @@ fn decimal_len_u64(n: u64) -> usize
     ensures exact { result ≡ length (decimal n) }
     ensures bound { result ≤ NUMBER_DIGITS }
 {
+    // The estimate is that of `decimal_len`.
     let few = (u64::BITS - n.leading_zeros()) * 1_233 / 4_096;
     if n < power_of_ten(few) as u64 {
         return few as usize;
@@ -256,6 +261,7 @@ pub(crate) fn put_u64(n: u64, bytes: &mut [u8], end: usize) -> usize
     requires within { end ≤ length bytes.old }
     ensures { IsPutBefore (decimal n) end bytes.old bytes.new result }
 {
+    // Four digits at a time, and then the last four as two, two or one.
     let mut start = end;
     let mut rest = n;
     while rest >= 10_000 {

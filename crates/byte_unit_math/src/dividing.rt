@@ -1,4 +1,6 @@
 //! Division of 128 bits, with remainder or rounded; by constants; and for one digit of a long division.
+//!
+//! The `#[inline]` attributes are for speed alone: each is kept because a measurement was better with it.
 ghost use Rattle.std.specs.Prelude.{◌≡◌, ℕ, ◌+◌, ◌*◌, ◌/◌, ◌%◌, ◌^◌, ◌<◌, ◌≤◌};
 ghost use Rattle.byte_unit_math.specs.Bounds.{unit_limit};
 ghost use Rattle.byte_unit_math.specs.Inverse.{HasInverse, IsSubtracted};
@@ -59,6 +61,7 @@ pub fn rounded_quotient(numerator: u128, divisor: u128) -> u128
         → IsNearest number divisor places Even result }
 {
     let (quotient, rest) = div_rem(numerator, divisor);
+    // More than half of the divisor is left, or just half and the quotient is odd.
     let odd = quotient % 2;
     if 2 * rest + odd > divisor {
         quotient + 1
@@ -103,6 +106,7 @@ pub(crate) fn div_rem_u24(dividend: u128, divisor: u64) -> (u128, u64)
     ensures quotient { result.0 ≡ dividend / divisor }
     ensures rest { result.1 ≡ dividend % divisor }
 {
+    // The dividend is three digits in base 2^40; each remainder is put before the next digit.
     let high = (dividend >> 80) as u64;
     let middle = high % divisor * BASE + ((dividend >> 40) % u128::from(BASE)) as u64;
     let low = middle % divisor * BASE + (dividend % u128::from(BASE)) as u64;
@@ -141,6 +145,7 @@ pub(crate) fn split_last_18_digits(n: u128) -> (u128, u64)
     ensures rest { result.1 ≡ n % 10 ^ 18 }
 {
     if n < 1 << 122 {
+        // 58 + 65 is 123, the power of the reciprocal, and 64 bits of `n` are left after the cut by 58.
         let (before, last) = div_rem_by_inverse(n, TEN_POW_18, TEN_POW_18_INVERSE, 58, 65);
         return (u128::from(before), last);
     }

@@ -1,4 +1,6 @@
 //! Terminating decimal expansions: a whole part and at most 93 digits after the point.
+//!
+//! The `#[inline]` attributes are for speed alone: each is kept because a measurement was better with it.
 ghost use Rattle.std.specs.Prelude.{◌≡◌, ◌≢◌, ◌+◌, ◌-◌, ◌*◌, ◌%◌, ◌^◌, ◌≤◌, ◌<◌, ◌++◌, ℕ, length, take};
 ghost use Rattle.std.specs.Prelude.{replicate, slice_index, IsAscii, Some};
 ghost use Rattle.std.specs.Bool.{MatchBool};
@@ -34,8 +36,11 @@ pub enum Ties {
 /// In contracts it is its whole part and the list of its digits.
 #[derive(Debug, Clone, Copy)]
 pub struct Expansion {
+    /// The part before the point.
     whole: u128,
+    /// The digits after the point, each below ten, and zeros after them.
     digits: [u8; EXPANSION_PLACES],
+    /// The number of digits after the point.
     places: u32,
 }
 
@@ -289,6 +294,7 @@ fn clear_from(digits: &mut [u8; EXPANSION_PLACES], kept: u32)
 
 /// Writes the whole part and, if there are digits after the point, a point and these.
 impl fmt::Display for Expansion {
+    // What is written without flags, and under any.
     ghost output = { λ e. Some (text_of e) };
 
     ghost styled_output = { λ e spec. Some (text_of e) };
@@ -340,6 +346,7 @@ fn in_lowest_terms(numerator: u128, places: u32) -> Expansion
     ensures { IsExpansion numerator (2 ^ places) result }
 {
     let whole = numerator >> places;
+    // The last `places` bits are the fraction.
     let rest = numerator & ((1 << places) - 1);
     Expansion {
         whole,

@@ -1,4 +1,6 @@
 //! The exponents of 2 and 5 in a size, and its cofactor.
+//!
+//! The `#[inline]` attributes are for speed alone: each is kept because a measurement was better with it.
 ghost use Rattle.std.specs.Prelude.{◌≡◌, ◌≢◌, ◌+◌, ◌*◌, ◌%◌, ◌^◌, ◌<◌, ◌≤◌};
 ghost use Rattle.byte_unit_math.specs.Bounds.{size_limit};
 ghost use Rattle.byte_unit_math.specs.Factored.{product_of};
@@ -10,8 +12,11 @@ use crate::steps::Steps;
 /// A factored number: `left * 2^twos * 5^fives`.
 #[derive(Clone, Copy, Debug)]
 pub struct Factors {
+    /// The cofactor: what is left without the powers of 2 and 5.
     pub left: u128,
+    /// The exponent of 2.
     pub twos: u32,
+    /// The exponent of 5.
     pub fives: u32,
 }
 

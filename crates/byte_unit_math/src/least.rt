@@ -1,4 +1,6 @@
 //! Products of a decimal and a unit's size, rounded up to a whole number.
+//!
+//! The `#[inline]` attributes are for speed alone: each is kept because a measurement was better with it.
 ghost use Rattle.std.specs.Prelude.{◌≡◌, ℕ, ◌+◌, ◌-◌, ◌*◌, ◌/◌, ◌%◌, ◌^◌, ◌<◌, ◌≤◌, IfSome, IfNone};
 ghost use Rattle.byte_unit_math.specs.Bounds.{bits_limit, places_of_decimal, unit_limit};
 ghost use Rattle.byte_unit_math.specs.Least.{IsLeastSize};
@@ -104,6 +106,7 @@ fn split_fraction(digits: u128, places: u32) -> (u64, u64)
     ensures low { result.1 ≡ digits * 10 ^ (places_of_decimal - places) % half_limit }
 {
     let fraction = digits * power_of_ten(DECIMAL_PLACES - places);
+    // 30 + 80 is 110, the power of the reciprocal, and at most 64 bits are left after the cut by 30.
     div_rem_by_inverse(fraction, TEN_POW_14, TEN_POW_14_INVERSE, 30, 80)
 }
 
@@ -121,6 +124,7 @@ fn carry_of_group(digits: u64, unit_size: u128, carry: u128) -> u128
         // A zero group without a carry needs no division.
         0
     } else if unit_size < 1 << 40 {
+        // A group has less than 24 bits, so the sum fits 64.
         u128::from((digits * unit_size as u64 + carry as u64 + (GROUP - 1)) / GROUP)
     } else {
         let product = u128::from(digits) * unit_size + carry;

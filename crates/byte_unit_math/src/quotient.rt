@@ -1,4 +1,6 @@
 //! Exact quotients by long division and by factors.
+//!
+//! The `#[inline]` attributes are for speed alone: each is kept because a measurement was better with it.
 ghost use Rattle.std.specs.Prelude.{◌≡◌, ℕ, ◌+◌, ◌*◌, ◌-◌, ◌/◌, ◌%◌, ◌^◌, ◌<◌, ◌≤◌, min, IfSome, IfNone};
 ghost use Rattle.byte_unit_math.specs.Bounds.{scale, places_of_decimal, unit_limit, whole_limit};
 ghost use Rattle.byte_unit_math.specs.Steps.{saturating_add};
@@ -87,6 +89,8 @@ pub fn factored_quotient(
     ensures steps { (least : ℕ) × IsLeastPlaces result scale least
         × (steps.new ≡ saturating_add steps.old least) }
 {
+    // The quotient times 10^places, a whole number: the exponents are those of the number plus the places, less the
+    // unit's, and the power of 2 is a shift.
     let power = POWERS_OF_FIVE[(number.fives + places - fives) as usize];
     let count = (number.left << (number.twos + places - twos)) * power;
     let (whole, digits) = match places {

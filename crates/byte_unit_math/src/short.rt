@@ -1,4 +1,6 @@
 //! Terminating decimal expansions with few digits after the point, by one product and one division or shift.
+//!
+//! The `#[inline]` attributes are for speed alone: each is kept because a measurement was better with it.
 ghost use Rattle.std.specs.Prelude.{◌≡◌, ◌≢◌, ℕ, ◌*◌, ◌%◌, ◌^◌, ◌<◌, ◌≤◌, IfSome};
 ghost use Rattle.byte_unit_math.specs.Bounds.{bits_limit, scale, unit_limit};
 ghost use Rattle.byte_unit_math.specs.Exact.{IsLeastPlaces};
@@ -19,9 +21,11 @@ const BYTE_TWOS: u32 = 3;
 /// A terminating decimal expansion with at most 38 digits after the point, the last of which is not 0.
 #[derive(Clone, Copy, Debug)]
 pub struct ShortExpansion {
+    /// The part before the point.
     pub whole: u128,
     /// The digits after the point as a number of `places` digits, leading zeros included.
     pub digits: u128,
+    /// The number of digits after the point.
     pub places: u32,
 }
 
@@ -86,6 +90,7 @@ fn decimal_expansion(numerator: u128, twos: u32, tens: u32) -> Option<ShortExpan
         return None;
     }
     let places = tens + twos;
+    // 10^(tens + twos) / (2^twos * 10^tens) is 5^twos.
     let scaled = numerator * power_of_five(twos);
     let (whole, digits) = div_rem(scaled, power_of_ten(places));
     // Leaves trailing zeros out.

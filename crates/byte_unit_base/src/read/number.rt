@@ -1,4 +1,5 @@
 //! Parses a number and a unit from a line. Eight bytes are loaded at once, as a `u64` whose lowest byte is the first.
+//! The `#[inline]` attributes are for speed alone: each is kept because a measurement was better with it.
 
 ghost use Rattle.std.specs.Prelude.{◌≡◌, ◌≢◌, ℕ, Bool, List, Some, ◌+◌, ◌%◌, ◌^◌, ◌<◌, ◌≤◌};
 ghost use Rattle.std.specs.Prelude.{length, take, drop, replicate, slice_range};
@@ -149,7 +150,7 @@ fn value_of(digits: &[u8], last_bits: u64) -> u128
     }
 }
 
-/// Returns the value of any number of digits. If it or the result is 2^112 or more, so is the other.
+/// Slow path: returns the value of any number of digits. If it or the result is 2^112 or more, so is the other.
 #[inline(never)]
 fn longer_value(digits: &[u8]) -> u128
     requires { AllDigits 10 digits.now }
@@ -166,7 +167,7 @@ fn longer_value(digits: &[u8]) -> u128
     whole
 }
 
-/// Returns the value of 19 to 38 digits, from the last 64 bits of that value.
+/// Slow path: returns the value of 19 to 38 digits, from the last 64 bits of that value.
 #[inline(never)]
 fn long_value(digits: &[u8], last_bits: u64) -> u128
     requires digits { AllDigits 10 digits.now }
@@ -198,9 +199,9 @@ fn leading_digits<const ALONE: bool>(line: &[u8], bytes: &[u8], from: usize) -> 
     let mut start = from;
     let mut value = 0;
     if bytes.len() - from >= 8 {
-        // A digit is below ten then, and every other byte is not.
+        // 0x30 is `b'0'`: a digit is below ten then, and every other byte is not.
         let digits = load_eight(bytes, from) ^ 0x3030_3030_3030_3030;
-        // The high bit of each byte that is ten or more. No sum carries into the next byte.
+        // The high bit of each byte that is ten or more: 0x76 + 10 is 0x80. No sum carries into the next byte.
         let sums = (digits & 0x7f7f_7f7f_7f7f_7f7f) + 0x7676_7676_7676_7676;
         let others = (sums | digits) & 0x8080_8080_8080_8080;
         if others != 0 {
@@ -258,7 +259,7 @@ fn value_of_eight(digits: u64) -> u64
 ///
 /// # Errors
 /// Returns what was read and the index, counted from `from`, where it stops: at a character that cannot continue the
-/// unit, or at the end if the suffix is incomplete.
+/// unit, or at the end if the suffix is incomplete, which is `bi`, of length 2.
 #[inline(always)]
 pub fn read_unit(
     line: &[u8],
@@ -307,7 +308,7 @@ fn suffix_len(word: u64) -> usize
     ensures bound { result ≤ 4 }
     ensures letters { result ≡ bits_len (digits_l 256 8 word) }
 {
-    // A letter with this bit is in lower case, and no byte with it is 0.
+    // With the bit 0x20 an ASCII letter is in lower case; no byte with it is 0, so the fifth one always differs.
     let bytes = u64x1::splat(word).to_le_bytes() | u8x8::splat(0x20);
     let others = bytes.simd_ne(u8x8::from_array(*b"bits\0\0\0\0"));
     others.to_bitmask().trailing_zeros() as usize

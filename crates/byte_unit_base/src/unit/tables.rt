@@ -2,6 +2,8 @@
 //!
 //! A lookup in a table is a load. LLVM makes a jump table of a `match` over the units, which is slower if the units
 //! change from one string to the next.
+//!
+//! The `#[inline]` attributes are for speed alone: each is kept because a measurement was better with it.
 
 ghost use Rattle.std.specs.Prelude.{◌≡◌, ◌≤◌, ◌-◌, slice_index, slice_get};
 ghost use Rattle.byte_unit_base.specs.UnitLists.{units};
@@ -12,8 +14,8 @@ use crate::unit::{Shape, Unit, UnitData};
 /// The number of prefixes.
 pub const PREFIXES: usize = 9;
 
-/// Calls a macro with each prefix: its letter, its units, its position, and its value as a decimal and as a binary
-/// prefix.
+/// Calls a macro with each prefix: its letter, its units, its position, its value as a decimal (SI) prefix, a power of
+/// 1000, and its value as a binary (IEC) prefix, a power of 1024.
 #[macro_export]
 macro_rules! with_prefixes {
     ($table:ident $kind:ident) => {
@@ -45,7 +47,8 @@ macro_rules! unit {
     };
 }
 
-/// Writes a table in the order of the prefixes, or of the variants of `Unit`.
+/// Writes a table: `data`, `bits` and `variants` have a row for each unit, in the order of the variants of `Unit`;
+/// `units` one for no prefix and one for each prefix; `letters` one for each prefix; `expected` has `B` before these.
 macro_rules! table {
     (data
         $($letter:literal $bit:ident $ibit:ident $b:ident $ib:ident $n:literal $decimal:literal $binary:literal),*

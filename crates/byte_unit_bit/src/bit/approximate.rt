@@ -1,5 +1,7 @@
 // Rendered from crates/byte_unit_byte/src/byte/approximate.rt. Do not edit.
 //! The text of a size in bits in its appropriate unit: a few digits, as a person reads it.
+//!
+//! The `#[inline]` attributes are for speed alone: each is kept because a measurement was better with it.
 
 ghost use Rattle.std.specs.Prelude.{◌≤◌, IfOk};
 ghost use Rattle.std.specs.String.{string_bytes};

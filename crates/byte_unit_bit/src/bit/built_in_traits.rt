@@ -27,6 +27,7 @@ impl Default for Bit {
 /// Writes the number of bits in decimal digits, as `FormatSpec::PLAIN` does. The formatter's flags have no effect;
 /// [`Bit::to_text`] takes a spec instead.
 impl fmt::Display for Bit {
+    // What is written without flags, and under any.
     ghost output = { λ size. Some (decimal size) };
 
     ghost styled_output = { λ size spec. Some (decimal size) };
@@ -88,6 +89,7 @@ impl From<usize> for Bit {
     ghost from_gives = { λ n size. size ≡ n };
 
     fn from(size: usize) -> Bit {
+        // `usize` is no wider than `u64`.
         Bit::from_u64(size as u64)
     }
 }

@@ -1,5 +1,7 @@
 // Rendered from crates/byte_unit_byte/src/byte/parse.rt. Do not edit.
 //! Parsing of sizes in bits.
+//!
+//! The `#[inline]` attributes are for speed alone: each is kept because a measurement was better with it.
 
 ghost use Rattle.std.specs.Prelude.{false, take};
 ghost use Rattle.byte_unit_base.specs.Line.{IsLine};

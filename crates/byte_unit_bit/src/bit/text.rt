@@ -1,5 +1,7 @@
 // Rendered from crates/byte_unit_byte/src/byte/text.rt. Do not edit.
 //! Formatting of sizes in bits.
+//!
+//! The `#[inline]` attributes are for speed alone: each is kept because a measurement was better with it.
 
 ghost use Rattle.std.specs.Prelude.{◌≡◌, ◌<◌, ◌≤◌, ℕ, List, length, IfOk};
 ghost use Rattle.std.specs.String.{string_bytes};

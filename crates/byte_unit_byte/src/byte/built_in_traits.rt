@@ -26,6 +26,7 @@ impl Default for Byte {
 /// Writes the number of bytes in decimal digits, as `FormatSpec::PLAIN` does. The formatter's flags have no effect;
 /// [`Byte::to_text`] takes a spec instead.
 impl fmt::Display for Byte {
+    // What is written without flags, and under any.
     ghost output = { λ size. Some (decimal size) };
 
     ghost styled_output = { λ size spec. Some (decimal size) };
@@ -87,6 +88,7 @@ impl From<usize> for Byte {
     ghost from_gives = { λ n size. size ≡ n };
 
     fn from(size: usize) -> Byte {
+        // `usize` is no wider than `u64`.
         Byte::from_u64(size as u64)
     }
 }

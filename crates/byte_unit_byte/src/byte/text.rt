@@ -1,4 +1,6 @@
 //! Formatting of sizes in bytes.
+//!
+//! The `#[inline]` attributes are for speed alone: each is kept because a measurement was better with it.
 
 ghost use Rattle.std.specs.Prelude.{◌≡◌, ◌<◌, ◌≤◌, ℕ, List, length, IfOk};
 ghost use Rattle.std.specs.String.{string_bytes};

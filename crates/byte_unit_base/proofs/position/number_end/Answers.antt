@@ -11,16 +11,19 @@ use Rattle.byte_unit_base.proofs.position.number_end.Goals.{else-end-bytes-via-t
 use Rattle.byte_unit_base.proofs.position.number_end.Goals.{else-end-bytes-via-else-end-bytes}
 use Rattle.byte_unit_base.proofs.position.number_end.Goals as goal
 
+-- no digit is at the start
 pub returns-then-whole-eq0 : goal.returns-then-whole-eq0
 returns-then-whole-eq0 c =
     wrong_at_start c.args.bytes.now c.requires (subst (IsWholeLen c.args.bytes.now) c.if-whole-eq0.true c.whole_len-whole.ensures)
 
+-- the bytes end with the whole part
 pub returns-then-whole-bytes : goal.returns-then-whole-bytes
 returns-then-whole-bytes c =
     number_of_whole c.args.bytes.now c.requires c.whole_len-whole.result c.whole_len-whole.ensures c.if-whole-eq0.false
     (λ inside. absurd (omega (arith, inside, c.if-whole-bytes.true)))
     (λ inside. absurd (omega (arith, inside, c.if-whole-bytes.true)))
 
+-- one more digit reaches the limit of a whole part
 pub returns-then-is_ascii_digit : goal.returns-then-is_ascii_digit
 returns-then-is_ascii_digit c =
     let bytes = c.args.bytes.now in
@@ -29,6 +32,7 @@ returns-then-is_ascii_digit c =
     (omega (arith, whole.ensures.within, c.if-whole-bytes.false))
     (digit_small (get_or bytes whole.result 0) (sym c.if-is_ascii_digit.ensures.value))
 
+-- neither a digit nor a point follows the whole part
 pub returns-then-bytes-whole-ne46 : goal.returns-then-bytes-whole-ne46
 returns-then-bytes-whole-ne46 c =
     let bytes = c.args.bytes.now in
@@ -37,6 +41,7 @@ returns-then-bytes-whole-ne46 c =
     (λ inside. digit_large (get_or bytes whole.result 0) (sym c.if-is_ascii_digit.ensures.value))
     (λ inside. c.if-bytes-whole-ne46.true)
 
+-- no digit follows the point
 pub returns-then-places-eq0 : goal.returns-then-places-eq0
 returns-then-places-eq0 c =
     let bytes = c.args.bytes.now in
@@ -48,6 +53,7 @@ returns-then-places-eq0 c =
     (omega (arith, whole.ensures.within, c.if-whole-bytes.false)) c.if-bytes-whole-ne46.false none in
     subst (IsWrongAt bytes) (omega (arith, c.if-places-eq0.true)) wrong
 
+-- the 29th digit follows the point
 pub returns-then-is_ascii_digit-2 : goal.returns-then-is_ascii_digit-2
 returns-then-is_ascii_digit-2 c =
     let bytes = c.args.bytes.now in
@@ -59,6 +65,7 @@ returns-then-is_ascii_digit-2 c =
     (omega (arith, c.if-end-bytes.true))
     (digit_small (get_or bytes (whole.result + 1 + places.result) 0) (sym c.if-is_ascii_digit-2.ensures.value))
 
+-- neither a digit nor anything that continues the number follows the fraction
 pub returns : goal.returns
 returns c =
     let bytes = c.args.bytes.now in

@@ -6,6 +6,7 @@ use Rattle.std.proofs.lemmas.List.{take_more}
 use Rattle.byte_unit_base.proofs.WrongPlaces.{digit_small}
 use Rattle.byte_unit_base.proofs.position.places_len.Goals as goal
 
+-- the three parts of the invariant; the third one is that the bytes so far are digits
 pub digits-preserved : goal.digits-preserved
 digits-preserved c =
     let bytes = c.args.bytes.now in

@@ -6,6 +6,8 @@ use Rattle.byte_unit_base.specs.PartsReading.{IsFirst, IsNoSpace}
 use Rattle.byte_unit_base.proofs.WrongPlaces.{wrong_in_unit, size_of_parts}
 use Rattle.byte_unit_base.proofs.position.size_place.Goals as goal
 
+-- `in-Ok.ensures` is the number and that it leads; `wrong` is the state of the unit, that its beginning leads, and its
+-- error at the end
 pub returns-in-Some : goal.returns-in-Some
 returns-in-Some c =
     let bytes = c.args.bytes.now in
@@ -17,6 +19,7 @@ returns-in-Some c =
     (subst (λ r. take spaces.result r ≡ replicate spaces.result space) rest spaces.ensures.spaces)
     (subst (λ r. IsFirst IsNoSpace (drop spaces.result r)) rest spaces.ensures.all) wrong.1 wrong.2
 
+-- the number, the spaces and the unit are a size
 pub returns-in-None : goal.returns-in-None
 returns-in-None c =
     let bytes = c.args.bytes.now in

@@ -6,6 +6,8 @@ use Rattle.std.proofs.lemmas.List.{take_more}
 use Rattle.byte_unit_base.proofs.WrongPlaces.{digit_small, digit_byte}
 use Rattle.byte_unit_base.proofs.position.whole_len.Goals as goal
 
+-- the four parts of the invariant: the third one is that the bytes so far are digits, and the fourth one their value;
+-- `is` says that the value of a digit is its byte less 48
 pub digits-preserved : goal.digits-preserved
 digits-preserved c =
     let bytes = c.args.bytes.now in

@@ -4,6 +4,8 @@ use Rattle.std.specs.Str.Parse.{AllDigits, digits_value}
 use Rattle.byte_unit_math.specs.Bounds.{whole_limit}
 use Rattle.byte_unit_base.proofs.position.whole_len.Given as goal
 
+-- the digits so far: they are within the bytes, their value is below the limit, they are digits, and this is their
+-- value
 abbrev pub invariant-digits : goal.invariant-digits
 invariant-digits l =
     (l.count ≤ length l.bytes) × (l.whole < whole_limit) × AllDigits 10 (take l.count l.bytes)

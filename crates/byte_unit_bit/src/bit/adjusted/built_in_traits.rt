@@ -23,6 +23,7 @@ use std::str::FromStr;
 /// Writes the size in its unit with all its digits, a space and the unit's name, as `FormatSpec::PLAIN` does. The
 /// formatter's flags have no effect; [`AdjustedBit::to_text`] takes a spec instead.
 impl fmt::Display for AdjustedBit {
+    // What is written without flags, and under any.
     ghost output = { λ a. Some (adjusted_text InBits a.size a.unit) };
 
     ghost styled_output = { λ a spec. Some (adjusted_text InBits a.size a.unit) };
@@ -32,6 +33,8 @@ impl fmt::Display for AdjustedBit {
         byte_unit_format::display_adjusted(size, Kind::Bit, self.get_unit(), f)
     }
 }
+
+// In these four traits the laws that std asks for are those of natural numbers. A search over std's rules proves them.
 
 /// Compares the sizes for equality, whatever the units.
 impl PartialEq for AdjustedBit {

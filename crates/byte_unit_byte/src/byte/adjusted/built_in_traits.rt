@@ -22,6 +22,7 @@ use std::str::FromStr;
 /// Writes the size in its unit with all its digits, a space and the unit's name, as `FormatSpec::PLAIN` does. The
 /// formatter's flags have no effect; [`AdjustedByte::to_text`] takes a spec instead.
 impl fmt::Display for AdjustedByte {
+    // What is written without flags, and under any.
     ghost output = { λ a. Some (adjusted_text InBytes a.size a.unit) };
 
     ghost styled_output = { λ a spec. Some (adjusted_text InBytes a.size a.unit) };
@@ -31,6 +32,8 @@ impl fmt::Display for AdjustedByte {
         byte_unit_format::display_adjusted(size, Kind::Byte, self.get_unit(), f)
     }
 }
+
+// In these four traits the laws that std asks for are those of natural numbers. A search over std's rules proves them.
 
 /// Compares the sizes for equality, whatever the units.
 impl PartialEq for AdjustedByte {

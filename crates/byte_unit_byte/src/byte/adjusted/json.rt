@@ -39,6 +39,7 @@ impl AdjustedByte {
             × (view value ≡ string text)) }
     {
         let size = self.get_byte();
+        // As in the Rust crate: in a unit as `GiB` it has over 28 digits, and `from_json` would reject it.
         let text = if size == Byte::MAX {
             size.to_text(alloc, FormatSpec::ALTERNATE)?
         } else {

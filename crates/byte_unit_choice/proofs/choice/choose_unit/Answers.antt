@@ -15,11 +15,14 @@ use Rattle.byte_unit_choice.proofs.SizePowers.{exact_by_row, counted_choice, cou
 use Rattle.byte_unit_choice.proofs.choice.choose_unit.Goals as goal
 use Rattle.byte_unit_choice.proofs.choice.choose_unit.Goals.{then-places-gt-FEW_PLACES, else-places-gt-FEW_PLACES}
 
+-- every unit is above the size 0
 pub returns-then-size-eq0-clause-none : goal.returns-then-size-eq0-clause-none
 returns-then-size-eq0-clause-none c = λ unit s.
     let zero = ap (λ n. n * c.args.own_bits) c.if-size-eq0.true in
     omega (arith, some_bits unit, s.not_above, zero)
 
+-- before the first row, each unit with small enough exponents is among the rows, since its prefix is among those that
+-- are listed
 pub loop-row-init : goal.loop-row-init
 loop-row-init c =
     let in_bits = c.args.size * c.args.own_bits in
@@ -33,6 +36,7 @@ loop-row-init c =
       steps = refl;
     }
 
+-- the row failed the test, so its unit has no such exponents, and the others are in later rows
 pub loop-row-preserved : goal.loop-row-preserved
 loop-row-preserved c =
     let in_bits = c.args.size * c.args.own_bits in
@@ -45,6 +49,7 @@ loop-row-preserved c =
       steps = c.loop-row.invariant.steps;
     }
 
+-- the size is exact in the unit of the row within the places, which the test of the row has found
 pub exact_number-number-requires : goal.exact_number-number-requires
 exact_number-number-requires c =
     let in_bits = c.args.size * c.args.own_bits in
@@ -59,6 +64,7 @@ exact_number-number-requires c =
           (exact_by_row _ (omega (arith, c.min-most.ensures)) is_row.bits_are powers has);
     }
 
+-- with few places, the whole part of the quotient is below its limit
 pub factored_quotient-number-requires-clause-small : goal.factored_quotient-number-requires-clause-small
 factored_quotient-number-requires-clause-small c =
     let multiple = row_multiple (row_at_is_row no_row c.multiples_within-row-items.ensures c.loop-row-test.true) in
@@ -68,6 +74,7 @@ factored_quotient-number-requires-clause-small c =
     let fits = count_fits c.args.size c.args.own_bits few multiple c.requires.own_bits c.requires.small (omega arith) in
     omega (arith, fits, ap (λ n. n * 10 ^ few) product, ap (λ n. whole_limit * n) multiple.powers)
 
+-- the number times the unit is the size, whichever function has divided
 pub returns-then-row-in_bits-clause-exact : goal.returns-then-row-in_bits-clause-exact
 returns-then-row-in_bits-clause-exact c =
     let in_bits = c.args.size * c.args.own_bits in
@@ -86,6 +93,8 @@ returns-then-row-in_bits-clause-exact c =
           ∙ (w.factored_quotient-number.ensures.exact ∙ ap (λ n. n * scale) product))
     ]
 
+-- `found` says that the unit of the row is the largest one, `exact` that the size is exact in it, and `quotient` that
+-- the number is the quotient
 pub returns-then-row-in_bits-clause-chosen : goal.returns-then-row-in_bits-clause-chosen
 returns-then-row-in_bits-clause-chosen c =
     let in_bits = c.args.size * c.args.own_bits in
@@ -99,6 +108,8 @@ returns-then-row-in_bits-clause-chosen c =
     (returns-then-row-in_bits-clause-exact c) exact in
     chosen_by_powers c.args.places c.min-most.ensures powers _ found quotient
 
+-- `counted` is the number of places, that it is the least one, and the steps after them; `places` is the same of one
+-- branch
 pub returns-then-row-in_bits-clause-steps : goal.returns-then-row-in_bits-clause-steps
 returns-then-row-in_bits-clause-steps c =
     let multiple = row_multiple (row_at_is_row no_row c.multiples_within-row-items.ensures c.loop-row-test.true) in
@@ -121,11 +132,13 @@ returns-then-row-in_bits-clause-steps c =
     counted_choice {places = counted.0} c.args.steps.now mid c.if-places-gt-FEW_PLACES.steps trials.powers counted.1
     trials.steps counted.2
 
+-- the step count of a choice is bounded
 pub returns-then-row-in_bits-clause-few_steps : goal.returns-then-row-in_bits-clause-few_steps
 returns-then-row-in_bits-clause-few_steps c = λ kind same.
     few_of_choice kind c.args.family c.args.size c.args.places _ _ _ _ c.requires.small
     (rw same at (returns-then-row-in_bits-clause-chosen c)) (returns-then-row-in_bits-clause-steps c)
 
+-- no row has passed, so the size is exact in no unit
 pub returns-clause-none : goal.returns-clause-none
 returns-clause-none c =
     let powers = in_bits_powers c.args.size c.args.own_bits _ _ c.requires.own_bits c.factors_of-left.ensures.powers in
@@ -133,12 +146,14 @@ returns-clause-none c =
     (none_found _ c.multiples_within-row-items.result.now c.loop-row.row-index c.loop-row-test.false
     c.loop-row.invariant.remain)
 
+-- only the trials of `factors_of` are counted
 pub returns-clause-steps_of_none : goal.returns-clause-steps_of_none
 returns-clause-steps_of_none c =
     let trials = c.factors_of-left in
     let still : c.loop-row.steps ≡ saturating_add trials.new.steps 0 = omega (arith, c.loop-row.invariant.steps) in
     counted_choice _ _ _ trials.ensures.powers (whole_takes_none 0) trials.ensures.steps still
 
+-- without a choice, the steps of `factors_of` are as few
 pub returns-clause-few_steps : goal.returns-clause-few_steps
 returns-clause-few_steps c =
     λ kind same. few_of_none kind c.args.size _ _ c.requires.small (returns-clause-steps_of_none c)

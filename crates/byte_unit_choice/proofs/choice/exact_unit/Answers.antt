@@ -7,6 +7,7 @@ use Rattle.byte_unit_choice.proofs.Quotients.{whole_number}
 use Rattle.byte_unit_choice.proofs.Choosing.{some_bits, exact_where_recovered}
 use Rattle.byte_unit_choice.proofs.choice.exact_unit.Goals as goal
 
+-- `recoverable_unit` returns the number, scaled by 10^28, and the unit
 pub returns-clause-exact : goal.returns-clause-exact
 returns-clause-exact c =
     let unit = shape_of c.recoverable_unit-number.result.1 in

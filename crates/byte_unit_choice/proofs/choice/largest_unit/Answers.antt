@@ -7,6 +7,7 @@ use Rattle.byte_unit_choice.proofs.Rows.{no_row, search_start, row_at_is_row, un
 use Rattle.byte_unit_choice.proofs.choice.largest_unit.Goals as goal
 use Rattle.byte_unit_choice.proofs.choice.largest_unit.Goals.{in-Binary, in-Decimal, in-Both}
 
+-- before the first row, each unit of the type that is not above the size is among the rows
 pub loop-row-init : goal.loop-row-init
 loop-row-init c =
     let fit = IsEligibleUnit c.args.family c.args.unit_type (c.args.size * c.args.own_bits) in
@@ -18,6 +19,7 @@ loop-row-init c =
       omega (arith, h.member.prefix.known),
     ))
 
+-- the unit of the row is above the size
 pub loop-row-preserved-then-row-in_bits : goal.loop-row-preserved-then-row-in_bits
 loop-row-preserved-then-row-in_bits c =
     let fit = IsEligibleUnit c.args.family c.args.unit_type (c.args.size * c.args.own_bits) in
@@ -28,6 +30,7 @@ loop-row-preserved-then-row-in_bits c =
     let small = small_bits c.args.family _ h.member in
     omega (arith, c.if-row-in_bits.true, is_row.bits_are, c.saturating_mul-in_bits.ensures, h.not_above, small))
 
+-- the unit of the row is not of the type
 pub loop-row-preserved : goal.loop-row-preserved
 loop-row-preserved c =
     let fit = IsEligibleUnit c.args.family c.args.unit_type (c.args.size * c.args.own_bits) in
@@ -43,6 +46,7 @@ loop-row-preserved c =
       | in-Both w ↦ cc
     ])
 
+-- the unit of the row is not above the size and of the type, and the first such one is the largest
 pub returns-then-is_of_type-clause-found : goal.returns-then-is_of_type-clause-found
 returns-then-is_of_type-clause-found c =
     let in_bits = c.args.size * c.args.own_bits in

@@ -6,11 +6,13 @@ use Rattle.byte_unit_choice.proofs.Choosing.{own_number}
 use Rattle.byte_unit_choice.proofs.SizePowers.{counted_whole}
 use Rattle.byte_unit_choice.proofs.choice.recoverable_unit.Goals as goal
 
+-- the size itself times its base unit
 pub returns-in-None-clause-exact : goal.returns-in-None-clause-exact
 returns-in-None-clause-exact c =
     let value : c.from_digits.result ≡ c.args.size * scale = omega (arith, c.from_digits.ensures) in
     own_number c.args.kind c.args.size c.from_digits.result (shape_of c.unit.result) value c.unit.ensures
 
+-- the size itself takes no step for places
 pub returns-in-None-clause-steps : goal.returns-in-None-clause-steps
 returns-in-None-clause-steps c =
     let value : c.from_digits.result ≡ c.args.size * scale = omega (arith, c.from_digits.ensures) in

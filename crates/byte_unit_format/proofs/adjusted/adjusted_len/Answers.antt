@@ -6,10 +6,12 @@ use Rattle.byte_unit_format.proofs.AdjustedForms.{adjusted_by_expansion, adjuste
 use Rattle.byte_unit_format.proofs.AdjustedLengths.{adjusted_narrow}
 use Rattle.byte_unit_format.proofs.adjusted.adjusted_len.Goals as goal
 
+-- The parts were found quickly, and their length is that of every adjusted text.
 pub returns-in-Some-clause-exact : goal.returns-in-Some-clause-exact
 returns-in-Some-clause-exact c = λ other is_other.
     c.in-Some.ensures.len ∙ sym (ap length (adjusted_form_unique is_other c.in-Some.ensures.text))
 
+-- Otherwise the expansion is rounded, and the length of its layout is that of every adjusted text.
 pub returns-in-None-clause-exact : goal.returns-in-None-clause-exact
 returns-in-None-clause-exact c = λ other is_other.
     let places = c.round-places in
@@ -17,12 +19,14 @@ returns-in-None-clause-exact c = λ other is_other.
     c.number_in_unit-number.ensures in
     c.layout_len.ensures.exact ∙ sym (ap length (adjusted_form_unique is_other form))
 
+-- Without a width, the parts are as short as every adjusted text.
 pub returns-in-Some-clause-narrow : goal.returns-in-Some-clause-narrow
 returns-in-Some-clause-narrow c =
     let narrow = adjusted_narrow c.args.kind c.args.size c.args.unit c.args.spec (parts_text c.in-Some.parts) c.requires
     c.in-Some.ensures.text in
     omega (arith, c.in-Some.ensures.len, narrow)
 
+-- Without a width, the layout of the rounded expansion is as short as every adjusted text.
 pub returns-in-None-clause-narrow : goal.returns-in-None-clause-narrow
 returns-in-None-clause-narrow c =
     let places = c.round-places in

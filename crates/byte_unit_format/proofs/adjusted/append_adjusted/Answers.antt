@@ -6,12 +6,14 @@ use Rattle.byte_unit_format.proofs.TextParts.{appends_form}
 use Rattle.byte_unit_format.proofs.AdjustedForms.{adjusted_by_expansion, adjusted_form_unique}
 use Rattle.byte_unit_format.proofs.adjusted.append_adjusted.Goals as goal
 
+-- The parts were found quickly, and are appended.
 pub returns-in-Some : goal.returns-in-Some
 returns-in-Some g c =
     let form = c.in-Some.ensures.text in
     appends_form (parts_text c.in-Some.parts) form (λ other is_other. ap length (adjusted_form_unique is_other form))
     c.append.ensures
 
+-- Otherwise the rounded expansion is laid out and appended.
 pub returns-in-None : goal.returns-in-None
 returns-in-None g c =
     let places = c.round-places in

@@ -6,6 +6,7 @@ use Rattle.std.proofs.Output.{has_written_styled_append, has_written_styled_of_e
 use Rattle.byte_unit_format.proofs.ShownForms.{written_text}
 use Rattle.byte_unit_format.proofs.adjusted.display_adjusted.Goals as goal
 
+-- The digits, the space and the name are written; `front` is the first two.
 pub returns-clause-styled : goal.returns-clause-styled
 returns-clause-styled g c = λ flush ok.
     let digits = c.in_ok-fmt.ensures.styled flush refl in
@@ -15,6 +16,7 @@ returns-clause-styled g c = λ flush ok.
     (written_text c.args.kind c.args.size c.args.unit c.number_in_unit.ensures c.as_str.ensures)
     (has_written_styled_append _ _ _ _ _ _ front (c.write_str-2.ensures.styled space.flush ok))
 
+-- The formatter has no options, so what was written is the text itself.
 pub returns-clause-plain : goal.returns-clause-plain
 returns-clause-plain g c = λ plain ok.
     let styled = returns-clause-styled g c plain.flush ok in

@@ -6,17 +6,21 @@ use Rattle.byte_unit_math.proofs.Texts.{nearest_of_expansion, text_of_padded, te
 use Rattle.byte_unit_format.proofs.WrittenForms.{all_places}
 use Rattle.byte_unit_format.proofs.adjusted.round.Goals as goal
 
+-- All digits are shown.
 pub returns-in-Exact-clause-text : goal.returns-in-Exact-clause-text
 returns-in-Exact-clause-text c = λ num den some is.
     let e = c.args.number.now in
     rw c.in-Exact.is (e, is, all_places e c.places.result c.places.ensures.exact)
 
+-- `near` is the rounded number, that it is nearest to the expansion, and that the padded decimal is this number.
 pub returns-in-To-clause-text : goal.returns-in-To-clause-text
 returns-in-To-clause-text c = λ num den some is.
     let near = c.round.ensures in
     let nearest = nearest_of_expansion num den c.args.number.now c.in-To.places Even near.0 (some, is.exact) near.1 in
     rw c.in-To.is (near.0, nearest, text_of_padded near.0 c.in-To.places c.round.new.self near.2)
 
+-- `near` is the rounded number, that it is nearest to the expansion, and that the decimal is this number without
+-- trailing zeros.
 pub returns-in-AtMost-clause-text : goal.returns-in-AtMost-clause-text
 returns-in-AtMost-clause-text c = λ num den some is.
     let near = c.round-in-AtMost.ensures in

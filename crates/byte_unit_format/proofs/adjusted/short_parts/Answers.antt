@@ -6,6 +6,7 @@ use Rattle.byte_unit_base.specs.Kinds.{bits_in}
 use Rattle.byte_unit_format.proofs.AdjustedForms.{adjusted_by_rounding}
 use Rattle.byte_unit_format.proofs.adjusted.short_parts.Goals as goal
 
+-- All digits of a short expansion are shown.
 pub returns-in_ok-number-in-Exact-clause-text : goal.returns-in_ok-number-in-Exact-clause-text
 returns-in_ok-number-in-Exact-clause-text c =
     let number = c.in_ok-number-in-Exact in
@@ -14,6 +15,7 @@ returns-in_ok-number-in-Exact-clause-text c =
     (adjusted_by_rounding (text_of e) c.requires.rounding
     (rw c.in-Exact.is (e, number.ensures.is_expansion, refl)))
 
+-- The number of 10^-places nearest to the quotient is shown.
 pub returns-in_ok-scaled-in-To-clause-text : goal.returns-in_ok-scaled-in-To-clause-text
 returns-in_ok-scaled-in-To-clause-text c =
     let number = c.rounded_quotient-number.result in

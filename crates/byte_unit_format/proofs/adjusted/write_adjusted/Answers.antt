@@ -9,6 +9,7 @@ use Rattle.byte_unit_format.proofs.AdjustedForms.{adjusted_by_rounding}
 use Rattle.byte_unit_format.proofs.AdjustedLengths.{written_narrow}
 use Rattle.byte_unit_format.proofs.adjusted.write_adjusted.Goals as goal
 
+-- The number of 10^-places nearest to the quotient is written with its unit.
 pub returns-in-To-clause-written : goal.returns-in-To-clause-written
 returns-in-To-clause-written c =
     let number = c.rounded_quotient-number.result in
@@ -21,10 +22,12 @@ returns-in-To-clause-written c =
     (rw c.in-To.is (number, rw (← c.as_bits_u128.ensures.bits) nearest, refl))) in
     writes_form (parts_text c.scaled_parts.result) form c.write.ensures.written
 
+-- Without a width, what was written is as short as every adjusted text.
 pub returns-in-To-clause-narrow : goal.returns-in-To-clause-narrow
 returns-in-To-clause-narrow c =
     written_narrow c.args.kind c.args.size c.args.unit c.args.spec c.requires (returns-in-To-clause-written c)
 
+-- Without a width, what the slow path writes is as short as every adjusted text.
 pub returns-in_default-clause-narrow : goal.returns-in_default-clause-narrow
 returns-in_default-clause-narrow c =
     written_narrow c.args.kind c.args.size c.args.unit c.args.spec c.requires c.write_slow.ensures.written

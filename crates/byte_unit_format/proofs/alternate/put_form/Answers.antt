@@ -6,6 +6,7 @@ use Rattle.byte_unit_format.proofs.TextParts.{front_is}
 use Rattle.byte_unit_format.proofs.UnitFraction.{form_of_split, split_ascii}
 use Rattle.byte_unit_format.proofs.alternate.put_form.Goals as goal
 
+-- `split.result` is the whole part and what follows it in its unit.
 pub returns-clause-written : goal.returns-clause-written
 returns-clause-written c =
     let split = c.split-whole in
@@ -20,6 +21,7 @@ returns-clause-written c =
       too_long = λ less. absurd (omega (arith, less, ends, c.put_split.ensures.bound, c.requires.room));
     }
 
+-- What was put is ASCII.
 pub returns-clause-ascii : goal.returns-clause-ascii
 returns-clause-ascii c = rw (front_is _ _ c.put_split.ensures.bytes c.put_split.ensures.ends)
     (split_ascii c.args.kind c.split-whole.result.0 c.split-whole.result.1 (c.split-whole.ensures.narrow refl)

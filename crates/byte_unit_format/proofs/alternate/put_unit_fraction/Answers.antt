@@ -5,6 +5,7 @@ use Rattle.byte_unit_format.proofs.UnitFraction.{drop_known, named, written_over
 use Rattle.byte_unit_format.proofs.alternate.put_unit_fraction.Goals as goal
 use Rattle.byte_unit_format.proofs.alternate.put_unit_fraction.Goals.{then-len-gt0, else-len-gt0}
 
+-- Eighths of a binary unit: `written.result` is four bytes and how many of them are digits and point.
 pub returns-in-Eighths-clause-bytes : goal.returns-in-Eighths-clause-bytes
 returns-in-Eighths-clause-bytes c =
     let written = c.digits_of_eighths-len in
@@ -16,6 +17,8 @@ returns-in-Eighths-clause-bytes c =
     (omega (arith, c.put-end.ensures.begins, written.ensures.four)) c.put-end.ensures.bytes (omega (arith, name.begins))
     name.before name.bytes)
 
+-- Thousandths of a decimal unit, of which there may be none: `letters` are the space (32), the prefix letter and that
+-- of the kind.
 pub returns-after-len-gt0-clause-bytes : goal.returns-after-len-gt0-clause-bytes
 returns-after-len-gt0-clause-bytes c =
     let point = c.args.point in

@@ -5,12 +5,14 @@ use Rattle.std.proofs.lemmas.List.{length-replicate, take-replicate}
 use Rattle.byte_unit_format.proofs.TextParts.{run_ascii, run_more}
 use Rattle.byte_unit_format.proofs.capacity.push_run.Goals as goal
 
+-- A part of the run is ASCII, as its byte is.
 pub push_ascii-requires-clause-ascii : goal.push_ascii-requires-clause-ascii
 push_ascii-requires-clause-ascii g c =
     let next = c.min-next.result in
     rw (take-replicate next 64 c.args.byte (omega (arith, c.min-next.ensures)))
     (run_ascii next c.args.byte c.requires.ascii)
 
+-- `next` bytes more are appended, and `next` fewer are left.
 pub loop-left-preserved : goal.loop-left-preserved
 loop-left-preserved g c =
     let loop = c.loop-left in

@@ -4,6 +4,7 @@ use Rattle.std.specs.String.{string_bytes}
 use Rattle.byte_unit_format.specs.Room.{spare_capacity}
 use Rattle.byte_unit_format.proofs.capacity.push_run.Given as goal
 
+-- `spare_capacity` falls by as many bytes as are appended.
 abbrev pub invariant-loop-left : goal.invariant-loop-left
 invariant-loop-left g l = record {
   few : l.left ≤ l.count;
@@ -12,5 +13,6 @@ invariant-loop-left g l = record {
   used : spare_capacity l.initial.text + l.left ≤ spare_capacity l.text + l.count;
 }
 
+-- The number of bytes that are left.
 abbrev pub decreases-loop-left : goal.decreases-loop-left
 decreases-loop-left g l = l.left

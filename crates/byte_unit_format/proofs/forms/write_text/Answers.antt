@@ -6,18 +6,22 @@ use Rattle.byte_unit_format.proofs.NamedSpecs.{is_alternate}
 use Rattle.byte_unit_format.proofs.NarrowTexts.{text_without_width_narrow, written_form_narrow}
 use Rattle.byte_unit_format.proofs.forms.write_text.Goals as goal
 
+-- The spec is the alternate form.
 pub returns-then-eq-clause-written : goal.returns-then-eq-clause-written
 returns-then-eq-clause-written c =
     rw (is_alternate c.args.spec (sym c.eq.ensures ∙ c.if-eq.true)) c.write_alternate.ensures
 
+-- The alternate form fits the array.
 pub returns-then-eq-clause-bound : goal.returns-then-eq-clause-bound
 returns-then-eq-clause-bound c =
     omega (arith, written_form_narrow c.args.kind c.args.size c.requires c.write_alternate.ensures)
 
+-- The alternate form has no width.
 pub returns-then-eq-clause-narrow : goal.returns-then-eq-clause-narrow
 returns-then-eq-clause-narrow c = λ _.
     written_form_narrow c.args.kind c.args.size c.requires c.write_alternate.ensures
 
+-- Every other text without a width is as short.
 pub returns-clause-narrow : goal.returns-clause-narrow
 returns-clause-narrow c = λ none.
     let narrow = text_without_width_narrow c.args.spec.alternate c.args.kind c.args.size c.args.spec

@@ -7,9 +7,11 @@ use Rattle.byte_unit_format.proofs.TextParts.{fraction_text_of_shown}
 use Rattle.byte_unit_format.proofs.WrittenForms.{fraction_length}
 use Rattle.byte_unit_format.proofs.parts.push_first.Goals as goal
 
+-- The digits as characters are ASCII.
 pub push_ascii-requires-clause-ascii : goal.push_ascii-requires-clause-ascii
 push_ascii-requires-clause-ascii g c = IsAscii-take c.glyphs_of.result c.min-shown.result c.glyphs_of.ensures.ascii
 
+-- The point, the digits and the zeros are the text of the fraction.
 pub returns-then-places-gt0 : goal.returns-then-places-gt0
 returns-then-places-gt0 g c =
     let text = fraction_text_of_shown c.args.places c.min-shown.result c.args.e.now.digits c.glyphs_of.result

@@ -6,6 +6,7 @@ use Rattle.std.proofs.lemmas.Str.Ascii.{IsAscii-cons}
 use Rattle.byte_unit_format.proofs.TextParts.{fraction_text_of_shown, run_ascii, first_digits_put}
 use Rattle.byte_unit_format.proofs.parts.put_first.Goals as goal
 
+-- The point (46), the digits and the zeros (48) are the text of the fraction.
 pub returns : goal.returns
 returns c =
     let text = fraction_text_of_shown c.args.places c.min-shown.result c.args.e.now.digits c.glyphs_of.result

@@ -4,6 +4,7 @@ use Rattle.byte_unit_format.proofs.UnitFraction.{whole_below}
 use Rattle.byte_unit_format.proofs.FewPlaces.{eighths_value, number_of_units}
 use Rattle.byte_unit_format.proofs.thousandths.in_eighths.Goals as goal
 
+-- In each kind, the size is split as the whole part and the eighths.
 pub returns-clause-split : goal.returns-clause-split
 returns-clause-split c = λ kind places recovered. record {
   recovered = recovered;
@@ -11,6 +12,7 @@ returns-clause-split c = λ kind places recovered. record {
       (eighths_value c.args.size c.args.power c.requires.some c.requires.eighths);
 }
 
+-- The whole part is below the limit.
 pub returns-clause-whole : goal.returns-clause-whole
 returns-clause-whole c = whole_below c.args.size c.args.power true _ _ c.requires.small c.requires.some
     (eighths_value c.args.size c.args.power c.requires.some c.requires.eighths)

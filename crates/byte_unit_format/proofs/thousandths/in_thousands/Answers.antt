@@ -3,6 +3,7 @@ use Rattle.std.proofs.Common.{◌+◌, ◌*◌, ◌-◌, ◌%◌, ◌^◌, arith
 use Rattle.byte_unit_format.proofs.FewPlaces.{greatest_of_zeros_left, greatest_before, value_before}
 use Rattle.byte_unit_format.proofs.thousandths.in_thousands.Goals as goal
 
+-- `found.result` is the whole part, the thousandths and the position of the prefix: the thousandths have enough zeros.
 pub returns-then-thousandths-power_of_ten-eq0-clause-greatest :
     goal.returns-then-thousandths-power_of_ten-eq0-clause-greatest
 returns-then-thousandths-power_of_ten-eq0-clause-greatest c =
@@ -10,6 +11,7 @@ returns-then-thousandths-power_of_ten-eq0-clause-greatest c =
     greatest_of_zeros_left found.result.0 found.result.1 c.requires.places found.ensures.greatest found.ensures.value
     (ap (λ n. found.result.1 % n) (sym c.power_of_ten.ensures) ∙ omega (arith, c.if-thousandths-power_of_ten-eq0.true))
 
+-- The thousandths have too few zeros, so the prefix before is the greatest.
 pub returns-clause-greatest : goal.returns-clause-greatest
 returns-clause-greatest c =
     let found = c.in_three_places-whole in
@@ -18,6 +20,7 @@ returns-clause-greatest c =
     found.ensures.greatest.fits.not_above found.ensures.value
     (λ none. omega (arith, power ∙ none, c.if-thousandths-power_of_ten-eq0.false))
 
+-- In the prefix before, the whole part is a thousand times as large, plus the thousandths.
 pub returns-clause-value : goal.returns-clause-value
 returns-clause-value c =
     let found = c.in_three_places-whole in

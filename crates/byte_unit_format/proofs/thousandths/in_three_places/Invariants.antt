@@ -2,8 +2,10 @@
 use Rattle.byte_unit_format.proofs.FewPlaces.{IsDivided}
 use Rattle.byte_unit_format.proofs.thousandths.in_three_places.Given as goal
 
+-- The size is the whole part and the thousandths in the prefix so far.
 abbrev pub invariant-groups : goal.invariant-groups
 invariant-groups l = IsDivided l.size l.whole l.thousandths l.power
 
+-- The whole part falls.
 abbrev pub decreases-groups : goal.decreases-groups
 decreases-groups l = l.whole

@@ -13,17 +13,20 @@ use Rattle.byte_unit_format.proofs.FewPlaces.{recovered_own, recovered_none, rec
 use Rattle.byte_unit_format.proofs.FewPlaces.{number_of_units}
 use Rattle.byte_unit_format.proofs.thousandths.split.Goals as goal
 
+-- A size whose exact unit is `B` or `Bit` is split as itself, in this unit.
 own_split : (kind : Kind) (size places : ℕ) → IsRecoveredIn current kind false size places (own_unit kind)
     → IsSplit kind size places size Own
 own_split kind size places recovered =
     let number = own_number kind size (size * scale) (own_unit kind) refl refl in
     record { recovered = recovered; value = omega (arith, number) }
 
+-- A size below 1000 has no prefix.
 pub returns-then-size-lt1000-clause-split : goal.returns-then-size-lt1000-clause-split
 returns-then-size-lt1000-clause-split c = λ kind.
     own_split kind c.args.size c.args.places
     (recovered_own kind c.args.places c.args.size c.requires.places c.if-size-lt1000.true)
 
+-- The decimal prefix is the larger one; `found.result` is the whole part, the thousandths and its position.
 pub returns-then-binary-power-clause-split : goal.returns-then-binary-power-clause-split
 returns-then-binary-power-clause-split c = λ kind.
     let found = c.in_thousands-whole in
@@ -34,12 +37,14 @@ returns-then-binary-power-clause-split c = λ kind.
       value = number_of_units kind c.args.size found.result.2 false found.result.0 found.result.1 found.ensures.value;
     }
 
+-- The whole part in it is below the limit.
 pub returns-then-binary-power-clause-narrow : goal.returns-then-binary-power-clause-narrow
 returns-then-binary-power-clause-narrow c = λ three.
     let power = c.in_thousands-whole.result.2 in
     whole_below c.args.size power false _ _ c.requires.small (omega (arith, c.if-binary-power.true))
     c.in_thousands-whole.ensures.value
 
+-- The binary prefix is the larger one.
 pub returns-then-binary-gt0-clause-split : goal.returns-then-binary-gt0-clause-split
 returns-then-binary-gt0-clause-split c = λ kind.
     let twos = c.binary_power-binary.ensures in
@@ -48,6 +53,7 @@ returns-then-binary-gt0-clause-split c = λ kind.
     twos.greatest
     (λ other fits. omega (arith, c.in_thousands-whole.ensures.greatest.greatest other fits, c.if-binary-power.false)))
 
+-- Neither prefix fits.
 pub returns-else-binary-gt0-clause-split : goal.returns-else-binary-gt0-clause-split
 returns-else-binary-gt0-clause-split c = λ kind.
     let no_binary : c.binary_power-binary.result ≡ 0 = omega (arith, c.if-binary-gt0.false) in

@@ -7,6 +7,7 @@ use Rattle.byte_unit_format.proofs.WithDigits.{text_at, front_at, take_kept, cut
 use Rattle.byte_unit_format.proofs.with_digits.put_decimal.Goals as goal
 use Rattle.byte_unit_format.proofs.with_digits.put_decimal.Goals.{then-used-cut, else-used-cut}
 
+-- Digits after the cut are put after a point (46), if any is used, and the unit `letters` after them.
 pub returns-clause-text : goal.returns-clause-text
 returns-clause-text c =
     let digits = c.args.digits.now in

@@ -12,6 +12,7 @@ use Rattle.byte_unit_format.proofs.WithDigits.{few_digits, found_power, cut_of_s
 use Rattle.byte_unit_format.proofs.with_digits.put_form_of.Goals as goal
 use Rattle.byte_unit_format.proofs.with_digits.put_form_of.Goals.{then-binary-most+else-binary-power, else-binary-most}
 
+-- The size has at most three digits, and no prefix.
 pub returns-then-most-eq0-clause-form : goal.returns-then-most-eq0-clause-form
 returns-then-most-eq0-clause-form c =
     let kind = c.args.kind in
@@ -22,6 +23,7 @@ returns-then-most-eq0-clause-form c =
     (form_of_thousandths kind size size 0 (own_unit kind) (omega arith) (recovered_own kind 3 size (omega arith) below)
     (omega (arith, number)))
 
+-- `found`, here and below, is what the digits tell of the largest decimal prefix: no more are used than there are.
 pub overflow_sub-len : goal.overflow_sub-len
 overflow_sub-len c =
     let used = c.significant-used.ensures in
@@ -29,6 +31,7 @@ overflow_sub-len c =
     (assumption used) used.bound refl in
     omega (arith, found.within, c.requires.len)
 
+-- The binary prefix is at least the decimal one, which is one.
 pub in_eighths-whole-requires-clause-some : goal.in_eighths-whole-requires-clause-some
 in_eighths-whole-requires-clause-some c = elim c.if-binary-most.branch [
   | then-binary-most+else-binary-power w ↦
@@ -39,6 +42,7 @@ in_eighths-whole-requires-clause-some c = elim c.if-binary-most.branch [
   | else-binary-most w ↦ omega (arith, c.if-most-eq0.false, w.if-binary-most)
 ]
 
+-- The position of the decimal prefix is at most 9.
 pub prefix_letter-requires-clause-known : goal.prefix_letter-requires-clause-known
 prefix_letter-requires-clause-known c =
     let used = c.significant-used.ensures in
@@ -46,6 +50,7 @@ prefix_letter-requires-clause-known c =
     (assumption used) used.bound (omega (arith, c.min-power.ensures)) in
     found.known
 
+-- The decimal prefix is the larger one: the digits are cut at it.
 pub returns-then-binary-power-clause-form : goal.returns-then-binary-power-clause-form
 returns-then-binary-power-clause-form c =
     let kind = c.args.kind in
@@ -64,6 +69,7 @@ returns-then-binary-power-clause-form c =
     c.binary_power-binary.ensures.greatest c.if-binary-power.true)
     (number_of_units kind size power false (size / 10 ^ (3 * power)) cut.thousandths cut.value))
 
+-- The binary prefix is the larger one: `split.result` is the whole part, and the eighths in its unit.
 pub returns-clause-form : goal.returns-clause-form
 returns-clause-form c =
     let kind = c.args.kind in

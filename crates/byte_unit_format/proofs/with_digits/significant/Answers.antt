@@ -11,6 +11,7 @@ use lib.Lanes.{mask_l}
 use Rattle.byte_unit_format.proofs.FewPlaces.{exponent_below}
 use Rattle.byte_unit_format.proofs.with_digits.significant.Goals as goal
 
+-- The byte is not the character `0`, 48.
 abbrev is_used : ℕ → Bool
 is_used byte = not (eqb byte 48)
 
@@ -26,6 +27,7 @@ mask_of digits long =
     let all : length (take 32 digits) ≡ 32 = omega (arith, length-take {A = ℕ} 32 digits, long) in
     (_, bitmask_splat w8 (λ a b. not (eqb a b)) (take 32 digits) 32 48 all (omega arith))
 
+-- 64 less the leading zeros of the mask is its number of bits.
 bits_of : (digits : List ℕ) (long : length digits ≡ 32)
     → Bits digits (64 - count_leading_zeros 64 (mask_of digits long).0)
 bits_of digits long =
@@ -41,12 +43,13 @@ bits_of digits long =
     let less = exponent_below 2 used 33 (2 * mask + 1) (omega arith) above (omega (arith, small)) in
     record { below = subst (λ m. mask < 2 ^ m) bits_are found.2; above = above; few = omega (arith, less) }
 
--- The bit of a byte.
+-- The bit of a byte in the mask is 1 if the byte is used, and 0 if not.
 bit_of : (vector : List ℕ) (i : ℕ) → i < length vector
     → mask_l (map is_used vector) / 2 ^ i % 2 ≡ cond (is_used (get_or vector i 0)) 1 0
 bit_of vector i within =
     bit_mask_l (map is_used vector) i ∙ ap (λ bit. cond bit 1 0) (get_or-map is_used vector i 0 false within)
 
+-- A byte after those that the bits count is the character `0`.
 zero_behind : {vector : List ℕ} {used : ℕ} → Bits vector used → (i : ℕ) → used ≤ i → i < length vector
     → get_or vector i 0 ≡ 48
 zero_behind {vector} {used} bits i behind within =
@@ -54,6 +57,7 @@ zero_behind {vector} {used} bits i behind within =
     let small : mask < 2 ^ i = omega (arith, bits.below, pow-le-pow_right {n = 2} (omega arith) behind) in
     grind (arith, nat_tests, bit_of vector i within, div-eq_of_lt small)
 
+-- The last byte that the bits count is not the character `0`.
 last_is_used : {vector : List ℕ} {used : ℕ} → Bits vector used → (i : ℕ) → i + 1 ≡ used → length vector ≡ 32
     → get_or vector i 0 ≢ 48
 last_is_used {vector} {used} bits i last long =
@@ -64,14 +68,17 @@ last_is_used {vector} {used} bits i last long =
     div-eq_of_lt-le {k = 1} (2 ^ i) (omega (arith, bits.above, next)) (omega (arith, bits.below, next)) in
     λ same. grind (arith, nat_tests, bit_of vector i within, one, same)
 
+-- At most 32 bytes are used.
 pub returns-clause-bound : goal.returns-clause-bound
 returns-clause-bound c = (bits_of c.args.digits.now (omega (arith, c.told-digits))).few
 
+-- The bytes after them are `0`.
 pub returns-clause-zeros : goal.returns-clause-zeros
 returns-clause-zeros c = λ i behind within.
     zero_behind (bits_of c.args.digits.now (omega (arith, c.told-digits))) i behind
     (omega (arith, within, c.told-digits))
 
+-- The last of them is not `0`.
 pub returns-clause-last : goal.returns-clause-last
 returns-clause-last c = λ i last.
     last_is_used (bits_of c.args.digits.now (omega (arith, c.told-digits))) i last (omega (arith, c.told-digits))

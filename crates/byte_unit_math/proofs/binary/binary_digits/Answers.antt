@@ -12,9 +12,11 @@ use Rattle.byte_unit_math.proofs.BinaryDigits.{product_fits, next_group_small, g
 use Rattle.byte_unit_math.proofs.binary.binary_digits.Goals.{After-copy_from_slice}
 use Rattle.byte_unit_math.proofs.binary.binary_digits.Goals as goal
 
+-- Before the first group all digits are missing.
 pub loop-left-init : goal.loop-left-init
 loop-left-init c = IsGrouped-start c.args.numerator c.args.places c.requires.below
 
+-- The remainder times a power of 5 fits 128 bits.
 pub overflow_mul-product : goal.overflow_mul-product
 overflow_mul-product c =
     let left = c.loop-left.left in
@@ -24,14 +26,18 @@ overflow_mul-product c =
     (let same : count ≡ (left - 1) % 16 + 1 = omega arith in same) in
     omega (arith, product_is c.loop-left.rest count (omega arith), fits)
 
+-- A group has at most 16 digits, so it fits 64 bits.
 pub overflow_cast-product-in-loop-left : goal.overflow_cast-product-in-loop-left
 overflow_cast-product-in-loop-left c =
     omega (arith, next_group_small c.loop-left.rest c.loop-left.left c.loop-left-test.true c.loop-left.invariant.below)
 
+-- A group has at most 16 digits.
 pub last_16_values-requires : goal.last_16_values-requires
 last_16_values-requires c =
     next_group_small c.loop-left.rest c.loop-left.left c.loop-left-test.true c.loop-left.invariant.below
 
+-- `values_are` says that the digits written are the group, `rest_is` that the bits masked are the next remainder,
+-- `groups_are` that the group is stored in the array, and `more` that the array is grouped with it.
 pub loop-left-preserved : goal.loop-left-preserved
 loop-left-preserved c =
     let loop = c.loop-left in
@@ -56,6 +62,7 @@ loop-left-preserved c =
     (subst (λ groups. IsGrouped c.args.numerator c.args.places (loop.rest * 5 ^ count % 2 ^ next) next (loop.end + 16) groups)
     (sym groups_are) more)
 
+-- After the loop no digit is missing.
 all_groups : (c : After-copy_from_slice)
     → IsGrouped c.args.numerator c.args.places c.loop-left.rest 0 c.loop-left.end c.loop-left.groups
 all_groups c =
@@ -63,6 +70,7 @@ all_groups c =
     subst (λ left. IsGrouped c.args.numerator c.args.places c.loop-left.rest left c.loop-left.end c.loop-left.groups) none
     c.loop-left.invariant
 
+-- 93 bytes are copied, from `places` before the end of the groups.
 copied_are : (c : After-copy_from_slice)
     → c.copy_from_slice.new.self ≡ take 93 (drop (c.loop-left.end - c.args.places) c.loop-left.groups)
 copied_are c =
@@ -70,12 +78,14 @@ copied_are c =
     let same : start + 93 - start ≡ 93 = omega arith in
     c.copy_from_slice.ensures.after ∙ ap (λ k. take k (drop start c.loop-left.groups)) same
 
+-- The first `places` bytes of the copy are the digits.
 pub returns-clause-digits : goal.returns-clause-digits
 returns-clause-digits c =
     let start = (goal.at.returns-clause-digits c).After-copy_from_slice in
     ap (λ l. take c.args.places l) (copied_are start)
     ∙ copied_front _ _ _ _ _ (all_groups start) c.requires.few c.requires.below
 
+-- The bytes after them are zeros.
 pub returns-clause-zeros : goal.returns-clause-zeros
 returns-clause-zeros c =
     let start = (goal.at.returns-clause-zeros c).After-copy_from_slice in

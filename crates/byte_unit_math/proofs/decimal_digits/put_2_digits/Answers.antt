@@ -5,6 +5,7 @@ use Rattle.byte_unit_math.specs.Numeral.{glyphs}
 use Rattle.byte_unit_math.proofs.WrittenDigits.{pairs_from_at, two_digits_put}
 use Rattle.byte_unit_math.proofs.decimal_digits.put_2_digits.Goals as goal
 
+-- `row` is the two characters of the pair: 48 is `0`.
 pub returns : goal.returns
 returns c =
     let n = c.args.n in

@@ -4,6 +4,7 @@ use Rattle.std.specs.Fmt.{decimal}
 use Rattle.byte_unit_math.proofs.WrittenDigits.{decimal_length_split, digits_before}
 use Rattle.byte_unit_math.proofs.decimal_digits.put_u128_wide.Goals as goal
 
+-- `parts` are the last 18 digits and those before, and `put` has written the last ones before `start`.
 pub loop-rest-preserved : goal.loop-rest-preserved
 loop-rest-preserved c =
     let l = c.loop-rest in

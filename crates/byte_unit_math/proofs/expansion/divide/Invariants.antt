@@ -7,5 +7,6 @@ use Rattle.byte_unit_math.proofs.expansion.divide.Given as goal
 abbrev pub invariant-loop-rest : goal.invariant-loop-rest
 invariant-loop-rest l = IsDividing (l.fn.whole * l.fn.den + l.fn.remainder) l.fn.den l.fn.whole l.rest l.places l.digits
 
+-- The number of places that are left.
 abbrev pub decreases-loop-rest : goal.decreases-loop-rest
 decreases-loop-rest l = expansion_places - l.places

@@ -6,6 +6,7 @@ use Rattle.byte_unit_math.specs.Numeral.{glyphs}
 use Rattle.byte_unit_math.proofs.Fractions.{fraction_text_some}
 use Rattle.byte_unit_math.proofs.expansion.fmt_fraction.Goals as goal
 
+-- `both` is that the point (46) and the digits have been written.
 pub returns-clause-styled : goal.returns-clause-styled
 returns-clause-styled g c = λ flush ok.
     let digits = c.args.e.now.digits in

@@ -4,6 +4,7 @@ use Rattle.std.proofs.lemmas.List.Elements.{All-replicate}
 use Rattle.std.proofs.lemmas.Str.Ascii.{IsAscii-from_all}
 use Rattle.byte_unit_math.proofs.expansion.glyphs_of.Goals as goal
 
+-- No digit has been copied; 48 is the character `0`.
 pub loop-i-init : goal.loop-i-init
 loop-i-init c = record {
   size = refl;

@@ -15,6 +15,7 @@ stored : (old digits : List ℕ) (n : ℕ) → length old ≡ 16 → digits ≡ 
     → put_chunk 0 old digits ≡ glyphs (last_digits 16 n)
 stored old digits n long digits_is = put_chunk_whole old digits (long ∙ sym (ap length digits_is)) ∙ digits_is
 
+-- The number has at most 16 digits.
 pub returns-then-n-from-clause-digits : goal.returns-then-n-from-clause-digits
 returns-then-n-from-clause-digits c =
     let n = c.args.n in
@@ -23,6 +24,7 @@ returns-then-n-from-clause-digits c =
     ∙ without_leading_zeros 16 n (replicate 32 48) (omega (arith, c.if-n-from.true))
     (omega (arith, c.requires)) (omega arith)
 
+-- The number has more than 16 digits: `high` is those before the last 16, and `rest` the last 16.
 pub returns-clause-digits : goal.returns-clause-digits
 returns-clause-digits c =
     let n = c.args.n in

@@ -6,12 +6,14 @@ use Rattle.std.proofs.lemmas.List.{drop-replicate, take-replicate}
 use Rattle.byte_unit_math.proofs.WrittenDigits.{few_30}
 use Rattle.byte_unit_math.proofs.lanes.put_padded_digits.Goals as goal
 
+-- At most four digits are written before the zeros (48).
 pub returns-then-n-lt10000-clause-digits : goal.returns-then-n-lt10000-clause-digits
 returns-then-n-lt10000-clause-digits c =
     let len = c.decimal_len-len.ensures.exact in
     let start : c.put_u64.result ≡ 0 = omega (arith, c.put_u64.ensures.begins, len) in
     rw (start, drop-replicate {X = ℕ} c.decimal_len-len.result 32 48, len) at c.put_u64.ensures.bytes
 
+-- `count` is the length of the digits with zeros before them; 32 bytes are copied of them.
 pub returns-clause-digits : goal.returns-clause-digits
 returns-clause-digits c =
     let n = c.args.n in

@@ -12,7 +12,8 @@ use Rattle.byte_unit_math.proofs.least.least_size.Goals.{Joined-whole, then-whol
 use Rattle.byte_unit_math.proofs.least.least_size.Goals.{else-whole+in_ok-checked_mul+in_ok-size}
 use Rattle.byte_unit_math.proofs.least.least_size.Goals as goal
 
--- The part that the code computes is the least size of the fraction.
+-- The part that the code computes is the least size of the fraction. `parts-whole.result` is the whole part, the
+-- digits after the point as a number, and how many they are.
 fraction_least : (c : Joined-places-le-GROUP_PLACES)
     → IsLeastSize (c.parts-whole.result.1 * 10 ^ (places_of_decimal - c.parts-whole.result.2)) c.args.unit_size
     c.if-places-le-GROUP_PLACES.part
@@ -51,11 +52,13 @@ not_below : (c : Joined-places-le-GROUP_PLACES)
     → (n : ℕ) → IsLeastSize c.args.d c.args.unit_size n → c.args.limit ≤ n
 not_below c reached n h = omega (arith, reached, (size_least c).least n h.has)
 
+-- The product does not fit 128 bits, so the limit is reached.
 pub returns-in_err-checked_mul-clause-none : goal.returns-in_err-checked_mul-clause-none
 returns-in_err-checked_mul-clause-none c = IfNone-always _ _
     (not_below (goal.at.returns-in_err-checked_mul-clause-none c).Joined-places-le-GROUP_PLACES
     (omega (arith, c.in_err-checked_mul.ensures)))
 
+-- The sum does not fit 128 bits, so the limit is reached.
 pub returns-in_err-size-clause-none : goal.returns-in_err-size-clause-none
 returns-in_err-size-clause-none c = IfNone-always _ _
     (not_below (goal.at.returns-in_err-size-clause-none c).Joined-places-le-GROUP_PLACES
@@ -73,12 +76,14 @@ size_is c = elim c.if-whole.branch [
       omega (arith, w.size-is, w.in_ok-checked_mul.ensures, w.in_ok-size.ensures)
 ]
 
+-- A size below the limit is the least one. `at` has the states before the end of the call.
 pub returns-clause-least : goal.returns-clause-least
 returns-clause-least c =
     let at = goal.at.returns-clause-least c in
     let least = rw (← size_is at.Joined-whole) at (size_least at.Joined-places-le-GROUP_PLACES) in
     grind (arith, nat_tests, least)
 
+-- At the limit or above there is none.
 pub returns-clause-none : goal.returns-clause-none
 returns-clause-none c =
     let at = goal.at.returns-clause-none c in

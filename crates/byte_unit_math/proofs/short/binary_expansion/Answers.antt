@@ -10,14 +10,17 @@ abbrev digits_of : After-power_of_five → ℕ
 digits_of c =
     bit_and c.args.numerator (1 * 2 ^ c.args.places % 2 ^ 128 - 1) * c.power_of_five.result
 
+-- The mask takes the remainder by the denominator 2^places.
 digits_are : (c : After-power_of_five) → digits_of c ≡ c.args.numerator % 2 ^ c.args.places * 5 ^ c.args.places
 digits_are c =
     rw (masked_rest c.args.numerator c.args.places (omega (arith, c.if-places-gt-MOST_PLACES.false)), c.power_of_five.ensures)
     refl
 
+-- The remainder times 5^places has at most `places` digits.
 digits_below : (c : After-power_of_five) → digits_of c < 10 ^ c.args.places
 digits_below c = rw (digits_are c) (rest_below_ten_power c.args.numerator c.args.places)
 
+-- The digits fit 128 bits.
 pub overflow_mul-result : goal.overflow_mul-result
 overflow_mul-result c =
     omega (
@@ -26,6 +29,7 @@ overflow_mul-result c =
       pow10_fits c.args.places c.if-places-gt-MOST_PLACES.false,
     )
 
+-- The digits are those of the remainder, so the parts are the expansion.
 pub returns : goal.returns
 returns c = record {
   few = c.if-places-gt-MOST_PLACES.false;

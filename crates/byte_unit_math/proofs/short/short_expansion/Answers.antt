@@ -17,11 +17,13 @@ number_is c =
     shared_twos c.args.numerator c.min-shared.result (omega (arith, c.requires.small))
     (omega (arith, c.min-shared.ensures))
 
+-- The shift is at most the exponent of 2, and so below 128.
 pub overflow_shr-reduced : goal.overflow_shr-reduced
 overflow_shr-reduced c =
     let start = (goal.at.overflow_shr-reduced c).After-min-shared in
     omega (arith, shared_few start, (exponents_within_places c.args.twos c.args.fives c.requires.den).0)
 
+-- If twos are left below, the reduced numerator is odd.
 pub binary_expansion-requires : goal.binary_expansion-requires
 binary_expansion-requires c = record {
   odd = λ left.
@@ -30,6 +32,7 @@ binary_expansion-requires c = record {
       (omega (arith, left));
 }
 
+-- The denominator is a power of two; `same` says that the reduced fraction is equal.
 pub returns-then-fives-eq0 : goal.returns-then-fives-eq0
 returns-then-fives-eq0 c =
     let start = (goal.at.returns-then-fives-eq0 c).After-min-shared in
@@ -40,6 +43,7 @@ returns-then-fives-eq0 c =
     IfSome_then c.binary_expansion.result c.binary_expansion.ensures
     (λ e is_short. rw c.if-fives-eq0.true (short_of_same_fraction same is_short))
 
+-- The denominator is a power of two times a power of ten; `same` says that the reduced fraction is equal.
 pub returns-else-fives-eq0 : goal.returns-else-fives-eq0
 returns-else-fives-eq0 c =
     let start = (goal.at.returns-else-fives-eq0 c).After-min-shared in

@@ -5,6 +5,7 @@ use Rattle.core.proofs.slice.Prefixes.{drop_more, prefix_len-drop_yes}
 use Rattle.core.proofs.dec2flt.DigitsLemmas.{HasRead_more, is_digit}
 use Rattle.byte_unit_base.proofs.read.number.few_digits.Goals as goal
 
+-- one byte more is a digit, and the value has it as its last digit
 pub digits-preserved : goal.digits-preserved
 digits-preserved c =
     let bs = c.args.line.now in

@@ -17,7 +17,9 @@ moved_up : (digits lanes count : ℕ) → count < 8 → digits ≡ lanes
     → digits * 2 ^ (56 - 8 * count) % 2 ^ 64 * 256 % 2 ^ 64 ≡ lanes * 256 ^ (8 - count) % 2 ^ 64
 moved_up digits lanes count few is = bytes_up digits count few ∙ ap (λ d. d * 256 ^ (8 - count) % 2 ^ 64) is
 
--- before the digits that are left
+-- the digits that are read when `read_digits` is called: eight, or none. `loaded` says that the eight bytes are bytes,
+-- and that the word is their number; `s` is the list of their eight digits, that these are digits and in the word, and
+-- the value of the list
 so_far : (g : Over) (c : Joined-bytes-from-ge8 g)
     → HasDigits c.args.line.now c.args.from c.if-bytes-from-ge8.start c.if-bytes-from-ge8.value
 so_far g c =
@@ -41,6 +43,8 @@ so_far g c =
           (subst (λ value. HasDigits line from from value) (sym w.value-is) (no_digits line from c.requires.from))
     ]
 
+-- a byte among the first eight is no digit: `first` is how many are before it, `s` is as above, of the bytes before it
+-- moved to the end, and `found` says that they are the digits
 pub returns-then-others-ne0 : goal.returns-then-others-ne0
 returns-then-others-ne0 g c =
     let word = c.load_eight-digits.result in
@@ -59,14 +63,17 @@ returns-then-others-ne0 g c =
       value = omega (arith, found.0.value_is);
     }
 
+-- the digits so far end within the line
 pub read_digits-requires : goal.read_digits-requires
 read_digits-requires g c = (so_far g c).within
 
+-- the end is that of the digits so far and of those after them
 pub returns-clause-end : goal.returns-clause-end
 returns-clause-end g c =
     let digits = so_far g (goal.at.returns-clause-end g c).Joined-bytes-from-ge8 in
     omega (arith, c.read_digits.ensures.end, digits.more, digits.after)
 
+-- the last 64 bits of the value are those of both
 pub returns-clause-value : goal.returns-clause-value
 returns-clause-value g c =
     let digits = so_far g (goal.at.returns-clause-value g c).Joined-bytes-from-ge8 in

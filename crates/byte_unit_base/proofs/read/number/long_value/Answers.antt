@@ -8,6 +8,7 @@ use Rattle.byte_unit_base.proofs.NumberBytes.{last_digits_are, short_value}
 use Rattle.byte_unit_base.proofs.read.number.long_value.Goals as goal
 use Rattle.core.proofs.dec2flt.Rows.{AllDigits-take, AllDigits-drop}
 
+-- `parts` are the digits before the last 19, and the last 19; `joined` says that they are all of the digits
 pub returns : goal.returns
 returns c =
     let parts = c.split_at.result in

@@ -4,10 +4,12 @@ use Rattle.std.proofs.lemmas.Str.Parse.{digit_at, digits_value-take-le}
 use Rattle.byte_unit_base.proofs.NumberBytes.{one_digit_more}
 use Rattle.byte_unit_base.proofs.read.number.longer_value.Goals as goal
 
+-- a digit has a code from 48, that of `0`, on
 pub overflow_sub-digit : goal.overflow_sub-digit
 overflow_sub-digit c =
     omega (arith, digit_at c.args.digits.now c.loop-digit.digit-index c.requires c.loop-digit-test.true)
 
+-- the value of the digits so far is in the second part of the invariant; all digits have no smaller value
 pub returns-then-whole-ge-WHOLE_LIMIT-clause-large : goal.returns-then-whole-ge-WHOLE_LIMIT-clause-large
 returns-then-whole-ge-WHOLE_LIMIT-clause-large c =
     let ds = c.args.digits.now in
@@ -17,6 +19,7 @@ returns-then-whole-ge-WHOLE_LIMIT-clause-large c =
     let rises = digits_value-take-le 10 ds (i + 1) (omega arith) in
     λ above. omega (arith, more, rises, above)
 
+-- the two parts of the invariant: the value is below the limit, and is that of one digit more
 pub loop-digit-preserved : goal.loop-digit-preserved
 loop-digit-preserved c =
     let ds = c.args.digits.now in

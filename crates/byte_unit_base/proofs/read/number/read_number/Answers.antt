@@ -8,14 +8,17 @@ use Rattle.byte_unit_base.proofs.read.number.read_number.Goals.{then-end-line-vi
 use Rattle.byte_unit_base.proofs.read.number.read_number.Goals.{then-end-line-via-else-end-line+then-line-end-ne46}
 use Rattle.byte_unit_base.proofs.read.number.read_number.Goals as goal
 
+-- no digit is at the start
 pub returns-then-end-eq0 : goal.returns-then-end-eq0
 returns-then-end-eq0 g c =
     stops_at_start c.args.line.now (omega (arith, c.if-end-eq0.true, c.leading_digits-end.ensures.end))
 
+-- the whole part reaches 2^112
 pub returns-then-whole-ge-WHOLE_LIMIT : goal.returns-then-whole-ge-WHOLE_LIMIT
 returns-then-whole-ge-WHOLE_LIMIT g c = stops_in_whole c.args.line.now _ c.leading_digits-end.ensures.end
     (c.value_of-whole.ensures.large (omega (arith, c.if-whole-ge-WHOLE_LIMIT.true)))
 
+-- no point follows the whole part; `run` is the end of its digits and their last 64 bits
 pub returns-then-end-line : goal.returns-then-end-line
 returns-then-end-line g c =
     let run = c.leading_digits-end in
@@ -28,18 +31,21 @@ returns-then-end-line g c =
     c.if-whole-ge-WHOLE_LIMIT.false c.value_of-whole.ensures.exact c.from_digits.result other
     (omega (arith, c.from_digits.ensures))
 
+-- no digit follows the point
 pub returns-then-places-eq0 : goal.returns-then-places-eq0
 returns-then-places-eq0 g c =
     stops_after_point _ _ _ c.leading_digits-end.ensures.end c.leading_digits-end.ensures.bound c.if-end-eq0.false
     c.if-whole-ge-WHOLE_LIMIT.false c.value_of-whole.ensures.exact c.if-end-line.false c.if-line-end-ne46.false
     (omega (arith, c.if-places-eq0.true, c.leading_digits-stop.ensures.end))
 
+-- more than 28 digits follow the point
 pub returns-then-places : goal.returns-then-places
 returns-then-places g c =
     stops_in_fraction _ _ _ c.leading_digits-end.ensures.end c.leading_digits-end.ensures.bound c.if-end-eq0.false
     c.if-whole-ge-WHOLE_LIMIT.false c.value_of-whole.ensures.exact c.if-end-line.false c.if-line-end-ne46.false
     _ c.leading_digits-stop.ensures.end c.leading_digits-stop.ensures.bound (omega (arith, c.if-places.true))
 
+-- the value of the digits after the point has no more digits
 pub from_digits-number-requires-clause-digits : goal.from_digits-number-requires-clause-digits
 from_digits-number-requires-clause-digits g c =
     fraction_below _ _ _ c.leading_digits-end.ensures.end c.leading_digits-end.ensures.bound c.if-end-eq0.false
@@ -47,6 +53,7 @@ from_digits-number-requires-clause-digits g c =
     _ c.leading_digits-stop.ensures.end c.leading_digits-stop.ensures.bound _
     (c.value_of-digits.ensures.few (search rules))
 
+-- a whole part, a point and a fraction are the number
 pub returns : goal.returns
 returns g c =
     leading_precise _ _ _ c.leading_digits-end.ensures.end c.leading_digits-end.ensures.bound c.if-end-eq0.false

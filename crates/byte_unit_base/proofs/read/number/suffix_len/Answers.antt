@@ -33,6 +33,7 @@ zeros_are p q r s x y z =
     ∙ (trailing_mask_l (λ b. b) 64 lanes (omega arith) (omega arith)
     ∙ (λ i. cond (not_set p i) (1 + cond (not_set q i) (1 + cond (not_set r i) (1 + cond (not_set s i) 1 0) 0) 0) 0))
 
+-- the letters are b (98), i (105), t (116) and s (115), and the fifth byte is no letter (0)
 pub returns-clause-letters : goal.returns-clause-letters
 returns-clause-letters c =
     let w = c.args.word in
@@ -40,5 +41,6 @@ returns-clause-letters c =
     rw (same, lower_is 98 tt w, lower_is 105 tt (w / 256), lower_is 116 tt (w / 256 / 256))
     (rw (lower_is 115 tt (w / 256 / 256 / 256), lower_is 0 tt (w / 256 / 256 / 256 / 256)) (zeros_are _ _ _ _ _ _ _))
 
+-- there are at most four letters
 pub returns-clause-bound : goal.returns-clause-bound
 returns-clause-bound c = grind (arith, returns-clause-letters c)

@@ -9,6 +9,7 @@ use Rattle.byte_unit_base.specs.declared.unit.Unit.{Unit as UnitName}
 use Rattle.byte_unit_base.specs.declared.unit.Unit.TheVariants.{Bit}
 use Rattle.byte_unit_base.proofs.unit.Unit.as_bits_u128.Goals as goal
 
+-- the table has the bits of a unit at its discriminant: evaluated for each unit
 at_place : (unit : UnitName) → slice_index_or UNIT_BITS (tag_of the_type unit) 0 ≡ bits (shape_of unit)
 at_place Bit = refl
 at_place _ = refl

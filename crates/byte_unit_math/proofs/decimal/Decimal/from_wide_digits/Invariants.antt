@@ -7,5 +7,6 @@ use Rattle.byte_unit_math.proofs.decimal.Decimal.from_wide_digits.Given as goal
 abbrev pub invariant-loop-left : goal.invariant-loop-left
 invariant-loop-left l = HasDigits (l.digits * 10 ^ (places_of_decimal - l.places)) l.short l.left
 
+-- The number of places that are left.
 abbrev pub decreases-loop-left : goal.decreases-loop-left
 decreases-loop-left l = l.left

@@ -8,5 +8,6 @@ invariant-loop-kept l = record {
   same : take l.fn.places l.self.digits ≡ take l.kept l.self.digits ++ replicate (l.fn.places - l.kept) l.fn.last;
 }
 
+-- The number of digits that may still be trimmed.
 abbrev pub decreases-loop-kept : goal.decreases-loop-kept
 decreases-loop-kept l = l.kept

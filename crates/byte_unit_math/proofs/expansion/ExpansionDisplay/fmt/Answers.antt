@@ -5,6 +5,7 @@ use Rattle.std.specs.Fmt.{decimal}
 use Rattle.byte_unit_math.specs.Numeral.{fraction_text}
 use Rattle.byte_unit_math.proofs.expansion.ExpansionDisplay.fmt.Goals as goal
 
+-- `both` is that the whole part and the fraction have been written.
 pub returns-clause-styled : goal.returns-clause-styled
 returns-clause-styled g c = λ flush ok.
     let whole = c.in_ok-fmt_u128.ensures.styled flush refl in
