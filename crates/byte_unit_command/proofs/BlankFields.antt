@@ -16,12 +16,14 @@ abbrev onto : List ℕ → List (List ℕ) → List (List ℕ)
 onto front [] = front ∷ []
 onto front (field ∷ fields) = (front ++ field) ∷ fields
 
+-- a byte put before the first field, and then more bytes before it, are these bytes and the byte put before it at once
 onto-onto_first : (front : List ℕ) (byte : ℕ) (fields : List (List ℕ)) → onto front (onto_first byte fields)
     ≡ onto (front ++ byte ∷ []) fields
 onto-onto_first front byte [] = refl
 onto-onto_first front byte (field ∷ fields) =
     ap (λ first. first ∷ fields) (sym (append_assoc front (byte ∷ []) field))
 
+-- no bytes put before the first field leave the fields as they are; so there always is a first field
 onto-nothing : (bytes : List ℕ) → onto [] (blank_fields bytes) ≡ blank_fields bytes
 onto-nothing [] = refl
 onto-nothing (byte ∷ bytes) =
@@ -35,6 +37,7 @@ onto-nothing (byte ∷ bytes) =
 abbrev pub IsUncut : List ℕ → ℕ → Type 0
 IsUncut bytes place = blank_fields bytes ≡ onto (take place bytes) (blank_fields (drop place bytes))
 
+-- no field ends before the first byte
 pub IsUncut-start : (bytes : List ℕ) → IsUncut bytes 0
 IsUncut-start bytes = sym (onto-nothing bytes)
 
@@ -43,11 +46,13 @@ abbrev pub ends_there : List ℕ → ℕ → Bool
 ends_there bytes place = not (is_blank (get_or bytes place 0)) && begins_blank (drop (place + 1) bytes)
 
 module _ (bytes : List ℕ) (place : ℕ) (fits : place < length bytes) (so_far : IsUncut bytes place) where
+  -- the bytes from this place on are the byte there and the bytes after it
   first-byte : drop place bytes ≡ get_or bytes place 0 ∷ drop (place + 1) bytes
   first-byte =
       let same : suc place ≡ place + 1 = omega arith in
       drop-cons bytes place 0 fits ∙ ap (λ next. get_or bytes place 0 ∷ drop next bytes) same
 
+  -- the fields from this place on: one of this byte alone if it ends there, and else the byte goes to the next field
   fields-there : (ends : Bool) → ends_there bytes place ≡ ends → blank_fields (drop place bytes)
       ≡ cond ends ((get_or bytes place 0 ∷ []) ∷ blank_fields (drop (place + 1) bytes))
       (onto_first (get_or bytes place 0) (blank_fields (drop (place + 1) bytes)))

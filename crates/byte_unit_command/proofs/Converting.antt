@@ -27,6 +27,7 @@ or-false-left : (a b : Bool) → (a || b) ≡ false → a ≡ false
 or-false-left true b is = is
 or-false-left false b is = refl
 
+-- the second part of a disjunction that is false is false
 or-false-right : (a b : Bool) → (a || b) ≡ false → b ≡ false
 or-false-right true b is = cc
 or-false-right false b is = is

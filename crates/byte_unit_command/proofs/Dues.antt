@@ -16,6 +16,7 @@ use Rattle.byte_unit_stream.proofs.Longest.{IsWithin}
 -- no message about what was read means none about its last records
 module _ {options : Options} {word read written messages part : List ℕ} {state : State}
     (served : IsServed options word read written messages part state) where
+  -- there is no message about records that come next, if there is none about them and those that were read
   others-untold : (records all : List (List ℕ)) → ended_records options.record_end [] read ++ records ≡ all
       → AreMessages options word 0 options.header all [] → RecordsHaveNoMessage options records state
   others-untold records all all_is none =

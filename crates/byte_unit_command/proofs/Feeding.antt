@@ -27,18 +27,23 @@ feed_of buffers rest = record { part = buffers.part.items; rest = rest; state = 
 abbrev pub state_in : {A : Type 0} → Buffers A → State
 state_in buffers = state_of buffers.converter
 
+-- the bytes of the unfinished record
 abbrev pub part_in : {A : Type 0} → Buffers A → List ℕ
 part_in buffers = buffers.part.items
 
+-- their number, as the vector has it
 abbrev pub part_len : {A : Type 0} → Buffers A → ℕ
 part_len buffers = vec_len buffers.part
 
+-- the capacity of the buffer for the unfinished record
 abbrev pub part_capacity : {A : Type 0} → Buffers A → ℕ
 part_capacity buffers = vec_capacity buffers.part
 
+-- the number of bytes that wait to be written
 abbrev pub waiting_len : {A : Type 0} → Buffers A → ℕ
 waiting_len buffers = vec_len buffers.converter.waiting
 
+-- the capacity of the buffer for what waits
 abbrev pub waiting_capacity : {A : Type 0} → Buffers A → ℕ
 waiting_capacity buffers = vec_capacity buffers.converter.waiting
 

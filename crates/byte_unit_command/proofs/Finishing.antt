@@ -123,6 +123,7 @@ module _ {options : Options} (part : List ℕ) {old new : State}
       let For : Type 0 = IsTotalFor options new.tally.total line in
       (new, line, adds, refl, subst (λ total. MatchBool total For (line ≡ [])) (sym asked) is_for, is, refl)
 
+  -- the total is asked for, and the write of it and of what waits has failed
   pub IsFinished-total_error : options.total ≡ true → (error : RunError) (written : List ℕ)
       → IsTotalWritten options new.tally.total new.out (Err error) written
       → IsFinished options part old (Err error) written new.messages
@@ -147,6 +148,7 @@ module _ {options : Options} (part : List ℕ) {old new : State}
       let line = subst (λ total. MatchBool total For Nothing) (sym not_asked) nothing in
       (new, [], adds, refl, line, sym (append-nil new.out), refl)
 
+  -- no total is asked for, and the write of what waits has failed
   pub IsFinished-plain_error : (error : RunError) (written : List ℕ) → error ≡ Write → IsPrefix written new.out
       → IsFinished options part old (Err error) written new.messages
   IsFinished-plain_error error written is begins =

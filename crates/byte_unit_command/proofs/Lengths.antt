@@ -69,6 +69,7 @@ module _ (num : ℕ) (unit : UnitName) (small : num < 10 ^ 31) where
       let whole = digits_few (q / power) 32 (omega arith) (omega arith) (omega (arith, below, small)) in
       omega (arith, ap length number_is, text_of-length e, whole, length_last_digits places q)
 
+  -- a number in a unit has at most 33 bytes and its decimal places, rounded or not
   number-length : (precision : Option ℕ) (number : List ℕ)
       → IsNumeralBy (rule_of precision false (shape_of unit)) num (bits (shape_of unit)) number → length number
       ≤ 33 + unit_places precision
@@ -81,6 +82,7 @@ module _ (num : ℕ) (unit : UnitName) (small : num < 10 ^ 31) where
         | false ↦ λ is. omega (arith, round-length places number is)
       ] is
 
+-- a size in bits is below 10^31: below 10^30 bytes, times 8
 bits_few : (kind : Kind) (size : ℕ) → size < size_limit → size * bits_in kind < 10 ^ 31
 bits_few Byte size below = omega (arith, below)
 bits_few Bit size below = omega (arith, below)

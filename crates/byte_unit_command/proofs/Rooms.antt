@@ -30,6 +30,7 @@ fields_room-whole options bytes none =
 abbrev pub split_room : ℕ → ℕ → ℕ
 split_room room bytes = room * (bytes + 1) + bytes
 
+-- the room of the fields of a record that is split at a delimiter
 pub fields_room-split : (options : Options) (bytes delimiter : ℕ) → options.delimiter ≡ Some delimiter
     → fields_room options bytes ≡ split_room (text_room options) bytes
 fields_room-split options bytes delimiter is =

@@ -26,6 +26,7 @@ fails : (a b : Bool) → b ≡ false → (a && b) ≡ false
 fails true b is = is
 fails false b is = refl
 
+-- a test of three parts fails if the second one does
 fails_second : (a b c : Bool) → b ≡ false → (a && (b && c)) ≡ false
 fails_second a b c is = fails a (b && c) (ap (λ b. b && c) is)
 
@@ -52,6 +53,7 @@ with_hyphen old new rule is new_is = record {
   not_global = ap (λ (arg : Arg). arg.global) new_is ∙ is.not_global;
 }
 
+-- an option that has this range is `Some` of it
 is_some_range : (found : Option ValueRange) (range : ValueRange) → IsSomeAnd found (λ other. other ≡ range)
     → found ≡ Some range
 is_some_range None range is = absurd is

@@ -95,6 +95,7 @@ module _ {options : Options} {word read written messages part : List ℕ} {state
       ap (λ part. ended_records options.record_end [] read ++ ended_records options.record_end part piece) served.begun
       ∙ sym (ended_records-append options.record_end [] read piece)
 
+  -- and so they are the finished records of both
   pub finished-piece : (piece : List ℕ) → ended_records options.record_end [] read
       ++ ended_records options.record_end part piece ≡ finished_of options (read ++ piece)
   finished-piece piece = ended-piece piece ∙ sym (finished_records-ended_records options.record_end (read ++ piece))

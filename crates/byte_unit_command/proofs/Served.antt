@@ -98,6 +98,7 @@ module _ {R W E A : Type 0} {remaining : R → Option (List ℕ)} {contents : W 
       (IsAnswered options (ended_records options.record_end buffers.part.items piece)
       (idle (state_of buffers.converter)) (state_of next.converter) (Ok tt)))
       (part_is : next.part.items ≡ begun_record options.record_end buffers.part.items piece) where
+    -- the invariant holds after the piece: its records are converted, written and told
     abbrev pub HasServed-piece : next.converter.waiting.items ≡ [] → messages_of next.converter.notices ≡ []
         → HasServed remaining contents tells options old new next
     HasServed-piece none_waits none_untold = record {

@@ -11,6 +11,7 @@ use Rattle.byte_unit_command.specs.Field.{ends_with, without_suffix}
 front_len : (text suffix : List ℕ) → length (text ++ suffix) - length suffix ≡ length text
 front_len text suffix = omega (arith, length-append {A = ℕ} text suffix)
 
+-- a text with a suffix after it passes the test for that suffix
 ends_with_it : (text suffix : List ℕ) → ends_with suffix (text ++ suffix) ≡ true
 ends_with_it text suffix =
     let all = text ++ suffix in

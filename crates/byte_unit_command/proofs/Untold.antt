@@ -79,6 +79,7 @@ module _ (options : Options) (word : List ℕ) where
     subst (AreFieldMessages options word place number field is_rejected) (append-empty own rest none).0 are,
   )
 
+  -- if there is no message about several fields, there is none about those after the first
   pub others-untold : (place number : ℕ) (field : List ℕ) (others : List (List ℕ))
       → AreMessagesOfFields options word place number (field ∷ others) []
       → AreMessagesOfFields options word place (number + 1) others []
@@ -92,6 +93,7 @@ module _ (options : Options) (word : List ℕ) where
   record-untold place header bytes others (own, rest, are, _, none) =
       subst (AreRecordMessages options word (next_place place) header bytes) (append-empty own rest none).0 are
 
+  -- if there is no message about two lists of records, there is none about the second
   records-untold : (place header : ℕ) (front back : List (List ℕ))
       → AreMessages options word place header (front ++ back) []
       → AreMessages options word (last_place place front) (header - length front) back []

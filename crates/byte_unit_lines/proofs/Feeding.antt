@@ -39,11 +39,13 @@ pub record IsAnsweredTo (kind : Kind) (now next : Feed) (place : ℕ) : Type 0 w
 
 -- that line comes first, and the state after it gives the other lines and the same unfinished line
 module _ (kind : Kind) (now next : Feed) (place : ℕ) (is_answered : IsAnsweredTo kind now next place) where
+  -- the first line that ends in the rest is the answered one, and the others end in the rest after it
   ended_lines-next : ended_records line_end now.line now.rest
       ≡ (now.line ++ take place now.rest) ∷ ended_records line_end next.line next.rest
   ended_lines-next =
       rw (ended_records-EndsAt line_end now.line now.rest place is_answered.ends, is_answered.line_is, is_answered.rest_is) refl
 
+  -- the unfinished line is the same, whether it is taken from the state before or after the answered line
   begun_line-next : begun_record line_end now.line now.rest ≡ begun_record line_end next.line next.rest
   begun_line-next =
       rw (begun_record-EndsAt line_end now.line now.rest place is_answered.ends, is_answered.line_is, is_answered.rest_is) refl

@@ -63,6 +63,7 @@ pub longest_line-below : {Z : Type 0} {kind : Kind} {left rest held holds : Opti
     → IsWithin line_end longest chunk first first_answers so_far.read line waiting
     → 0 < chunk → longest_line so_far.read < longest + chunk
 longest_line-below longest chunk first first_answers line waiting so_far within some =
+    -- the line is not longer than its buffer's length, which `line.ok.0` says
     longest_record-below line_end so_far.read line.items (longest + chunk) so_far.served.begun within.finished
     (omega (arith, within.unfinished, line.ok.0, some))
 

@@ -34,12 +34,14 @@ EndsAt end bytes place = (place < length bytes) × (get_or bytes place 0 ≡ end
 
 -- the record that ends there is the first one, and the records and the unfinished record of the rest follow
 module _ (end : ℕ) (part bytes : List ℕ) (place : ℕ) (ends : EndsAt end bytes place) where
+  -- the record that ends there is the first one, and the records of the rest follow
   pub ended_records-EndsAt : ended_records end part bytes ≡ (part ++ take place bytes) ∷ ended_records end [] (drop (place + 1) bytes)
   ended_records-EndsAt =
       let records = ended_records-take-end_byte end part bytes place ends.0 ends.1 in
       let begun = begun_record-take-end_byte end part bytes place ends.0 ends.1 in
       rw (ended_records-take-drop end part bytes (place + 1), records, begun, (ends.2 part).0, (ends.2 part).1) refl
 
+  -- the unfinished record is that of the rest
   pub begun_record-EndsAt : begun_record end part bytes ≡ begun_record end [] (drop (place + 1) bytes)
   begun_record-EndsAt =
       rw (begun_record-take-drop end part bytes (place + 1), begun_record-take-end_byte end part bytes place ends.0 ends.1) refl

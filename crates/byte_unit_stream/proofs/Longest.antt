@@ -13,6 +13,7 @@ longest_of-append : (front back : List (List ℕ)) → longest_of (front ++ back
 longest_of-append [] back = omega arith
 longest_of-append (bytes ∷ front) back = omega (arith, longest_of-append front back)
 
+-- the longest of the list of one record, or of none, is as long as that record; an empty one counts as none
 longest_of-nonempty_record : (part : List ℕ) → longest_of (nonempty_record part) ≡ length part
 longest_of-nonempty_record [] = omega arith
 longest_of-nonempty_record (byte ∷ bytes) = omega arith

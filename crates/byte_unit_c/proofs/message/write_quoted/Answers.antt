@@ -20,6 +20,7 @@ put_after old n1 n2 n3 rest form c is one two three =
     ∙ (ap (λ l. codes "the character '" ++ c ∷ (rest ++ l)) after_all
     ∙ (ap (λ n. codes "the character '" ++ c ∷ (rest ++ drop n old)) all ∙ ap (λ l. l ++ drop (length form) old) (sym is))))
 
+-- the message is 15 bytes, the character, and the rest
 pub returns-then-len-out : goal.returns-then-len-out
 returns-then-len-out c =
     let form = codes "the character '" ++ c.args.character ∷ c.args.rest.now in

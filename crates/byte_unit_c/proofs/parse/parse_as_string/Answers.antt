@@ -2,6 +2,7 @@
 use Rattle.byte_unit_base.specs.Accepted.{as_written}
 use Rattle.byte_unit_c.proofs.parse.parse_as_string.Goals as goal
 
+-- the bytes are parsed as a string, and the result of that is written
 pub returns : goal.returns
 returns c =
     let reading = c.parse_text-answer.ensures.reading in

@@ -12,15 +12,18 @@ use Rattle.byte_unit_c.specs.Error.{expected_bytes, IsErrorOf, IsPositionOf}
 use Rattle.byte_unit_c.proofs.Positions.{at_missing_digit}
 use Rattle.byte_unit_c.proofs.parse.write_stop.Goals as goal
 
+-- the parser stops in the unit: the error is built from the state of the unit, and the place is its position
 pub returns-in-InUnit-clause-some : goal.returns-in-InUnit-clause-some
 returns-in-InUnit-clause-some c =
     let at_start = nat_eq c.args.place 0 in
     let next = c.in_ok-next.next in
+    -- a pair: an error that is the one at the stop is the one of the bytes, and the place is the position of the stop
     let stops = c.in_ok-next.ensures c.args.asked.kind c.args.asked.ignore_case c.args.reason c.requires in
     let error = c.error_before-error.result in
     let fault_is = c.error_before-error.ensures
     ∙ (ap (λ reason. stop_fault c.flags_for-flags.result at_start reason next) (sym c.in-InUnit.is)
     ∙ ap (λ flags. stop_fault flags at_start c.args.reason next) c.flags_for-flags.ensures) in
+    -- a pair: the bytes are UTF-8, and parsing them gives this error, for each meaning of a unit
     let is = stops.0 (UnitError error) fault_is in
     let bytes_are = c.bytes_of-expected.ensures
     ∙ ap expected_bytes (c.expected_before.ensures ∙ ap named_in (sym c.error_before-error.ensures)) in
@@ -38,11 +41,13 @@ returns-in-InUnit-clause-some c =
       ),
     )
 
+-- the parser stops where a digit is missing: the place is the position of the error
 pub returns-in-NoDigit-clause-some : goal.returns-in-NoDigit-clause-some
 returns-in-NoDigit-clause-some c =
     let bytes = c.args.text.now in
     let at_start = nat_eq c.args.place 0 in
     let next = c.in_ok-next.next in
+    -- a pair, as in the case before
     let stops = c.in_ok-next.ensures c.args.asked.kind c.args.asked.ignore_case c.args.reason c.requires in
     let fault_is = c.error_at.ensures
     ∙ ap (λ flags. stop_fault flags at_start c.args.reason next) c.flags_for-flags.ensures in
@@ -58,6 +63,7 @@ returns-in-NoDigit-clause-some c =
       (c.args.place, position, c.write_error.ensures.written),
     )
 
+-- the number is too long: the position of the error is looked up in the whole string
 pub returns-in-TooLong-clause-some : goal.returns-in-TooLong-clause-some
 returns-in-TooLong-clause-some c =
     let stops = c.in_ok-next.ensures c.args.asked.kind c.args.asked.ignore_case c.args.reason c.requires in

@@ -15,6 +15,7 @@ IfSome-map : {P Q : ℕ → Type 0} → ((n : ℕ) → P n → Q n) → (result 
 IfSome-map to None is = tt
 IfSome-map to (Some n) is = to n is
 
+-- the same for a search that finds nothing
 IfNone-map : {P Q : Type 0} → (P → Q) → (result : Option ℕ) → IfNone result P → IfNone result Q
 IfNone-map to None is = to is
 IfNone-map to (Some n) is = tt
@@ -32,10 +33,12 @@ ends-first options bytes split mark n fields_are between some fits first =
           ∙ ap (λ fields. take n bytes ∷ fields) (sym (fields_are (drop (n + length (between_of options)) bytes))),
     )
 
+-- between blanks: the end that is found is that of the first field; the next one begins right after it
 pub returns-then-blanks-clause-some : goal.returns-then-blanks-clause-some
 returns-then-blanks-clause-some c =
     let options = c.args.options.now in
     let bytes = c.args.bytes.now in
+    -- the two parts of `ends`: the index is within the bytes, and there the fields are cut
     let at : at_blanks options ≡ true = c.requires.blanks ∙ c.if-blanks.true in
     IfSome-map (λ n ends.
     let same : n ≡ n + 0 = omega arith in
@@ -44,6 +47,7 @@ returns-then-blanks-clause-some c =
     (ends.2 ∙ ap (λ count. take n bytes ∷ blank_fields (drop count bytes)) same))
     c.end_of_field.result c.end_of_field.ensures.some
 
+-- between blanks: nothing is found, so the bytes are one field
 pub returns-then-blanks-clause-none : goal.returns-then-blanks-clause-none
 returns-then-blanks-clause-none c =
     let options = c.args.options.now in
@@ -51,6 +55,7 @@ returns-then-blanks-clause-none c =
     IfNone-map (λ one. fields_of-blanks options at c.args.bytes.now ∙ one) c.end_of_field.result
     c.end_of_field.ensures.none
 
+-- at a delimiter: the end that is found is that of the first field; the next one begins after the delimiter
 pub returns-clause-some : goal.returns-clause-some
 returns-clause-some c =
     let options = c.args.options.now in
@@ -63,6 +68,7 @@ returns-clause-some c =
     (parts-EndsAt delimiter bytes n ends))
     c.end_of.result c.end_of.ensures.some
 
+-- at a delimiter: nothing is found, so the bytes are one field
 pub returns-clause-none : goal.returns-clause-none
 returns-clause-none c =
     let options = c.args.options.now in

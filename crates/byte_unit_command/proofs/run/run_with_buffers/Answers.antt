@@ -28,8 +28,10 @@ short : (n most : ℕ) (read buffer : List ℕ) → length read ≡ length (take
     → length (take n read) ≤ most
 short n most read buffer same bound = omega (arith, length-take n read, same, length-take-le most buffer bound)
 
+-- the invariant, a pair of what is served and of the bounds (`IsWithin`), holds at the start
 pub reads-init : goal.reads-init
 reads-init g c = (
+  -- the three parts of the precondition: no record has begun, nothing waits to be written, and nothing to be told
   HasServed-start _ _ _ c.args.options.now _ _ c.requires.empty.0 c.requires.empty.1 c.requires.empty.2 refl refl refl
       refl,
   record {
@@ -40,6 +42,7 @@ reads-init g c = (
   },
 )
 
+-- the invariant holds after a read whose records were converted, written and told
 pub reads-preserved : goal.reads-preserved
 reads-preserved g c =
     let options = c.args.options.now in
@@ -74,15 +77,18 @@ reads-preserved g c =
       },
     )
 
+-- a read failed: what was written before is right for that
 pub returns-in-None-clause-run : goal.returns-in-None-clause-run
 returns-in-None-clause-run g c = IsRunOf-read c.reads.invariant.0 c.read.new.self c.in-None.ensures.none
 
+-- the write of what the read gave has failed: a prefix of it is written, and nothing is told
 pub returns-in_err-write_whole-in-Some-clause-run : goal.returns-in_err-write_whole-in-Some-clause-run
 returns-in_err-write_whole-in-Some-clause-run g c =
     let so_far = c.reads.invariant.0 in
     let piece = take c.in-Some.n c.read.new.buf in
     let call = c.feed-fed in
     let failed = c.in_err-write_whole-in-Some in
+    -- a triple: the bytes that were written, that they were appended, and that they are a prefix of what waited
     let written = failed.ensures.err in
     let begins = subst (IsPrefix written.0) c.deref.ensures.value written.2 in
     let fed = HasFed-from_empty c.args.options.now piece c.reads.buffers call.new.self call.result so_far.none_waits
@@ -92,6 +98,7 @@ returns-in_err-write_whole-in-Some-clause-run g c =
     IsRunOf-piece so_far _ call.new.self piece c.in-Some.ensures.came Write
     (piece-unwritten call.new.self fed (written.0, written.1, begins)) c.from_residual.result passed
 
+-- the conversion of a record stopped: what was converted before it is written and told
 pub returns-in_err-fed-in-Some-clause-run : goal.returns-in_err-fed-in-Some-clause-run
 returns-in_err-fed-in-Some-clause-run g c =
     let so_far = c.reads.invariant.0 in
@@ -107,6 +114,7 @@ returns-in_err-fed-in-Some-clause-run g c =
     IsRunOf-piece so_far _ new piece c.in-Some.ensures.came error
     (piece-answered new new fed wrote c.tell.ensures.told refl) passed.result passed.ensures.1
 
+-- the unfinished record exceeds `longest`: the run stops as if it were out of memory
 pub returns-then-len-longest-clause-run : goal.returns-then-len-longest-clause-run
 returns-then-len-longest-clause-run g c =
     let so_far = c.reads.invariant.0 in
@@ -120,6 +128,7 @@ returns-then-len-longest-clause-run g c =
     IsRunOf-long so_far _ new piece c.in-Some.ensures.came
     (piece-answered new new has_fed wrote c.tell.ensures.told refl) fed.part
 
+-- the input was read to its end: what `finish` writes is right for the run
 pub returns-clause-run : goal.returns-clause-run
 returns-clause-run g c =
     let end = c.in-Some-eq0 in

@@ -54,6 +54,7 @@ use Rattle.byte_unit_lines.proofs.tests.refusing.Requests.grants.Met.{met as gra
 use Rattle.byte_unit_lines.proofs.tests.refusing.RefusingAllocator.allocate.Statement.{statement}
 use Rattle.byte_unit_lines.proofs.tests.refusing.RefusingAllocator.allocate.Code as code
 
+-- the type of `size` and `align`
 abbrev word : Slot 2
 word = plain (λ _. usize)
 
@@ -62,18 +63,23 @@ abbrev seen_requests : Lft → ℕ × ℕ → requests.the_row.Denot → Fml
 seen_requests κ p r = hidden_shr requests.the_row κ r p.0 p.1
 
 module _ (Z : Al) where
+  -- the type arguments of the call: the inner allocator, with its contract and its drop
   abbrev args : Args
   args = bounded (a_type ∷ []) (Z.row, tt) (dcons Z.d (dcons Z.drops dnil))
 
+  -- the body of `allocate` for this inner allocator
   abbrev here : Fn
   here = inst_fn args code.function
 
+  -- the type of `&self`
   abbrev self : Slot 2
   self = RefOf (0 ∷ []) tt (plain (λ _. heap.the_row (param 0 Z.row))) (λ _. tt)
 
+  -- the signature of `allocate`, with what its arguments are at the end
   abbrev ended : Ended
   ended = allocate.ended Z.row Z.g Z.d Z.drops
 
+  -- no argument is changed by the call
   abbrev stayed : Stays ended.signature.params ended.kept
   stayed = (stay_dropped self yes, (stay_dropped word yes, (stay_dropped word yes, tt)))
 
@@ -87,21 +93,26 @@ module _ (Z : Al) where
 module _ {M : Type 1} (𝓤 : Ura M) (𝓛 : Logic 𝓤) (𝓜 : Model 𝓤 𝓛.H) (𝓡 : Running 𝓤 𝓛.H 𝓜) where
   open 𝓛 use {H, A}
 
+  -- the functions that the program calls
   abbrev 𝓣 : MachineTables 𝓤 H 𝓜
   𝓣 = tables 𝓤 H 𝓜 𝓡 𝓡.env
 
+  -- the contract of `grants`
   abbrev Grants : Contract 𝓤
   Grants = triple_of 𝓛 grants.signature (grants.spec 𝓛 𝓜.mem 𝓡.returns)
 
   -- the call of `grants`: its arguments, and its result, which is a `bool` of which nothing is known
   module _ (κ : Lft) (q : Share) (p : ℕ × ℕ) (r : requests.the_row.Denot) where
+    -- what the call of `grants` is given: the `&` to the counter and the token of its lifetime
     abbrev asking : Grants.Ghost
     asking = (((κ, tt), (q, tt), tt, (record { ref_ptr = p; now = r }, tt), (vptr p.0 p.1 ∷ [], tt)), tt)
 
+    -- they suffice for its precondition
     asked : ent 𝓤 (sep 𝓤 (sem 𝓛 (seen_requests κ p r)) (A.lft κ q)) (Grants.pre asking)
     asked = qed 𝓛 (‵ (seen_requests κ p r) ∷ ‵ (flft κ q) ∷ []) ∵ feq_i ! (List Val) (vptr p.0 p.1 ∷ []) _ refl $ fjoin ! $
         nothing ! $ move ! (1 ∷ []) $ fjoin ! $ nothing ! $ move ! (2 ∷ 0 ∷ []) $ join ! $ join ! $ nothing ! $ move ! (1 ∷ []) $ done !
 
+    -- its result is a `bool`, and the token comes back
     told : (v : Val) → ent 𝓤 (Grants.post asking v) (H.⇛ (ex 𝓤 (λ (b : Bool). guard 𝓤 (v ≡ vbool b) (A.lft κ q))))
     told v = qed 𝓛 (raw (Grants.post asking v) ∷ []) ∵ updating ! $
         use1 𝓛 (later (some (λ (b : Bool). ((‵ (flft κ q) ⊛ ‵ ftrue) ⊛ ‵ (bool.own_val b (v ∷ []))) ⊛
@@ -110,12 +121,15 @@ module _ {M : Type 1} (𝓤 : Ura M) (𝓛 : Logic 𝓤) (𝓜 : Model 𝓤 𝓛
         show ! (λ (b : Bool). guard 𝓤 (v ≡ vbool b) (A.lft κ q)) b $ check ! (ap only is) $ done !))
 
   module _ (Z : Al) where
+    -- the contract of `allocate`, clause by clause
     abbrev clauses : Clauses 𝓤 (ended Z)
     clauses = allocate.clauses Z.row Z.g Z.d Z.drops 𝓛 𝓜.mem 𝓡.returns
 
+    -- the statement that the body is walked with
     abbrev Walk : Contract 𝓤
     Walk = walk_of 𝓛 (ended Z) (stayed Z) clauses
 
+    -- the contract of the inner allocator's `allocate`
     abbrev Taking : Contract 𝓤
     Taking = Takes Z 𝓛 𝓜.mem 𝓡.returns
 
@@ -134,6 +148,7 @@ module _ {M : Type 1} (𝓤 : Ura M) (𝓛 : Logic 𝓤) (𝓜 : Model 𝓤 𝓛
         fjoin ! $ join ! $
         nothing ! $ move ! (3 ∷ 0 ∷ []) $ join ! $ move ! (2 ∷ 0 ∷ []) $ join ! $ join ! $ done !
 
+    -- the body meets the contract: it asks the counter, and then returns `Err` or calls the inner allocator
     meets : Wired 𝓡.env code.code → bound.Met 𝓛 𝓜 𝓡 𝓡.env Z.row Z.g Z.d
         → Meets 𝓛 (allocate.signature Z.row) (𝓡.run (𝓡.env (key.name (args Z)))) (allocate.spec Z.row Z.g Z.d Z.drops 𝓛 𝓜.mem 𝓡.returns)
     meets wired met =
@@ -182,6 +197,7 @@ module _ {M : Type 1} (𝓤 : Ura M) (𝓛 : Logic 𝓤) (𝓜 : Model 𝓤 𝓛
         (λ is. nothing ! $ lands_as ! is refl (Answer-typed false 0 0) $ returns ! (look_at ! 0 refl) $ free_all ! refl $
         ends y (Err (record {})) _ (Answer-err 𝓛)))))))))))
 
+-- the statement that the toolchain asks for
 pub allocate_spec : {M : Type 1} → statement M
 allocate_spec 𝓤 𝓛 𝓜 𝓡 wired A laws ghosts dict drops met _ = meets 𝓤 𝓛 𝓜 𝓡
     (record { row = A; laws = laws; g = ghosts; d = dict; drops = drops }) wired met

@@ -44,25 +44,32 @@ use Rattle.byte_unit_lines.specs.contracts.tests.refusing.RefusingAllocator.deal
 use Rattle.byte_unit_lines.proofs.tests.refusing.RefusingAllocator.deallocate.Statement.{statement}
 use Rattle.byte_unit_lines.proofs.tests.refusing.RefusingAllocator.deallocate.Code as code
 
+-- the type of `size` and `align`
 abbrev word : Slot 2
 word = plain (λ _. usize)
 
+-- the type of `block`
 abbrev pointer : Slot 2
 pointer = plain (λ _. RawPtr)
 
 module _ (Z : Al) where
+  -- the type arguments of the call: the inner allocator, with its contract and its drop
   abbrev args : Args
   args = bounded (a_type ∷ []) (Z.row, tt) (dcons Z.d (dcons Z.drops dnil))
 
+  -- the body of `deallocate` for this inner allocator
   abbrev here : Fn
   here = inst_fn args code.function
 
+  -- the type of `&self`
   abbrev self : Slot 2
   self = RefOf (0 ∷ []) tt (plain (λ _. heap.the_row (param 0 Z.row))) (λ _. tt)
 
+  -- the signature of `deallocate`, with what its arguments are at the end
   abbrev ended : Ended
   ended = deallocate.ended Z.row Z.g Z.d Z.drops
 
+  -- no argument is changed by the call
   abbrev stayed : Stays ended.signature.params ended.kept
   stayed = (stay_dropped self yes, (stay_dropped pointer yes, (stay_dropped word yes, (stay_dropped word yes, tt))))
 
@@ -73,15 +80,19 @@ module _ (Z : Al) where
 module _ {M : Type 1} (𝓤 : Ura M) (𝓛 : Logic 𝓤) (𝓜 : Model 𝓤 𝓛.H) (𝓡 : Running 𝓤 𝓛.H 𝓜) (Z : Al) where
   open 𝓛 use {H}
 
+  -- the functions that the program calls
   abbrev 𝓣 : MachineTables 𝓤 H 𝓜
   𝓣 = tables 𝓤 H 𝓜 𝓡 𝓡.env
 
+  -- the contract of `deallocate`, clause by clause
   abbrev clauses : Clauses 𝓤 (ended Z)
   clauses = deallocate.clauses Z.row Z.g Z.d Z.drops 𝓛 𝓜.mem 𝓡.returns
 
+  -- the statement that the body is walked with
   abbrev Walk : Contract 𝓤
   Walk = walk_of 𝓛 (ended Z) (stayed Z) clauses
 
+  -- the contract of the inner allocator's `deallocate`
   abbrev Giving : Contract 𝓤
   Giving = Gives Z 𝓛 𝓜.mem 𝓡.returns
 
@@ -92,6 +103,7 @@ module _ {M : Type 1} (𝓤 : Ura M) (𝓛 : Logic 𝓤) (𝓜 : Model 𝓤 𝓛
       nothing ! $ fjoin ! $ join ! $
       nothing ! $ move ! (3 ∷ 0 ∷ []) $ join ! $ move ! (2 ∷ 0 ∷ []) $ join ! $ join ! $ done !
 
+  -- the body meets the contract: it calls the inner allocator's `deallocate` with the block
   meets : Wired 𝓡.env code.code → bound.Met 𝓛 𝓜 𝓡 𝓡.env Z.row Z.g Z.d
       → Meets 𝓛 (deallocate.signature Z.row) (𝓡.run (𝓡.env (key.name (args Z)))) (deallocate.spec Z.row Z.g Z.d Z.drops 𝓛 𝓜.mem 𝓡.returns)
   meets wired met =
@@ -143,6 +155,7 @@ module _ {M : Type 1} (𝓤 : Ura M) (𝓛 : Logic 𝓤) (𝓜 : Model 𝓤 𝓛
       lands_as ! is refl (tt, tt) $ sets ! (of_opd ! (unit_lit !)) refl (tt, tt) $ returns ! (look_at ! 0 refl) $ free_all ! refl $
       ends (y (block_ptr b o)))))))))
 
+-- the statement that the toolchain asks for
 pub deallocate_spec : {M : Type 1} → statement M
 deallocate_spec 𝓤 𝓛 𝓜 𝓡 wired A laws ghosts dict drops met _ = meets 𝓤 𝓛 𝓜 𝓡
     (record { row = A; laws = laws; g = ghosts; d = dict; drops = drops }) wired met
