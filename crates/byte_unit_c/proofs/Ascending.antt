@@ -46,7 +46,7 @@ rises_suc low high [] i a within = absurd (omega arith)
 rises_suc low high (x ∷ xs) zero a within = (between x high xs 0 a.1 (omega arith)).0
 rises_suc low high (x ∷ xs) (suc i) a within = rises_suc x high xs i a.1 (omega arith)
 
--- the same, with the index of the next offset as `i + 1`
+-- no offset is below the one before it, with the index of the next offset as `i + 1`
 pub rises : (low high : ℤ) (xs : List ℤ) (i : ℕ) → Ascends low high xs → i + 1 < length xs
     → get_or xs i (pos 0) ≤ℤ get_or xs (i + 1) (pos 0)
 rises low high xs i a within =

@@ -61,7 +61,7 @@ module _ (bytes : List ℕ) (place : ℕ) (fits : place < length bytes) (so_far 
       let byte = get_or bytes place 0 in
       ap blank_fields first-byte ∙ ap (λ ends. cond ends ((byte ∷ []) ∷ rest) (onto_first byte rest)) is
 
-  -- none ends there
+  -- if no field ends after this byte, none ends before the next place
   pub IsUncut-step : ends_there bytes place ≡ false → IsUncut bytes (place + 1)
   IsUncut-step goes_on =
       let rest = blank_fields (drop (place + 1) bytes) in
@@ -69,7 +69,7 @@ module _ (bytes : List ℕ) (place : ℕ) (fits : place < length bytes) (so_far 
       ∙ onto-onto_first (take place bytes) (get_or bytes place 0) rest
       ∙ ap (λ front. onto front rest) (sym (take_more bytes place 0 fits))
 
-  -- the first one ends there
+  -- if the first field ends after this byte, the other fields are those of the bytes after it
   pub blank_fields-cut : ends_there bytes place ≡ true → blank_fields bytes
       ≡ take (place + 1) bytes ∷ blank_fields (drop (place + 1) bytes)
   blank_fields-cut ends =
@@ -77,14 +77,14 @@ module _ (bytes : List ℕ) (place : ℕ) (fits : place < length bytes) (so_far 
       so_far ∙ ap (onto (take place bytes)) (fields-there true ends)
       ∙ ap (λ first. first ∷ rest) (sym (take_more bytes place 0 fits))
 
--- none ends before the end, so there is one field
+-- if no field ends before the end of the bytes, the bytes are one field
 blank_fields-end : (bytes : List ℕ) (place : ℕ) → length bytes ≤ place → IsUncut bytes place
     → blank_fields bytes ≡ bytes ∷ []
 blank_fields-end bytes place end so_far =
     so_far ∙ ap (λ rest. onto (take place bytes) (blank_fields rest)) (drop_all place bytes end)
     ∙ ap (λ front. (front ++ []) ∷ []) (take_all place bytes end) ∙ ap (λ field. field ∷ []) (append-nil bytes)
 
--- nor before the last byte
+-- if no field ends before the last byte, the bytes are one field: none ends after the last byte either
 pub blank_fields-whole : (bytes : List ℕ) (place : ℕ) → place ≤ length bytes → length bytes ≤ place + 1
     → IsUncut bytes place → blank_fields bytes ≡ bytes ∷ []
 blank_fields-whole bytes place within last so_far =
@@ -98,9 +98,11 @@ blank_fields-whole bytes place within last so_far =
     ]
 
 module _ (options : Options) (at : at_blanks options ≡ true) where
+  -- if the options split at blanks, the fields are those between blanks
   pub fields_of-blanks : (bytes : List ℕ) → fields_of options bytes ≡ blank_fields bytes
   fields_of-blanks bytes = ap (λ blanks. fields_by blanks options.delimiter bytes) at
 
+  -- if the options split at blanks, there are no bytes between two fields
   pub between_of-blanks : between_of options ≡ []
   between_of-blanks = ap (λ blanks. bytes_between blanks options.delimiter) at
 
@@ -109,7 +111,7 @@ pub gap-short : (later : Bool) (field : List ℕ) → length (cond later (take 1
 gap-short true field = omega (arith, length-take 1 field)
 gap-short false field = omega arith
 
--- with it, the columns of a field are no more than its bytes
+-- the columns of a field, with the blank that separates it, are no more than its bytes
 pub gap-columns : (later : Bool) (field : List ℕ) → length (cond later (take 1 field) [])
     + cond later (length field - 1) (cond (begins_blank field) (length field) 0) ≤ length field
 gap-columns true field = omega (arith, length-take 1 field)

@@ -48,7 +48,7 @@ pub record ConvertsLast {A E : Type 0} (tells : E → Option (List ℕ)) (option
 
 module _ {A E : Type 0} (tells : E → Option (List ℕ)) (options : Options) (part : List ℕ) (old : Converter A)
     (old_errors : FusedWriter E) (empty : old.waiting.items ≡ []) where
-  -- there is no last record
+  -- without a last record nothing changes
   pub ConvertsLast-none : (now : Converter A) (errors : FusedWriter E) → part ≡ [] → now ≡ old → errors ≡ old_errors
       → ConvertsLast tells options part old now old_errors errors
   ConvertsLast-none now errors none now_is errors_is =
@@ -65,7 +65,7 @@ module _ {A E : Type 0} (tells : E → Option (List ℕ)) (options : Options) (p
       subst (λ now. ConvertsLast tells options part old now old_errors errors) (sym now_is)
       (subst (λ errors. ConvertsLast tells options part old old old_errors errors) (sym errors_is) same)
 
-  -- there is a last record
+  -- a last record was added, and its messages were told
   pub ConvertsLast-one : messages_of old.notices ≡ [] → (after now : Converter A) (notices : Notices A)
       (then_errors errors : FusedWriter E) → false ≡ (length part == 0)
       → AddsRecords options (part ∷ []) (state_of old) (state_of after)
@@ -115,7 +115,7 @@ IsFinished-passed options part old written messages =
 
 module _ {options : Options} (part : List ℕ) {old new : State}
     (adds : AddsRecords options (nonempty_record part) old new) where
-  -- the total is asked for
+  -- the total is asked for, and was written after what waits
   pub IsFinished-total_ok : options.total ≡ true → (written : List ℕ)
       → IsTotalWritten options new.tally.total new.out (Ok tt) written
       → IsFinished options part old (Ok new.tally) written new.messages
@@ -123,7 +123,7 @@ module _ {options : Options} (part : List ℕ) {old new : State}
       let For : Type 0 = IsTotalFor options new.tally.total line in
       (new, line, adds, refl, subst (λ total. MatchBool total For (line ≡ [])) (sym asked) is_for, is, refl)
 
-  -- the total is asked for, and the write of it and of what waits has failed
+  -- the total is asked for, and the call that writes it has failed: out of memory, 10^30 or more, or a failed write
   pub IsFinished-total_error : options.total ≡ true → (error : RunError) (written : List ℕ)
       → IsTotalWritten options new.tally.total new.out (Err error) written
       → IsFinished options part old (Err error) written new.messages
@@ -139,7 +139,7 @@ module _ {options : Options} (part : List ℕ) {old new : State}
   IsFinished-total_error asked Read written at = absurd at
   IsFinished-total_error asked Rejected written at = absurd at
 
-  -- the total is not asked for
+  -- no total is asked for, and what waits was written
   pub IsFinished-plain_ok : options.total ≡ false → IsFinished options part old (Ok new.tally) new.out new.messages
   IsFinished-plain_ok not_asked =
       let For : Type 0 = IsTotalFor options new.tally.total [] in
@@ -156,7 +156,7 @@ module _ {options : Options} (part : List ℕ) {old new : State}
       subst (λ error. IsFinished options part old (Err error) written new.messages) (sym is)
       (new, [], adds, inl refl, whole, refl)
 
--- the last record was not converted
+-- the last record could not be converted: nothing is written
 pub IsFinished-early : (options : Options) (part : List ℕ) (old : State) (messages : List ℕ) (error : RunError)
     → (error ≡ Memory) ⊎ (error ≡ Rejected) → (error ≡ Memory → messages ≡ [])
     → (error ≡ Rejected → (old.header ≡ 0) × Aborts options part (at_next old) messages

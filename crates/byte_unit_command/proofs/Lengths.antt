@@ -87,7 +87,7 @@ bits_few : (kind : Kind) (size : ℕ) → size < size_limit → size * bits_in k
 bits_few Byte size below = omega (arith, below)
 bits_few Bit size below = omega (arith, below)
 
--- the text of a size in a unit
+-- the text of a size in a unit is no longer than `unit_text_max`
 adjusted-length : (kind : Kind) (size : ℕ) (unit : UnitName) (precision : Option ℕ) (text : List ℕ) → size < size_limit
     → IsAdjustedForm kind size unit (adjusted_spec precision) text → length text ≤ unit_text_max precision
 adjusted-length kind size unit precision text below form =
@@ -102,7 +102,7 @@ adjusted-length kind size unit precision text below form =
       number,
     )
 
--- and of what is written
+-- what is written for a size in a unit is no longer than `unit_text_max`
 pub adjusted-narrow : {kind : Kind} {size : ℕ} (unit : UnitName) (precision : Option ℕ) {old new : List ℕ} {needed : ℕ}
     → size < size_limit → WritesForm (IsAdjustedForm kind size unit (adjusted_spec precision)) old new needed
     → needed ≤ unit_text_max precision

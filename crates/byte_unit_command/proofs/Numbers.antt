@@ -26,7 +26,7 @@ begins_with writes room = record {
 
 module _ (kind : Kind) (size : ℕ) (unit : UnitName) (precision : Option ℕ) (old new : List ℕ) (needed : ℕ)
     (writes : WritesForm (IsAdjustedForm kind size unit (adjusted_spec precision)) old new needed) where
-  -- the text is its number, a space and the unit
+  -- the text is its number, a space (32) and the unit
   form_is : writes.form ≡ writes.is_form.number ++ 32 ∷ unit_name unit
   form_is =
       let number = writes.is_form.number in

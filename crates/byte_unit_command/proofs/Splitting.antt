@@ -49,7 +49,7 @@ AreFields-cons options number field others own rest own_found rest_found (next, 
     subst (λ fields. AreFields options number (field ∷ fields) whole found) (sym others_are)
     (own, rest, own_found, rest_found, is_field, are, refl, refl)
 
--- a field that is not chosen, with one more byte before it
+-- a field that is not chosen is copied with one more byte before it
 IsField-byte : (options : Options) (number byte : ℕ) (field text : List ℕ) (found : List Found)
     → ¬ IsChosen options.fields.now number
     → IsField options number field text found → IsField options number (byte ∷ field) (byte ∷ text) found
@@ -60,7 +60,7 @@ IsField-byte options number byte field text found not_chosen (size n chosen is_s
 IsField-byte options number byte field text found not_chosen (rejected chosen none text_is found_is) =
     absurd (not_chosen chosen)
 
--- the same for the first of these fields
+-- one more byte before the first of these fields, which is not chosen, is copied with it
 AreFields-byte : (options : Options) (number byte : ℕ) (fields : List (List ℕ)) (text : List ℕ) (found : List Found)
     → ¬ IsChosen options.fields.now number → AreFields options number fields text found
     → AreFields options number (onto_first byte fields) (byte ∷ text) found
@@ -136,7 +136,7 @@ AreFields-copied_blanks options between (byte ∷ bytes) number past =
 
 -- between delimiters and between blanks
 module _ (options : Options) (delimiter : ℕ) (is : options.delimiter ≡ Some delimiter) where
-  -- there is a first field
+  -- there is a first field, so the list of the fields is not empty
   fields_IsSplit : (bytes : List ℕ) → IsSplit (fields_of options bytes)
   fields_IsSplit bytes =
       let either : (blanks : Bool) → IsSplit (fields_by blanks (Some delimiter) bytes) =
@@ -226,7 +226,7 @@ module _ {options : Options} {bytes : List ℕ} {old : State} {number : ℕ} {re
   FieldHasNoMessage-now field none =
       subst (FieldHasNoMessage options number field) (sym so_far.new_is) none
 
-  -- one more field and the bytes after it
+  -- the invariant holds after one more field and the bytes after it
   IsSplitting-step : (field behind : List ℕ) → fields_of options rest ≡ field ∷ fields_of options behind
       → IsSplit (fields_of options behind) → length behind < length rest → (next : State)
       → AddsField options number field new next
@@ -352,7 +352,7 @@ EndsFirst options bytes place gap =
     (0 < place + gap) × (place + gap ≤ length bytes)
     × (fields_of options bytes ≡ take place bytes ∷ fields_of options (drop (place + gap) bytes))
 
--- one more field and the bytes after it, by the place where the field ends
+-- the invariant holds after one more field and the bytes after it, by the place where the field ends
 pub IsSplitting-at : {options : Options} {bytes : List ℕ} {old : State} {number : ℕ} {rest : List ℕ} {new : State}
     → IsSplitting options bytes old number rest new → (delimiter : ℕ) → options.delimiter ≡ Some delimiter
     → (between : List ℕ) → between ≡ between_of options → (place : ℕ)

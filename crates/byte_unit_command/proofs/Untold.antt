@@ -70,7 +70,7 @@ module _ (options : Options) (word : List ℕ) (place number : ℕ) (field : Lis
   ignored-untold is_rejected chosen none (ignored _ _ _ is _) = is
 
 module _ (options : Options) (word : List ℕ) where
-  -- of fields about which there is no message, there is none about the first, nor about the others
+  -- if there is no message about several fields, there is none about the first
   pub first-untold : (place number : ℕ) (field : List ℕ) (others : List (List ℕ))
       → AreMessagesOfFields options word place number (field ∷ others) []
       → (is_rejected : Bool) × AreFieldMessages options word place number field is_rejected []
@@ -86,7 +86,7 @@ module _ (options : Options) (word : List ℕ) where
   others-untold place number field others (own, rest, _, _, are, none) =
       subst (AreMessagesOfFields options word place (number + 1) others) (append-empty own rest none).1 are
 
-  -- the same for records
+  -- if there is no message about several records, there is none about the first
   pub record-untold : (place header : ℕ) (bytes : List ℕ) (others : List (List ℕ))
       → AreMessages options word place header (bytes ∷ others) []
       → AreRecordMessages options word (next_place place) header bytes []

@@ -55,7 +55,7 @@ fields_max (Some delimiter) bytes = bytes + 1
 abbrev pub fields_room : Options → ℕ → ℕ
 fields_room options bytes = text_room options * fields_max options.delimiter bytes + bytes
 
--- the same with its end byte
+-- the most bytes that what is written for a record of this many bytes takes, with its end byte
 abbrev pub record_room : Options → ℕ → ℕ
 record_room options bytes = fields_room options bytes + 1
 

@@ -47,7 +47,7 @@ module _ (end : ℕ) where
   begun_record-append part (byte ∷ front) back =
       grind (arith, nat_tests, begun_record-append [] front back, begun_record-append (part ++ byte ∷ []) front back)
 
-  -- there is a first part, also of no bytes
+  -- an input has a first part, even if it has no bytes
   pub parts_IsSplit : (bytes : List ℕ) → IsSplit (parts end bytes)
   parts_IsSplit [] = ([], [], refl)
   parts_IsSplit (byte ∷ bytes) =
@@ -78,8 +78,7 @@ module _ (end : ℕ) where
       → records_of end bytes ≡ ended_records end [] bytes ++ nonempty_record (begun_record end [] bytes)
   records_of-ended_records bytes = ap but_empty_last (parts-ended_records bytes) ∙ but_empty_last-snoc _ _
 
-  -- The byte at `place` comes after the bytes before it: an end byte finishes the record that was begun, and any other
-  -- byte extends it.
+  -- one byte more, that at `place`: an end byte finishes the record that was begun, and any other byte extends it
   module _ (part bytes : List ℕ) (place : ℕ) (fits : place < length bytes) where
     -- the records that end before the next place: those that end before this one, and the unfinished one if the byte
     -- ends it

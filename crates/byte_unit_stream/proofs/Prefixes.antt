@@ -8,7 +8,7 @@ module _ {X : Type 0} where
   pub IsPrefix-longer : (front whole more : List X) → IsPrefix front whole → IsPrefix front (whole ++ more)
   IsPrefix-longer front whole more (rest, is) = (rest ++ more, ap (λ xs. xs ++ more) is ∙ append_assoc front rest more)
 
-  -- and it stays one with the same list in front of both
+  -- a prefix stays a prefix with the same list in front of both
   pub IsPrefix-after : (before front whole : List X) → IsPrefix front whole → IsPrefix (before ++ front) (before ++ whole)
   IsPrefix-after before front whole (rest, is) = (rest, ap (λ xs. before ++ xs) is ∙ sym (append_assoc before front rest))
 

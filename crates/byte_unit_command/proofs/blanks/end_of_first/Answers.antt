@@ -10,17 +10,17 @@ use Rattle.byte_unit_command.proofs.BlankFields.{between_of-blanks, fields_of-bl
 use Rattle.byte_unit_command.proofs.Splitting.{EndsFirst, between_of-split, fields_of-split}
 use Rattle.byte_unit_command.proofs.blanks.end_of_first.Goals as goal
 
--- what is found, by what the search says of it
+-- what holds of the index that a search finds, by what its contract says of it
 IfSome-map : {P Q : ℕ → Type 0} → ((n : ℕ) → P n → Q n) → (result : Option ℕ) → IfSome result P → IfSome result Q
 IfSome-map to None is = tt
 IfSome-map to (Some n) is = to n is
 
--- the same for a search that finds nothing
+-- what holds if a search finds nothing, by what its contract says then
 IfNone-map : {P Q : Type 0} → (P → Q) → (result : Option ℕ) → IfNone result P → IfNone result Q
 IfNone-map to None is = to is
 IfNone-map to (Some n) is = tt
 
--- the first field, by the bytes between two fields and by the others
+-- the contract of the end of the first field, for blanks and for delimiters
 ends-first : (options : Options) (bytes : List ℕ) (split : List ℕ → List (List ℕ)) (mark : List ℕ) (n : ℕ)
     → ((bytes : List ℕ) → fields_of options bytes ≡ split bytes) → between_of options ≡ mark → 0 < n + length mark
     → n + length mark ≤ length bytes → split bytes ≡ take n bytes ∷ split (drop (n + length mark) bytes)

@@ -19,7 +19,7 @@ list_text : (given : Option (Bor (List ℕ))) (list : Bor (List ℕ)) → given 
 list_text given list is =
     ap (λ (given : Option (Bor (List ℕ))). unwrap_or (option_map (λ list. list.now) given) (codes "1")) (sym is)
 
--- one more item, which is one more range
+-- if one more item is one more range, the items with it are the ranges with it
 with_item : (items : List (Bor (List ℕ))) (item : Bor (List ℕ)) (ranges more : List FieldRange) (range : FieldRange)
     → AreRanges (map (λ item. item.now) items) ranges → IsRange item.now range → more ≡ ranges ++ range ∷ []
     → AreRanges (map (λ item. item.now) (items ++ item ∷ [])) more

@@ -141,7 +141,7 @@ returns-clause-run g c =
     )))
     c.deref-2.ensures.value c.finish.result c.finish.ensures.written
 
--- the end does not end as a read that failed
+-- `finish` never returns `Read`
 pub returns-clause-read_failed : goal.returns-clause-read_failed
 returns-clause-read_failed g c = λ is.
     let more = c.finish.ensures.written in
@@ -150,7 +150,7 @@ returns-clause-read_failed g c = λ is.
     more.written more.messages in
     absurd (subst Ends is more.holds)
 
--- the record is too long
+-- out of memory since the unfinished record exceeds `longest`: then a record that was read is longer than that
 pub returns-then-len-longest-clause-memory : goal.returns-then-len-longest-clause-memory
 returns-then-len-longest-clause-memory g c = λ _ _.
     let so_far = c.reads.invariant.0 in
@@ -164,7 +164,7 @@ returns-then-len-longest-clause-memory g c = λ _ _.
       inl (omega (arith, long, c.if-len-longest.true, c.len.ensures, part.ok.0)),
     )
 
--- there is a message about a record that ends in the piece
+-- out of memory while the piece is converted: if the capacity suffices, there is a message about one of its records
 pub returns-in_err-fed-in-Some-clause-memory : goal.returns-in_err-fed-in-Some-clause-memory
 returns-in_err-fed-in-Some-clause-memory g c = λ fits _.
     let capacity = subst (λ most. SufficeFor c.args.options.now c.args.longest most c.args.buffers.now.part
@@ -182,7 +182,7 @@ returns-in_err-fed-in-Some-clause-memory g c = λ fits _.
           (piece-untold so_far.served piece none))))),
     )
 
--- there is a message about the last record
+-- out of memory at the end: if the capacity suffices, there is a message about the last record
 pub returns-clause-memory : goal.returns-clause-memory
 returns-clause-memory g c = λ fits is.
     let capacity = subst (λ most. SufficeFor c.args.options.now c.args.longest most c.args.buffers.now.part
@@ -213,7 +213,7 @@ returns-clause-memory g c = λ fits is.
       inr (inr (at_end, λ none. c.finish.ensures.memory room (last-untold served none) is)),
     )
 
--- each record is shorter than the limit and a read together
+-- on `Ok` each record that was read is shorter than `longest` and a read together
 pub returns-clause-bound : goal.returns-clause-bound
 returns-clause-bound g c =
     let so_far = c.reads.invariant.0 in

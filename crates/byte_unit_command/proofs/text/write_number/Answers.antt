@@ -10,7 +10,7 @@ use Rattle.byte_unit_command.proofs.text.write_number.Goals as goal
 pub overflow_sub-result : goal.overflow_sub-result
 overflow_sub-result c = omega (arith, needed_is _ _ _ _ _ _ _ c.write_adjusted-len.ensures.written)
 
--- and it has the name of the unit, which can be taken off too
+-- the text has the name of the unit, whose length can be taken off too
 pub overflow_sub-result-2 : goal.overflow_sub-result-2
 overflow_sub-result-2 c =
     let name = ap (λ (name : List ℕ). length name) c.as_str.ensures in

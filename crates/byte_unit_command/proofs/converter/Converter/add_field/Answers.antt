@@ -105,13 +105,13 @@ told g c =
 pub returns-clause-kept_messages : goal.returns-clause-kept_messages
 returns-clause-kept_messages g c = (told g (goal.at.returns-clause-kept_messages g c).Joined-add).0
 
--- they are kept if allocation fails for the blank
+-- the messages that were there are kept if allocation fails for the blank
 pub returns-in_err-extend_from_slice-2-clause-kept_messages :
     goal.returns-in_err-extend_from_slice-2-clause-kept_messages
 returns-in_err-extend_from_slice-2-clause-kept_messages g c =
     (told g (goal.at.returns-in_err-extend_from_slice-2-clause-kept_messages g c).Joined-add).0
 
--- they are kept if allocation fails for the text
+-- the messages that were there are kept if allocation fails for the text
 pub returns-in_err-add_in_width-clause-kept_messages : goal.returns-in_err-add_in_width-clause-kept_messages
 returns-in_err-add_in_width-clause-kept_messages g c =
     (told g (goal.at.returns-in_err-add_in_width-clause-kept_messages g c).Joined-add).0
@@ -134,13 +134,13 @@ pub returns-clause-extends : goal.returns-clause-extends
 returns-clause-extends g c =
     let at = goal.at.returns-clause-extends g c in extends g at.After-add_in_width (told g at.Joined-add).1
 
--- it grows by no more if allocation fails for the text, after the blank
+-- what waited grows by no more than the room of the field if allocation fails for the text, after the blank
 pub returns-in_err-add_in_width-clause-extends : goal.returns-in_err-add_in_width-clause-extends
 returns-in_err-add_in_width-clause-extends g c =
     let at = goal.at.returns-in_err-add_in_width-clause-extends g c in
     extends g at.After-add_in_width (told g at.Joined-add).1
 
--- it is unchanged if allocation fails for the blank
+-- what waited is unchanged if allocation fails for the blank
 pub returns-in_err-extend_from_slice-2-clause-extends : goal.returns-in_err-extend_from_slice-2-clause-extends
 returns-in_err-extend_from_slice-2-clause-extends g c =
     let same = (told g (goal.at.returns-in_err-extend_from_slice-2-clause-extends g c).Joined-add).1 in

@@ -46,7 +46,7 @@ returns-clause-kept_messages g c = elim c.if-self-gt0.branch [
       kept_messages-same c.args.self.now _ _ w.self-is w.in_ok-add_fields.ensures.kept_messages
 ]
 
--- they are kept if allocation fails for the end byte
+-- the messages that were there are kept if allocation fails for the end byte
 pub returns-in_err-extend_from_slice-2-clause-kept_messages :
     goal.returns-in_err-extend_from_slice-2-clause-kept_messages
 returns-in_err-extend_from_slice-2-clause-kept_messages g c =

@@ -83,10 +83,11 @@ module _ (Z : Al) where
   abbrev stayed : Stays ended.signature.params ended.kept
   stayed = (stay_dropped self yes, (stay_dropped word yes, (stay_dropped word yes, tt)))
 
-  -- the addresses of the fields of an allocator at p
+  -- the address of the inner allocator of a `Refusing` at p
   abbrev inner_at : ℕ × ℕ → ℕ × ℕ
   inner_at p = (p.0, p.1 + up (align (α Z)) 0)
 
+  -- the address of its counter
   abbrev requests_at : ℕ × ℕ → ℕ × ℕ
   requests_at p = (p.0, p.1 + up 8 (up (align (α Z)) 0 + size (α Z)))
 
@@ -107,7 +108,7 @@ module _ {M : Type 1} (𝓤 : Ura M) (𝓛 : Logic 𝓤) (𝓜 : Model 𝓤 𝓛
     abbrev asking : Grants.Ghost
     asking = (((κ, tt), (q, tt), tt, (record { ref_ptr = p; now = r }, tt), (vptr p.0 p.1 ∷ [], tt)), tt)
 
-    -- they suffice for its precondition
+    -- the `&` to the counter and its token suffice for the precondition of `grants`
     asked : ent 𝓤 (sep 𝓤 (sem 𝓛 (seen_requests κ p r)) (A.lft κ q)) (Grants.pre asking)
     asked = qed 𝓛 (‵ (seen_requests κ p r) ∷ ‵ (flft κ q) ∷ []) ∵ feq_i ! (List Val) (vptr p.0 p.1 ∷ []) _ refl $ fjoin ! $
         nothing ! $ move ! (1 ∷ []) $ fjoin ! $ nothing ! $ move ! (2 ∷ 0 ∷ []) $ join ! $ join ! $ nothing ! $ move ! (1 ∷ []) $ done !
