@@ -276,7 +276,7 @@ pub(crate) fn read_unit(
     }
 }
 
-/// Whether a unit with no suffix is of bytes, by the kind of sizes.
+/// Returns whether a unit with no suffix is of bytes, by the kind of sizes.
 fn prefers_byte(kind: Kind) -> bool
     ensures { result ≡ prefers_byte kind }
 {
