@@ -87,15 +87,15 @@ positions (pos m) (pos n) h = omega (arith, ints)
 positions (pos m) (negsuc n) h = absurd (omega (arith, ints))
 positions (negsuc m) b h = omega arith
 
--- a test that failed or passed, as an order
+-- if the test that `a` is below `b` fails, `b` is at most `a`
 pub not_below : (a b : ℤ) → lt_z a b ≡ false → b ≤ℤ a
 not_below a b e = grind (arith, ints)
 
--- an order and a failed test of it contradict each other
+-- if the test that `a` is below `b` passes, `b` is not at most `a`
 pub not_both : (a b : ℤ) → lt_z a b ≡ true → b ≤ℤ a → ⊥
 not_both a b e h = grind (arith, ints)
 
--- the test that a number, 0 or more, is at most n
+-- the test of the code that a number, 0 or more, is at most `n` says that
 pub is_at_most : (z : ℤ) (n : ℕ) → pos 0 ≤ℤ z → IsTrue (leb (nat_abs z) n) ↔ (z ≤ℤ pos n)
 is_at_most (pos m) n h = ((λ t. grind (arith, nat_tests, ints)), (λ l. grind (arith, nat_tests, ints)))
 is_at_most (negsuc m) n h = absurd (omega (arith, ints))

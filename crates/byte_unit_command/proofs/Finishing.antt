@@ -87,13 +87,14 @@ module _ {A E : Type 0} (tells : E → Option (List ℕ)) (options : Options) (p
       (sym errors_is) same)
 
 module _ (options : Options) (total : ℕ) (before : List ℕ) where
-  -- out of memory, nothing was written
+  -- if the total could not be appended, nothing is written, which is right for `Memory`
   pub IsTotalWritten-memory : (result : Result ⊤ RunError) → IsErrAnd result (λ error. error ≡ Memory)
       → IsTotalWritten options total before result []
   IsTotalWritten-memory result is =
       Err-passed (λ result. IsTotalWritten options total before result []) result Memory is refl
 
-  -- a call that writes the line of the total too
+  -- after the call that writes what waits and the line of the total, what is written is right for the result of that
+  -- call
   pub IsTotalWritten-line : {held holds : Option (List ℕ)} (line bytes : List ℕ) → IsTotalFor options total line
       → bytes ≡ before ++ line → (result : Result ⊤ RunError) → IsWrittenBy held holds bytes Write result
       → (written : List ℕ) × Appends held holds written × IsTotalWritten options total before result written

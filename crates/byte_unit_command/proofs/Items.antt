@@ -32,7 +32,8 @@ firsts_lack_hyphens : (before : List ℕ) (first : ℕ) → IsFirst before first
 firsts_lack_hyphens [] first is i bound = absurd (omega arith)
 firsts_lack_hyphens (c ∷ cs) first is i bound = digits_lack_hyphens (c ∷ cs) is.is_numeral.1 i bound
 
--- a range, cut at its first hyphen
+-- a range, cut at its first hyphen (45): without one it is a number, and else a first and a last field; `is_numeral.1`
+-- says that a text has digits alone
 pub cut_range : (item : List ℕ) (range : FieldRange) (r : Option (Bor (List ℕ) × Bor (List ℕ)))
     → IsSplitOnceResult 45 item r → IsRange item range
     → MatchOption r (IsPositive item range.first × (range.last ≡ Some range.first))

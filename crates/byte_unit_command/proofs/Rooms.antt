@@ -19,7 +19,7 @@ times-le room some others all few =
     let most : room * (some + others) ≤ room * all = mul-le-mul_left room few in
     subst (λ bytes. bytes ≤ room * all) both most
 
--- the room of one field, without a delimiter
+-- without a delimiter, the room of the fields is that of one field
 pub fields_room-whole : (options : Options) (bytes : ℕ) → options.delimiter ≡ None → fields_room options bytes
     ≡ text_room options + bytes
 fields_room-whole options bytes none =

@@ -35,7 +35,7 @@ module _ (options : Options) where
   between_of-split delimiter is none =
       ap (λ blanks. bytes_between blanks options.delimiter) none ∙ ap (bytes_between false) is
 
--- a field before other fields, with a delimiter between it and them
+-- if a field and the fields after it are converted, all are, with a delimiter between it and them
 AreFields-cons : (options : Options) (number : ℕ) (field : List ℕ) (others : List (List ℕ)) (own rest : List ℕ)
     (own_found rest_found : List Found) → IsSplit others → IsField options number field own own_found
     → AreFields options (number + 1) others rest rest_found
@@ -212,7 +212,7 @@ IsSplitting-start options bytes old =
 
 module _ {options : Options} {bytes : List ℕ} {old : State} {number : ℕ} {rest : List ℕ} {new : State}
     (so_far : IsSplitting options bytes old number rest new) where
-  -- the messages about a field, for the place of the record
+  -- the place of the record does not change, so the messages about a field are those for the place at the start
   messages-old : (field : List ℕ) (is_rejected : Bool) (messages : List ℕ)
       → AreFieldMessages options new.word new.place number field is_rejected messages
       → AreFieldMessages options old.word old.place number field is_rejected messages
@@ -220,7 +220,7 @@ module _ {options : Options} {bytes : List ℕ} {old : State} {number : ℕ} {re
       subst (λ state. AreFieldMessages options state.word state.place number field is_rejected messages) so_far.new_is
       are
 
-  -- if there is none, there is none for the place that the state has
+  -- if there is no message about a field for the place at the start, there is none for the place that the state has now
   pub FieldHasNoMessage-now : (field : List ℕ) → FieldHasNoMessage options number field old
       → FieldHasNoMessage options number field new
   FieldHasNoMessage-now field none =
@@ -281,7 +281,7 @@ module _ {options : Options} {bytes : List ℕ} {old : State} {number : ℕ} {re
         few = omega (arith, so_far.few, shorter);
       }
 
-  -- a rejected field, which is the first of the rest
+  -- if the first field of the rest is rejected in the mode `abort`, the record is
   pub Aborts-first : (field : List ℕ) (others : List (List ℕ)) → fields_of options rest ≡ field ∷ others
       → (next_messages : List ℕ) → IsRejectedField options number field new next_messages
       → Aborts options bytes old next_messages
@@ -324,7 +324,7 @@ module _ {options : Options} {bytes : List ℕ} {old : State} {number : ℕ} {re
             adds.found so_far.new_is adds.new_is;
       }
 
-  -- the other fields are copied with the bytes between them
+  -- if no other field is chosen, copying the rest adds the fields of the whole record
   pub AddsFields-copied : AreFields options number (fields_of options rest) rest []
       → ((later : ℕ) → number ≤ later → ¬ IsChosen options.fields.now later)
       → AddsFields options bytes old (record new { out = new.out ++ rest })

@@ -36,7 +36,7 @@ pub Passes-append : (options : Options) (front back : List Found) → Passes opt
     → Passes options (front ++ back)
 Passes-append options front back first second = λ mode. has_rejected-append front back (first mode) (second mode)
 
--- facts of `||` for the tallies below
+-- `||` is associative
 or_assoc : (a b c : Bool) → ((a || b) || c) ≡ (a || (b || c))
 or_assoc true b c = refl
 or_assoc false b c = refl

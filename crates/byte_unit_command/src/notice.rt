@@ -37,7 +37,7 @@ pub(crate) struct Place {
 struct Field<'a> {
     /// Its number, counted from 1.
     number: u64,
-    /// What it is.
+    /// Its bytes, as they are in the record.
     bytes: &'a [u8],
 }
 

@@ -322,6 +322,7 @@ fn read_max(options: &Options, len: usize) -> usize
     ensures bound { result ≤ len }
     ensures some { 0 < len → 0 < result }
 {
+    // In the mode `abort` a run ends with its first message about a rejected field.
     let tells_rejected = matches!(options.invalid, Invalid::Fail | Invalid::Warn);
     let message = if tells_rejected || options.max.is_some() || options.min.is_some() {
         MESSAGE

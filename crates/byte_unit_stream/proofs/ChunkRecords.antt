@@ -8,7 +8,7 @@ use Rattle.std.specs.List.{onto_first}
 use Rattle.byte_unit_stream.specs.Records.{parts, but_last, but_empty_last, records_of, finished_records}
 use Rattle.byte_unit_stream.specs.Chunks.{ended_records, begun_record, nonempty_record}
 
--- the parts with these bytes put before the first of them
+-- the function that puts these bytes before the first of the parts
 abbrev onto : List ℕ → List (List ℕ) → List (List ℕ)
 onto part [] = part ∷ []
 onto part (own ∷ others) = (part ++ own) ∷ others
@@ -123,7 +123,7 @@ module _ (end : ℕ) where
   ended_records-take-drop part bytes place =
       ap (ended_records end part) (sym (take-append-drop place bytes)) ∙ ended_records-append part (take place bytes) (drop place bytes)
 
-  -- the unfinished record, by the bytes before a place and those after it
+  -- the unfinished record after some bytes is the one after those from a place on, begun by the one before the place
   pub begun_record-take-drop : (part bytes : List ℕ) (place : ℕ)
       → begun_record end part bytes ≡ begun_record end (begun_record end part (take place bytes)) (drop place bytes)
   begun_record-take-drop part bytes place =

@@ -20,11 +20,11 @@ module _ {X : Type 0} where
   pub take-IsPrefix : (front whole : List X) → IsPrefix front whole → take (length front) whole ≡ front
   take-IsPrefix front whole (rest, is) = ap (take (length front)) is ∙ take-append_seam front rest
 
-  -- the whole list replaced by an equal one
+  -- a prefix of a list is a prefix of an equal list
   pub IsPrefix-same : (front : List X) {whole same : List X} → same ≡ whole → IsPrefix front whole → IsPrefix front same
   IsPrefix-same front is prefix = subst (IsPrefix front) (sym is) prefix
 
-  -- a list that a call appends to, or leaves
+  -- if a call appends to a list or leaves it as it is, the list is a prefix of the result
   pub IsPrefix-if : (yes : Bool) (front more : List X) {whole : List X} → whole ≡ (if yes then front ++ more else front)
       → IsPrefix front whole
   IsPrefix-if true front more is = (more, is)

@@ -38,8 +38,8 @@ pub returns-then-blanks-clause-some : goal.returns-then-blanks-clause-some
 returns-then-blanks-clause-some c =
     let options = c.args.options.now in
     let bytes = c.args.bytes.now in
-    -- the two parts of `ends`: the index is within the bytes, and there the fields are cut
     let at : at_blanks options ≡ true = c.requires.blanks ∙ c.if-blanks.true in
+    -- the three parts of `ends`: the field has a byte, more bytes follow, and there the fields are cut
     IfSome-map (λ n ends.
     let same : n ≡ n + 0 = omega arith in
     ends-first options bytes blank_fields [] n (fields_of-blanks options at) (between_of-blanks options at)

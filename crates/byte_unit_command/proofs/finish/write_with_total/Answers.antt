@@ -1,4 +1,5 @@
 -- What waits is written with the line of the total after it; nothing is written if that line cannot be appended.
+-- `.ensures.1` of a `from_residual`: the error in its result is the one that `?` passes on.
 use Rattle.std.proofs.Common.{◌≡◌, ◌++◌, ◌∷◌, [], ◌<◌, ap, ◌∙◌, append_assoc, arith, refl}
 use Rattle.std.proofs.KnownBytes.{Appends-nil}
 use Rattle.byte_unit.specs.Bounds.{size_limit}

@@ -1,4 +1,5 @@
--- The first option that is wrong: those that are looked at before it are right.
+-- The first option that is wrong: those that are looked at before it are right. `.ensures.1` of a `from_residual`: the
+-- error in its result is the one that `?` passes on.
 use Rattle.std.proofs.Common.{ℕ, Bool, Option, inl, inr}
 use Rattle.byte_unit_command.specs.CallOptions.{AreFieldsSeparated, FieldsAreRight, FormIsRight, IsFirstWrong, IsFormOf}
 use Rattle.byte_unit_command.specs.CallOptions.{IsSeparator, IsWrongForm, IsWrongSeparator}

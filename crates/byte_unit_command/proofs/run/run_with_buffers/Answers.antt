@@ -1,5 +1,7 @@
--- Each read is served: the records that end in it are written, and the record that it has begun is kept. Memory is not
--- the answer while no record is longer than the limit and there is no message.
+-- Each read is served: the records that end in it are written, and the record that it has begun is kept. `Memory` is
+-- not returned while no record is longer than the limit and there is no message. Of the invariant, `.0` is what was
+-- served, and `.1` are the bounds (`IsWithin`). `.ok.0` of a vector: its length is that of its items. `.ensures.1` of a
+-- `from_residual`: the error in its result is the one that `?` passes on.
 use Rattle.std.proofs.Common.{◌≡◌, ◌+◌, ◌≤◌, ℕ, List, [], ◌++◌, Result, Ok, Err, take, length, vec_len, arith}
 use Rattle.std.proofs.Common.{refl, sym, ap, subst, ◌∙◌, inl, inr, true≢false}
 use Rattle.std.proofs.lemmas.List.{length-take, length-take-le}

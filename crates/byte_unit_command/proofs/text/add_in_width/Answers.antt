@@ -1,5 +1,6 @@
 -- What is appended is the text that `write_size` wrote, with its suffix, padded to the width. Without a width and a
--- suffix it is appended as it was written: of the bytes that are appended, truncating leaves the first ones.
+-- suffix it is appended as it was written: of the bytes that are appended, truncating leaves the first ones. `.ok.0` of
+-- a vector: its length is that of its items.
 use Rattle.std.proofs.Common.{true≢false, ◌≡◌, ◌≤◌, ℕ, List, [], ◌++◌, length, take, ap, sym, ◌∙◌, arith}
 use Rattle.std.proofs.Common.{append-nil, is_ok, refl}
 use Rattle.std.proofs.lemmas.List.{length-take-le, nil_from_length}

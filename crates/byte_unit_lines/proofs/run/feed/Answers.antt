@@ -1,5 +1,6 @@
 -- Each iteration appends the answer to one line, the first of the rest: with the part that was read before, or alone.
--- The capacity that is left covers the lines that are left.
+-- The capacity that is left covers the lines that are left. Of the invariant, `.0` are the bounds (`IsFedWithin`), and
+-- `.1` is what was answered. `.ok.0` of a vector: its length is that of its items.
 use Rattle.std.proofs.Common.{◌+◌, ◌-◌, ◌++◌, ◌≡◌, length, take, drop, sym, ap, ◌∙◌, arith, length-drop, vec_len}
 use Rattle.std.specs.Prelude.{vec_capacity}
 use Rattle.std.proofs.lemmas.List.{take_all, take_rest}

@@ -1,5 +1,6 @@
 -- Each read is served: the answers to the lines that end in it are written, and the line that it has begun waits.
--- `Memory` is not returned while the lines are no longer than the limit.
+-- `Memory` is not returned while the lines are no longer than the limit. Of the invariant, `.0` is what was served, and
+-- `.1` are the bounds (`IsWithin`). `.ok.0` of a vector: its length is that of its items.
 use Rattle.std.proofs.Common.{◌≡◌, ◌≢◌, ◌+◌, ◌≤◌, [], ◌++◌, refl, sym, ap, subst, ◌∙◌, take, length, vec_len, arith, rules}
 use Rattle.std.proofs.lemmas.List.{length-take, take_all}
 use Rattle.std.proofs.lemmas.Result.{on_ok_weaker}

@@ -1,5 +1,5 @@
 -- The lowest bit of a chunk's mask is its first end byte; without a bit the chunk has none. The last bytes are compared
--- one by one.
+-- one by one. Of the invariant, `.0` says that no record ends before the index.
 use Rattle.std.proofs.Common.{◌+◌, ◌^◌, ◌<◌, ◌≤◌, eqb, not, ℕ, Bool, get_or, length, map, w8, w16}
 use Rattle.std.proofs.Common.{refl, ap, sym, subst, eqb-true, ◌∙◌, arith}
 use Rattle.std.proofs.lemmas.List.{length-map}

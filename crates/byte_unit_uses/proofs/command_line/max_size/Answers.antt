@@ -1,4 +1,5 @@
 -- The matches are those of `copy_app`, so the size and the error are those of the value that the command line gives.
+-- `.ensures.1` of a `from_residual`: the error in its result is the one that `?` passes on.
 use Rattle.std.proofs.Common.{◌≡◌, ◌∙◌, rules, ap, ap₂, inl, inr, subst, sym}
 use Rattle.clap.specs.Walk.{texts}
 use Rattle.clap.specs.Words.{app_of, takes, with_rule}

@@ -26,7 +26,7 @@ returns-then-not-chosen-clause-ok g c =
     AddsField-other c.args.options.now c.args.number c.args.field.now old _
     (c.requires.no c.if-not-chosen.true) (ap With c.in_ok-extend_from_slice.ensures.items)
 
--- the blank that separates the field, and the columns of the size
+-- the code has the blank that separates the field and the columns of the size, as the definitions say
 spaces : (g : Over) (c : Joined-this-ne0 g)
     → (c.if-this-ne0.width.0.now ≡ gap_of c.args.options.now c.args.number c.args.field.now)
     × (c.if-this-ne0.width.1 ≡ width_of c.args.options.now c.args.number c.args.field.now)

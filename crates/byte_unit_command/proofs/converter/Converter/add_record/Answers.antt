@@ -1,5 +1,5 @@
 -- After an error, truncating leaves what was there before, since it is a prefix of what is there then. The messages
--- stay if a field was rejected.
+-- stay if a field was rejected. `.ok.0` of a vector: its length is that of its items.
 use Rattle.std.proofs.Common.{◌≢◌, Err, take, refl, sym, ap, subst, ◌∙◌, arith}
 use Rattle.byte_unit_command.specs.RunState.{Aborts, at_next, messages_of, state_of}
 use Rattle.byte_unit_command.specs.declared.error.RunError.TheVariants.{Memory, Rejected}

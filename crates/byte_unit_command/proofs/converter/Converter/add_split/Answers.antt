@@ -1,5 +1,6 @@
 -- Each iteration adds one field with the bytes after it; the last field follows the loop, or a rest without a chosen
--- field. A field that is rejected in the mode `abort` is one of the record.
+-- field. A field that is rejected in the mode `abort` is one of the record. The parts of the invariant are in
+-- `Invariants.antt`. `.ensures.1` of a `from_residual`: the error in its result is the one that `?` passes on.
 use Rattle.std.proofs.Common.{◌⊎◌, true≢false, ◌≡◌, ◌≤◌, ◌+◌, ◌-◌, ◌∙◌, ◌++◌, [], List, ℕ, take, drop, length, ap, sym}
 use Rattle.std.proofs.Common.{subst, Err, arith, length-drop, vec_len}
 use Rattle.std.proofs.lemmas.Bool.{eqb-true}
@@ -18,8 +19,7 @@ use Rattle.byte_unit_command.proofs.Splitting.{EndsFirst, IsSplitting, IsSplitti
 use Rattle.byte_unit_command.proofs.Splitting.{AddsFields-last, AddsFields-copied, FieldHasNoMessage-now, fields_copied}
 use Rattle.byte_unit_command.proofs.converter.Converter.add_split.Goals as goal
 
--- a field before the last was rejected in the mode `abort`, and so the record is; the invariant is a tuple, see
--- `Invariants.antt`
+-- a field before the last was rejected in the mode `abort`, and so the record is
 pub returns-in_err-add_field-clause-rejected : goal.returns-in_err-add_field-clause-rejected
 returns-in_err-add_field-clause-rejected g c = λ is.
     let error = c.in_err-add_field.field-0.0 in

@@ -1,5 +1,5 @@
 -- What is written and told at the end is right for each result: with and without a last record and a total, and if a
--- write fails.
+-- write fails. `.ensures.1` of a `from_residual`: the error in its result is the one that `?` passes on.
 use Rattle.std.proofs.Common.{◌≡◌, subst, ap, ◌∙◌, Err, List, ℕ, [], length, refl, rules}
 use Rattle.std.specs.Io.KnownBytes.{Appends}
 use Rattle.std.proofs.KnownBytes.{Appends-nil}

@@ -1,5 +1,7 @@
 -- Each iteration adds one record, the first of the rest: with the part that was read before, or alone. If it stops,
--- what was appended is that of the records before.
+-- what was appended is that of the records before. Of the invariant, `.0` is what was converted, and `.1` are the
+-- bounds (`IsFedWithin`). `.ok.0` of a vector: its length is that of its items. `.ensures.1` of a `from_residual`: the
+-- error in its result is the one that `?` passes on.
 use Rattle.std.proofs.Common.{true≢false, ◌≡◌, ◌+◌, ◌-◌, ◌∷◌, [], length, take, drop, sym, ap, subst, ◌∙◌}
 use Rattle.std.proofs.Common.{Err, arith, length-drop, vec_len}
 use Rattle.std.proofs.lemmas.List.{take_rest, length-take-le}

@@ -1,4 +1,5 @@
--- Each iteration writes one more value; then the sequence is ended. The first error is returned.
+-- Each iteration writes one more value; then the sequence is ended. The first error is returned. Of the invariant, `.0`
+-- is on what was written, and `.1` on what is returned.
 use Rattle.std.proofs.Common.{rules, ◌≡◌, length, subst, refl, Ok, Err}
 use Rattle.std.proofs.lemmas.Result.{on_ok_weaker}
 use Rattle.serde.proofs.Events.{WritesEach-more, WritesSeq-ends}

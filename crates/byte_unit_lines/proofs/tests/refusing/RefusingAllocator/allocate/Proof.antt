@@ -79,7 +79,7 @@ module _ (Z : Al) where
   abbrev ended : Ended
   ended = allocate.ended Z.row Z.g Z.d Z.drops
 
-  -- no argument is changed by the call
+  -- what is known of each argument after the call: nothing, since it is dropped
   abbrev stayed : Stays ended.signature.params ended.kept
   stayed = (stay_dropped self yes, (stay_dropped word yes, (stay_dropped word yes, tt)))
 
@@ -140,7 +140,8 @@ module _ {M : Type 1} (𝓤 : Ura M) (𝓛 : Logic 𝓤) (𝓜 : Model 𝓤 𝓛
     fields κ p h = qed 𝓛 (‵ (hidden_shr (heap.the_row (param 0 Z.row)) κ h p.0 p.1) ∷ []) ∵
         unhide ! $ fsplit ! $ fsplit ! $ hide ! $ move ! (1 ∷ []) $ fsplit ! $ hide ! $ keep ! (2 ∷ 0 ∷ []) $ done !
 
-    -- the exits: a block with the right to free it, or nothing
+    -- an exit: if the result is the value that is returned, the postcondition holds of it, with a block or an error;
+    -- both tokens go back
     ends : (y : Walk.Ghost) (r : Answer.Denot) (v : Val) → ent 𝓤 (emp 𝓤) (sem 𝓛 (Answer.own_val r (v ∷ [])))
         → Sq 𝓛 (‵ (block_if_ok (token Z y.0.3.0.now.inner) y.1 r) ∷ ‵ (flft y.0.0.0 y.0.1.0) ∷ ‵ (flft y.0.0.1.0 y.0.1.1.0) ∷ [])
         (prop (Walk.post y v))
@@ -163,6 +164,7 @@ module _ {M : Type 1} (𝓤 : Ura M) (𝓛 : Logic 𝓤) (𝓜 : Model 𝓤 𝓛
         let n = a.1.0 in let al = a.1.1.0 in let Sized : Type 0 = (capped (size τ) ≡ n) × (capped (align τ) ≡ al) in
         let y : Walk.Ghost = ((κs, qs, bounds, a, (shr_vals a.0, (uint_vals w64 n, (uint_vals w64 al, tt)))), τ) in
         let takes : Taking.Ghost = at_takes Z 𝓛 𝓜.mem 𝓡.returns κ q at_inner h.inner n al τ in
+        -- at entry: the tokens of both lifetimes, the arguments, and the facts that the contract requires
         qed 𝓛 (((‵ (flft κ q) ⊛ ‵ (flft κ' qs.1.0) ⊛ ‵ ftrue) ⊛ ‵ (owns (types_at (ended Z).signature.params κs) a y.0.4)) ∷
         (raw (fact 𝓤 (κ' ⊑ Z.row.lives)) ⊛ raw (fact 𝓤 Sized)) ∷ []) ∵
         move ! (1 ∷ []) $ split ! $ heard ! (κ' ⊑ Z.row.lives) (λ lives. heard ! Sized (λ sized.
@@ -171,6 +173,7 @@ module _ {M : Type 1} (𝓤 : Ura M) (𝓛 : Logic 𝓤) (𝓜 : Model 𝓤 𝓛
         keep ! (1 ∷ 6 ∷ 0 ∷ 4 ∷ []) $
         -- [the `&` to the counter; its token; the `&` to the inner allocator; the other token; the locals]
         enter ! 𝓣.C 𝓣.Λ (here Z) _ _ $
+        -- the locals are allocated, and the counter is asked
         alloc_all ! (λ l. pass_all ! refl ((tt, tt), ((tt, record { fits = are.1.0.1 }), ((tt, record { fits = are.1.1.0.1 }), tt))) $
         sets ! (addr ! (through ! refl (fld ! refl (stop !)))) refl (tt, tt) $
         use2 𝓛 (raw (Grants.pre (asking κ q at_requests h.requests))) (asked κ q at_requests h.requests) $
@@ -180,10 +183,12 @@ module _ {M : Type 1} (𝓤 : Ura M) (𝓛 : Logic 𝓤) (𝓜 : Model 𝓤 𝓛
         use1 𝓛 (later (some (λ (b : Bool). given (v ≡ vbool b) (‵ (flft κ q))))) (told κ q at_requests h.requests v) $ await ! tt $
         pick ! (λ granted. learn ! (λ is.
         lands_as ! is refl (tt, tt) $ sets ! (un ! (get ! refl) tt) refl (tt, tt) $ first ! $ branches ! (get ! refl)
+        -- the counter refuses: the result is `Err`
         (λ refused. sets ! (agg ! (no_more !)) refl (tt, tt) $
         sets ! (agg ! (and_then ! (lit ! tt) (and_then ! (get ! refl) (no_more !)))) refl (Answer-typed false 0 0) $
         returns_within ! (Walk.post y) refl (look_at ! 0 refl) $ free_all ! refl $ keep ! (0 ∷ 2 ∷ []) $ nothing ! $
         ends y (Err (record {})) _ (Answer-err 𝓛))
+        -- the counter grants: the inner allocator is called, and its result is the result
         (λ passed. skips ! $ exec ! 𝓣.C 𝓣.Λ (env (here Z).locals l) (after 4 (here Z).body) (at_ret _ (Walk.post y)) $
         sets ! (addr ! (through ! refl (fld ! refl (stop !)))) refl (tt, tt) $ move ! (1 ∷ []) $
         use2 𝓛 (raw (Taking.pre takes)) (Takes-goes Z 𝓛 𝓜.mem 𝓡.returns κ q at_inner h.inner (⊑_trans κ κ' Z.row.lives bounds.0 lives) n
@@ -198,7 +203,7 @@ module _ {M : Type 1} (𝓤 : Ura M) (𝓛 : Logic 𝓤) (𝓜 : Model 𝓤 𝓛
         (λ is. nothing ! $ lands_as ! is refl (Answer-typed false 0 0) $ returns ! (look_at ! 0 refl) $ free_all ! refl $
         ends y (Err (record {})) _ (Answer-err 𝓛)))))))))))
 
--- the statement that the toolchain asks for
+-- the statement that the toolchain asks for: the body meets the contract for each inner allocator
 pub allocate_spec : {M : Type 1} → statement M
 allocate_spec 𝓤 𝓛 𝓜 𝓡 wired A laws ghosts dict drops met _ = meets 𝓤 𝓛 𝓜 𝓡
     (record { row = A; laws = laws; g = ghosts; d = dict; drops = drops }) wired met

@@ -69,7 +69,7 @@ module _ (Z : Al) where
   abbrev ended : Ended
   ended = deallocate.ended Z.row Z.g Z.d Z.drops
 
-  -- no argument is changed by the call
+  -- what is known of each argument after the call: nothing, since it is dropped
   abbrev stayed : Stays ended.signature.params ended.kept
   stayed = (stay_dropped self yes, (stay_dropped pointer yes, (stay_dropped word yes, (stay_dropped word yes, tt))))
 
@@ -96,7 +96,7 @@ module _ {M : Type 1} (𝓤 : Ura M) (𝓛 : Logic 𝓤) (𝓜 : Model 𝓤 𝓛
   abbrev Giving : Contract 𝓤
   Giving = Gives Z 𝓛 𝓜.mem 𝓡.returns
 
-  -- the exit: both tokens go back
+  -- the exit: the postcondition holds, and both tokens go back
   ends : (y : Walk.Ghost) → Sq 𝓛 (‵ (flft y.0.0.0 y.0.1.0) ∷ ‵ (flft y.0.0.1.0 y.0.1.1.0) ∷ []) (prop (Walk.post y vunit))
   ends y = suffices ! _ (leaves 𝓛 (ended Z) (stayed Z) clauses y vunit tt (tt, (tt, (tt, (tt, tt)))) (tt, (tt, (tt, (tt, tt))))) $
       nothing ! $ feq_i ! _ (vunit ∷ []) _ refl $ join ! $ nothing ! $ nothing ! $ fjoin ! $ nothing ! $ fjoin ! $ nothing ! $ fjoin ! $
@@ -132,11 +132,14 @@ module _ {M : Type 1} (𝓤 : Ura M) (𝓛 : Logic 𝓤) (𝓜 : Model 𝓤 𝓛
         ),
         τ,
       ) in
+      -- at entry: the tokens of both lifetimes, the arguments, the facts that the contract requires, and the right to
+      -- free the block
       qed 𝓛 (((‵ (flft κ q) ⊛ ‵ (flft κ' qs.1.0) ⊛ ‵ ftrue) ⊛ ‵ (owns (types_at (ended Z).signature.params κs) a (y a.1.0).0.4)) ∷
       (raw (fact 𝓤 (κ' ⊑ Z.row.lives)) ⊛ raw (fact 𝓤 Sized) ⊛ ‵ (owned_block (token Z h.inner) τ a.1.0)) ∷ []) ∵
       move ! (1 ∷ []) $ split ! $ heard ! (κ' ⊑ Z.row.lives) (λ lives. split ! $ heard ! Sized (λ sized. move ! (1 ∷ []) $
       split ! $ split ! $ move ! (1 ∷ []) $ split ! $ move ! (3 ∷ []) $ fsplit ! $ fsplit ! $ move ! (1 ∷ []) $
       unhide ! $ fsplit ! $ fsplit ! $ use1 𝓛 (‵ (seen Z κ at_inner h.inner)) (id⊢ 𝓤 _) $ keep ! (8 ∷ 0 ∷ 7 ∷ 5 ∷ []) $
+      -- the pointer is one to a block, since there is no right to free a null pointer
       in_a_block ! a.1.0 (λ x. owned_block (token Z h.inner) τ x) (fst∗ 𝓤 (never 𝓤) (sem 𝓛 (token Z h.inner τ null_ptr))) (λ b o at.
       regoal !
       (λ x. prop (WpFn 𝓤 H 𝓣.C 𝓣.Λ (here Z) (vptr p.0 p.1 ∷ ptr_val x ∷ vint w64 n ∷ vint w64 al ∷ []) (Walk.post (y x)))) at refl $
@@ -148,6 +151,7 @@ module _ {M : Type 1} (𝓤 : Ura M) (𝓛 : Logic 𝓤) (𝓜 : Model 𝓤 𝓛
       sets ! (addr ! (through ! refl (fld ! refl (stop !)))) refl (tt, tt) $ fsplit ! $ group ! 4 $
       use1 𝓛 (raw (Giving.pre gives)) (Gives-goes Z 𝓛 𝓜.mem 𝓡.returns κ q at_inner h.inner (⊑_trans κ κ' Z.row.lives bounds.0 lives) b o n
       al τ sized.0 sized.1 are.1.1.0.1 are.1.1.1.0.1) $
+      -- the inner allocator is called with the block, its size and its alignment
       calls_at ! (framed 𝓤 H 𝓜 𝓣) Giving (met.deallocate Z.drops) gives
       (and_then ! (get ! refl) (and_then ! (get ! refl) (and_then ! (get ! refl) (and_then ! (get ! refl) (no_more !))))) (λ v.
       use1 𝓛 (later (given (v ≡ vunit) (‵ (flft κ q)))) (Gives-Gives Z 𝓛 𝓜.mem 𝓡.returns κ q at_inner h.inner b o n al τ v) $ await ! tt $
@@ -155,7 +159,7 @@ module _ {M : Type 1} (𝓤 : Ura M) (𝓛 : Logic 𝓤) (𝓜 : Model 𝓤 𝓛
       lands_as ! is refl (tt, tt) $ sets ! (of_opd ! (unit_lit !)) refl (tt, tt) $ returns ! (look_at ! 0 refl) $ free_all ! refl $
       ends (y (block_ptr b o)))))))))
 
--- the statement that the toolchain asks for
+-- the statement that the toolchain asks for: the body meets the contract for each inner allocator
 pub deallocate_spec : {M : Type 1} → statement M
 deallocate_spec 𝓤 𝓛 𝓜 𝓡 wired A laws ghosts dict drops met _ = meets 𝓤 𝓛 𝓜 𝓡
     (record { row = A; laws = laws; g = ghosts; d = dict; drops = drops }) wired met
