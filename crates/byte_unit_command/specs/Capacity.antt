@@ -29,7 +29,7 @@ form_max (InUnit unit) precision = unit_text_max precision
 form_max (NumberOf unit) precision = unit_text_max precision
 form_max (Largest unit_type) precision = unit_text_max precision
 
--- the bytes that a short text takes while it is appended
+-- the bytes that a short text takes while it is appended: it is copied in one piece of this length (`AT_ONCE`)
 abbrev pub short_room : ℕ
 short_room = 64
 

@@ -55,6 +55,7 @@ pub IsFed-step : (kind : Kind) (start now next : Feed) (place : ℕ) → IsFed k
     → IsFed kind start next
 IsFed-step kind start now next place fed is_answered =
     let this = now.line ++ take place now.rest in
+    -- `added` and `answer` are triples: the bytes, that they are the answers to the lines, and that they were appended
     let answer = is_answered.answer in record {
       answered = fed.answered ++ this ∷ [];
       added = (
