@@ -69,7 +69,7 @@ module _ (num : ℕ) (unit : UnitName) (small : num < 10 ^ 31) where
       let whole = digits_few (q / power) 32 (omega arith) (omega arith) (omega (arith, below, small)) in
       omega (arith, ap length number_is, text_of-length e, whole, length_last_digits places q)
 
-  -- a number in a unit has at most 33 bytes and its decimal places, rounded or not
+  -- a number in a unit has at most 32 digits, the point, and its decimal places, rounded or not
   number-length : (precision : Option ℕ) (number : List ℕ)
       → IsNumeralBy (rule_of precision false (shape_of unit)) num (bits (shape_of unit)) number → length number
       ≤ 33 + unit_places precision

@@ -20,7 +20,7 @@ use crate::values::Values;
 use crate::wrong::{ValueError, Wrong};
 use byte_unit_base::{ParseError, binary, size};
 
-/// The most digits after the point that the exact form has.
+/// The most digits after the point that the exact form has: the library takes a greater precision as 28.
 const DECIMAL_PLACES: u16 = 28;
 
 /// Returns the options of a call. `fields` are those that `field_list::fields_of` returned.
