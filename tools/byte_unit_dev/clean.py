@@ -95,6 +95,7 @@ def bootstrapped(folder, *how):
 
 
 def checked(*words, **more):
+    """Runs a program that has to succeed, and fails with the last two lines that it prints."""
     got = call(*words, **more)
     if got.returncode:
         raise Failure(f"a clean Debian 12 could not be made: {'; '.join(got.stdout.strip().splitlines()[-2:])}")

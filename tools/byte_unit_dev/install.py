@@ -152,6 +152,7 @@ def listed(root):
 
 
 def remove_installed(root):
+    """Removes the files of the list, which is removed last, and the folders that the installation made."""
     lines = listed(root)
     if not lines:
         raise Failure(f"{root / LIST} is missing: nothing was installed there by tools/dev install")

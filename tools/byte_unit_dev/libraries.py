@@ -29,6 +29,7 @@ MODULE = "byte_unit.wasm"
 
 
 def existing(folder):
+    """Returns the path of a folder that an argument names. argparse rejects the argument if there is none."""
     if not os.path.isdir(folder):
         raise argparse.ArgumentTypeError(f"{folder!r} is no folder")
     return Path(folder).resolve()
@@ -69,6 +70,7 @@ def proved(*words, crate="byte_unit_c"):
 
 
 def kit_folder():
+    """Returns the folder of the Rattle toolchain."""
     return os.path.dirname(output("rt", "doc").strip())
 
 
@@ -157,5 +159,6 @@ def link_shared(folder, cc):
 
 
 def linked(cc, place, *words):
+    """Links a shared object, in which each symbol has to be defined."""
     if call(cc, "-shared", "-o", place, "-Wl,-z,defs,-z,relro,-z,now", *words, stdout=None, stderr=None).returncode:
         raise Failure(f"{cc} failed: see above")

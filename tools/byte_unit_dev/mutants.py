@@ -99,12 +99,14 @@ def tried(crates, part):
 
 
 def remove():
+    """Deletes the copies that `put` made, and the folders that are empty then."""
     for name in glob.glob(path(f"crates/*/must-fail/{BY_TURN}*")):
         os.remove(name)
     remove_folders(map(Path, glob.glob(path("crates/*/must-fail"))))
 
 
 def with_mutants():
+    """Returns the names of the crates that have mutants."""
     found = [name for form in ("mutants.edits", "must-fail/*.edit") for name in glob.glob(path(f"crates/*/{form}"))]
     return sorted({os.path.relpath(name, path("crates")).split("/")[0] for name in found} | {bits.CRATE})
 

@@ -41,9 +41,11 @@ class Server:
 
     @staticmethod
     def user():
+        """Returns the user that the server runs as: PostgreSQL does not run as root."""
         return "nobody" if os.geteuid() == 0 else pwd.getpwuid(os.geteuid()).pw_name
 
     def make(self, *words):
+        """Calls make for the extension, with the server if it runs, and returns its output."""
         words = [
             "make",
             "-s",
@@ -56,6 +58,7 @@ class Server:
         return output(*words, env=environment(PGHOST="127.0.0.1", PGPORT=getattr(self, "port", ""), PGUSER="tester"))
 
     def by_user(self, *words, **more):
+        """Runs a program as the user of the server, and returns its output."""
         become = ["setpriv", "--reuid=nobody", "--regid=nogroup", "--clear-groups"] * (os.geteuid() == 0)
         return output(*become, *words, env=environment(PGDATA=self.folder / "data"), cwd=self.folder, **more)
 
@@ -65,6 +68,7 @@ class Server:
         return output(*words, env=self.variables, input="\n".join(statements), **more).split("\n")[:-1]
 
     def stop(self):
+        """Stops the server at once, since nothing of its data is kept."""
         self.by_user(self.bin / "pg_ctl", "-m", "immediate", "stop")
 
 

@@ -9,6 +9,7 @@ from .common import Failure, on_signals
 
 
 def beside(place, ending):
+    """Returns the path of a hidden file beside another, for its old or new contents until all files are replaced."""
     return place.with_name(f".{place.name}.{ending}")
 
 
@@ -18,6 +19,7 @@ def missing_folders(places):
 
 
 def remove(files):
+    """Removes the files that are there."""
     for file in files:
         if os.path.lexists(file):
             file.unlink()

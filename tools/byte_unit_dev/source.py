@@ -22,6 +22,7 @@ LINES = {"imports": r"^(?:ghost |pub )?use\b[^;]*;$", "attributes": r"^#!\[.*\]$
 
 
 def line_of(text):
+    """Returns a text in one line, with one space between its words."""
     return " ".join(text.split())
 
 

@@ -20,6 +20,7 @@ VERBS = {"setup": "needs", "render": "render", "check-pages": "pages", "mutants"
 
 
 def module_of(verb):
+    """Imports the module of a command."""
     return importlib.import_module(f".{VERBS[verb]}", __package__)
 
 

@@ -46,6 +46,7 @@ rises_suc low high [] i a within = absurd (omega arith)
 rises_suc low high (x ∷ xs) zero a within = (between x high xs 0 a.1 (omega arith)).0
 rises_suc low high (x ∷ xs) (suc i) a within = rises_suc x high xs i a.1 (omega arith)
 
+-- no offset is below the one before it, with the index of the next offset as `i + 1`
 pub rises : (low high : ℤ) (xs : List ℤ) (i : ℕ) → Ascends low high xs → i + 1 < length xs
     → get_or xs i (pos 0) ≤ℤ get_or xs (i + 1) (pos 0)
 rises low high xs i a within =
@@ -86,14 +87,15 @@ positions (pos m) (pos n) h = omega (arith, ints)
 positions (pos m) (negsuc n) h = absurd (omega (arith, ints))
 positions (negsuc m) b h = omega arith
 
--- a test that failed or passed, as an order
+-- if the test that `a` is below `b` fails, `b` is at most `a`
 pub not_below : (a b : ℤ) → lt_z a b ≡ false → b ≤ℤ a
 not_below a b e = grind (arith, ints)
 
+-- if the test that `a` is below `b` passes, `b` is not at most `a`
 pub not_both : (a b : ℤ) → lt_z a b ≡ true → b ≤ℤ a → ⊥
 not_both a b e h = grind (arith, ints)
 
--- the test that a number, 0 or more, is at most n
+-- the test of the code that a number, 0 or more, is at most `n` says that
 pub is_at_most : (z : ℤ) (n : ℕ) → pos 0 ≤ℤ z → IsTrue (leb (nat_abs z) n) ↔ (z ≤ℤ pos n)
 is_at_most (pos m) n h = ((λ t. grind (arith, nat_tests, ints)), (λ l. grind (arith, nat_tests, ints)))
 is_at_most (negsuc m) n h = absurd (omega (arith, ints))

@@ -13,7 +13,7 @@ use Rattle.byte_unit_base.specs.declared.errors.ValueParseError.{ValueParseError
 use Rattle.byte_unit_base.specs.declared.errors.ValueParseError.TheVariants.{ExceededBounds, NotNumber, NoValue, NumberTooLong}
 use Rattle.byte_unit_c.specs.Error.{IsPositionOf}
 
--- a string that is not in the grammar has a position
+-- the position that was found for a string that is not in the grammar is that of its error
 of_rejected : (meant : Shape → Shape) (kind : Kind) (ignore_case : Bool) (bytes : List ℕ) (fault : Fault) (position : ℕ)
     → ((n : ℕ) → fault ≢ exceeded n) → IsRejectedAs meant current kind ignore_case bytes fault
     → IsSizePosition bytes None ⊎ IsSizePosition bytes (Some position) → IsSizePosition bytes (Some position)
@@ -22,7 +22,7 @@ of_rejected meant kind ignore_case bytes fault position within (inr wrong) (inl 
     absurd (none (flags_for kind ignore_case) fault wrong)
 of_rejected meant kind ignore_case bytes fault position within (inr wrong) (inr some) = some
 
--- the position of an error, other than of a size that is too large
+-- a position that was found is that of the error; a size that is too large has none
 pub position_of : (meant : Shape → Shape) (kind : Kind) (ignore_case : Bool) (bytes : List ℕ) (fault : Fault) (position : ℕ)
     → ((n : ℕ) → fault ≢ exceeded n) → IsRejectedAs meant current kind ignore_case bytes fault
     → IsSizePosition bytes None ⊎ IsSizePosition bytes (Some position)
@@ -37,7 +37,7 @@ position_of meant kind ignore_case bytes too_long position within rejected found
 position_of meant kind ignore_case bytes (bad_unit c expected may_end) position within rejected found =
     of_rejected meant kind ignore_case bytes (bad_unit c expected may_end) position within rejected found
 
--- no other error in a number is that of a size that is too large
+-- an error in a number other than `ExceededBounds` is not that of a size that is too large
 pub not_exceeded : (value : ValueParseError) → ((n : ℕ) → value ≢ ExceededBounds n) → (n : ℕ)
     → value_fault value ≢ exceeded n
 not_exceeded (ExceededBounds m) other n same = other m refl
@@ -45,7 +45,7 @@ not_exceeded (NotNumber c) other n same = let never : ⊥ = cc same in never
 not_exceeded NoValue other n same = let never : ⊥ = cc same in never
 not_exceeded NumberTooLong other n same = let never : ⊥ = cc same in never
 
--- the position of an error where a digit is missing
+-- a position of the string is that of the error of a missing digit
 pub at_missing_digit : (IsPosition : Option ℕ → Type 0) (at_start : Bool) (next : Option ℕ) (position : ℕ)
     → IsPosition (Some position) → IsPositionOf IsPosition (missing_digit at_start next) position
 at_missing_digit IsPosition at_start (Some c) position is = is

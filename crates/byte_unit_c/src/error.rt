@@ -126,8 +126,8 @@ impl Error {
     }
 }
 
-/// Returns the first 15 characters as bytes, padded with zeros to 16. The parsers expect at most ten characters, all
-/// of them ASCII.
+/// Returns the first 15 characters as bytes, padded with zeros to 16, so that C can read them as a string. The parsers
+/// expect at most ten characters, all of them ASCII.
 pub fn expected_bytes(characters: &[char]) -> [u8; 16]
     ensures { result ≡ expected_bytes characters.now }
 {
@@ -163,7 +163,7 @@ fn index_of(expected: Expected) -> usize
     }
 }
 
-/// The bytes of each `Expected`.
+/// The bytes of each `Expected`, at its `index_of`.
 static EXPECTED_BYTES: [[u8; 16]; 8] = [
     *b"BKMGTPEZYR\0\0\0\0\0\0",
     *b"Bb\0\0\0\0\0\0\0\0\0\0\0\0\0\0",

@@ -74,10 +74,13 @@ pub fn parse_flags_at(flags: u32) -> Option<ParseFlags>
 }
 
 /// Returns how to parse, by a word with the flags `BITS` and `IGNORE_CASE`, one of them, or none.
+///
+/// Precondition (proved at every call): no other flag is set, so the word is at most 3.
 pub fn plain_flags(flags: u32) -> ParseFlags
     requires { flags ≤ 3 }
     ensures { parse_flags_at flags ≡ Some result }
 {
+    // `BITS` is the lowest bit of a word, and `IGNORE_CASE` the highest of a word up to 3.
     let kind = if flags % 2 == BITS {
         Kind::Bit
     } else {
@@ -104,6 +107,7 @@ pub fn binary_flags_at(flags: u32) -> Option<ParseFlags>
 pub fn choice_flags_at(flags: u32) -> Option<ChoiceFlags>
     ensures { result ≡ choice_flags_at flags }
 {
+    // The words with `EITHER_KIND` are 4 and 5; a greater one is left with an unknown flag.
     let of_either = flags >= EITHER_KIND;
     let kind = kind_at(if of_either {
         flags - EITHER_KIND

@@ -61,6 +61,7 @@ fn parse_many(
     ensures { AreManyReturned flags «data».now (offsets_of offsets.entry) result sizes.old sizes.new
         codes.old codes.new }
 {
+    // Only flags with `BINARY_PREFIXES` and unknown ones are greater.
     if flags > MOST_PLAIN {
         return parse_many_binary(data, offsets, flags, sizes, codes);
     }
@@ -72,7 +73,7 @@ fn parse_many(
     OK
 }
 
-/// Whether the offsets ascend within the data, and there is a size and a code for each text.
+/// Returns whether the offsets ascend within the data, and there is a size and a code for each text.
 pub fn is_layout(data: &[u8], offsets: Offsets<'_>, sizes_len: usize, codes_len: usize) -> bool
     ensures { IsTrue result
         ↔ IsLayout (length «data».now) (offsets_of offsets.entry) sizes_len codes_len }
@@ -115,7 +116,7 @@ fn parse_one<const BINARY: bool>(text: &[u8], asked: ParseFlags) -> (u8, Number)
     }
 }
 
-/// Returns the code of an error.
+/// Returns the code of an error. Of an error in the number, the details with their position (0 here) are not used.
 #[cold]
 fn code_of(error: ParseError) -> u8
     ensures { result ≡ code_of (size_fault error) }

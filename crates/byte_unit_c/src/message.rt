@@ -87,6 +87,7 @@ pub fn write_unknown_flag(out: &mut [u8]) -> usize
 fn is_plain(c: char) -> bool
     ensures { IsTrue result → (c < 128) × (debug_char c ≡ Some (39 ∷ c ∷ 39 ∷ [])) }
 {
+    // The printable ASCII characters, without the two that `Debug` escapes.
     (' ' <= c) & (c <= '~') & (c != '\'') & (c != '\\')
 }
 

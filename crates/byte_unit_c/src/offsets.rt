@@ -25,7 +25,7 @@ impl<'a> Offsets<'a> {
 
     /// Returns an offset by its index.
     ///
-    /// Precondition: `i` is less than the number of offsets.
+    /// Precondition (proved at every call): `i` is less than the number of offsets.
     fn at(self, i: usize) -> i64
         requires { i < length (offsets_of self) }
         ensures { result ≡ slice_index_or (offsets_of self.entry) i (pos 0) }
@@ -36,7 +36,7 @@ impl<'a> Offsets<'a> {
         }
     }
 
-    /// Whether the first offset is 0 or more, none is less than the one before it, and the last is `len` or less.
+    /// Returns whether the first offset is 0 or more, none is less than the one before it, and the last is at most `len`.
     pub fn ascend_to(self, len: usize) -> bool
         ensures { IsTrue result ↔ Ascends (pos 0) (pos len) (offsets_of self.entry) }
     {
@@ -48,12 +48,14 @@ impl<'a> Offsets<'a> {
             }
             low = offset;
         }
+        // `low` is the last offset, or 0, and so not negative.
         low as u64 <= len as u64
     }
 
     /// Returns the bytes of a text by its index: those from offset `i` up to offset `i + 1`.
     ///
-    /// Preconditions: the offsets ascend to at most the length of `data`, and `i + 1` is less than their number.
+    /// Preconditions (proved at every call): the offsets ascend to at most the length of `data`, and `i + 1` is less
+    /// than their number.
     pub fn text_at<'d>(self, data: &'d [u8], i: usize) -> &'d [u8]
         requires within { i + 1 < length (offsets_of self) }
         requires ascends { Ascends (pos 0) (pos (length «data».now)) (offsets_of self) }
@@ -67,7 +69,7 @@ impl<'a> Offsets<'a> {
 
 /// Converts an offset to a position in a buffer.
 ///
-/// Precondition: the offset is 0 or more.
+/// Precondition (proved at every call): the offset is 0 or more.
 fn position(offset: i64) -> usize
     requires { pos 0 ≤ℤ offset }
     ensures { result ≡ position offset }
@@ -77,7 +79,7 @@ fn position(offset: i64) -> usize
 
 /// Returns the bytes from `begin` up to `end`.
 ///
-/// Precondition: `begin <= end <= data.len()`.
+/// Precondition (proved at every call): `begin <= end <= data.len()`.
 fn part<'d>(data: &'d [u8], begin: usize, end: usize) -> &'d [u8]
     requires ordered { begin ≤ end }
     requires within { end ≤ length «data».now }

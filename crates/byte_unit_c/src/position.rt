@@ -82,6 +82,8 @@ pub fn of_error(text: &[u8], error: &ParseError) -> usize
 }
 
 /// Returns the position of the error of a string, or 0 if it is a number and a unit.
+///
+/// `#[cold]`, and not inlined: the string is parsed once more, and few callers reach this.
 #[cold]
 #[inline(never)]
 fn of_size(text: &[u8]) -> usize

@@ -112,8 +112,11 @@ pub extern "C" fn byte_unit_approximate_text(
 /// A size, its kind and how to format it: the decoded arguments that the calls for a size in a unit share.
 #[derive(Clone, Copy)]
 struct Form {
+    /// The size.
     size: u128,
+    /// Whether it is in bytes or in bits.
     kind: Kind,
+    /// How it is formatted.
     spec: FormatSpec,
 }
 

@@ -16,6 +16,7 @@ use Rattle.byte_unit_command.specs.declared.options.Form.TheVariants.{Exact, Pla
 use Rattle.byte_unit_command.proofs.Suffixes.{without_it}
 use Rattle.byte_unit_command.proofs.Texts.{padded-none}
 
+-- the sign that is left out is not `+`: the law of plain forms is for any sign but `+`
 unset_is_not_plus : Unset ≢ Plus
 unset_is_not_plus same = cc
 
@@ -34,6 +35,7 @@ form_is_read exact digits kind (NumberOf unit) precision size ignore_case text b
 form_is_read exact digits kind (Largest unit_type) precision size ignore_case text below lossless is_text =
     absurd lossless
 
+-- a text that was shown in a lossless form, without a width, is parsed as the size that it shows
 pub shown_is_read : SizeFormReadsBack → PlainFormReadsBack → ShownSizesAreRead
 shown_is_read exact digits =
     λ options others size text below lossless no_width same_kind same_suffix no_binary (form, is_form, shown_is).
@@ -50,6 +52,7 @@ shown_is_read exact digits =
     subst (λ binary. IsAcceptedBy binary others.kind ignore_case text size) (sym no_binary)
     (subst (λ kind. IsAccepted kind ignore_case text size) (sym same_kind) (subst Accepts (sym is) at))
 
+-- converting a text in the form `exact` once more gives the same text
 pub exact_again : ShownSizesAreRead → TextsAreSizesOrNot → SizeHasOneForm → ExactTwiceIsOnce
 exact_again shown_read texts one_form =
     λ options size text below exact no_width no_binary shown again text_again read (form_again, is_again, again_is).

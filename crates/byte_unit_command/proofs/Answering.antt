@@ -21,7 +21,7 @@ pub record HasFed (options : Options) (records : List (List ℕ)) (old new : Sta
     pub ok : OnOk result (AddsRecords options records old new)
     pub error : IfErr result (λ error. EndsEarly options records old error new.out new.messages)
 
--- the same, where what was to be written and told is empty
+-- if nothing waited before the call, what it has appended is all that waits after it
 pub HasFed-from_empty : {A : Type 0} (options : Options) (bytes : List ℕ) (before new : Buffers A)
     (result : Result ⊤ RunError) → before.converter.waiting.items ≡ [] → messages_of before.converter.notices ≡ []
     → OnOk result (AddsRecords options (ended_records options.record_end before.part.items bytes)
@@ -46,7 +46,7 @@ IsAnswered options records old new (Err Write) written messages =
     × IsPrefix written whole.out) × (messages ≡ [])
 IsAnswered options records old new (Err error) written messages = EndsEarly options records old error written messages
 
--- all of it was written; `now` is the state after that
+-- what a call has appended is what is written if all of it was; `now` is the state after that
 pub IsAnswered-fed : {options : Options} {records : List (List ℕ)} {old new : State} (result : Result ⊤ RunError)
     → HasFed options records old new result → (now : State)
     → new ≡ record now { out = new.out; messages = new.messages }
@@ -58,7 +58,7 @@ IsAnswered-fed (Err Read) fed now same = absurd fed.error
 IsAnswered-fed (Err Write) fed now same = absurd fed.error
 IsAnswered-fed (Err Total) fed now same = absurd fed.error
 
--- a prefix of it was written
+-- if only a prefix of what a call has appended was written, that is right for `Write`
 IsAnswered-begun : (options : Options) (records : List (List ℕ)) (old new now : State) (written : List ℕ)
     → IsPrefix written new.out → (result : Result ⊤ RunError) → HasFed options records old new result
     → IsAnswered options records old now (Err Write) written []

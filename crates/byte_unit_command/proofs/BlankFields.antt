@@ -16,12 +16,14 @@ abbrev onto : List ℕ → List (List ℕ) → List (List ℕ)
 onto front [] = front ∷ []
 onto front (field ∷ fields) = (front ++ field) ∷ fields
 
+-- a byte put before the first field, and then more bytes before it, are these bytes and the byte put before it at once
 onto-onto_first : (front : List ℕ) (byte : ℕ) (fields : List (List ℕ)) → onto front (onto_first byte fields)
     ≡ onto (front ++ byte ∷ []) fields
 onto-onto_first front byte [] = refl
 onto-onto_first front byte (field ∷ fields) =
     ap (λ first. first ∷ fields) (sym (append_assoc front (byte ∷ []) field))
 
+-- no bytes put before the first field leave the fields as they are; so there always is a first field
 onto-nothing : (bytes : List ℕ) → onto [] (blank_fields bytes) ≡ blank_fields bytes
 onto-nothing [] = refl
 onto-nothing (byte ∷ bytes) =
@@ -35,6 +37,7 @@ onto-nothing (byte ∷ bytes) =
 abbrev pub IsUncut : List ℕ → ℕ → Type 0
 IsUncut bytes place = blank_fields bytes ≡ onto (take place bytes) (blank_fields (drop place bytes))
 
+-- no field ends before the first byte
 pub IsUncut-start : (bytes : List ℕ) → IsUncut bytes 0
 IsUncut-start bytes = sym (onto-nothing bytes)
 
@@ -43,11 +46,13 @@ abbrev pub ends_there : List ℕ → ℕ → Bool
 ends_there bytes place = not (is_blank (get_or bytes place 0)) && begins_blank (drop (place + 1) bytes)
 
 module _ (bytes : List ℕ) (place : ℕ) (fits : place < length bytes) (so_far : IsUncut bytes place) where
+  -- the bytes from this place on are the byte there and the bytes after it
   first-byte : drop place bytes ≡ get_or bytes place 0 ∷ drop (place + 1) bytes
   first-byte =
       let same : suc place ≡ place + 1 = omega arith in
       drop-cons bytes place 0 fits ∙ ap (λ next. get_or bytes place 0 ∷ drop next bytes) same
 
+  -- the fields from this place on: one of this byte alone if it ends there, and else the byte goes to the next field
   fields-there : (ends : Bool) → ends_there bytes place ≡ ends → blank_fields (drop place bytes)
       ≡ cond ends ((get_or bytes place 0 ∷ []) ∷ blank_fields (drop (place + 1) bytes))
       (onto_first (get_or bytes place 0) (blank_fields (drop (place + 1) bytes)))
@@ -56,7 +61,7 @@ module _ (bytes : List ℕ) (place : ℕ) (fits : place < length bytes) (so_far 
       let byte = get_or bytes place 0 in
       ap blank_fields first-byte ∙ ap (λ ends. cond ends ((byte ∷ []) ∷ rest) (onto_first byte rest)) is
 
-  -- none ends there
+  -- if no field ends after this byte, none ends before the next place
   pub IsUncut-step : ends_there bytes place ≡ false → IsUncut bytes (place + 1)
   IsUncut-step goes_on =
       let rest = blank_fields (drop (place + 1) bytes) in
@@ -64,7 +69,7 @@ module _ (bytes : List ℕ) (place : ℕ) (fits : place < length bytes) (so_far 
       ∙ onto-onto_first (take place bytes) (get_or bytes place 0) rest
       ∙ ap (λ front. onto front rest) (sym (take_more bytes place 0 fits))
 
-  -- the first one ends there
+  -- if the first field ends after this byte, the other fields are those of the bytes after it
   pub blank_fields-cut : ends_there bytes place ≡ true → blank_fields bytes
       ≡ take (place + 1) bytes ∷ blank_fields (drop (place + 1) bytes)
   blank_fields-cut ends =
@@ -72,14 +77,14 @@ module _ (bytes : List ℕ) (place : ℕ) (fits : place < length bytes) (so_far 
       so_far ∙ ap (onto (take place bytes)) (fields-there true ends)
       ∙ ap (λ first. first ∷ rest) (sym (take_more bytes place 0 fits))
 
--- none ends before the end, so there is one field
+-- if no field ends before the end of the bytes, the bytes are one field
 blank_fields-end : (bytes : List ℕ) (place : ℕ) → length bytes ≤ place → IsUncut bytes place
     → blank_fields bytes ≡ bytes ∷ []
 blank_fields-end bytes place end so_far =
     so_far ∙ ap (λ rest. onto (take place bytes) (blank_fields rest)) (drop_all place bytes end)
     ∙ ap (λ front. (front ++ []) ∷ []) (take_all place bytes end) ∙ ap (λ field. field ∷ []) (append-nil bytes)
 
--- nor before the last byte
+-- if no field ends before the last byte, the bytes are one field: none ends after the last byte either
 pub blank_fields-whole : (bytes : List ℕ) (place : ℕ) → place ≤ length bytes → length bytes ≤ place + 1
     → IsUncut bytes place → blank_fields bytes ≡ bytes ∷ []
 blank_fields-whole bytes place within last so_far =
@@ -93,9 +98,11 @@ blank_fields-whole bytes place within last so_far =
     ]
 
 module _ (options : Options) (at : at_blanks options ≡ true) where
+  -- if the options split at blanks, the fields are those between blanks
   pub fields_of-blanks : (bytes : List ℕ) → fields_of options bytes ≡ blank_fields bytes
   fields_of-blanks bytes = ap (λ blanks. fields_by blanks options.delimiter bytes) at
 
+  -- if the options split at blanks, there are no bytes between two fields
   pub between_of-blanks : between_of options ≡ []
   between_of-blanks = ap (λ blanks. bytes_between blanks options.delimiter) at
 
@@ -104,7 +111,7 @@ pub gap-short : (later : Bool) (field : List ℕ) → length (cond later (take 1
 gap-short true field = omega (arith, length-take 1 field)
 gap-short false field = omega arith
 
--- with it, the columns of a field are no more than its bytes
+-- the columns of a field, with the blank that separates it, are no more than its bytes
 pub gap-columns : (later : Bool) (field : List ℕ) → length (cond later (take 1 field) [])
     + cond later (length field - 1) (cond (begins_blank field) (length field) 0) ≤ length field
 gap-columns true field = omega (arith, length-take 1 field)

@@ -27,6 +27,7 @@ or-false-left : (a b : Bool) → (a || b) ≡ false → a ≡ false
 or-false-left true b is = is
 or-false-left false b is = refl
 
+-- the second part of a disjunction that is false is false
 or-false-right : (a b : Bool) → (a || b) ≡ false → b ≡ false
 or-false-right true b is = cc
 or-false-right false b is = is
@@ -49,7 +50,7 @@ AreLimitMessages-none options word place number field n within =
 abbrev pub messages_in : {A : Type 0} → Converter A → List ℕ
 messages_in converter = messages_of converter.notices
 
--- they begin with those before if they are those of a converter that do
+-- the messages of a converter are kept by one that is equal to a converter that keeps them
 pub kept_messages-same : {A : Type 0} (old now same : Converter A) → now ≡ same
     → IsPrefix (messages_in old) (messages_in same) → IsPrefix (messages_in old) (messages_in now)
 kept_messages-same old now same is = IsPrefix-same (messages_in old) (ap messages_in is)
@@ -145,6 +146,7 @@ pub fields_of-whole : (options : Options) (bytes : List ℕ) → options.delimit
 fields_of-whole options bytes none = ap (λ mark. fields_by (splits_at_blanks mark options.blanks) mark bytes) none
 
 module _ (options : Options) (bytes : List ℕ) (old : State) where
+  -- adding the one field of the record adds the fields of the record
   pub AddsFields-whole : (new : State) → options.delimiter ≡ None → AddsField options 1 bytes old new
       → AddsFields options bytes old new
   AddsFields-whole new no_delimiter adds =
@@ -161,7 +163,7 @@ module _ (options : Options) (bytes : List ℕ) (old : State) where
         new_is = adds.new_is;
       }
 
-  -- its one field is rejected
+  -- if its one field is rejected, the record is
   pub Aborts-whole : (new_messages : List ℕ) → options.delimiter ≡ None
       → IsRejectedField options 1 bytes old new_messages → Aborts options bytes old new_messages
   Aborts-whole new_messages no_delimiter is = record {
@@ -175,8 +177,9 @@ module _ (options : Options) (bytes : List ℕ) (old : State) where
     messages_are = is.messages_are;
   }
 
--- the text of one record and its end byte, and the messages about it
+-- one record is converted: a header record or another one
 module _ (options : Options) (bytes : List ℕ) (old new : State) where
+  -- a record is converted if its text with its end byte was appended, and the messages about it
   AddsRecords-one : (own messages : List ℕ) (found : List Found) → IsRecord options old.header bytes own found
       → AreRecordMessages options old.word (next_place old.place) old.header bytes messages → Passes options found
       → new.header ≡ old.header - 1 → new.word ≡ old.word → new.place ≡ next_place old.place
@@ -207,7 +210,7 @@ module _ (options : Options) (bytes : List ℕ) (old new : State) where
         tally_is = tally_is;
       }
 
-  -- a header record is copied
+  -- a header record is converted if it was copied with its end byte, and one header record less is left
   pub AddsRecords-header : (left : ℕ) → old.header ≡ suc left
       → new ≡ record (at_next old) { header = left; out = old.out ++ bytes ++ options.output_end ∷ [] }
       → AddsRecords options (bytes ∷ []) old new
@@ -219,7 +222,7 @@ module _ (options : Options) (bytes : List ℕ) (old new : State) where
       (ap (λ state. state.out) new_is) (ap (λ state. state.messages) new_is ∙ sym (append-nil old.messages))
       (ap (λ state. state.tally) new_is)
 
-  -- of any other record the fields are replaced
+  -- a record that is no header record is converted if its fields were added, and then its end byte
   pub AddsRecords-fields : (between : State) → old.header ≡ 0 → AddsFields options bytes (at_next old) between
       → new ≡ record between { out = between.out ++ options.output_end ∷ [] } → AddsRecords options (bytes ∷ []) old new
   AddsRecords-fields between none adds new_is =

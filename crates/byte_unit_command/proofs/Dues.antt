@@ -13,9 +13,10 @@ use Rattle.byte_unit_command.proofs.Untold.{next-untold}
 use Rattle.byte_unit_stream.specs.Chunks.{ended_records, nonempty_record}
 use Rattle.byte_unit_stream.proofs.Longest.{IsWithin}
 
--- no message about what was read means none about its last records
+-- if there is no message about what was read
 module _ {options : Options} {word read written messages part : List ℕ} {state : State}
     (served : IsServed options word read written messages part state) where
+  -- there is no message about records that come next, if there is none about them and those that were read
   others-untold : (records all : List (List ℕ)) → ended_records options.record_end [] read ++ records ≡ all
       → AreMessages options word 0 options.header all [] → RecordsHaveNoMessage options records state
   others-untold records all all_is none =
@@ -30,7 +31,7 @@ module _ {options : Options} {word read written messages part : List ℕ} {state
   piece-untold piece = others-untold (ended_records options.record_end part piece) (finished_of options (read ++ piece))
       (finished-piece served piece)
 
-  -- nor about the last record
+  -- there is no message about the last record
   pub last-untold : AreMessages options word 0 options.header (all_of options read) []
       → RecordsHaveNoMessage options (nonempty_record part) state
   last-untold = others-untold (nonempty_record part) (all_of options read) (records-last served)
@@ -39,7 +40,7 @@ module _ {options : Options} {word read written messages part : List ℕ} {state
 module _ {Z : Type 0} (options : Options) {longest chunk : ℕ} {part waiting part_now waiting_now : Vec ℕ Z}
     {read : List ℕ} (within : IsWithin options.record_end longest chunk part waiting read part_now waiting_now)
     (empty : vec_len waiting_now ≡ 0) (suffice : SufficeFor options longest chunk part waiting) where
-  -- for the next piece
+  -- they suffice for the next piece
   pub SufficeFor-piece : (count : ℕ) → count ≤ chunk → SufficeFor options (vec_len part_now) count part_now waiting_now
   SufficeFor-piece count few =
       let room = read_room-more options (vec_len part_now) count longest chunk within.unfinished few in (
@@ -47,7 +48,7 @@ module _ {Z : Type 0} (options : Options) {longest chunk : ℕ} {part waiting pa
         omega (arith, suffice.1, within.waiting_capacity, empty, room),
       )
 
-  -- for the end of the input
+  -- they suffice for what is written at the end of the input
   pub end-fits : 0 < chunk → vec_len waiting_now + end_room options (vec_len part_now) ≤ vec_capacity waiting_now
   end-fits some =
       omega (

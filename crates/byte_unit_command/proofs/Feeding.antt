@@ -19,7 +19,7 @@ pub record Feed : Type 0 where
   pub rest : List ℕ
   pub state : State
 
--- that of the buffers of a run
+-- this state, of the buffers of a run
 abbrev pub feed_of : {A : Type 0} → Buffers A → List ℕ → Feed
 feed_of buffers rest = record { part = buffers.part.items; rest = rest; state = state_of buffers.converter }
 
@@ -27,18 +27,23 @@ feed_of buffers rest = record { part = buffers.part.items; rest = rest; state = 
 abbrev pub state_in : {A : Type 0} → Buffers A → State
 state_in buffers = state_of buffers.converter
 
+-- the bytes of the unfinished record
 abbrev pub part_in : {A : Type 0} → Buffers A → List ℕ
 part_in buffers = buffers.part.items
 
+-- the number of bytes of the unfinished record
 abbrev pub part_len : {A : Type 0} → Buffers A → ℕ
 part_len buffers = vec_len buffers.part
 
+-- the capacity of the buffer for the unfinished record
 abbrev pub part_capacity : {A : Type 0} → Buffers A → ℕ
 part_capacity buffers = vec_capacity buffers.part
 
+-- the number of bytes that wait to be written
 abbrev pub waiting_len : {A : Type 0} → Buffers A → ℕ
 waiting_len buffers = vec_len buffers.converter.waiting
 
+-- the capacity of the buffer for what waits
 abbrev pub waiting_capacity : {A : Type 0} → Buffers A → ℕ
 waiting_capacity buffers = vec_capacity buffers.converter.waiting
 
@@ -73,7 +78,7 @@ pub IsNext-alone : {A : Type 0} (options : Options) (now : Buffers A) (rest : Li
 IsNext-alone options now rest place ends none =
     record { ends = ends; bytes_are = ap (λ part. part ++ take place rest) (sym none) }
 
--- it is followed by the records of the bytes after it
+-- the first record of the rest is followed by the records of the bytes after it
 pub ended_records-next : (options : Options) (now : Feed) (place : ℕ) (bytes : List ℕ) → IsNext options now place bytes
     → ended_records options.record_end now.part now.rest
     ≡ bytes ∷ ended_records options.record_end [] (drop (place + 1) now.rest)

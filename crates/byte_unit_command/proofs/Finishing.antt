@@ -48,7 +48,7 @@ pub record ConvertsLast {A E : Type 0} (tells : E → Option (List ℕ)) (option
 
 module _ {A E : Type 0} (tells : E → Option (List ℕ)) (options : Options) (part : List ℕ) (old : Converter A)
     (old_errors : FusedWriter E) (empty : old.waiting.items ≡ []) where
-  -- there is no last record
+  -- without a last record nothing changes
   pub ConvertsLast-none : (now : Converter A) (errors : FusedWriter E) → part ≡ [] → now ≡ old → errors ≡ old_errors
       → ConvertsLast tells options part old now old_errors errors
   ConvertsLast-none now errors none now_is errors_is =
@@ -65,7 +65,7 @@ module _ {A E : Type 0} (tells : E → Option (List ℕ)) (options : Options) (p
       subst (λ now. ConvertsLast tells options part old now old_errors errors) (sym now_is)
       (subst (λ errors. ConvertsLast tells options part old old old_errors errors) (sym errors_is) same)
 
-  -- there is a last record
+  -- a last record was added, and its messages were told
   pub ConvertsLast-one : messages_of old.notices ≡ [] → (after now : Converter A) (notices : Notices A)
       (then_errors errors : FusedWriter E) → false ≡ (length part == 0)
       → AddsRecords options (part ∷ []) (state_of old) (state_of after)
@@ -87,13 +87,14 @@ module _ {A E : Type 0} (tells : E → Option (List ℕ)) (options : Options) (p
       (sym errors_is) same)
 
 module _ (options : Options) (total : ℕ) (before : List ℕ) where
-  -- out of memory, nothing was written
+  -- if the total could not be appended, nothing is written, which is right for `Memory`
   pub IsTotalWritten-memory : (result : Result ⊤ RunError) → IsErrAnd result (λ error. error ≡ Memory)
       → IsTotalWritten options total before result []
   IsTotalWritten-memory result is =
       Err-passed (λ result. IsTotalWritten options total before result []) result Memory is refl
 
-  -- a call that writes the line of the total too
+  -- after the call that writes what waits and the line of the total, what is written is right for the result of that
+  -- call
   pub IsTotalWritten-line : {held holds : Option (List ℕ)} (line bytes : List ℕ) → IsTotalFor options total line
       → bytes ≡ before ++ line → (result : Result ⊤ RunError) → IsWrittenBy held holds bytes Write result
       → (written : List ℕ) × Appends held holds written × IsTotalWritten options total before result written
@@ -115,7 +116,7 @@ IsFinished-passed options part old written messages =
 
 module _ {options : Options} (part : List ℕ) {old new : State}
     (adds : AddsRecords options (nonempty_record part) old new) where
-  -- the total is asked for
+  -- the total is asked for, and was written after what waits
   pub IsFinished-total_ok : options.total ≡ true → (written : List ℕ)
       → IsTotalWritten options new.tally.total new.out (Ok tt) written
       → IsFinished options part old (Ok new.tally) written new.messages
@@ -123,6 +124,7 @@ module _ {options : Options} (part : List ℕ) {old new : State}
       let For : Type 0 = IsTotalFor options new.tally.total line in
       (new, line, adds, refl, subst (λ total. MatchBool total For (line ≡ [])) (sym asked) is_for, is, refl)
 
+  -- the total is asked for, and the call that writes it has failed: out of memory, 10^30 or more, or a failed write
   pub IsFinished-total_error : options.total ≡ true → (error : RunError) (written : List ℕ)
       → IsTotalWritten options new.tally.total new.out (Err error) written
       → IsFinished options part old (Err error) written new.messages
@@ -138,7 +140,7 @@ module _ {options : Options} (part : List ℕ) {old new : State}
   IsFinished-total_error asked Read written at = absurd at
   IsFinished-total_error asked Rejected written at = absurd at
 
-  -- the total is not asked for
+  -- no total is asked for, and what waits was written
   pub IsFinished-plain_ok : options.total ≡ false → IsFinished options part old (Ok new.tally) new.out new.messages
   IsFinished-plain_ok not_asked =
       let For : Type 0 = IsTotalFor options new.tally.total [] in
@@ -147,6 +149,7 @@ module _ {options : Options} (part : List ℕ) {old new : State}
       let line = subst (λ total. MatchBool total For Nothing) (sym not_asked) nothing in
       (new, [], adds, refl, line, sym (append-nil new.out), refl)
 
+  -- no total is asked for, and the write of what waits has failed
   pub IsFinished-plain_error : (error : RunError) (written : List ℕ) → error ≡ Write → IsPrefix written new.out
       → IsFinished options part old (Err error) written new.messages
   IsFinished-plain_error error written is begins =
@@ -154,7 +157,7 @@ module _ {options : Options} (part : List ℕ) {old new : State}
       subst (λ error. IsFinished options part old (Err error) written new.messages) (sym is)
       (new, [], adds, inl refl, whole, refl)
 
--- the last record was not converted
+-- the last record could not be converted: nothing is written
 pub IsFinished-early : (options : Options) (part : List ℕ) (old : State) (messages : List ℕ) (error : RunError)
     → (error ≡ Memory) ⊎ (error ≡ Rejected) → (error ≡ Memory → messages ≡ [])
     → (error ≡ Rejected → (old.header ≡ 0) × Aborts options part (at_next old) messages

@@ -9,7 +9,7 @@ use Rattle.byte_unit_command.specs.FieldList.{IsFirst, IsLast, IsRange, AreRange
 use Rattle.byte_unit_command.specs.Positive.{IsPositive}
 use Rattle.byte_unit_command.specs.declared.options.FieldRange.{FieldRange}
 
--- a hyphen is not a digit
+-- a hyphen (45) is not a digit
 hyphen_is_no_digit : (c : ℕ) → digit_value c < 10 → c ≢ 45
 hyphen_is_no_digit c digit is =
     let wrong : 36 < 10 = subst (λ c. digit_value c < 10) is digit in
@@ -32,7 +32,8 @@ firsts_lack_hyphens : (before : List ℕ) (first : ℕ) → IsFirst before first
 firsts_lack_hyphens [] first is i bound = absurd (omega arith)
 firsts_lack_hyphens (c ∷ cs) first is i bound = digits_lack_hyphens (c ∷ cs) is.is_numeral.1 i bound
 
--- a range, cut at its first hyphen
+-- a range, cut at its first hyphen (45): without one it is a number, and else a first and a last field; `is_numeral.1`
+-- says that a text has digits alone
 pub cut_range : (item : List ℕ) (range : FieldRange) (r : Option (Bor (List ℕ) × Bor (List ℕ)))
     → IsSplitOnceResult 45 item r → IsRange item range
     → MatchOption r (IsPositive item range.first × (range.last ≡ Some range.first))
@@ -63,7 +64,7 @@ pub without_first : (item : List ℕ) (r : Option (Bor (List ℕ) × Bor (List �
 without_first item r parts split is none range is_range =
     none range.first (cut_range item range (Some parts) (subst (IsSplitOnceResult 45 item) is split) is_range).0
 
--- the same after it
+-- no last field after the first hyphen: the item is no range
 pub without_last : (item : List ℕ) (r : Option (Bor (List ℕ) × Bor (List ℕ))) (parts : Bor (List ℕ) × Bor (List ℕ))
     (first : ℕ) → IsSplitOnceResult 45 item r → r ≡ Some parts → IsFirst parts.0.now first
     → ((last : Option ℕ) → ¬ IsLast parts.1.now first last) → (range : FieldRange) → ¬ IsRange item range
@@ -72,13 +73,13 @@ without_last item r parts first split is is_first none range is_range =
     let same = one_first parts.0.now range.first first cut.0 is_first in
     none range.last (subst (λ first. IsLast parts.1.now first range.last) same cut.1)
 
--- the same for an item without a hyphen
+-- an item without a hyphen that is no number is no range
 pub without_number : (item : List ℕ) (r : Option (Bor (List ℕ) × Bor (List ℕ))) → IsSplitOnceResult 45 item r → r ≡ None
     → ((number : ℕ) → ¬ IsPositive item number) → (range : FieldRange) → ¬ IsRange item range
 without_number item r split is none range is_range =
     none range.first (cut_range item range None (subst (IsSplitOnceResult 45 item) is split) is_range).0
 
--- one more text, which is one more range
+-- if one more text is one more range, the texts with it are the ranges with it
 pub AreRanges-append : (texts : List (List ℕ)) (ranges : List FieldRange) (text : List ℕ) (range : FieldRange)
     → AreRanges texts ranges → IsRange text range → AreRanges (texts ++ text ∷ []) (ranges ++ range ∷ [])
 AreRanges-append [] [] text range are is = (is, tt)

@@ -13,7 +13,7 @@ abbrev pub joined : List (List ℕ) → List ℕ
 joined [] = []
 joined (text ∷ texts) = text ++ 0 ∷ joined texts
 
--- one more text
+-- joining one more text appends it and a zero byte
 pub joined-append : (texts : List (List ℕ)) (text : List ℕ) → joined (texts ++ text ∷ []) ≡ (joined texts ++ text)
     ++ 0 ∷ []
 joined-append [] text = refl
@@ -29,6 +29,7 @@ first_record text split (own, others, split_is) =
     subst (λ split. but_empty_last (text ∷ split) ≡ text ∷ but_empty_last split) (sym split_is)
     (first_of text own others)
   where
+    -- the first of two parts or more is kept, by definition
     first_of : (text own : List ℕ) (others : List (List ℕ)) → but_empty_last (text ∷ own ∷ others)
         ≡ text ∷ but_empty_last (own ∷ others)
     first_of text own others = refl

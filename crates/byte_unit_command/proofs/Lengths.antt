@@ -69,6 +69,7 @@ module _ (num : ℕ) (unit : UnitName) (small : num < 10 ^ 31) where
       let whole = digits_few (q / power) 32 (omega arith) (omega arith) (omega (arith, below, small)) in
       omega (arith, ap length number_is, text_of-length e, whole, length_last_digits places q)
 
+  -- a number in a unit has at most 32 digits, the point, and its decimal places, rounded or not
   number-length : (precision : Option ℕ) (number : List ℕ)
       → IsNumeralBy (rule_of precision false (shape_of unit)) num (bits (shape_of unit)) number → length number
       ≤ 33 + unit_places precision
@@ -81,11 +82,12 @@ module _ (num : ℕ) (unit : UnitName) (small : num < 10 ^ 31) where
         | false ↦ λ is. omega (arith, round-length places number is)
       ] is
 
+-- a size in bits is below 10^31: below 10^30 bytes, times 8
 bits_few : (kind : Kind) (size : ℕ) → size < size_limit → size * bits_in kind < 10 ^ 31
 bits_few Byte size below = omega (arith, below)
 bits_few Bit size below = omega (arith, below)
 
--- the text of a size in a unit
+-- the text of a size in a unit is no longer than `unit_text_max`
 adjusted-length : (kind : Kind) (size : ℕ) (unit : UnitName) (precision : Option ℕ) (text : List ℕ) → size < size_limit
     → IsAdjustedForm kind size unit (adjusted_spec precision) text → length text ≤ unit_text_max precision
 adjusted-length kind size unit precision text below form =
@@ -100,7 +102,7 @@ adjusted-length kind size unit precision text below form =
       number,
     )
 
--- and of what is written
+-- what is written for a size in a unit is no longer than `unit_text_max`
 pub adjusted-narrow : {kind : Kind} {size : ℕ} (unit : UnitName) (precision : Option ℕ) {old new : List ℕ} {needed : ℕ}
     → size < size_limit → WritesForm (IsAdjustedForm kind size unit (adjusted_spec precision)) old new needed
     → needed ≤ unit_text_max precision

@@ -26,18 +26,20 @@ begins_with writes room = record {
 
 module _ (kind : Kind) (size : ℕ) (unit : UnitName) (precision : Option ℕ) (old new : List ℕ) (needed : ℕ)
     (writes : WritesForm (IsAdjustedForm kind size unit (adjusted_spec precision)) old new needed) where
-  -- the text is its number, a space and the unit
+  -- the text is its number, a space (32) and the unit
   form_is : writes.form ≡ writes.is_form.number ++ 32 ∷ unit_name unit
   form_is =
       let number = writes.is_form.number in
       writes.is_form.text_is ∙ (ap (λ (number : List ℕ). (number ++ 32 ∷ []) ++ unit_name unit) (append-nil number)
       ∙ append_assoc number (32 ∷ []) (unit_name unit))
 
+  -- the length of the text is that of its number, the space and the name of the unit
   pub needed_is : needed ≡ length writes.is_form.number + 1 + length (unit_name unit)
   needed_is =
       let all = length-append {A = ℕ} writes.is_form.number (32 ∷ unit_name unit) in
       omega (arith, writes.needed_is, ap (λ (text : List ℕ). length text) form_is, all)
 
+  -- what was written begins with the number, if the buffer can hold the whole text
   pub begins_with_number : needed ≤ length old
       → BeginsWithForm (IsNumeralBy (rule_of precision false (shape_of unit)) (size * bits_in kind)
       (bits (shape_of unit))) new (needed - 1 - length (unit_name unit))

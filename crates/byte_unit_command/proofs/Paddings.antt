@@ -4,7 +4,7 @@ use Rattle.std.specs.Str.Parse.{AllDigits}
 use Rattle.byte_unit_command.specs.Meaning.{IsPadding, IsWidth}
 use Rattle.byte_unit_command.proofs.Items.{hyphens_are_no_digits}
 
--- after a hyphen there is no width
+-- a hyphen (45) with no width after it is no value of `--padding`
 pub without_digits : (text digits : List ℕ) → text ≡ 45 ∷ digits → ((width : ℕ) → ¬ IsWidth digits width)
     → (width : ℕ) (align_left : Bool) → ¬ IsPadding (Some text) width align_left
 without_digits text digits text_is none width align_left (inl is) =
@@ -13,7 +13,7 @@ without_digits text digits text_is none width align_left (inr (others, others_ar
     let same : others ≡ digits = ap (drop 1) (sym others_are ∙ text_is) in
     none width (subst (λ digits. IsWidth digits width) same is)
 
--- there is no hyphen, and no width
+-- a text without a hyphen that is no width is no value of `--padding`
 pub without_hyphen : (text : List ℕ) → ((rest : List ℕ) → text ≢ 45 ∷ rest) → ((width : ℕ) → ¬ IsWidth text width)
     → (width : ℕ) (align_left : Bool) → ¬ IsPadding (Some text) width align_left
 without_hyphen text lacks none width align_left (inl is) = none width is.0

@@ -15,6 +15,7 @@ none-before range (next ∷ others) number order early (inl is) = omega (arith, 
 none-before range (next ∷ others) number order early (inr more) =
     none-before next others number order.1 (omega (arith, early, order.0)) more
 
+-- of ranges in order, none chooses a field before the first of them, which the code gets by its index
 pub none-before-first : (ranges : List FieldRange) (default : FieldRange) (number : ℕ) → IsInOrder ranges
     → number < (slice_index_or ranges 0 default).first → ¬ IsChosen ranges number
 none-before-first [] default number order early = λ none. none

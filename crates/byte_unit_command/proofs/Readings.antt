@@ -37,6 +37,7 @@ pub found-of : (binary : Bool) (kind : Kind) (ignore_case : Bool) (field : List 
 found-of true kind ignore_case field size reading = reading.found
 found-of false kind ignore_case field size reading = reading.found
 
+-- an error that is returned is the one that the string is rejected with
 pub fault-of : (binary : Bool) (kind : Kind) (ignore_case : Bool) (field : List ℕ) (error : ParseError)
     → IsReadingBy binary kind ignore_case field (Err error)
     → IsRejectedBy binary kind ignore_case field (size_fault error)

@@ -12,14 +12,14 @@ use Rattle.byte_unit_command.specs.RunState.{FieldHasNoMessage, FieldsHaveNoMess
 use Rattle.byte_unit_command.specs.declared.options.Options.{Options}
 use Rattle.byte_unit_command.proofs.Untold.{first-untold}
 
--- the texts of some fields and of others are those of both
+-- the room of some fields and that of others are at most the room of as many fields as both
 times-le : (room some others all : ℕ) → some + others ≤ all → room * some + room * others ≤ room * all
 times-le room some others all few =
     let both : room * (some + others) ≡ room * some + room * others = mul-add room some others in
     let most : room * (some + others) ≤ room * all = mul-le-mul_left room few in
     subst (λ bytes. bytes ≤ room * all) both most
 
--- the room of one field, without a delimiter
+-- without a delimiter, the room of the fields is that of one field
 pub fields_room-whole : (options : Options) (bytes : ℕ) → options.delimiter ≡ None → fields_room options bytes
     ≡ text_room options + bytes
 fields_room-whole options bytes none =
@@ -30,12 +30,13 @@ fields_room-whole options bytes none =
 abbrev pub split_room : ℕ → ℕ → ℕ
 split_room room bytes = room * (bytes + 1) + bytes
 
+-- the room of the fields of a record that is split at a delimiter
 pub fields_room-split : (options : Options) (bytes delimiter : ℕ) → options.delimiter ≡ Some delimiter
     → fields_room options bytes ≡ split_room (text_room options) bytes
 fields_room-split options bytes delimiter is =
     let room = text_room options in ap (λ mark. room * fields_max mark bytes + bytes) is
 
--- a field with its delimiter takes no more of it than the bytes after them leave
+-- a field with its delimiter takes no more of the room than the bytes after them leave
 split_room-step : (room rest place : ℕ) → place < rest
     → room + place + 1 + split_room room (rest - (place + 1)) ≤ split_room room rest
 split_room-step room rest place fits =
@@ -45,7 +46,7 @@ split_room-step room rest place fits =
     times-le room 1 (left + 1) (rest + 1) (omega (arith, fits)) in
     omega (arith, one, texts, fits)
 
--- a field that is cut off takes no more of it than the bytes after it leave
+-- a field that is cut off takes no more of the room than the bytes after it leave
 pub split_room-cut : (room rest count : ℕ) → 0 < count → count ≤ rest
     → room + count + split_room room (rest - count) ≤ split_room room rest
 split_room-cut room rest count some fits =
@@ -61,12 +62,14 @@ abbrev pub feed_room : Options → ℕ → ℕ → ℕ
 feed_room options part rest = text_room options * read_fields_max options.delimiter part rest + part + rest
 
 module _ (options : Options) where
+  -- a record that ends at this place, and the records of the bytes after it, have no more fields than may end in the
+  -- rest
   fields-step : (mark : Option ℕ) (part rest place : ℕ) → place < rest
       → fields_max mark (part + place) + read_fields_max mark 0 (rest - (place + 1)) ≤ read_fields_max mark part rest
   fields-step None part rest place fits = omega (arith, fits)
   fields-step (Some delimiter) part rest place fits = omega (arith, fits)
 
-  -- a record with its end byte takes no more of it than the bytes after it leave
+  -- a record with its end byte takes no more of the room than the bytes after it leave
   pub feed_room-step : (part rest place : ℕ) → place < rest
       → record_room options (part + place) + feed_room options 0 (rest - (place + 1)) ≤ feed_room options part rest
   feed_room-step part rest place fits =
@@ -76,12 +79,13 @@ module _ (options : Options) where
       (read_fields_max mark part rest) (fields-step mark part rest place fits) in
       omega (arith, texts, fits)
 
+  -- with more bytes before the read, or in it, no fewer fields may end in it
   fields-more : (mark : Option ℕ) (part rest longest chunk : ℕ) → part ≤ longest → rest ≤ chunk
       → read_fields_max mark part rest ≤ read_fields_max mark longest chunk
   fields-more None part rest longest chunk short few = few
   fields-more (Some delimiter) part rest longest chunk short few = omega (arith, short, few)
 
-  -- a shorter record and a shorter read take no more
+  -- the records that end in a read take no more than the room of a read, which counts the end of the input too
   pub feed_room-read : (part rest : ℕ) → feed_room options part rest ≤ read_room options part rest
   feed_room-read part rest =
       let fields = read_fields_max options.delimiter part rest in
@@ -89,6 +93,7 @@ module _ (options : Options) where
       mul-le-mul_left (text_room options) (omega arith) in
       omega (arith, texts)
 
+  -- the room of a read grows with the bytes before it and in it
   pub read_room-more : (part rest longest chunk : ℕ) → part ≤ longest → rest ≤ chunk → read_room options part rest
       ≤ read_room options longest chunk
   read_room-more part rest longest chunk short few =
@@ -99,12 +104,13 @@ module _ (options : Options) where
       mul-le-mul_left (text_room options) (omega (arith, fields)) in
       omega (arith, texts, short, few)
 
+  -- the last record has no more fields than may end in a read of at least one byte
   fields-end : (mark : Option ℕ) (part longest chunk : ℕ) → part ≤ longest → 0 < chunk
       → fields_max mark part ≤ read_fields_max mark longest chunk
   fields-end None part longest chunk short some = some
   fields-end (Some delimiter) part longest chunk short some = omega (arith, short, some)
 
-  -- nor does the end of the input
+  -- what is written at the end of the input takes no more than the room of a read
   pub end_room-read : (part longest chunk : ℕ) → part ≤ longest → 0 < chunk → end_room options part
       ≤ read_room options longest chunk
   end_room-read part longest chunk short some =
@@ -143,7 +149,7 @@ pub IsSplitWithin-fits : {Z : Type 0} {options : Options} {old : State} {bytes :
 IsSplitWithin-fits {options = options} {bytes = bytes} within delimiter is room =
     omega (arith, within.len, within.capacity, room, fields_room-split options (length bytes) delimiter is)
 
--- one more field and the bytes after it keep this
+-- the bound on the length of the text holds after one more field and the bytes between it and the next one
 pub split_len-step : (room old all text rest place gap added ended left : ℕ) → 0 < place + gap → place + gap ≤ rest
     → text + split_room room rest ≤ old + split_room room all → added ≤ text + (room + place) → ended ≡ added + gap
     → left ≡ rest - (place + gap) → ended + split_room room left ≤ old + split_room room all
@@ -161,7 +167,7 @@ pub record IsFedWithin {Z : Type 0} (options : Options) (part waiting : Vec ℕ 
   pub part_capacity : vec_capacity part ≤ vec_capacity part_now
   pub waiting_capacity : vec_capacity waiting ≤ vec_capacity waiting_now
 
--- one more record was converted
+-- the bounds on the buffers hold after one more record
 pub IsFedWithin-step : {Z : Type 0} {options : Options} {part waiting : Vec ℕ Z} {bytes : List ℕ}
     {part_now waiting_now : Vec ℕ Z} {rest : List ℕ} → IsFedWithin options part waiting bytes part_now waiting_now rest
     → (place count : ℕ) → place < length rest → count ≡ vec_len part_now + place

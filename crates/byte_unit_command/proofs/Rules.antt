@@ -21,15 +21,16 @@ longer_is_not_empty : {X : Type 0} (xs all : List X) (x : X) → all ≡ xs ++ x
 longer_is_not_empty xs all x all_is =
     ne_eqb (length all) 0 (λ none. omega (arith, none, ap length all_is, length-append xs (x ∷ [])))
 
--- a test of which a part fails
+-- a test of two parts fails if the second one does
 fails : (a b : Bool) → b ≡ false → (a && b) ≡ false
 fails true b is = is
 fails false b is = refl
 
+-- a test of three parts fails if the second one does
 fails_second : (a b c : Bool) → b ≡ false → (a && (b && c)) ≡ false
 fails_second a b c is = fails a (b && c) (ap (λ b. b && c) is)
 
--- an argument with a letter
+-- an argument that is given a letter has the same rule with this letter
 pub with_letter : (old new : Arg) (rule : Rule) (letter : ℕ) → IsArg rule old → new ≡ record old { short = Some letter }
     → IsArg (record rule { short = Some letter }) new
 with_letter old new rule letter is new_is = record {
@@ -37,7 +38,7 @@ with_letter old new rule letter is new_is = record {
   not_global = ap (λ (arg : Arg). arg.global) new_is ∙ is.not_global;
 }
 
--- an argument whose value may begin with a hyphen
+-- an argument whose value may begin with a hyphen has the same rule, but is not simple
 pub with_hyphen : (old new : Arg) (rule : Rule) → IsArg rule old → new ≡ record old { allow_hyphen_values = true }
     → IsArg (record rule { is_simple = false }) new
 with_hyphen old new rule is new_is = record {
@@ -52,12 +53,13 @@ with_hyphen old new rule is new_is = record {
   not_global = ap (λ (arg : Arg). arg.global) new_is ∙ is.not_global;
 }
 
+-- an option that has this range is `Some` of it
 is_some_range : (found : Option ValueRange) (range : ValueRange) → IsSomeAnd found (λ other. other ≡ range)
     → found ≡ Some range
 is_some_range None range is = absurd is
 is_some_range (Some other) range is = ap (λ (range : ValueRange). Some range) is
 
--- an argument whose number of values is in this range
+-- an argument that is given a range for its number of values has the same rule with this range
 pub with_range : (old new : Arg) (rule : Rule) (range : ValueRange) → IsArg rule old
     → (new ≡ record old { num_vals = new.num_vals }) × IsSomeAnd new.num_vals (λ other. other ≡ range)
     → IsArg (record rule { range = Some range }) new
@@ -67,7 +69,7 @@ with_range old new rule range is (new_is, range_is) = record {
   not_global = ap (λ (arg : Arg). arg.global) new_is ∙ is.not_global;
 }
 
--- an argument whose values are parsed
+-- an argument that is given a parser for its values has the same rule with this parser
 pub with_parser : (old new : Arg) (rule : Rule) (parser : ValueParser) → IsArg rule old
     → new ≡ record old { value_parser = new.value_parser } → new.value_parser ≡ Some parser
     → IsArg (record rule { parser = Some parser }) new
@@ -77,7 +79,7 @@ with_parser old new rule parser is new_is parser_is = record {
   not_global = ap (λ (arg : Arg). arg.global) new_is ∙ is.not_global;
 }
 
--- an argument with a help text
+-- a help text does not change the rule of an argument
 pub with_help : (old new : Arg) (rule : Rule) (text : Bor (List ℕ)) → IsArg rule old
     → new ≡ record old { help = Some text } → IsArg rule new
 with_help old new rule text is new_is = record {
@@ -85,7 +87,7 @@ with_help old new rule text is new_is = record {
   not_global = ap (λ (arg : Arg). arg.global) new_is ∙ is.not_global;
 }
 
--- an argument whose value needs `=`
+-- an argument whose value needs `=` has the same rule, but is not simple
 pub with_equals : (old new : Arg) (rule : Rule) → IsArg rule old → new ≡ record old { require_equals = true }
     → IsArg (record rule { is_simple = false }) new
 with_equals old new rule is new_is = record {
@@ -101,7 +103,7 @@ with_equals old new rule is new_is = record {
   not_global = ap (λ (arg : Arg). arg.global) new_is ∙ is.not_global;
 }
 
--- an argument whose value is this text if it is missing
+-- an argument that is given a text for a missing value has the same rule with this text
 pub with_missing : (old new : Arg) (rule : Rule) (text : Bor (List ℕ)) → IsArg rule old
     → new ≡ record old { default_missing_vals = One text } → IsArg (record rule { missing = text.now ∷ [] }) new
 with_missing old new rule text is new_is = record {
@@ -109,7 +111,7 @@ with_missing old new rule text is new_is = record {
   not_global = ap (λ (arg : Arg). arg.global) new_is ∙ is.not_global;
 }
 
--- an argument that excludes another
+-- an argument that excludes another has the same rule, but is not free
 pub excluding : (old new : Arg) (id : Bor (List ℕ)) (rule : Rule) → IsArg rule old → AddsConflicts old new (id ∷ [])
     → IsArg (record rule { is_free = false }) new
 excluding old new id rule is (new_is, added) = record {
@@ -122,7 +124,7 @@ excluding old new id rule is (new_is, added) = record {
   not_global = ap (λ (arg : Arg). arg.global) new_is ∙ is.not_global;
 }
 
--- a command with one more argument
+-- a command with one more argument has the rules of the command and that of the argument
 pub with_one : (old new : Command) (arg : Arg) (rule : Rule) (app : App) → app_of old ≡ app → IsArg rule arg
     → AddsArg old arg new → app_of new ≡ with_rule app rule
 with_one old new arg rule app old_is is adds = adds.shape is.not_global ∙ ap₂ with_rule old_is is.rule_is

@@ -55,13 +55,13 @@ IsServed-start options word part state none header_is word_is place_is tally_is 
   begun = none;
 }
 
--- no bytes after others
+-- appending no bytes changes nothing
 append-nothing : (front more : List ℕ) → more ≡ [] → front ≡ front ++ more
 append-nothing front more none = sym (append-nil front) ∙ ap (λ more. front ++ more) (sym none)
 
 module _ {options : Options} {word read written messages part : List ℕ} {state : State}
     (served : IsServed options word read written messages part state) where
-  -- records appended after those of what was read, to what was written and told
+  -- if records are converted after those of what was read, both lists are
   AddsRecords-then : {records : List (List ℕ)} {new : State} {out told : List ℕ}
       → AddsRecords options records (idle state) new → new.out ≡ out → new.messages ≡ told
       → AddsRecords options (ended_records options.record_end [] read ++ records) (start_of options word)
@@ -81,7 +81,7 @@ module _ {options : Options} {word read written messages part : List ℕ} {state
       (with_output new (written ++ out) (messages ++ told)) in
       subst (λ out. To out told) out_is (subst (To new.out) told_is whole)
 
-  -- the finished records
+  -- the finished records of what was read are converted
   AddsRecords-finished : AddsRecords options (finished_of options read) (start_of options word)
       (with_output state written messages)
   AddsRecords-finished =
@@ -95,11 +95,12 @@ module _ {options : Options} {word read written messages part : List ℕ} {state
       ap (λ part. ended_records options.record_end [] read ++ ended_records options.record_end part piece) served.begun
       ∙ sym (ended_records-append options.record_end [] read piece)
 
+  -- the records that end in what was read, then those that end in the next piece, are the finished records of both
   pub finished-piece : (piece : List ℕ) → ended_records options.record_end [] read
       ++ ended_records options.record_end part piece ≡ finished_of options (read ++ piece)
   finished-piece piece = ended-piece piece ∙ sym (finished_records-ended_records options.record_end (read ++ piece))
 
-  -- the first of them come first in what was read with the piece
+  -- the records that were read, then the first that end in the piece, are the first finished records of both
   prefix-piece : (piece : List ℕ) (first : List (List ℕ)) → IsPrefix first (ended_records options.record_end part piece)
       → IsPrefix (ended_records options.record_end [] read ++ first) (finished_of options (read ++ piece))
   prefix-piece piece first is_prefix =
@@ -107,7 +108,7 @@ module _ {options : Options} {word read written messages part : List ℕ} {state
       (IsPrefix-after (ended_records options.record_end [] read) first (ended_records options.record_end part piece)
       is_prefix)
 
-  -- the record that the next piece leaves unfinished
+  -- the unfinished record after the piece is that of all that was read
   pub begun-piece : (piece next_part : List ℕ) → next_part ≡ begun_record options.record_end part piece
       → next_part ≡ begun_record options.record_end [] (read ++ piece)
   begun-piece piece next_part part_is =
@@ -132,7 +133,7 @@ module _ {options : Options} {word read written messages part : List ℕ} {state
       let adds = AddsRecords-finished in
       ((adds.found, converted-from_start options word adds), messages-from_start options word adds)
 
-  -- and if it is out of memory
+  -- between two reads, what is written and told is also right for a run that is out of memory
   pub IsOutcome-memory : (complete : Type 0) → IsOutcome options word read complete (Err Memory) written messages
   IsOutcome-memory complete =
       let adds = AddsRecords-finished in
@@ -146,8 +147,9 @@ module _ {options : Options} {word read written messages part : List ℕ} {state
         inl (finished, IsPrefix-self finished, messages-from_start options word adds),
       )
 
-  -- an error in the records of the next piece
+  -- the next piece could not be converted or written
   module _ (piece more more_messages : List ℕ) (next : State) (complete : Type 0) where
+    -- the messages before the piece, then those about its first records, are those about the first finished records
     first-messages : (first : List (List ℕ)) (new : State)
         → IsPrefix first (ended_records options.record_end part piece) → AddsRecords options first (idle state) new
         → new.messages ≡ more_messages
@@ -158,6 +160,7 @@ module _ {options : Options} {word read written messages part : List ℕ} {state
       messages-from_start options word (AddsRecords-then {new = new} {out = new.out} adds refl told_is),
     )
 
+    -- what an error in the next piece leaves written and told is right for a run that ends with this error
     pub IsOutcome-piece : (error : RunError)
         → IsAnswered options (ended_records options.record_end part piece) (idle state) next (Err error) more
         more_messages
@@ -198,13 +201,14 @@ module _ {options : Options} {word read written messages part : List ℕ} {state
     IsOutcome-piece Read at = absurd at
     IsOutcome-piece Total at = absurd at
 
-  -- the end of the input
+  -- the records that end in what was read, then the unfinished one if it is not empty, are all records of the input
   pub records-last : ended_records options.record_end [] read ++ nonempty_record part ≡ all_of options read
   records-last =
       ap (λ part. ended_records options.record_end [] read ++ nonempty_record part) served.begun
       ∙ sym (records_of-ended_records options.record_end read)
 
   module _ (more more_messages : List ℕ) (complete : Type 0) (at_end : complete) where
+    -- if the last record is converted, all records of the input are
     AddsRecords-all : (new : State) (out : List ℕ) → AddsRecords options (nonempty_record part) (idle state) new
         → new.out ≡ out → more_messages ≡ new.messages
         → AddsRecords options (all_of options read) (start_of options word)
@@ -214,6 +218,7 @@ module _ {options : Options} {word read written messages part : List ℕ} {state
         (with_output new (written ++ out) (messages ++ more_messages))) records-last
         (AddsRecords-then {new = new} adds out_is (sym messages_are))
 
+    -- the messages before the last record, then those about it, are those about all records
     all-messages : (new : State) → AddsRecords options (nonempty_record part) (idle state) new
         → more_messages ≡ new.messages → AreFirstMessages options word (all_of options read) (messages ++ more_messages)
     all-messages new adds messages_are = (
@@ -222,6 +227,7 @@ module _ {options : Options} {word read written messages part : List ℕ} {state
       messages-from_start options word (AddsRecords-all new new.out adds refl messages_are),
     )
 
+    -- what is written and told at the end of the input is right for a run that ends with that result
     pub IsOutcome-finished : (result : Result Tally RunError)
         → IsFinished options part (idle state) result more more_messages
         → IsOutcome options word read complete result (written ++ more) (messages ++ more_messages)

@@ -29,7 +29,7 @@ pub record HasServed {R W E A : Type 0} (remaining : R → Option (List ℕ)) (c
   pub none_waits : buffers.converter.waiting.items ≡ []
   pub none_untold : messages_of buffers.converter.notices ≡ []
 
--- before the first read
+-- the invariant holds before the first read, where all is empty
 abbrev pub HasServed-start : {R W E A : Type 0} (remaining : R → Option (List ℕ)) (contents : W → Option (List ℕ))
     (tells : E → Option (List ℕ)) (options : Options) (streams : Streams R W E) (buffers : Buffers A)
     → buffers.part.items ≡ [] → buffers.converter.waiting.items ≡ [] → messages_of buffers.converter.notices ≡ []
@@ -74,7 +74,7 @@ module _ {R W E A : Type 0} {remaining : R → Option (List ℕ)} {contents : W 
   module _ {new : Streams R W E} {Holds : List ℕ → List ℕ → Type 0} (read : List ℕ)
       (has_read : HasRead remaining old.reader new.reader read)
       (more : WritesAndTells contents tells between.writer new.writer between.errors new.errors Holds) where
-    -- and more was written and told
+    -- the course of the run, with the bytes that the next step has written and told after it
     abbrev Course-more : Course remaining contents tells old new
     Course-more = record {
       read = read;
@@ -91,13 +91,14 @@ module _ {R W E A : Type 0} {remaining : R → Option (List ℕ)} {contents : W 
           more.messages so_far.course.told more.told so_far.course.is_told more.are_told;
     }
 
-  -- the records that end in the next piece were converted
+  -- the records that end in the next piece were converted, and what was appended was written and told
   module _ (new : Streams R W E) (next : Buffers A) (piece : List ℕ)
       (came : HasRead remaining between.reader new.reader piece)
       (answered : WritesAndTells contents tells between.writer new.writer between.errors new.errors
       (IsAnswered options (ended_records options.record_end buffers.part.items piece)
       (idle (state_of buffers.converter)) (state_of next.converter) (Ok tt)))
       (part_is : next.part.items ≡ begun_record options.record_end buffers.part.items piece) where
+    -- the invariant holds after the piece: its records are converted, written and told
     abbrev pub HasServed-piece : next.converter.waiting.items ≡ [] → messages_of next.converter.notices ≡ []
         → HasServed remaining contents tells options old new next
     HasServed-piece none_waits none_untold = record {
@@ -108,7 +109,7 @@ module _ {R W E A : Type 0} {remaining : R → Option (List ℕ)} {contents : W 
       none_untold = none_untold;
     }
 
-    -- and the run is out of memory, since the next record is too long
+    -- if the unfinished record is too long, what is written and told is right for `Memory`
     pub IsRunOf-long : IsRunOf remaining contents tells options old new (Err Memory)
     IsRunOf-long =
         let served = IsServed-piece so_far.served piece answered.written answered.messages next.part.items
@@ -116,7 +117,7 @@ module _ {R W E A : Type 0} {remaining : R → Option (List ℕ)} {contents : W 
         let at = IsOutcome-memory served (HasReadAll remaining new.reader) in
         (Course-more (so_far.course.read ++ piece) (HasRead-more new.reader piece came) answered, at.0, at.1)
 
-  -- the call that converts them stopped
+  -- if the call that converts the next piece has failed, what is written and told is right for its error
   pub IsRunOf-piece : (new : Streams R W E) (next : Buffers A) (piece : List ℕ)
       → HasRead remaining between.reader new.reader piece → (error : RunError)
       → WritesAndTells contents tells between.writer new.writer between.errors new.errors
@@ -133,7 +134,7 @@ module _ {R W E A : Type 0} {remaining : R → Option (List ℕ)} {contents : W 
       failed.messages (state_of next.converter) (HasReadAll remaining new.reader) error failed.holds) in
       (Course-more read (HasRead-more new.reader piece came) failed, at.0, at.1)
 
-  -- a read failed
+  -- if a read has failed, what is written and told is right for `Read`
   pub IsRunOf-read : (reader : FusedReader R) → HasReadNothing remaining between.reader reader
       → IsRunOf remaining contents tells options old (record between { reader = reader }) (Err Read)
   IsRunOf-read reader nothing =
@@ -153,7 +154,7 @@ module _ {R W E A : Type 0} {remaining : R → Option (List ℕ)} {contents : W 
         at.1,
       )
 
-  -- the input was read to its end, and the last record was converted, or not
+  -- if the input was read to its end, what `finish` has written and told is right for its result
   pub IsRunOf-finished : (new : Streams R W E) (piece part : List ℕ)
       → HasRead remaining between.reader new.reader piece → piece ≡ [] → HasReadAll remaining new.reader
       → part ≡ buffers.part.items → (result : Result Tally RunError)

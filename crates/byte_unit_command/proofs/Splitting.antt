@@ -35,7 +35,7 @@ module _ (options : Options) where
   between_of-split delimiter is none =
       ap (λ blanks. bytes_between blanks options.delimiter) none ∙ ap (bytes_between false) is
 
--- a field before other fields, with a delimiter between it and them
+-- if a field and the fields after it are converted, all are, with a delimiter between it and them
 AreFields-cons : (options : Options) (number : ℕ) (field : List ℕ) (others : List (List ℕ)) (own rest : List ℕ)
     (own_found rest_found : List Found) → IsSplit others → IsField options number field own own_found
     → AreFields options (number + 1) others rest rest_found
@@ -49,7 +49,7 @@ AreFields-cons options number field others own rest own_found rest_found (next, 
     subst (λ fields. AreFields options number (field ∷ fields) whole found) (sym others_are)
     (own, rest, own_found, rest_found, is_field, are, refl, refl)
 
--- a field that is not chosen, with one more byte before it
+-- a field that is not chosen is copied with one more byte before it
 IsField-byte : (options : Options) (number byte : ℕ) (field text : List ℕ) (found : List Found)
     → ¬ IsChosen options.fields.now number
     → IsField options number field text found → IsField options number (byte ∷ field) (byte ∷ text) found
@@ -60,7 +60,7 @@ IsField-byte options number byte field text found not_chosen (size n chosen is_s
 IsField-byte options number byte field text found not_chosen (rejected chosen none text_is found_is) =
     absurd (not_chosen chosen)
 
--- the same for the first of these fields
+-- one more byte before the first of these fields, which is not chosen, is copied with it
 AreFields-byte : (options : Options) (number byte : ℕ) (fields : List (List ℕ)) (text : List ℕ) (found : List Found)
     → ¬ IsChosen options.fields.now number → AreFields options number fields text found
     → AreFields options number (onto_first byte fields) (byte ∷ text) found
@@ -136,7 +136,7 @@ AreFields-copied_blanks options between (byte ∷ bytes) number past =
 
 -- between delimiters and between blanks
 module _ (options : Options) (delimiter : ℕ) (is : options.delimiter ≡ Some delimiter) where
-  -- there is a first field
+  -- there is a first field, so the list of the fields is not empty
   fields_IsSplit : (bytes : List ℕ) → IsSplit (fields_of options bytes)
   fields_IsSplit bytes =
       let either : (blanks : Bool) → IsSplit (fields_by blanks (Some delimiter) bytes) =
@@ -212,7 +212,7 @@ IsSplitting-start options bytes old =
 
 module _ {options : Options} {bytes : List ℕ} {old : State} {number : ℕ} {rest : List ℕ} {new : State}
     (so_far : IsSplitting options bytes old number rest new) where
-  -- the messages about a field, for the place of the record
+  -- the place of the record does not change, so the messages about a field are those for the place at the start
   messages-old : (field : List ℕ) (is_rejected : Bool) (messages : List ℕ)
       → AreFieldMessages options new.word new.place number field is_rejected messages
       → AreFieldMessages options old.word old.place number field is_rejected messages
@@ -220,13 +220,13 @@ module _ {options : Options} {bytes : List ℕ} {old : State} {number : ℕ} {re
       subst (λ state. AreFieldMessages options state.word state.place number field is_rejected messages) so_far.new_is
       are
 
-  -- if there is none, there is none for the place that the state has
+  -- if there is no message about a field for the place at the start, there is none for the place that the state has now
   pub FieldHasNoMessage-now : (field : List ℕ) → FieldHasNoMessage options number field old
       → FieldHasNoMessage options number field new
   FieldHasNoMessage-now field none =
       subst (FieldHasNoMessage options number field) (sym so_far.new_is) none
 
-  -- one more field and the bytes after it
+  -- the invariant holds after one more field and the bytes after it
   IsSplitting-step : (field behind : List ℕ) → fields_of options rest ≡ field ∷ fields_of options behind
       → IsSplit (fields_of options behind) → length behind < length rest → (next : State)
       → AddsField options number field new next
@@ -281,7 +281,7 @@ module _ {options : Options} {bytes : List ℕ} {old : State} {number : ℕ} {re
         few = omega (arith, so_far.few, shorter);
       }
 
-  -- a rejected field, which is the first of the rest
+  -- if the first field of the rest is rejected in the mode `abort`, the record is
   pub Aborts-first : (field : List ℕ) (others : List (List ℕ)) → fields_of options rest ≡ field ∷ others
       → (next_messages : List ℕ) → IsRejectedField options number field new next_messages
       → Aborts options bytes old next_messages
@@ -324,7 +324,7 @@ module _ {options : Options} {bytes : List ℕ} {old : State} {number : ℕ} {re
             adds.found so_far.new_is adds.new_is;
       }
 
-  -- the other fields are copied with the bytes between them
+  -- if no other field is chosen, copying the rest adds the fields of the whole record
   pub AddsFields-copied : AreFields options number (fields_of options rest) rest []
       → ((later : ℕ) → number ≤ later → ¬ IsChosen options.fields.now later)
       → AddsFields options bytes old (record new { out = new.out ++ rest })
@@ -352,7 +352,7 @@ EndsFirst options bytes place gap =
     (0 < place + gap) × (place + gap ≤ length bytes)
     × (fields_of options bytes ≡ take place bytes ∷ fields_of options (drop (place + gap) bytes))
 
--- one more field and the bytes after it, by the place where the field ends
+-- the invariant holds after one more field and the bytes after it, by the place where the field ends
 pub IsSplitting-at : {options : Options} {bytes : List ℕ} {old : State} {number : ℕ} {rest : List ℕ} {new : State}
     → IsSplitting options bytes old number rest new → (delimiter : ℕ) → options.delimiter ≡ Some delimiter
     → (between : List ℕ) → between ≡ between_of options → (place : ℕ)

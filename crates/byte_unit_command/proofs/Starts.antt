@@ -16,7 +16,7 @@ use Rattle.byte_unit_command.proofs.Tallies.{tally_after-tally_of}
 -- what was appended from the start on, for some records
 module _ (options : Options) (word : List ℕ) {records : List (List ℕ)} {new : State}
     (adds : AddsRecords options records (start_of options word) new) where
-  -- they are converted
+  -- what was appended is the conversion of these records
   pub converted-from_start : AreConverted options records new.out adds.found
   converted-from_start = record {
     are_records = subst (λ text. AreRecords options options.header records text adds.found) (sym adds.out_is)
@@ -24,26 +24,28 @@ module _ (options : Options) (word : List ℕ) {records : List (List ℕ)} {new 
     passes = adds.passes;
   }
 
-  -- and told
+  -- the messages that were appended are those about these records
   pub messages-from_start : AreMessages options word 0 options.header records new.messages
   messages-from_start = subst (AreMessages options word 0 options.header records) (sym adds.messages_are)
       adds.are_messages
 
-  -- and counted
+  -- what was counted is the tally of what was found in these records
   pub tally-from_start : new.tally ≡ tally_of options adds.found
   tally-from_start = adds.tally_is ∙ tally_after-tally_of options adds.found
 
-  -- a counted total that is a size is their sum
+  -- a counted total below 10^30 is the sum of the sizes that were found
   sum-from_start : new.tally.total < size_limit → new.tally.total ≡ sum_of adds.found
   sum-from_start small =
       let counted : new.tally.total ≡ min (sum_of adds.found) size_limit = ap (λ tally. tally.total) tally-from_start in
       omega (arith, small, counted)
 
+  -- a counted total of 10^30 or more means that the sum of the sizes is
   pub large-from_start : size_limit ≤ new.tally.total → size_limit ≤ sum_of adds.found
   large-from_start large =
       let counted : new.tally.total ≡ min (sum_of adds.found) size_limit = ap (λ tally. tally.total) tally-from_start in
       omega (arith, large, counted)
 
+  -- the line for the counted total is the line for the sum of the sizes
   pub total_line-from_start : (line : List ℕ) → MatchBool options.total (IsTotalFor options new.tally.total line)
       (line ≡ []) → IsTotalLine options adds.found line
   total_line-from_start line at =

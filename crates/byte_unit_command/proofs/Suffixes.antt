@@ -7,10 +7,11 @@ use Rattle.std.proofs.lemmas.List.{length-append}
 use Rattle.std.proofs.lemmas.Slice.Eq.{bytes_eq-Decides}
 use Rattle.byte_unit_command.specs.Field.{ends_with, without_suffix}
 
--- a text with a suffix after it ends with it
+-- a text with a suffix after it is longer by the suffix
 front_len : (text suffix : List ℕ) → length (text ++ suffix) - length suffix ≡ length text
 front_len text suffix = omega (arith, length-append {A = ℕ} text suffix)
 
+-- a text with a suffix after it passes the test for that suffix
 ends_with_it : (text suffix : List ℕ) → ends_with suffix (text ++ suffix) ≡ true
 ends_with_it text suffix =
     let all = text ++ suffix in
@@ -19,7 +20,7 @@ ends_with_it text suffix =
     and_from _ _ (le-leb (length suffix) (length all) (omega (arith, length-append {A = ℕ} text suffix)))
     ((bytes_eq-Decides (drop (length all - length suffix) all) suffix).1 rest)
 
--- and without it, is the text
+-- a text with a suffix after it is the text again without the suffix
 pub without_it : (text suffix : List ℕ) → without_suffix suffix (text ++ suffix) ≡ text
 without_it text [] = append-nil text
 without_it text (c ∷ cs) =

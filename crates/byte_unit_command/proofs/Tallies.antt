@@ -36,15 +36,17 @@ pub Passes-append : (options : Options) (front back : List Found) → Passes opt
     → Passes options (front ++ back)
 Passes-append options front back first second = λ mode. has_rejected-append front back (first mode) (second mode)
 
--- facts of `||` for the tallies below
+-- `||` is associative
 or_assoc : (a b c : Bool) → ((a || b) || c) ≡ (a || (b || c))
 or_assoc true b c = refl
 or_assoc false b c = refl
 
+-- `false` is the neutral element of `||`
 or_false : (a : Bool) → a ≡ (a || false)
 or_false true = refl
 or_false false = refl
 
+-- a disjunction with `true` is true
 or_true : (a : Bool) → true ≡ (a || true)
 or_true true = refl
 or_true false = refl
@@ -83,6 +85,7 @@ rejected-after options tally (None ∷ found) = rejected-after options (tally_wi
     ∙ or_true tally.rejected
 rejected-after options tally (Some size ∷ found) = rejected-after options (tally_with options tally (Some size)) found
 
+-- a tally by its three fields
 abbrev tally_by : ℕ → Bool → Bool → Tally
 tally_by total beyond rejected = record { total = total; beyond = beyond; rejected = rejected }
 

@@ -11,6 +11,7 @@ use Rattle.byte_unit_stream.proofs.Prefixes.{IsPrefix-longer, IsPrefix-after}
 pub Tells-nothing : (failed : Bool) → Tells failed failed [] []
 Tells-nothing failed = record { stays = λ is. (refl, is); begins = ([], refl); all = λ is. refl }
 
+-- if a run has no messages, nothing was told so far
 pub IsTold-nothing : (failed : Bool) → IsTold failed [] []
 IsTold-nothing failed = record { begins = ([], refl); all = λ is. refl }
 

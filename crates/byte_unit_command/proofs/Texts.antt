@@ -15,7 +15,7 @@ written_bytes {old = old} {new = new} writes room =
     ap (λ count. take count new) writes.needed_is ∙ ap (take (length text)) (writes.fits fits)
     ∙ take-append_seam text (drop (length text) old)
 
--- no spaces are added to a text if there is no width
+-- no spaces (32) are added to a text if there is no width
 pub padded-none : (width : ℕ) (align_left : Bool) (text : List ℕ) → width ≡ 0 → padded width align_left text ≡ text
 padded-none width true text none =
     let missing : width - length text ≡ 0 = omega (arith, none) in
@@ -23,7 +23,7 @@ padded-none width true text none =
 padded-none width false text none =
     let missing : width - length text ≡ 0 = omega (arith, none) in ap (λ count. replicate count 32 ++ text) missing
 
--- some bytes were appended, and then all but the first of them were dropped
+-- 64 bytes were appended, and then all but the first of them were dropped, as `add_in_width` does
 pub first_bytes : (old bytes all : List ℕ) (len : ℕ) → all ≡ old ++ take 64 bytes → 64 ≤ length bytes → len ≤ 64
     → take (length all - (64 - len)) all ≡ old ++ take len bytes
 first_bytes old bytes all len all_is long short =

@@ -70,7 +70,7 @@ module _ (options : Options) (word : List ℕ) (place number : ℕ) (field : Lis
   ignored-untold is_rejected chosen none (ignored _ _ _ is _) = is
 
 module _ (options : Options) (word : List ℕ) where
-  -- of fields about which there is no message, there is none about the first, nor about the others
+  -- if there is no message about several fields, there is none about the first
   pub first-untold : (place number : ℕ) (field : List ℕ) (others : List (List ℕ))
       → AreMessagesOfFields options word place number (field ∷ others) []
       → (is_rejected : Bool) × AreFieldMessages options word place number field is_rejected []
@@ -79,19 +79,21 @@ module _ (options : Options) (word : List ℕ) where
     subst (AreFieldMessages options word place number field is_rejected) (append-empty own rest none).0 are,
   )
 
+  -- if there is no message about several fields, there is none about those after the first
   pub others-untold : (place number : ℕ) (field : List ℕ) (others : List (List ℕ))
       → AreMessagesOfFields options word place number (field ∷ others) []
       → AreMessagesOfFields options word place (number + 1) others []
   others-untold place number field others (own, rest, _, _, are, none) =
       subst (AreMessagesOfFields options word place (number + 1) others) (append-empty own rest none).1 are
 
-  -- the same for records
+  -- if there is no message about several records, there is none about the first
   pub record-untold : (place header : ℕ) (bytes : List ℕ) (others : List (List ℕ))
       → AreMessages options word place header (bytes ∷ others) []
       → AreRecordMessages options word (next_place place) header bytes []
   record-untold place header bytes others (own, rest, are, _, none) =
       subst (AreRecordMessages options word (next_place place) header bytes) (append-empty own rest none).0 are
 
+  -- if there is no message about two lists of records, there is none about the second
   records-untold : (place header : ℕ) (front back : List (List ℕ))
       → AreMessages options word place header (front ++ back) []
       → AreMessages options word (last_place place front) (header - length front) back []

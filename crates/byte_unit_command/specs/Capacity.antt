@@ -29,7 +29,7 @@ form_max (InUnit unit) precision = unit_text_max precision
 form_max (NumberOf unit) precision = unit_text_max precision
 form_max (Largest unit_type) precision = unit_text_max precision
 
--- the bytes that a short text takes while it is appended
+-- the bytes that a short text takes while it is appended: it is copied in one piece of this length (`AT_ONCE`)
 abbrev pub short_room : ℕ
 short_room = 64
 
@@ -55,7 +55,7 @@ fields_max (Some delimiter) bytes = bytes + 1
 abbrev pub fields_room : Options → ℕ → ℕ
 fields_room options bytes = text_room options * fields_max options.delimiter bytes + bytes
 
--- the same with its end byte
+-- the most bytes that what is written for a record of this many bytes takes, with its end byte
 abbrev pub record_room : Options → ℕ → ℕ
 record_room options bytes = fields_room options bytes + 1
 

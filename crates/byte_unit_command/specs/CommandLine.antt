@@ -37,12 +37,15 @@ precision = record (value (codes "precision")) { short = Some 112; parser = Some
 abbrev pub delimiter : Rule
 delimiter = record (value (codes "delimiter")) { short = Some 100 }
 
+-- `--blanks`, which excludes `-d`, so it is not free
 abbrev pub blanks : Rule
 blanks = record (flag (codes "blanks")) { is_free = false }
 
+-- `--field`, whose value may begin with a hyphen, so it is not simple
 abbrev pub fields : Rule
 fields = record (value (codes "field")) { is_simple = false }
 
+-- `--suffix`, whose value may begin with a hyphen
 abbrev pub suffix : Rule
 suffix = record (value (codes "suffix")) { is_simple = false }
 
@@ -55,6 +58,7 @@ header = record (value (codes "header")) {
   is_simple = false;
 }
 
+-- `--padding`, whose value may begin with a hyphen
 abbrev pub padding : Rule
 padding = record (value (codes "padding")) { is_simple = false }
 

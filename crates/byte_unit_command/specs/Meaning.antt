@@ -94,7 +94,7 @@ abbrev pub IsNoPadding : List ℕ → ValueError → Type 0
 IsNoPadding text reason =
     ((width : ℕ) (align_left : Bool) → ¬ IsPadding (Some text) width align_left) × (reason ≡ Padding)
 
--- `--invalid`: a word for this mode
+-- the value of `--invalid` is the word for this mode; without the option the mode is `abort`
 abbrev pub IsMode : Option (List ℕ) → Invalid → Type 0
 IsMode None invalid = invalid ≡ Abort
 IsMode (Some text) invalid =

@@ -85,7 +85,8 @@ pub record IsTooLarge (options : Options) (records : List (List ℕ)) (written :
 abbrev pub finished_of : Options → List ℕ → List (List ℕ)
 finished_of options read = finished_records options.record_end read
 
--- these, and the last one without; that one is a record only if the input was read to its end
+-- the finished records, and the last one without an end byte; that one is a record only if the input was read to its
+-- end
 abbrev pub all_of : Options → List ℕ → List (List ℕ)
 all_of options read = records_of options.record_end read
 

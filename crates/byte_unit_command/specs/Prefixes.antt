@@ -22,7 +22,7 @@ abbrev pub IsReadingBy : Bool → Kind → Bool → List ℕ → Result ℕ Pars
 IsReadingBy binary kind ignore_case text result =
     MatchBool binary (IsBinaryReading kind ignore_case text result) (IsSizeReading kind ignore_case text result)
 
--- the same for bytes: `None` if they are not UTF-8
+-- the result of parsing bytes, with prefixes read in this way; `None` if they are not UTF-8
 abbrev pub IsBytesReadingBy : Bool → Kind → Bool → List ℕ → Option (Result ℕ ParseError) → Type 0
 IsBytesReadingBy binary kind ignore_case bytes result =
     MatchBool binary (IsBinaryBytesReading kind ignore_case bytes result) (IsBytesReading kind ignore_case bytes result)

@@ -133,17 +133,17 @@ abbrev pub FieldHasNoMessage : Options → ℕ → List ℕ → State → Type 0
 FieldHasNoMessage options number field state =
     (is_rejected : Bool) × AreFieldMessages options state.word state.place number field is_rejected []
 
--- there is none about the fields of a record, which is no header record
+-- there is no message about the fields of a record, which is no header record
 abbrev pub FieldsHaveNoMessage : Options → List ℕ → State → Type 0
 FieldsHaveNoMessage options bytes state =
     AreMessagesOfFields options state.word state.place 1 (fields_of options bytes) []
 
--- there is none about the next record
+-- there is no message about the next record
 abbrev pub RecordHasNoMessage : Options → List ℕ → State → Type 0
 RecordHasNoMessage options bytes state =
     AreRecordMessages options state.word (next_place state.place) state.header bytes []
 
--- there is none about the next records
+-- there is no message about the next records
 abbrev pub RecordsHaveNoMessage : Options → List (List ℕ) → State → Type 0
 RecordsHaveNoMessage options records state = AreMessages options state.word state.place state.header records []
 

@@ -9,7 +9,8 @@ ghost use Rattle.byte_unit_command.specs.Fields.{fields_of, gap_by, is_blank as 
 use crate::options::Options;
 use byte_unit_stream::end_of;
 
-/// Returns the bytes between two fields: `mark`, which has the delimiter, or nothing between blanks.
+/// Returns the bytes between two fields: `mark`, which has the delimiter, or nothing between blanks, where each field
+/// begins with the blanks before it. Only the contract reads `options`.
 ///
 /// Preconditions (proved at every call): `delimiter` is that of the options, and `blanks` says whether fields are
 /// between blanks.
@@ -28,7 +29,8 @@ pub(crate) fn between<'a>(
     if blanks { &[] } else { mark }
 }
 
-/// Returns the number of bytes of the first field, or `None` if there is no other field.
+/// Returns the number of bytes of the first field, or `None` if there is no other field. Only the contract reads
+/// `options`.
 ///
 /// Preconditions (proved at every call): `delimiter` is that of the options, and `blanks` says whether fields are
 /// between blanks.
@@ -80,6 +82,8 @@ pub(crate) fn gap_of(later: bool, field: &[u8]) -> &[u8]
 }
 
 /// Returns the columns of a field between blanks, without the blank that separates it if it is not the first field.
+///
+/// They are 0 for a first field that begins with no blank: it is not aligned to the right, so its size is not either.
 fn columns_of(later: bool, field: &[u8]) -> usize
     ensures { result ≡ cond later (length field.now - 1)
         (cond (has_blank_first field.now) (length field.now) 0) }

@@ -46,6 +46,9 @@ impl<A: Allocator> Converter<A> {
     /// - `Memory` if allocation fails.
     ///
     /// Then nothing is appended, and no message but the ones up to that on the rejected field.
+    ///
+    /// `#[inline(always)]`, as on what it calls for each record and each field: the calls would take more instructions.
+    /// What is rare, and the loop over fields, is `#[inline(never)]`, so that it costs a record of one field nothing.
     #[inline(always)]
     pub(crate) fn add_record(
         &mut self,
@@ -120,6 +123,7 @@ impl<A: Allocator> Converter<A> {
     {
         match options.delimiter {
             None => {
+                // The record is its own field 1.
                 let chosen = is_in_one(options.fields, 1);
                 self.add_field::<false>(options, 1, bytes, chosen, digits)
             }
@@ -167,6 +171,7 @@ impl<A: Allocator> Converter<A> {
             rest = &rest[n + between.len()..];
             number += 1;
             ranges = ranges_from(ranges, number);
+            // No later field is chosen: the rest is copied at once.
             if ranges.is_empty() {
                 self.waiting.extend_from_slice(rest)?;
                 return Ok(());
@@ -218,6 +223,7 @@ impl<A: Allocator> Converter<A> {
             // The blank that separates the field stays, and without a width the size takes the columns of the field.
             (gap_of(number > 1, field), width_of(options, number, field))
         } else {
+            // Between delimiters there is no blank to keep, and a width of 0 is no width.
             (&field[..0], options.width as usize)
         };
         self.waiting.extend_from_slice(gap)?;
@@ -332,7 +338,7 @@ fn ranges_from(ranges: &[FieldRange], number: u64) -> &[FieldRange]
     }
 }
 
-/// Does what [`ranges_from`] does.
+/// Does what [`ranges_from`] does. Only this function is recursive, so that the other one can be inlined.
 #[inline(never)]
 fn others_from(ranges: &[FieldRange], number: u64) -> &[FieldRange]
     ensures { AreRangesFrom ranges.now number result.now }

@@ -52,6 +52,7 @@ impl<A: Allocator> Converter<A> {
     {
         if !part.is_empty() {
             let added = self.add_record(options, part, digits);
+            // Told before the error is returned: a message is the reason of `Rejected`.
             self.notices.tell(errors);
             added?;
         }

@@ -20,7 +20,7 @@ use crate::values::Values;
 use crate::wrong::{ValueError, Wrong};
 use byte_unit_base::{ParseError, binary, size};
 
-/// The most digits after the point that the exact form has.
+/// The most digits after the point that the exact form has: the library takes a greater precision as 28.
 const DECIMAL_PLACES: u16 = 28;
 
 /// Returns the options of a call. `fields` are those that `field_list::fields_of` returned.
@@ -54,6 +54,7 @@ pub fn options_of<'a>(
         form,
         precision: match values.precision {
             Some(precision) => Some(precision),
+            // One digit after the point with `-H`, if `--precision` is not given.
             None => { if values.human_readable { Some(1) } else { None } }
         },
         suffix: values.suffix.unwrap_or("").as_bytes(),
@@ -62,6 +63,7 @@ pub fn options_of<'a>(
         delimiter,
         blanks: values.blanks,
         fields,
+        // Each operand ends with a zero byte, and none is a header.
         record_end: if values.has_operands { 0 } else { output_end },
         output_end,
         header: if values.has_operands { 0 } else { header },
@@ -85,6 +87,7 @@ fn from_of(value: Option<&str>) -> Result<bool, Wrong<'_>>
     let Some(value) = value else {
         return Ok(false);
     };
+    // Words of `numfmt --from`. `Ki` is 1024 in any case, so all but `iec` mean the same.
     match value {
         "iec" => Ok(true),
         "auto" => Ok(false),
@@ -171,6 +174,7 @@ fn unit_of(value: &str, kind: Kind, ignore_case: bool) -> Result<Unit, ValueErro
     if value.trim().is_empty() {
         return Err(ValueError::Blank);
     }
+    // The last argument says whether a unit without a suffix is of bytes.
     let unit = match kind {
         Kind::Byte => Unit::parse_str(value, ignore_case, true),
         Kind::Bit => Unit::parse_str(value, false, false),
@@ -231,6 +235,7 @@ fn padding_of(value: Option<&str>) -> Result<(u16, bool), Wrong<'_>>
     ensures err { IfErr result (IsWrongOf (codes "--padding") value.entry IsNoPadding) }
 {
     let Some(value) = value else {
+        // No width.
         return Ok((0, false));
     };
     match signed_width_of(value) {

@@ -37,7 +37,7 @@ pub(crate) struct Place {
 struct Field<'a> {
     /// Its number, counted from 1.
     number: u64,
-    /// What it is.
+    /// Its bytes, as they are in the record.
     bytes: &'a [u8],
 }
 
@@ -150,6 +150,7 @@ fn reason_of(options: &Options, field: &[u8]) -> FieldError
 {
     match parse(options, field) {
         Some(Err(error)) => FieldError::Rejected(error),
+        // Never: a field that is parsed as a size is one.
         Some(Ok(_)) => FieldError::NotUtf8,
         None => FieldError::NotUtf8,
     }
@@ -283,7 +284,8 @@ fn add_words<A: Allocator>(
     match reason {
         FieldError::NotUtf8 => line.push_str("not UTF-8"),
         FieldError::Rejected(error) => {
-            // Not to `line`: of a character that is not ASCII, no contract says how it is quoted.
+            // Not to `line`: no contract says what `write!` leaves in its target for an error with a character that is
+            // not ASCII, and the place and the quoted field in `line` have to stay.
             words.clear();
             write!(words, "{error}")?;
             line.push_str(words.as_str())

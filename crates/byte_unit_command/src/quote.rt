@@ -41,6 +41,7 @@ fn quoted_len(field: &[u8]) -> usize
     if field.len() <= QUOTED {
         return field.len();
     }
+    // Of four bytes in a row of a UTF-8 text one begins a character, since no character has more than four.
     if is_boundary(field[QUOTED]) {
         QUOTED
     } else if is_boundary(field[QUOTED - 1]) {
@@ -54,7 +55,7 @@ fn quoted_len(field: &[u8]) -> usize
     }
 }
 
-/// Returns `true` if a character of a UTF-8 text can begin with this byte.
+/// Returns `true` if a character of a UTF-8 text can begin with this byte. The bytes 0x80 to 0xBF continue one.
 pub(crate) fn is_boundary(byte: u8) -> bool
     ensures { result ≡ (nat_lt byte 128 || nat_le 192 byte) }
 {
@@ -139,7 +140,7 @@ fn add_escaped_byte<A: Allocator>(byte: u8, line: &mut String<A>) -> Result<(), 
     }
 }
 
-/// Returns `true` if the byte is a printable ASCII character.
+/// Returns `true` if the byte is a printable ASCII character: from the space (0x20) to `~` (0x7E).
 fn is_printable(byte: u8) -> bool
     ensures value { result ≡ is_printable_ascii byte }
     ensures ascii { IsTrue result → byte < 128 }

@@ -23,10 +23,11 @@ use byte_unit_stream::{end_of, write_whole};
 use std::alloc::{AllocError, Allocator, Global};
 use std::io::{Read, Write};
 
-/// The number of bytes that [`run`] asks for in each read.
+/// The number of bytes that [`run`] asks for in each read: 64 KiB.
 const CHUNK: usize = 65536;
 
-/// The length of a buffer that has capacity for the text of any size.
+/// The length of a buffer that has capacity for the text of any size: 65,535 digits after the point, the greatest
+/// precision, and less than 65 bytes more.
 const DIGITS: usize = 65600;
 
 /// Reads the whole input, and writes each record, with the chosen fields replaced.
@@ -63,6 +64,7 @@ pub fn run<R: Read, W: Write, E: Write>(
     run_with_buffers(
         &mut buffers,
         options,
+        // Records of any length.
         usize::MAX,
         &mut buffer,
         &mut digits,
@@ -155,6 +157,7 @@ pub fn run_with_buffers<A: Allocator, R: Read, W: Write, E: Write>(
         word: streams.word,
         number: 0,
     };
+    // The goals about the loop have their names from this label.
     'reads: loop {
         match streams.reader.read(chunk) {
             None => return Err(RunError::Read),
@@ -282,6 +285,7 @@ impl<A: Allocator> Buffers<A> {
         let mut rest = bytes;
         while let Some(n) = end_of(rest, end) {
             if self.part.is_empty() {
+                // Nothing of the record was read before: it is converted where it lies, without a copy.
                 self.converter.add_record(options, &rest[..n], digits)?;
             } else {
                 self.part.extend_from_slice(&rest[..n])?;
@@ -299,14 +303,15 @@ impl<A: Allocator> Buffers<A> {
 /// after the point.
 const NARROW_TEXT: usize = 37;
 
-/// The most digits after the point of a size in a given unit, but for zeros.
+/// The most digits after the point of a size in a given unit, but for zeros: a bit is 1 / 2^93 RiB, the largest unit.
 const UNIT_PLACES: usize = 93;
 
 /// The most bytes that the texts of the sizes of one read may take, if each byte of it begins a field: 40 bytes for
 /// each of 65,536.
 const TEXTS_MAX: usize = 2_621_440;
 
-/// The bytes that are counted for the messages about a field, in a run that can have more than one message.
+/// The bytes that are counted for the messages about a field, in a run that can have more than one message. An
+/// estimate: it makes reads shorter, and bounds no message.
 const MESSAGE: usize = 128;
 
 /// Returns the most bytes that a run reads at once into a buffer of `len` bytes: fewer if texts are long or there can
@@ -317,6 +322,7 @@ fn read_max(options: &Options, len: usize) -> usize
     ensures bound { result ≤ len }
     ensures some { 0 < len → 0 < result }
 {
+    // In the mode `abort` a run ends with its first message about a rejected field.
     let tells_rejected = matches!(options.invalid, Invalid::Fail | Invalid::Warn);
     let message = if tells_rejected || options.max.is_some() || options.min.is_some() {
         MESSAGE

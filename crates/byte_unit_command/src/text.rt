@@ -15,7 +15,7 @@ use byte_unit_choice::appropriate_unit;
 use byte_unit_format::{write_adjusted, write_text};
 use std::alloc::{AllocError, Allocator};
 
-/// The most bytes of a text that are copied in one piece of a constant length.
+/// The most bytes of a text that are copied in one piece of a constant length. Most texts are shorter.
 pub(crate) const AT_ONCE: usize = 64;
 
 /// Appends the text of a size in at least `width` columns to `text`. `digits` is a buffer for it.
@@ -207,7 +207,7 @@ fn write_as<const BITS: bool>(options: &Options, size: u128, out: &mut [u8]) -> 
 
 /// Writes the number of a unit that a size is, and returns its length.
 ///
-/// The unit is written after it, and its length left out.
+/// The unit is written after it, and its length left out, with that of the space before it (1).
 #[cold]
 #[inline(never)]
 fn write_number(size: u128, kind: Kind, unit: Unit, precision: Option<u16>, out: &mut [u8]) -> usize

@@ -95,7 +95,8 @@ fn add_reason(alloc: Global, reason: &ValueError, message: &mut String) -> Resul
     ensures { OnOk result ((words : List ℕ) × AreReasonWords reason.now words
         × (string_bytes message.new ≡ string_bytes message.old ++ words)) }
 {
-    // Not to `message`: of a character that is not ASCII, no contract says how it is quoted.
+    // Not to `message`: no contract says what `write!` leaves in its target for an error with a character that is not
+    // ASCII, and the option and its value in `message` have to stay.
     let mut words = String::new(alloc);
     match reason {
         ValueError::Unit(error) => {
@@ -121,6 +122,8 @@ fn add_reason(alloc: Global, reason: &ValueError, message: &mut String) -> Resul
 }
 
 /// Returns the words of a call with a zero byte, which no word has, in place of each line feed.
+///
+/// So [`escaped_lines`] can tell the line feeds of the words from those that end the lines of a message of clap.
 ///
 /// # Errors
 ///

@@ -37,22 +37,25 @@ pub record IsAnsweredTo (kind : Kind) (now next : Feed) (place : ℕ) : Type 0 w
   pub line_is : next.line ≡ []
   pub rest_is : next.rest ≡ drop (place + 1) now.rest
 
--- that line comes first, and the state after it gives the other lines and the same unfinished line
+-- the line that was answered and the lines after it
 module _ (kind : Kind) (now next : Feed) (place : ℕ) (is_answered : IsAnsweredTo kind now next place) where
+  -- the first line that ends in the rest is the answered one, and the others end in the rest after it
   ended_lines-next : ended_records line_end now.line now.rest
       ≡ (now.line ++ take place now.rest) ∷ ended_records line_end next.line next.rest
   ended_lines-next =
       rw (ended_records-EndsAt line_end now.line now.rest place is_answered.ends, is_answered.line_is, is_answered.rest_is) refl
 
+  -- the unfinished line is the same, whether it is taken from the state before or after the answered line
   begun_line-next : begun_record line_end now.line now.rest ≡ begun_record line_end next.line next.rest
   begun_line-next =
       rw (begun_record-EndsAt line_end now.line now.rest place is_answered.ends, is_answered.line_is, is_answered.rest_is) refl
 
--- one more answered line keeps the invariant
+-- the invariant holds after one more answered line
 pub IsFed-step : (kind : Kind) (start now next : Feed) (place : ℕ) → IsFed kind start now → IsAnsweredTo kind now next place
     → IsFed kind start next
 IsFed-step kind start now next place fed is_answered =
     let this = now.line ++ take place now.rest in
+    -- `added` and `answer` are triples: the bytes, that they are the answers to the lines, and that they were appended
     let answer = is_answered.answer in record {
       answered = fed.answered ++ this ∷ [];
       added = (

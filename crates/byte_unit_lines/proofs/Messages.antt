@@ -19,7 +19,8 @@ adds_answer {added = added} (Ok _) old is_answer is_added = (added, is_answer, i
 adds_answer (Err _) old is_answer is_added = tt
 
 module _ {E : Type 0} {new : List ℕ} (kind : Kind) (line : List ℕ) (result : Result ⊤ E) (old : List ℕ) where
-  -- for a line that is accepted as a size: the digits of the size, ` = `, the size with a unit, and a line end
+  -- the bytes that are appended for a line that is a size are its answer: the digits, ` = `, the size with a unit, and
+  -- a line end (10)
   pub adds_size : {number count : ℕ} (bytes : List ℕ) → IsBytesReading kind false line (Some (Ok number))
       → IsTextWithDigits kind number (codes " = ") (take count bytes) → count < length bytes
       → new ≡ (if is_ok result then old ++ take (count + 1) (set bytes count 10) else old)
@@ -41,7 +42,8 @@ module _ {E : Type 0} {new : List ℕ} (kind : Kind) (line : List ℕ) (result :
         ended = take_more_set bytes count 10 room ∙ ap (λ message. message ++ 10 ∷ []) message_is;
       })
 
-  -- for a line that has a parse error: its words and a line end
+  -- the bytes that are appended for a line with a parse error are its answer: the words for the error and a line end
+  -- (10)
   pub adds_error : {error : ParseError} {all : List ℕ} → IsBytesReading kind false line (Some (Err error))
       → all ≡ words_of (size_fault error) ++ 10 ∷ [] → new ≡ (if is_ok result then old ++ all else old)
       → OnOk result (AddsAnswer kind line old new)
@@ -49,7 +51,7 @@ module _ {E : Type 0} {new : List ℕ} (kind : Kind) (line : List ℕ) (result :
       let is_message = rejected (size_fault error) reading.0 reading.1.fault refl in
       adds_answer result old (record { message = words_of (size_fault error); is_message = is_message; ended = ended })
 
-  -- for a line that is not UTF-8: `not text` and a line end
+  -- the bytes that are appended for a line that is not UTF-8 are its answer: `not text` and a line end (10)
   pub adds_not_text : IsBytesReading kind false line None
       → new ≡ (if is_ok result then old ++ (codes "not text" ++ 10 ∷ []) else old)
       → OnOk result (AddsAnswer kind line old new)

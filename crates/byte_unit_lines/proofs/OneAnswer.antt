@@ -89,6 +89,8 @@ module _ (texts : TextsAreAcceptedOrRejected) (forms : SizeHasOneForm) (kind : K
       → AreAnswers kind lines out → AreAnswers kind lines other → out ≡ other
   AreAnswers-unique [] out other none also = none ∙ sym also
   AreAnswers-unique (line ∷ lines) out other answers also =
+      -- five parts: the first answer, the others, that the first is one, that the others are, and that the output is
+      -- all
       let first = line_has_one_answer line answers.0 also.0 answers.2 also.2 in
       rw (answers.4, also.4, first, AreAnswers-unique lines answers.1 also.1 answers.3 also.3) refl
 

@@ -44,7 +44,7 @@ pub record HasServed (kind : Kind) (left rest held holds : Option (List ℕ)) (l
   pub served : IsServed kind (record { read = read; written = written; line = line })
   pub none_wait : answers ≡ []
 
--- the bytes that were read and written so far, as a `Course`
+-- the `Course` of the invariant: the bytes that were read and written so far, and the unfinished line
 abbrev pub course_of : {kind : Kind} {left rest held holds : Option (List ℕ)} {line answers : List ℕ}
     → HasServed kind left rest held holds line answers → Course
 course_of {line = line} so_far = record { read = so_far.read; written = so_far.written; line = line }
@@ -63,6 +63,7 @@ pub longest_line-below : {Z : Type 0} {kind : Kind} {left rest held holds : Opti
     → IsWithin line_end longest chunk first first_answers so_far.read line waiting
     → 0 < chunk → longest_line so_far.read < longest + chunk
 longest_line-below longest chunk first first_answers line waiting so_far within some =
+    -- the line is not longer than its buffer's length, which `line.ok.0` says
     longest_record-below line_end so_far.read line.items (longest + chunk) so_far.served.begun within.finished
     (omega (arith, within.unfinished, line.ok.0, some))
 
@@ -93,7 +94,7 @@ module _ (kind : Kind) (course : Course) (served : IsServed kind course) where
   pub finished_lines_answered : AreAnswers kind (finished_lines course.read) course.written
   finished_lines_answered = rw (finished_records-ended_records line_end course.read) served.answered
 
-  -- so what is written is right for a run that is out of memory then
+  -- between two reads, what is written is right for a run that is out of memory then
   pub first_lines_answered : IsWritten kind course.read (Err Memory) course.written
   first_lines_answered = (finished_lines course.read, ([], sym (append-nil (finished_lines course.read))), finished_lines_answered)
 
@@ -103,7 +104,8 @@ module _ (kind : Kind) (course : Course) (served : IsServed kind course) where
       rw (records_of-ended_records line_end course.read, ← served.begun, none, append-nil (ended_records line_end [] course.read))
       served.answered
 
-  -- with the answer to the unfinished line it is the report, if there is one
+  -- at the end of the input, what is written and the answer to the unfinished line are the report, if there is such a
+  -- line
   report_with_last_line : course.line ≢ [] → (answer : List ℕ) → IsAnswer kind course.line answer
       → IsReport kind course.read (course.written ++ answer)
   report_with_last_line some answer is_answer =
@@ -146,7 +148,8 @@ IsWritten-ended_lines each kind read Memory written at = rw (finished_records-en
 IsWritten-ended_lines each kind read Read written at = absurd at
 IsWritten-ended_lines each kind read Write written at = prefix_of_report each kind read written at
 
--- the same for an error in the lines of the next piece
+-- what is written before a piece, then what an error leaves written for it, is right for a run that fails with this
+-- error
 pub IsWritten-piece : EachLineHasAnAnswer → (kind : Kind) (course : Course) → IsServed kind course → (piece : List ℕ) (error : RunError)
     (written : List ℕ) → IsAnswered kind (ended_records line_end course.line piece) (Err error) written
     → IsWritten kind (course.read ++ piece) (Err error) (course.written ++ written)

@@ -13,6 +13,7 @@ use byte_unit_format::write_with_digits;
 use std::alloc::{AllocError, Allocator};
 
 /// The maximum length in bytes of an answer: two strings of at most 37 bytes, ` = ` between them, and the line end.
+/// No text of a size without a width is longer than 37 bytes.
 pub(crate) const ANSWER_MAX: usize = 78;
 
 /// Appends the answer to the line at the beginning of bytes, its first `len` bytes, with its line end.
@@ -54,6 +55,7 @@ fn add_answer_of<const BITS: bool, A: Allocator>(
     ensures growth { GrowsByAnswer out.old out.new result }
 {
     let kind = if BITS { Kind::Bit } else { Kind::Byte };
+    // Prefixes mean what they say (`::<false>`), and case counts.
     match size::parse_line::<false>(bytes, len, false, kind) {
         None => out.extend_from_slice(b"not text\n"),
         Some(Err(error)) => out.extend_from_slice(fault_line_of(&error)),

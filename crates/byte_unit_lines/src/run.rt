@@ -23,7 +23,7 @@ use std::io::{Read, Write};
 /// The byte that ends a line.
 const LINE_END: u8 = b'\n';
 
-/// The number of bytes that [`run`] asks for in each read.
+/// The number of bytes that [`run`] asks for in each read: 64 KiB.
 const CHUNK: usize = 65536;
 
 /// What a run keeps from one read to the next.
@@ -94,13 +94,15 @@ pub fn run<R: Read, W: Write>(
 {
     let mut buffer = [0u8; CHUNK];
     let mut buffers = Buffers::new(alloc);
+    // `usize::MAX`: lines of any length.
     run_with_buffers(&mut buffers, usize::MAX, &mut buffer, reader, writer, kind)
 }
 
 /// Does what [`run`] does, with any allocator, for lines of at most `longest` bytes, in reads of at most the length of
 /// `buffer`, and without an allocation after the start.
 ///
-/// At the start it allocates `longest` bytes and 79 times the length of `buffer`.
+/// At the start it allocates `longest` bytes and 79 times the length of `buffer`: once for a line, and 78 times for the
+/// answers, if each byte of a read ends a line.
 ///
 /// Precondition (proved at every call): `buffer` is not empty.
 ///
@@ -183,6 +185,7 @@ pub fn run_with_buffers<A: Allocator, R: Read, W: Write>(
     ensures read_failed { IsErrOf result RunError.Read → IsTrue (reading_failed reader.new) }
     ensures write_failed { IsErrOf result RunError.Write → IsTrue (writing_failed writer.new) }
 {
+    // The goals about the loop have their names from this label.
     'reads: loop {
         match reader.read(buffer) {
             None => return Err(RunError::Read),
@@ -248,6 +251,7 @@ fn answer_piece<A: Allocator, W: Write>(
     // If allocation failed, the answers to the lines before are written all the same.
     write_whole(writer, waiting, RunError::Write)?;
     waiting.clear();
+    // `?` converts an `AllocError` to a `RunError`.
     Ok(fed?)
 }
 
@@ -276,6 +280,7 @@ fn feed<A: Allocator>(
     let mut rest = bytes;
     while let Some(n) = end_of(rest, LINE_END) {
         if line.is_empty() {
+            // Nothing of the line was read before: it is answered where it lies, without a copy.
             add_answer(rest, n, kind, waiting)?;
         } else {
             line.extend_from_slice(&rest[..n])?;

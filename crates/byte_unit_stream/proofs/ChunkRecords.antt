@@ -8,7 +8,7 @@ use Rattle.std.specs.List.{onto_first}
 use Rattle.byte_unit_stream.specs.Records.{parts, but_last, but_empty_last, records_of, finished_records}
 use Rattle.byte_unit_stream.specs.Chunks.{ended_records, begun_record, nonempty_record}
 
--- the parts with these bytes put before the first of them
+-- the function that puts these bytes before the first of the parts
 abbrev onto : List ℕ → List (List ℕ) → List (List ℕ)
 onto part [] = part ∷ []
 onto part (own ∷ others) = (part ++ own) ∷ others
@@ -47,6 +47,7 @@ module _ (end : ℕ) where
   begun_record-append part (byte ∷ front) back =
       grind (arith, nat_tests, begun_record-append [] front back, begun_record-append (part ++ byte ∷ []) front back)
 
+  -- an input has a first part, even if it has no bytes
   pub parts_IsSplit : (bytes : List ℕ) → IsSplit (parts end bytes)
   parts_IsSplit [] = ([], [], refl)
   parts_IsSplit (byte ∷ bytes) =
@@ -63,6 +64,7 @@ module _ (end : ℕ) where
       let joined = append_assoc part (byte ∷ []) split.0 in
       grind (arith, nat_tests, append-nil part, split.2, joined, parts-onto [] bytes, parts-onto (part ++ byte ∷ []) bytes)
 
+  -- the parts of an input are the records that end in it, then the unfinished record
   pub parts-ended_records : (bytes : List ℕ)
       → parts end bytes ≡ ended_records end [] bytes ++ begun_record end [] bytes ∷ []
   parts-ended_records bytes = grind (arith, (parts_IsSplit bytes).2, parts-onto [] bytes)
@@ -76,9 +78,10 @@ module _ (end : ℕ) where
       → records_of end bytes ≡ ended_records end [] bytes ++ nonempty_record (begun_record end [] bytes)
   records_of-ended_records bytes = ap but_empty_last (parts-ended_records bytes) ∙ but_empty_last-snoc _ _
 
-  -- The byte at `place` comes after the bytes before it: an end byte finishes the record that was begun, and any other
-  -- byte extends it.
+  -- one byte more, that at `place`: an end byte finishes the record that was begun, and any other byte extends it
   module _ (part bytes : List ℕ) (place : ℕ) (fits : place < length bytes) where
+    -- the records that end before the next place: those that end before this one, and the unfinished one if the byte
+    -- ends it
     ended_records-more : ended_records end part (take (place + 1) bytes)
         ≡ ended_records end part (take place bytes)
         ++ cond (eqb (get_or bytes place 0) end) (begun_record end part (take place bytes) ∷ []) []
@@ -86,23 +89,28 @@ module _ (end : ℕ) where
         ap (ended_records end part) (take_more bytes place 0 fits)
         ∙ ended_records-append part (take place bytes) (get_or bytes place 0 ∷ [])
 
+    -- the unfinished record before the next place: empty after an end byte, and else longer by the byte
     begun_record-more : begun_record end part (take (place + 1) bytes)
         ≡ cond (eqb (get_or bytes place 0) end) [] (begun_record end part (take place bytes) ++ get_or bytes place 0 ∷ [])
     begun_record-more =
         ap (begun_record end part) (take_more bytes place 0 fits)
         ∙ begun_record-append part (take place bytes) (get_or bytes place 0 ∷ [])
 
+    -- an end byte ends the unfinished record, so one more record ends
     pub ended_records-take-end_byte : get_or bytes place 0 ≡ end → ended_records end part (take (place + 1) bytes)
         ≡ ended_records end part (take place bytes) ++ begun_record end part (take place bytes) ∷ []
     ended_records-take-end_byte is_end = rw (eq-eqb _ _ is_end) at ended_records-more
 
+    -- after an end byte no record has begun
     pub begun_record-take-end_byte : get_or bytes place 0 ≡ end → begun_record end part (take (place + 1) bytes) ≡ []
     begun_record-take-end_byte is_end = rw (eq-eqb _ _ is_end) at begun_record-more
 
+    -- no record ends at another byte
     pub ended_records-take-other_byte : get_or bytes place 0 ≢ end
         → ended_records end part (take (place + 1) bytes) ≡ ended_records end part (take place bytes)
     ended_records-take-other_byte is_other = (rw (ne_eqb _ _ is_other) at ended_records-more) ∙ append-nil _
 
+    -- another byte is added to the unfinished record
     pub begun_record-take-other_byte : get_or bytes place 0 ≢ end
         → begun_record end part (take (place + 1) bytes)
         ≡ begun_record end part (take place bytes) ++ get_or bytes place 0 ∷ []
@@ -115,7 +123,7 @@ module _ (end : ℕ) where
   ended_records-take-drop part bytes place =
       ap (ended_records end part) (sym (take-append-drop place bytes)) ∙ ended_records-append part (take place bytes) (drop place bytes)
 
-  -- the unfinished record, by the bytes before a place and those after it
+  -- the unfinished record after some bytes is the one after those from a place on, begun by the one before the place
   pub begun_record-take-drop : (part bytes : List ℕ) (place : ℕ)
       → begun_record end part bytes ≡ begun_record end (begun_record end part (take place bytes)) (drop place bytes)
   begun_record-take-drop part bytes place =

@@ -18,7 +18,8 @@ IsUnbroken-other_byte end bytes place fits unbroken is_other part = (
       (append_assoc part (take place bytes) (get_or bytes place 0 ∷ [])),
 )
 
--- the same for several bytes, none of which is an end byte
+-- if no record ends before a place, and none of the next bytes is an end byte, no record ends before the place after
+-- them
 pub IsUnbroken-other_bytes : (end : ℕ) (bytes : List ℕ) (place count : ℕ) → place + count ≤ length bytes → IsUnbroken end (take place bytes)
     → ((k : ℕ) → place ≤ k → k < place + count → eqb (get_or bytes k 0) end ≡ false) → IsUnbroken end (take (place + count) bytes)
 IsUnbroken-other_bytes end bytes place zero fits unbroken none = subst (λ to. IsUnbroken end (take to bytes)) (omega arith) unbroken
@@ -32,14 +33,16 @@ IsUnbroken-other_bytes end bytes place (suc count) fits unbroken none =
 abbrev pub EndsAt : ℕ → List ℕ → ℕ → Type 0
 EndsAt end bytes place = (place < length bytes) × (get_or bytes place 0 ≡ end) × IsUnbroken end (take place bytes)
 
--- the record that ends there is the first one, and the records and the unfinished record of the rest follow
+-- the records of bytes in which the first record ends at this place
 module _ (end : ℕ) (part bytes : List ℕ) (place : ℕ) (ends : EndsAt end bytes place) where
+  -- the record that ends at this place is the first one, and the records of the bytes after it follow
   pub ended_records-EndsAt : ended_records end part bytes ≡ (part ++ take place bytes) ∷ ended_records end [] (drop (place + 1) bytes)
   ended_records-EndsAt =
       let records = ended_records-take-end_byte end part bytes place ends.0 ends.1 in
       let begun = begun_record-take-end_byte end part bytes place ends.0 ends.1 in
       rw (ended_records-take-drop end part bytes (place + 1), records, begun, (ends.2 part).0, (ends.2 part).1) refl
 
+  -- the unfinished record is that of the bytes after this place
   pub begun_record-EndsAt : begun_record end part bytes ≡ begun_record end [] (drop (place + 1) bytes)
   begun_record-EndsAt =
       rw (begun_record-take-drop end part bytes (place + 1), begun_record-take-end_byte end part bytes place ends.0 ends.1) refl

@@ -13,6 +13,7 @@ longest_of-append : (front back : List (List ℕ)) → longest_of (front ++ back
 longest_of-append [] back = omega arith
 longest_of-append (bytes ∷ front) back = omega (arith, longest_of-append front back)
 
+-- the longest of the list of one record, or of none, is as long as that record; an empty one counts as none
 longest_of-nonempty_record : (part : List ℕ) → longest_of (nonempty_record part) ≡ length part
 longest_of-nonempty_record [] = omega arith
 longest_of-nonempty_record (byte ∷ bytes) = omega arith
@@ -37,7 +38,7 @@ module _ (end : ℕ) where
       let on = longest_of-ended_records (part ++ byte ∷ []) bytes bound some (omega (arith, length-append part (byte ∷ []))) in
       grind (arith, nat_tests, others, on)
 
-  -- so those that end in a next chunk stay below a bound that the unfinished record and the chunk do not exceed
+  -- the records that end in a next chunk stay below a bound that the unfinished record and the chunk do not exceed
   pub longest_of-ended_records-append : (front back : List ℕ) (bound : ℕ) → longest_of (ended_records end [] front) < bound
       → length (begun_record end [] front) + length back ≤ bound → longest_of (ended_records end [] (front ++ back)) < bound
   longest_of-ended_records-append front back bound below fits =
@@ -51,7 +52,7 @@ module _ (end : ℕ) where
       → length part ≤ longest_record end bytes
   longest_record-unfinished bytes part part_is = omega (arith, longest_record-ended_records bytes, ap length part_is)
 
-  -- and it is below a bound if the unfinished record and the others are
+  -- the longest record of an input is below a bound if the unfinished record and those that end in it are
   pub longest_record-below : (bytes part : List ℕ) (bound : ℕ) → part ≡ begun_record end [] bytes
       → longest_of (ended_records end [] bytes) < bound → length part < bound → longest_record end bytes < bound
   longest_record-below bytes part bound part_is ended unfinished =

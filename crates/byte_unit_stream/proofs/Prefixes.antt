@@ -8,7 +8,7 @@ module _ {X : Type 0} where
   pub IsPrefix-longer : (front whole more : List X) → IsPrefix front whole → IsPrefix front (whole ++ more)
   IsPrefix-longer front whole more (rest, is) = (rest ++ more, ap (λ xs. xs ++ more) is ∙ append_assoc front rest more)
 
-  -- and it stays one with the same list in front of both
+  -- a prefix stays a prefix with the same list in front of both
   pub IsPrefix-after : (before front whole : List X) → IsPrefix front whole → IsPrefix (before ++ front) (before ++ whole)
   IsPrefix-after before front whole (rest, is) = (rest, ap (λ xs. before ++ xs) is ∙ sym (append_assoc before front rest))
 
@@ -20,11 +20,11 @@ module _ {X : Type 0} where
   pub take-IsPrefix : (front whole : List X) → IsPrefix front whole → take (length front) whole ≡ front
   take-IsPrefix front whole (rest, is) = ap (take (length front)) is ∙ take-append_seam front rest
 
-  -- the whole list replaced by an equal one
+  -- a prefix of a list is a prefix of an equal list
   pub IsPrefix-same : (front : List X) {whole same : List X} → same ≡ whole → IsPrefix front whole → IsPrefix front same
   IsPrefix-same front is prefix = subst (IsPrefix front) (sym is) prefix
 
-  -- a list that a call appends to, or leaves
+  -- if a call appends to a list or leaves it as it is, the list is a prefix of the result
   pub IsPrefix-if : (yes : Bool) (front more : List X) {whole : List X} → whole ≡ (if yes then front ++ more else front)
       → IsPrefix front whole
   IsPrefix-if true front more is = (more, is)

@@ -4,7 +4,7 @@ ghost use Rattle.std.specs.Prelude.{◌≡◌};
 
 use std::io::{self, Error, ErrorKind, Read, Write};
 
-/// Each call transfers all bytes.
+/// Each call transfers all bytes. `step` has no meaning if `calls` is 0.
 pub const AT_ONCE: Pace = Pace {
     step: 0,
     calls: 0,
@@ -87,6 +87,7 @@ pub struct MemoryReader<'a> {
 
 impl<'a> Read for MemoryReader<'a> {
     fn read(&mut self, buf: &mut [u8]) -> io::Result<usize> {
+        // No call transfers more than is left, and than there is room for.
         let asked = self.rest.len().min(buf.len());
         let n = self.pace.next(asked)?.min(asked);
         let (front, rest) = self.rest.split_at(n);

@@ -24,8 +24,11 @@ use std::io::Read;
 /// ```
 #[derive(Drop)]
 pub struct FusedReader<R> {
+    /// The reader.
     inner: R,
+    /// Whether a read has returned `None`.
     failed: bool,
+    /// The number of calls of the reader.
     count: u64,
 }
 
@@ -86,6 +89,7 @@ impl<R: Read> FusedReader<R> {
             → reads_left self.new + 1 ≡ reads_left self.old }
     {
         if self.failed || self.count == u64::MAX {
+            // Not set before if the number of reads has reached its bound.
             self.failed = true;
             return None;
         }

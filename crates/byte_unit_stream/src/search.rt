@@ -5,7 +5,7 @@ ghost use Rattle.byte_unit_stream.specs.Chunks.{IsUnbroken};
 
 use std::simd::prelude::*;
 
-/// The number of bytes that are compared at once.
+/// The number of bytes that are compared at once: those of a vector `u8x16`.
 const LANES: usize = 16;
 
 /// Returns the index of the first end byte, or `None` if there is none.

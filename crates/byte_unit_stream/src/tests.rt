@@ -5,6 +5,7 @@ use crate::{FusedReader, FusedWriter, end_of, write_whole};
 use std::io::{self, Error, ErrorKind, Read, Write};
 use std::process::Abort;
 
+/// The bytes that are read and written.
 const BYTES: &[u8] = b"0123456789";
 
 /// Returns a writer in memory with this pace.
@@ -17,6 +18,7 @@ fn writer(rt: &(impl Abort + AllocGlobal), pace: Pace) -> FusedWriter<MemoryWrit
 
 #[test]
 fn each_pace_of_reads(rt: HostRuntime) {
+    // At most three bytes in each of 100 calls, which are more than the test makes.
     let three = Pace::new(3, 100, Then::AtMost(usize::MAX));
     for (number, pace) in [AT_ONCE, BYTE_BY_BYTE, ALL_BUT_ONE, three]
         .iter()
@@ -77,6 +79,7 @@ fn a_failure_is_remembered(rt: HostRuntime) {
     let first = (reader.read(&mut buffer), reader.failed());
     let second = (reader.read(&mut buffer), reader.failed());
     assert_eq!(rt; [first, second], [(Some(1), false), (None, true)]);
+    // The reader inside has lost no byte: at another pace it goes on with the next one.
     let mut inner = reader.into_inner();
     inner.pace = BYTE_BY_BYTE;
     assert_eq!(rt; inner.read(&mut buffer).ok(), Some(1));
@@ -85,6 +88,7 @@ fn a_failure_is_remembered(rt: HostRuntime) {
     let first = (writer.write(b"12"), writer.failed());
     let second = (writer.write(b"34"), writer.failed());
     assert_eq!(rt; [first, second], [(Some(2), false), (None, true)]);
+    // The writer inside goes on too, after the bytes that it has accepted.
     let mut inner = writer.into_inner();
     inner.pace = BYTE_BY_BYTE;
     assert_eq!(rt;
@@ -115,6 +119,7 @@ fn only_a_broken_pipe_closes(rt: HostRuntime) {
         let found = (before, writer.write(b"1"), writer.failed(), writer.closed());
         assert_eq!(rt; found, (false, None, true, closed), "{kind:?}");
     }
+    // A writer that accepts no byte has failed, but its reader has not gone.
     let mut writer = writer(&rt, Pace::new(0, 0, Then::AtMost(0)));
     assert_eq!(rt;
         (writer.write(b"1"), writer.failed(), writer.closed()),
@@ -127,6 +132,7 @@ fn each_place_of_an_end(rt: HostRuntime) {
     for end in [b'\n', 0, 0xFF] {
         // Two bytes with this end, and before it bytes that differ from it in the highest bit.
         let other = end ^ 0x80;
+        // 50 bytes: three vectors of 16 bytes, and two bytes after them.
         for place in 0..50usize {
             let mut bytes = [other; 50];
             bytes[place] = end;

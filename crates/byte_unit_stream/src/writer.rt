@@ -22,7 +22,9 @@ use std::io::{ErrorKind, Write};
 /// ```
 #[derive(Drop)]
 pub struct FusedWriter<W> {
+    /// The writer.
     inner: W,
+    /// How the first write that failed has failed; `None` if none has.
     failure: Option<Failure>,
 }
 
@@ -97,6 +99,7 @@ impl<W: Write> FusedWriter<W> {
         }
         match self.inner.write(bytes) {
             Ok(n) if n > 0 => Some(n),
+            // No byte was accepted: an error, as in `Write::write_all` of std, since a loop would not end.
             Ok(_) => {
                 self.record_failure(ErrorKind::WriteZero);
                 None

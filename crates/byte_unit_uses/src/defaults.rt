@@ -10,7 +10,9 @@ use std::alloc::Global;
 /// The limits of a service.
 #[derive(Debug, Clone, Copy)]
 pub struct Limits {
+    /// The limit of a cache.
     pub cache: Byte,
+    /// The limit of one upload.
     pub upload: Byte,
 }
 

@@ -30,7 +30,9 @@ pub enum SettingsError {
 /// A cache limit, and the unit in which a report shows it.
 #[derive(Debug, Clone, Copy)]
 pub struct Settings {
+    /// The limit of a cache.
     pub cache: Byte,
+    /// The unit that sizes are shown in.
     pub unit: Unit,
 }
 

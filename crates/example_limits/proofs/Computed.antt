@@ -24,6 +24,6 @@ computed : option_and_then limits_in (parse_document DEFAULTS.now) ≡ Some defa
 unfolding toml_on_literals byte_unit_on_literals limits_in
 computed = refl
 
--- the limits in the table of the text
+-- the limits in the table that the text is parsed as are the default limits
 pub defaults_in : (table : Members) → parse_document DEFAULTS.now ≡ Some table → limits_in table ≡ Some defaults
 defaults_in table is_text = ap (option_and_then limits_in) (sym is_text) ∙ computed

@@ -38,7 +38,7 @@ module _ (kind : Kind) (key : List ℕ) (entries : List Entry) where
   found_at found finds =
       ap (λ value. parsed kind (option_and_then as_str value)) (table_get found key entries finds)
 
-  -- and so what a call that parses the value there returns on `Ok`
+  -- the size at a key is what a call that parses the value there returns on `Ok`
   pub parsed_at : (value : Bor Value)
       → Some value.now ≡ lookup (is_at (λ x. slice_cmp nat_cmp key (string_bytes x))) entries → (result : Result ℕ TomlSizeError)
       → ReadsString size_errors (IsSizeReading kind false) (as_str (view value.now)) result

@@ -12,8 +12,11 @@ use std::alloc::{AllocError, Global};
 /// A user, the size used and the quota.
 #[derive(Drop)]
 struct User {
+    /// The name.
     name: String,
+    /// The size used.
     used: Byte,
+    /// The quota.
     quota: Byte,
 }
 

@@ -20,7 +20,9 @@ const CELL: FormatSpec = FormatSpec {
 /// A transfer: its size and its duration in seconds.
 #[derive(Clone, Copy)]
 struct Transfer {
+    /// The size.
     size: Byte,
+    /// The duration in seconds.
     seconds: u64,
 }
 

@@ -24,17 +24,20 @@ FIGURE = re.compile(r"^(?:(.*?): )?(.+?)(?: of (?!.* of )(.+?))? +([0-9]+(?:\.[0
 
 
 def by_c(name, library, work):
+    """Builds a program in C over the library, and returns a function that runs it and returns what it prints."""
     made, archive = os.path.join(work, name), os.path.join(library, "libbyte_unit.a")
     output("cc", "-std=c11", "-O2", "-I", library, path("bindings/c/checks", f"{name}.c"), archive, "-o", made)
     return lambda: output(*ONE_PROCESSOR, made)
 
 
 def by_rust(crate, library):
+    """Builds a program in Rust over the library, and returns a function that runs it."""
     made = builds.program("bindings/rust/checks/speed.rs", crate, library)
     return lambda: output(*ONE_PROCESSOR, made)
 
 
 def by_python(library, work):
+    """Builds the binding for Python, and returns a function that runs a program over it."""
     env = builds.environment(BYTE_UNIT_LIBRARY_DIR=library, PYTHONPATH=f"{work}/python")
     words = ["setup.py", "-q", "build", "--build-base", f"{work}/build", "--build-lib", f"{work}/python"]
     output(DEBIAN_PYTHON, *words, cwd=path("bindings/python"), env=env)
@@ -42,6 +45,7 @@ def by_python(library, work):
 
 
 def by_sqlite(library):
+    """Returns a function that measures each statement of a script in SQLite, by user and system time."""
     words = [*ONE_PROCESSOR, "sqlite3", "-batch", "-cmd", f'.load "{library}/sqlite3/byte_unit"', ":memory:"]
     script = read("bindings/sqlite/checks/speed.sql")
 
@@ -54,6 +58,7 @@ def by_sqlite(library):
 
 
 def by_postgresql(library):
+    """Returns a function that measures each statement of scripts on a server of its own."""
     scripts = ["speed.sql", *["speed_unit.sql"] * is_there(POSTGRESQL_UNIT)]
     script = "".join(read(f"bindings/postgresql/checks/{name}") for name in scripts)
 

@@ -33,6 +33,7 @@ def write_lines(file, line, count, seed):
 
 
 def digits(rng, least, most=0):
+    """Returns a number of `least` to `most` digits, or of `least`, that does not begin with 0."""
     return rng.choice("123456789") + "".join(rng.choices("0123456789", k=rng.randint(least, most or least) - 1))
 
 
@@ -44,15 +45,18 @@ def number(rng, most_whole, most_all):
 
 
 def long(rng):
+    """Returns a line with up to 20 digits before the point and 28 after it; one in ten is rejected."""
     text = f"{digits(rng, 1, 20)}.{digits(rng, 1, 28)}"
     return text + rng.choice([" x", "1e3", ".", ""]) + " KiBB" if rng.random() < 0.1 else f"{text} {rng.choice(UNITS)}"
 
 
 def short(rng):
+    """Returns a line with a number of at most six digits, three of them before the point, and a unit of a letter."""
     return number(rng, 3, 6) + rng.choice(LETTERS)
 
 
 def fields(rng):
+    """Returns a line of four short sizes with commas between them."""
     return ",".join(short(rng) for _ in range(4))
 
 
@@ -129,6 +133,7 @@ def by_hand(work):
 
 
 def answers(command, file):
+    """Returns what a command prints for the lines of a file."""
     with open(file, "rb") as lines:
         return output(*command, stdin=lines)
 

@@ -18,6 +18,7 @@ PROGRAMS = "crates/byte_unit_tests/src/tests/programs.rt"
 
 
 def shell(command, folder, words=("bash", "-euo", "pipefail", "-c"), env=None):
+    """Runs a block of commands in a folder, by a shell, and returns its status and output."""
     return call(*words, command, cwd=folder, env=env, stdin=subprocess.DEVNULL, stderr=subprocess.PIPE)
 
 
@@ -31,6 +32,7 @@ def differs(page, command, wanted, folder, **more):
 
 
 def is_built(program, page):
+    """Returns whether a program is built, and prints a line if not, since commands of the page are skipped then."""
     if not os.path.exists(path(program)):
         print(f"skipped: commands of {page}: {program} is not built", flush=True)
     return os.path.exists(path(program))

@@ -10,8 +10,11 @@ use std::alloc::Allocator;
 /// The result of a run, the bytes that it has written, and what is left of its input.
 #[derive(Drop)]
 pub struct Ended<'a> {
+    /// The result.
     pub result: Result<(), RunError>,
+    /// The bytes that were written.
     pub taken: Vec<u8>,
+    /// The bytes of the input that were not read.
     pub left: &'a [u8],
 }
 

@@ -45,6 +45,7 @@ type Call = (
     &'static [u8],
 );
 
+/// Calls with valid and invalid arguments, and with streams that fail.
 const CALLS: &[Call] = &rows! {
     (&[], Some(Kind::Byte), OPEN, Ending::Done, b"1000 = 1 KB\n", b""),
     (&["byte"], Some(Kind::Byte), OPEN, Ending::Done, b"1000 = 1 KB\n", b""),

@@ -5,8 +5,10 @@ use super::refusing::Refusing;
 use super::*;
 use byte_unit_stream::paced::{ALL_BUT_ONE, AT_ONCE, BYTE_BY_BYTE, Pace, Then};
 
+/// Five lines, the last one without a line end.
 const INPUT: &[u8] = b"1.5 KiB\n\n1Kbi\nx\n1YB";
 
+/// Their answers.
 const OUTPUT: &[u8] =
     b"1536 = 1.5 KiB\nno value\nbad unit\nnot a number\n1000000000000000000000000 = 1 YB\n";
 
@@ -155,9 +157,11 @@ fn each_end_of_the_input(rt: HostRuntime) {
 
 #[test]
 fn failing_after_a_piece(rt: HostRuntime) {
+    // One read of six bytes, in which one line ends, and then one that fails.
     let reads = [(Pace::new(6, 1, Then::Fail), AT_ONCE)];
     let wanted = (Err(RunError::Read), b"1000 = 1 KB\n".as_slice());
     check(&rt, b"1KB\n2K", &reads, wanted, "a read", 1);
+    // One write of five bytes, which are a part of the answer, and then one that fails.
     let writes = [
         (AT_ONCE, Pace::new(5, 1, Then::Fail)),
         (AT_ONCE, Pace::new(5, 1, Then::AtMost(0))),

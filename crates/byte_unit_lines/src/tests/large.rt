@@ -93,6 +93,7 @@ fn many_reads(rt: HostRuntime) {
     let input = repeated(&rt, b"1KB\nx\n\n12\n", 20_000, b"");
     let report = b"1000 = 1 KB\nnot a number\nno value\n12 = 12 B\n";
     let report = repeated(&rt, report, 20_000, b"");
+    // The input has 200,000 bytes, and one more read returns 0 for its end.
     let reads = [(Pace::new(1, 200_001, Then::Fail), AT_ONCE)];
     check(&rt, &input, &reads, (Ok(()), &report), "reads", 200_001);
     let reads = [(Pace::new(1, 200_000, Then::Fail), AT_ONCE)];

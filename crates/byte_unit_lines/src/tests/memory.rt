@@ -7,11 +7,17 @@ use std::alloc::{AllocError, Allocator};
 /// A call that appends to a string.
 #[derive(Clone, Copy)]
 enum Call {
+    /// `Byte::append_text`.
     Bytes(FormatSpec),
+    /// `Bit::append_text`.
     Bits(FormatSpec),
+    /// `AdjustedByte::append_text`.
     AdjustedBytes(FormatSpec),
+    /// `AdjustedBit::append_text`.
     AdjustedBits(FormatSpec),
+    /// `append_plain`.
     Plain,
+    /// `append_layout`.
     Layout,
 }
 
@@ -92,6 +98,7 @@ fn expect_allocation(rt: &(impl Abort + AllocGlobal), call: Call, reserved: usiz
 #[test]
 fn appending_allocates_once_or_never(rt: HostRuntime) {
     for (call, whole) in CALLS {
+        // No capacity after `ab`, one byte too little, and just enough.
         expect_allocation(&rt, *call, 2, whole);
         expect_allocation(&rt, *call, whole.len().saturating_sub(1), whole);
         expect_success(&rt, *call, 2, whole.len(), whole);

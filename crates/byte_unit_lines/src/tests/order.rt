@@ -6,6 +6,7 @@ use byte_unit_stream::paced::{AT_ONCE, MemoryReader, MemoryWriter, Pace, Then};
 use std::cell::Cell;
 use std::io::{self, Read, Write};
 
+/// Three lines of four bytes each.
 const INPUT: &[u8] = b"1KB\n2KB\n3KB\n";
 
 /// Reads that give one line each.
@@ -18,8 +19,11 @@ const BY_LINE: Pace = Pace {
 /// A reader that records at each call how many bytes a writer has accepted so far.
 #[derive(Drop)]
 pub struct NotingReader<'a> {
+    /// The reader.
     pub inner: MemoryReader<'a>,
+    /// The number of bytes that the writer has accepted.
     pub taken: &'a Cell<usize>,
+    /// That number at each call so far.
     pub notes: Vec<usize>,
 }
 
@@ -33,7 +37,9 @@ impl<'a> Read for NotingReader<'a> {
 /// A writer that counts the bytes that it accepts.
 #[derive(Drop)]
 pub struct CountingWriter<'a> {
+    /// The writer.
     pub inner: MemoryWriter,
+    /// The number of bytes that it has accepted.
     pub taken: &'a Cell<usize>,
 }
 

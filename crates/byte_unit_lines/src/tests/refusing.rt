@@ -8,8 +8,11 @@ mod tests;
 /// The number of allocations so far, and the numbers of those that fail.
 #[derive(Drop)]
 struct Requests {
+    /// The number of the first allocation that fails.
     first: u64,
+    /// The number of the last one that fails.
     last: u64,
+    /// The number of allocations so far.
     asked: Cell<u64>,
 }
 
@@ -34,7 +37,9 @@ impl Requests {
 /// was; the first and the third succeed.
 #[derive(Drop)]
 pub(crate) struct Refusing<A: Allocator> {
+    /// The allocator that the other allocations are made by.
     inner: A,
+    /// The count, and which allocations fail.
     requests: Requests,
 }
 

@@ -5,6 +5,7 @@ use std::str;
 /// Inputs and their outputs.
 type Rows = &'static [(&'static [u8], &'static str)];
 
+/// Sizes in bytes, and numbers of bits that are rounded up to whole bytes; an empty line, and no line.
 const WHOLE_SIZES: Rows = &[
     (b"3 KB\n12\n\n", "3000 = 3 KB\n12 = 12 B\nno value\n"),
     (b"9 b\n7 Kb\n  12  \n", "2 = 2 B\n875 = 875 B\n12 = 12 B\n"),
@@ -12,6 +13,7 @@ const WHOLE_SIZES: Rows = &[
     (b"", ""),
 ];
 
+/// Sizes with a decimal point, with small letters, and without a line end after the last line.
 const FRACTIONS: Rows = &rows! {
     (b"1.5 KiB\n1.\n1kb\n1zb\n1 K\n",
         "1536 = 1.5 KiB\nnot a number\n125 = 125 B\n125000000000000000000 = 125 EB\n1000 = 1 KB\n"),
@@ -19,6 +21,7 @@ const FRACTIONS: Rows = &rows! {
         "1536 = 1.5 KiB\nno value\nbad unit\nnot a number\n1000000000000000000000000 = 1 YB\n"),
 };
 
+/// Numbers at a bound: 10^30 and more (out of range), 2^112 (number too long), and 2^64 - 1 and 2^64.
 const BOUNDS: Rows = &rows! {
     (b"999999999999999999999999999\n", "999999999999999999999999999 = 999999999999999999999999.999 KB\n"),
     (b"999999999999999999999999999999.0000000000000000000000000001\n1000 RB\n", "out of range\nout of range\n"),
@@ -39,6 +42,8 @@ const SIZES_PAST_THE_BOUNDS_OF_V1: Rows = &rows! {
     (b"1 RiB\n1rib\n", "1237940039285380274899124224 = 1 RiB\n154742504910672534362390528 = 128 YiB\n"),
 };
 
+/// One or more lines for each parse error, and bytes that are not UTF-8: a surrogate (ED A0 80), an overlong form (C0
+/// 80) and a character that is cut off (C3).
 const PARSE_ERRORS: Rows = &rows! {
     (b"   \n1\tKB\nx\n-1\n", "no value\nbad unit\nnot a number\nnot a number\n"),
     (b"1000 YX\n1KB x\n1 5\n", "bad unit\nbad unit\nbad unit\n"),
@@ -47,6 +52,8 @@ const PARSE_ERRORS: Rows = &rows! {
     (b"1KB\r\n1\xFF\n1\xC3\n1\x00\n", "1000 = 1 KB\nnot text\nnot text\nbad unit\n"),
 };
 
+/// Lines that the documentation explains: a byte order mark (EF BB BF) is no number, `b` means bits and `B` bytes, and
+/// words, separators and comments are not accepted.
 const DOCUMENTED_LINES: Rows = &rows! {
     (b"\xEF\xBB\xBF1 KB\n2 KB\n", "not a number\n2000 = 2 KB\n"),
     (b"100 MB\n100mB\n100 M\n", "100000000 = 100 MB\n100000000 = 100 MB\n100000000 = 100 MB\n"),
@@ -60,6 +67,7 @@ const DOCUMENTED_LINES: Rows = &rows! {
     (b"123456789\n", "123456789 = 123456.789 KB\n"),
 };
 
+/// Sizes in bits: what is in bytes is multiplied by 8.
 const BITS: Rows = &rows! {
     (b"1KiB\n1K\n", "8192 = 8 Kib\n1000 = 1 Kb\n"),
     (b"0\n18446744073709551615\n18446744073709551616\n",

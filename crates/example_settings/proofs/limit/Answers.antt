@@ -5,6 +5,7 @@ use Rattle.serde_json.specs.Data.{string}
 use Rattle.serde_json.specs.View.{view}
 use Rattle.example_settings.proofs.limit.Goals as goal
 
+-- the setting is found: it has the size that its string is accepted as
 pub returns-in-Some-clause-present : goal.returns-in-Some-clause-present
 returns-in-Some-clause-present c = λ size states.
     let found = c.in-Some.ensures in

@@ -24,6 +24,7 @@ rest_more bytes i byte left rest =
     drop-set-lt (i + 1) bytes i byte (omega arith)
     ∙ (sym (drop-drop 1 i bytes) ∙ (ap (λ l. drop 1 l) rest ∙ drop-replicate 1 left 0))
 
+-- the invariant holds after one more character
 pub loop-i-preserved : goal.loop-i-preserved
 loop-i-preserved c =
     let bytes = c.loop-i.bytes in

@@ -3,6 +3,7 @@ use Rattle.std.proofs.Common.{◌≡◌, ◌-◌, map, take, drop, replicate, le
 use Rattle.byte_unit_c.specs.Error.{as_byte}
 use Rattle.byte_unit_c.proofs.error.expected_bytes.Given as goal
 
+-- of the 16 bytes, those of the first `i` characters are written, and the others are 0
 abbrev pub invariant-loop-i : goal.invariant-loop-i
 invariant-loop-i l = record {
   size : length l.bytes ≡ 16;

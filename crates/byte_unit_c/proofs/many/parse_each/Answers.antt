@@ -5,6 +5,7 @@ use Rattle.byte_unit_c.specs.Many.{offsets_of}
 use Rattle.byte_unit_c.proofs.Written.{one_more_text}
 use Rattle.byte_unit_c.proofs.many.parse_each.Goals as goal
 
+-- the invariant holds after one more text; `parse_one` returns a pair, the code and the size
 pub loop-i-preserved : goal.loop-i-preserved
 loop-i-preserved g c =
     one_more_text (unit_meant (not (eqb g.row.BINARY 0))) c.args.asked c.args.data.now (offsets_of c.args.offsets) c.loop-i.i c.loop-i.codes c.loop-i.sizes

@@ -4,10 +4,12 @@ use Rattle.std.proofs.lemmas.Bool.Decides.{nat_tests}
 use Rattle.std.specs.Fmt.{debug_char, debug_escape}
 use Rattle.byte_unit_c.proofs.message.is_plain.Goals as goal
 
+-- `Debug` writes a printable ASCII character in quotes (39), if it is no quote and no backslash (92)
 plain : (c : ℕ) → 32 ≤ c → c ≤ 126 → c ≢ 39 → c ≢ 92 → debug_char c ≡ Some (39 ∷ c ∷ 39 ∷ [])
 unfolding debug_escape
 plain c printable ascii no_quote no_backslash = grind (arith, nat_tests)
 
+-- the test of the function is that of the lemma: 32 to 126 are the printable ASCII characters
 pub returns : goal.returns
 returns c = λ t.
     let low : 32 ≤ c.args.c = grind (arith, nat_tests) in

@@ -3,7 +3,7 @@ use Rattle.std.proofs.Common.{◌≡◌, ◌+◌, ℕ, List, [], ◌∷◌, ◌+
 use Rattle.std.specs.Prelude.{codes}
 use Rattle.byte_unit_c.proofs.message.write_quoted.Goals as goal
 
--- the beginning, the character and the rest, each put after the one before
+-- putting the beginning, the character and the rest one after the other gives the message and leaves what follows it
 put_after : (old n1 n2 n3 rest form : List ℕ) (c : ℕ) → form ≡ codes "the character '" ++ c ∷ rest
     → n1 ≡ codes "the character '" ++ drop 15 old
     → n2 ≡ take 15 n1 ++ (c ∷ []) ++ drop 16 n1 → n3 ≡ take 16 n2 ++ rest ++ drop (16 + length rest) n2
@@ -20,6 +20,7 @@ put_after old n1 n2 n3 rest form c is one two three =
     ∙ (ap (λ l. codes "the character '" ++ c ∷ (rest ++ l)) after_all
     ∙ (ap (λ n. codes "the character '" ++ c ∷ (rest ++ drop n old)) all ∙ ap (λ l. l ++ drop (length form) old) (sym is))))
 
+-- the message is 15 bytes, the character, and the rest
 pub returns-then-len-out : goal.returns-then-len-out
 returns-then-len-out c =
     let form = codes "the character '" ++ c.args.character ∷ c.args.rest.now in

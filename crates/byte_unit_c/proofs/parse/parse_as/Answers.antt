@@ -4,8 +4,10 @@ use Rattle.std.proofs.Common.{eqb, not}
 use Rattle.byte_unit_base.specs.BinaryReading.{unit_meant}
 use Rattle.byte_unit_c.proofs.parse.parse_as.Goals as goal
 
+-- the parser has accepted a unit and a number: the size that they are is written
 pub returns-in-Accepted : goal.returns-in-Accepted
 returns-in-Accepted g c =
+    -- a pair: the bytes are UTF-8, and the parser has read a number and a unit in them
     let found = c.in-Accepted.ensures in
     let reading = c.size_of.ensures.reading c.args.asked.ignore_case c.args.text.now found.1 in (
       Some c.size_of.result,

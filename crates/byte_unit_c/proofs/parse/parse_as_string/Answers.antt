@@ -3,6 +3,7 @@ use Rattle.std.proofs.Common.{eqb, not}
 use Rattle.byte_unit_base.specs.BinaryReading.{unit_meant}
 use Rattle.byte_unit_c.proofs.parse.parse_as_string.Goals as goal
 
+-- the bytes are parsed as a string, and the result of that is written
 pub returns : goal.returns
 returns g c =
     let reading = c.parse_text-answer.ensures.reading in

@@ -4,6 +4,7 @@ use Rattle.byte_unit_base.specs.Errors.{size_fault}
 use Rattle.byte_unit_c.specs.Error.{IsErrorOf}
 use Rattle.byte_unit_c.proofs.parse.write_error.Goals as goal
 
+-- an error in the unit: its details are made and written
 pub returns-in-Unit-clause-written : goal.returns-in-Unit-clause-written
 returns-in-Unit-clause-written c =
     let fault_is = sym (ap size_fault c.in-Unit.is) in (

@@ -10,16 +10,19 @@ use Rattle.byte_unit_c.specs.Error.{IsPositionOf}
 use Rattle.byte_unit_c.proofs.Positions.{at_missing_digit}
 use Rattle.byte_unit_c.proofs.parse.write_stop.Goals as goal
 
+-- the parser stops in the unit: the error is built from the state of the unit, and the place is its position
 pub returns-in-InUnit-clause-some : goal.returns-in-InUnit-clause-some
 returns-in-InUnit-clause-some c =
     let at_start = nat_eq c.args.place 0 in
     let next = c.in_ok-next.next in
+    -- a pair: an error that is the one at the stop is the one of the bytes, and the place is the position of the stop
     let stops = c.in_ok-next.ensures c.args.asked.kind c.args.asked.ignore_case c.args.reason c.requires in
     -- the error of the unit, that it is the one where the parser stops, and that it is written
     let written = c.write_unit_stop.ensures in
     let fault_is = written.1
     ∙ (ap (λ reason. stop_fault c.flags_for-flags.result at_start reason next) (sym c.in-InUnit.is)
     ∙ ap (λ flags. stop_fault flags at_start c.args.reason next) c.flags_for-flags.ensures) in
+    -- a pair: the bytes are UTF-8, and parsing them gives this error, for each meaning of a unit
     let is = stops.0 (UnitError written.0) fault_is in
     let position = subst (IsPositionOfStop c.args.text.now c.args.place) c.in-InUnit.is stops.1 in (
       UnitError written.0,
@@ -28,11 +31,13 @@ returns-in-InUnit-clause-some c =
       (c.args.place, position, written.2),
     )
 
+-- the parser stops where a digit is missing: the place is the position of the error
 pub returns-in-NoDigit-clause-some : goal.returns-in-NoDigit-clause-some
 returns-in-NoDigit-clause-some c =
     let bytes = c.args.text.now in
     let at_start = nat_eq c.args.place 0 in
     let next = c.in_ok-next.next in
+    -- a pair, as in the case before
     let stops = c.in_ok-next.ensures c.args.asked.kind c.args.asked.ignore_case c.args.reason c.requires in
     let fault_is = c.error_at.ensures
     ∙ ap (λ flags. stop_fault flags at_start c.args.reason next) c.flags_for-flags.ensures in
@@ -48,6 +53,7 @@ returns-in-NoDigit-clause-some c =
       (c.args.place, position, c.write_error.ensures.written),
     )
 
+-- the number is too long: the position of the error is looked up in the whole string
 pub returns-in-TooLong-clause-some : goal.returns-in-TooLong-clause-some
 returns-in-TooLong-clause-some c =
     let stops = c.in_ok-next.ensures c.args.asked.kind c.args.asked.ignore_case c.args.reason c.requires in

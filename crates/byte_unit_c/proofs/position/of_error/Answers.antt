@@ -4,6 +4,7 @@ use Rattle.byte_unit_base.specs.Errors.{size_fault}
 use Rattle.byte_unit_c.proofs.Positions.{position_of, not_exceeded}
 use Rattle.byte_unit_c.proofs.position.of_error.Goals as goal
 
+-- an error in the number, other than of a size that is too large
 pub returns-in_default : goal.returns-in_default
 returns-in_default c = λ meant kind ignore_case reading.
     position_of meant kind ignore_case c.args.text.now (size_fault c.args.error.now) c.of_size.result
@@ -11,6 +12,7 @@ returns-in_default c = λ meant kind ignore_case reading.
     (sym (ap size_fault c.in-Value.is) ∙ same))
     reading.1.fault (c.of_size.ensures reading.0)
 
+-- an error in the unit
 pub returns-in-Unit : goal.returns-in-Unit
 returns-in-Unit c = λ meant kind ignore_case reading.
     position_of meant kind ignore_case c.args.text.now (size_fault c.args.error.now) c.of_size-in-Unit.result

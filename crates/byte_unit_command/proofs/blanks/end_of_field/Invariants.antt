@@ -3,8 +3,10 @@ use Rattle.std.proofs.Common.{◌-◌, ◌≤◌, length}
 use Rattle.byte_unit_command.proofs.BlankFields.{IsUncut}
 use Rattle.byte_unit_command.proofs.blanks.end_of_field.Given as goal
 
+-- no field ends before the index `i`, which is within the bytes
 abbrev pub invariant-loop-i : goal.invariant-loop-i
 invariant-loop-i l = IsUncut l.bytes l.i × (l.i ≤ length l.bytes)
 
+-- the number of bytes from `i` on falls
 abbrev pub decreases-loop-i : goal.decreases-loop-i
 decreases-loop-i l = length l.bytes - l.i

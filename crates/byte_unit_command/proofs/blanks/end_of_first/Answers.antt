@@ -10,16 +10,17 @@ use Rattle.byte_unit_command.proofs.BlankFields.{between_of-blanks, fields_of-bl
 use Rattle.byte_unit_command.proofs.Splitting.{EndsFirst, between_of-split, fields_of-split}
 use Rattle.byte_unit_command.proofs.blanks.end_of_first.Goals as goal
 
--- what is found, by what the search says of it
+-- what holds of the index that a search finds, by what its contract says of it
 IfSome-map : {P Q : ℕ → Type 0} → ((n : ℕ) → P n → Q n) → (result : Option ℕ) → IfSome result P → IfSome result Q
 IfSome-map to None is = tt
 IfSome-map to (Some n) is = to n is
 
+-- what holds if a search finds nothing, by what its contract says then
 IfNone-map : {P Q : Type 0} → (P → Q) → (result : Option ℕ) → IfNone result P → IfNone result Q
 IfNone-map to None is = to is
 IfNone-map to (Some n) is = tt
 
--- the first field, by the bytes between two fields and by the others
+-- the contract of the end of the first field, for blanks and for delimiters
 ends-first : (options : Options) (bytes : List ℕ) (split : List ℕ → List (List ℕ)) (mark : List ℕ) (n : ℕ)
     → ((bytes : List ℕ) → fields_of options bytes ≡ split bytes) → between_of options ≡ mark → 0 < n + length mark
     → n + length mark ≤ length bytes → split bytes ≡ take n bytes ∷ split (drop (n + length mark) bytes)
@@ -32,11 +33,13 @@ ends-first options bytes split mark n fields_are between some fits first =
           ∙ ap (λ fields. take n bytes ∷ fields) (sym (fields_are (drop (n + length (between_of options)) bytes))),
     )
 
+-- between blanks: the end that is found is that of the first field; the next one begins right after it
 pub returns-then-blanks-clause-some : goal.returns-then-blanks-clause-some
 returns-then-blanks-clause-some c =
     let options = c.args.options.now in
     let bytes = c.args.bytes.now in
     let at : at_blanks options ≡ true = c.requires.blanks ∙ c.if-blanks.true in
+    -- the three parts of `ends`: the field has a byte, more bytes follow, and there the fields are cut
     IfSome-map (λ n ends.
     let same : n ≡ n + 0 = omega arith in
     ends-first options bytes blank_fields [] n (fields_of-blanks options at) (between_of-blanks options at)
@@ -44,6 +47,7 @@ returns-then-blanks-clause-some c =
     (ends.2 ∙ ap (λ count. take n bytes ∷ blank_fields (drop count bytes)) same))
     c.end_of_field.result c.end_of_field.ensures.some
 
+-- between blanks: nothing is found, so the bytes are one field
 pub returns-then-blanks-clause-none : goal.returns-then-blanks-clause-none
 returns-then-blanks-clause-none c =
     let options = c.args.options.now in
@@ -51,6 +55,7 @@ returns-then-blanks-clause-none c =
     IfNone-map (λ one. fields_of-blanks options at c.args.bytes.now ∙ one) c.end_of_field.result
     c.end_of_field.ensures.none
 
+-- at a delimiter: the end that is found is that of the first field; the next one begins after the delimiter
 pub returns-clause-some : goal.returns-clause-some
 returns-clause-some c =
     let options = c.args.options.now in
@@ -63,6 +68,7 @@ returns-clause-some c =
     (parts-EndsAt delimiter bytes n ends))
     c.end_of.result c.end_of.ensures.some
 
+-- at a delimiter: nothing is found, so the bytes are one field
 pub returns-clause-none : goal.returns-clause-none
 returns-clause-none c =
     let options = c.args.options.now in

@@ -19,7 +19,7 @@ list_text : (given : Option (Bor (List ℕ))) (list : Bor (List ℕ)) → given 
 list_text given list is =
     ap (λ (given : Option (Bor (List ℕ))). unwrap_or (option_map (λ list. list.now) given) (codes "1")) (sym is)
 
--- one more item, which is one more range
+-- if one more item is one more range, the items with it are the ranges with it
 with_item : (items : List (Bor (List ℕ))) (item : Bor (List ℕ)) (ranges more : List FieldRange) (range : FieldRange)
     → AreRanges (map (λ item. item.now) items) ranges → IsRange item.now range → more ≡ ranges ++ range ∷ []
     → AreRanges (map (λ item. item.now) (items ++ item ∷ [])) more
@@ -29,14 +29,18 @@ with_item items item ranges more range are is more_is =
     (subst (AreRanges (map (λ item. item.now) items ++ item.now ∷ [])) (sym more_is)
     (AreRanges-append (map (λ item. item.now) items) ranges item.now range are is))
 
+-- the ranges so far are those of the items so far, after one more item
 pub loop-item-preserved : goal.loop-item-preserved
 loop-item-preserved c =
     with_item c.loop-item.yielded c.in-Some-item.item c.loop-item.fields.items _ c.in-Some-range_of.range
     c.loop-item.invariant c.in-Some-range_of.ensures c.in_ok-push-in-Some-range_of.ensures.items
 
+-- an item is no range, so neither is the list
 pub returns-in-None-range_of : goal.returns-in-None-range_of
 returns-in-None-range_of c =
+    -- 44 is the comma; what follows are tests that it is an ASCII character
     let parts = YieldsList-from_str_split 44 c.in-Some.list.now (lit< tt) (cc) (cc) (cc) in
+    -- `turn` says that there is an item at this index and that it is this one
     let turn = YieldsList-turn parts c.loop-item.yielded _ c.loop-item.yielded_by _ _ c.in-Some-item.item
     c.in-Some-item.is c.next.ensures.steps in
     let text = list_text c.args.list c.in-Some.list c.in-Some.is in
@@ -44,6 +48,7 @@ returns-in-None-range_of c =
     let range = AreRanges-at _ ranges c.in-Some-item.item.now (length c.loop-item.yielded) are turn.0 turn.1 in
     c.in-None-range_of.ensures range.0 range.1)
 
+-- all items are ranges, and the sorted ranges are the reading of the list
 pub returns : goal.returns
 returns c =
     let parts = YieldsList-from_str_split 44 c.in-Some.list.now (lit< tt) (cc) (cc) (cc) in
@@ -51,6 +56,7 @@ returns c =
     let text = list_text c.args.list c.in-Some.list c.in-Some.is in
     let listed = c.loop-item.fields.items in
     let ranges = c.sort_unstable_by_key.new.self.items in
+    -- no range begins after the next one; the key of a range is its first field
     let rising = IsNonDecreasingBy-from_sort_by_key (λ range. range.first) _ c.sort_unstable_by_key.ensures.sorted
     (λ a r q k. search rules) in
     let sorted : IsSortedFrom listed ranges = record {

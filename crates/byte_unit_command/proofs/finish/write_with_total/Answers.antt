@@ -1,4 +1,5 @@
 -- What waits is written with the line of the total after it; nothing is written if that line cannot be appended.
+-- `.ensures.1` of a `from_residual`: the error in its result is the one that `?` passes on.
 use Rattle.std.proofs.Common.{◌≡◌, ◌++◌, ◌∷◌, [], ◌<◌, ap, ◌∙◌, append_assoc, arith, refl}
 use Rattle.std.proofs.KnownBytes.{Appends-nil}
 use Rattle.byte_unit.specs.Bounds.{size_limit}
@@ -8,6 +9,7 @@ use Rattle.byte_unit_command.specs.declared.error.RunError.TheVariants.{Write}
 use Rattle.byte_unit_command.proofs.Finishing.{IsTotalWritten-memory, IsTotalWritten-line}
 use Rattle.byte_unit_command.proofs.finish.write_with_total.Goals as goal
 
+-- allocation failed for the end byte of the total, so nothing is written
 pub returns-in_err-extend_from_slice-clause-written : goal.returns-in_err-extend_from_slice-clause-written
 returns-in_err-extend_from_slice-clause-written g c = (
   [],
@@ -16,6 +18,7 @@ returns-in_err-extend_from_slice-clause-written g c = (
       c.from_residual-in_err-extend_from_slice.result c.from_residual-in_err-extend_from_slice.ensures.1,
 )
 
+-- the line of the total is appended to what waits, and both are written
 pub returns-clause-written : goal.returns-clause-written
 returns-clause-written g c =
     let options = c.args.options.now in
@@ -24,6 +27,7 @@ returns-clause-written g c =
     let held = g.W.Write.contents (writer_of c.args.writer.now) in
     let holds = g.W.Write.contents (writer_of c.write_whole-2.new.writer) in
     let bytes = c.deref-2.result.now in
+    -- a triple: the text of the total, that it is its shown form, and that it was appended
     let shown = c.in_ok-add_in_width.ensures.ok in
     let line = shown.0 ++ mark in
     let small : c.args.total < size_limit = omega (arith, c.if-total-ge-TOTAL_LIMIT.false) in

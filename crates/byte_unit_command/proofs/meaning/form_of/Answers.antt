@@ -9,15 +9,18 @@ use Rattle.byte_unit_command.specs.declared.options.Form.TheVariants.{InUnit}
 use Rattle.byte_unit_command.proofs.meaning.form_of.Goals.{then-values, else-values}
 use Rattle.byte_unit_command.proofs.meaning.form_of.Goals as goal
 
+-- a value other than the default was given by the option `--to`
 is_given : (to : Option (Bor (List ℕ))) (default value : Bor (List ℕ)) → value ≡ unwrap_or to default
     → value.now ≢ default.now → text_of to ≡ Some value.now
 is_given None default value is other = absurd (other (ap (λ text. text.now) is))
 is_given (Some to) default value is other = ap (λ text. Some text.now) (sym is)
 
+-- a given unit is a form for each precision: only `exact` has a limit
 within : (unit : UnitName) (precision : Option ℕ) → IsWithinExact (InUnit unit) precision
 within unit None = tt
 within unit (Some precision) = search rules
 
+-- the value of `--to` is the name of a unit: neither `auto` nor `exact`, since those cases come first
 pub returns-in-Ok-clause-ok : goal.returns-in-Ok-clause-ok
 returns-in-Ok-clause-ok c =
     let values = c.args.values.now in

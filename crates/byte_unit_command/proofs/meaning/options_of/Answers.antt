@@ -1,4 +1,5 @@
--- The first option that is wrong: those that are looked at before it are right.
+-- The first option that is wrong: those that are looked at before it are right. `.ensures.1` of a `from_residual`: the
+-- error in its result is the one that `?` passes on.
 use Rattle.std.proofs.Common.{ℕ, Bool, Option, inl, inr}
 use Rattle.byte_unit_command.specs.CallOptions.{AreFieldsSeparated, FieldsAreRight, FormIsRight, IsFirstWrong, IsFormOf}
 use Rattle.byte_unit_command.specs.CallOptions.{IsSeparator, IsWrongForm, IsWrongSeparator}
@@ -12,38 +13,46 @@ use Rattle.byte_unit_command.specs.declared.wrong.Wrong.{Wrong}
 use Rattle.byte_unit_command.proofs.Results.{IfErr-passed}
 use Rattle.byte_unit_command.proofs.meaning.options_of.Goals as goal
 
+-- the form is right if it can be read, is within its precision, and can be shown without its unit if that is asked for
 form_right : (values : Values) (given form : Form) → IsFormOf values given → IsWithinExact given values.precision
     → IsShownForm values.no_unit given form → FormIsRight values
 form_right values given form is within shown = (given, is, within, (form, shown))
 
+-- an error of the form is the first one, if `--from` is right: of `--to`, or of `--precision` with that form
 form_wrong : (values : Values) (wrong : Wrong) (binary : Bool) → IsFrom (text_of values.from) binary
     → IsWrongForm values wrong → IsFirstWrong values wrong
 form_wrong values wrong binary is_from (inl is) = wrong_to binary is_from is
 form_wrong values wrong binary is_from (inr (form, is_form, is)) = wrong_precision binary is_from form is_form is
 
+-- the fields are right if the form, the separator and the list of fields are
 fields_right : (values : Values) (given form : Form) (separator : Option ℕ)
     → IsFormOf values given × IsWithinExact given values.precision → IsShownForm values.no_unit given form
     → IsSeparator values separator × AreFieldsSeparated values → FieldsAreRight values
 fields_right values given form separator (is, within) shown ((mark, delimits, _), separated) =
     (form_right values given form is within shown, (mark, delimits), separated)
 
+-- an error of the separator is the first one, if `--from` and the form are right: of `--delimiter`, or of `--field`
 separator_wrong : (values : Values) (wrong : Wrong) (binary : Bool) → IsFrom (text_of values.from) binary
     → FormIsRight values → IsWrongSeparator values wrong → IsFirstWrong values wrong
 separator_wrong values wrong binary is_from form (inl is) = wrong_delimiter binary is_from form is
 separator_wrong values wrong binary is_from form (inr (mark, delimits, is)) =
     wrong_field binary is_from form mark delimits is
 
+-- the form is wrong, and `--from` is right
 pub returns-in_err-given-clause-err : goal.returns-in_err-given-clause-err
 returns-in_err-given-clause-err c =
     IfErr-passed (IsFirstWrong c.args.values.now) _ _ c.from_residual-in_err-given.ensures.1
     (form_wrong c.args.values.now c.in_err-given.field-0.0 _ c.in_ok-binary.ensures.ok c.in_err-given.ensures.err)
 
+-- the form cannot be shown without its unit; what comes before is right
 pub returns-in_err-form-clause-err : goal.returns-in_err-form-clause-err
 returns-in_err-form-clause-err c =
     IfErr-passed (IsFirstWrong c.args.values.now) _ _ c.from_residual-in_err-form.ensures.1
+    -- the two parts of `ok`: that the form is read from the values, and that it is within its precision
     (wrong_no_unit _ c.in_ok-binary.ensures.ok _ c.in_ok-given.ensures.ok.0 c.in_ok-given.ensures.ok.1
     c.in_err-form.ensures.err)
 
+-- the delimiter or the list of fields is wrong; what comes before is right
 pub returns-in_err-delimiter-clause-err : goal.returns-in_err-delimiter-clause-err
 returns-in_err-delimiter-clause-err c =
     let form = form_right c.args.values.now _ _ c.in_ok-given.ensures.ok.0 c.in_ok-given.ensures.ok.1
@@ -51,6 +60,7 @@ returns-in_err-delimiter-clause-err c =
     IfErr-passed (IsFirstWrong c.args.values.now) _ _ c.from_residual-in_err-delimiter.ensures.1
     (separator_wrong c.args.values.now _ _ c.in_ok-binary.ensures.ok form c.in_err-delimiter.ensures.err)
 
+-- the width is wrong; what comes before is right
 pub returns-in_err-width-clause-err : goal.returns-in_err-width-clause-err
 returns-in_err-width-clause-err c =
     let fields = fields_right c.args.values.now _ _ _ c.in_ok-given.ensures.ok c.in_ok-form.ensures.ok
@@ -58,6 +68,7 @@ returns-in_err-width-clause-err c =
     IfErr-passed (IsFirstWrong c.args.values.now) _ _ c.from_residual-in_err-width.ensures.1
     (wrong_padding _ c.in_ok-binary.ensures.ok fields c.in_err-width.ensures.err)
 
+-- the mode for rejected fields is wrong; what comes before is right
 pub returns-in_err-invalid-clause-err : goal.returns-in_err-invalid-clause-err
 returns-in_err-invalid-clause-err c =
     let fields = fields_right c.args.values.now _ _ _ c.in_ok-given.ensures.ok c.in_ok-form.ensures.ok
@@ -66,6 +77,7 @@ returns-in_err-invalid-clause-err c =
     (wrong_invalid _ c.in_ok-binary.ensures.ok (fields, (_, _, c.in_ok-width.ensures.ok))
     c.in_err-invalid.ensures.err)
 
+-- the maximum is wrong; what comes before is right
 pub returns-in_err-max-clause-err : goal.returns-in_err-max-clause-err
 returns-in_err-max-clause-err c =
     let fields = fields_right c.args.values.now _ _ _ c.in_ok-given.ensures.ok c.in_ok-form.ensures.ok
@@ -74,6 +86,7 @@ returns-in_err-max-clause-err c =
     (wrong_max _ c.in_ok-binary.ensures.ok
     ((fields, (_, _, c.in_ok-width.ensures.ok)), (_, c.in_ok-invalid.ensures.ok)) c.in_err-max.ensures.err)
 
+-- the minimum is wrong; what comes before is right
 pub returns-in_err-min-clause-err : goal.returns-in_err-min-clause-err
 returns-in_err-min-clause-err c =
     let fields = fields_right c.args.values.now _ _ _ c.in_ok-given.ensures.ok c.in_ok-form.ensures.ok

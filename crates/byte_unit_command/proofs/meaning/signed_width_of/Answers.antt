@@ -5,12 +5,14 @@ use Rattle.byte_unit_command.specs.Meaning.{IsPadding}
 use Rattle.byte_unit_command.proofs.Paddings.{without_hyphen}
 use Rattle.byte_unit_command.proofs.meaning.signed_width_of.Goals as goal
 
+-- a text whose hyphen (45) could not be taken off does not begin with one
 lacks_hyphen : (text : List ℕ) (r : Option (Bor (List ℕ))) → r ≡ None
     → MatchOption r ((rest : List ℕ) → text ≢ 45 ∷ rest) (λ rest. text ≡ 45 ∷ rest.now) → (rest : List ℕ)
     → text ≢ 45 ∷ rest
 lacks_hyphen text r is stripped =
     subst (λ r. MatchOption r ((rest : List ℕ) → text ≢ 45 ∷ rest) (λ rest. text ≡ 45 ∷ rest.now)) is stripped
 
+-- `None` is right for a text that is no padding
 no_padding : (text : List ℕ) (found : Option (ℕ × Bool)) → found ≡ None
     → ((width : ℕ) (align_left : Bool) → ¬ IsPadding (Some text) width align_left)
     → MatchOption found ((width : ℕ) (align_left : Bool) → ¬ IsPadding (Some text) width align_left)
@@ -19,6 +21,7 @@ no_padding text found is none =
     subst (λ found. MatchOption found ((width : ℕ) (align_left : Bool) → ¬ IsPadding (Some text) width align_left)
     (λ padding. IsPadding (Some text) padding.0 padding.1)) (sym is) none
 
+-- the text has no hyphen and is no width
 pub returns-in_err-width_of-in-None : goal.returns-in_err-width_of-in-None
 returns-in_err-width_of-in-None c =
     let text = c.args.text.now in

@@ -7,6 +7,7 @@ use Rattle.byte_unit_command.specs.declared.notice.FieldError.TheVariants.{Above
 use Rattle.std.proofs.lemmas.Result.{on_ok_weaker}
 use Rattle.byte_unit_command.proofs.notice.add_limit_notice.Goals as goal
 
+-- the two messages, each of which may be empty, are appended one after the other
 pub returns-clause-ok : goal.returns-clause-ok
 returns-clause-ok g c =
     let options = c.args.options.now in
@@ -16,6 +17,8 @@ returns-clause-ok g c =
     let number = c.args.number in
     let field = c.args.field.now in
     let before = messages_of c.args.notices.now in
+    -- a triple: the text that was appended, that it is the message, if it is told, and the equation; `below` is the
+    -- same
     let above = c.in_ok-add_message_if.ensures.ok in
     let above_is : c.is_some_and-above.result ≡ is_above options.max size = search rules in
     let below_is : c.is_some_and-below.result ≡ is_below options.min size = search rules in

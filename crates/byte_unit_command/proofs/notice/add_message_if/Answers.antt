@@ -4,8 +4,10 @@ use Rattle.byte_unit_command.specs.Messages.{IsMessageIf}
 use Rattle.std.proofs.lemmas.Result.{on_ok_weaker}
 use Rattle.byte_unit_command.proofs.notice.add_message_if.Goals as goal
 
+-- the message is told, so it is appended
 pub returns-then-told-clause-ok : goal.returns-then-told-clause-ok
 returns-then-told-clause-ok g c =
+    -- `added` is a triple: the text that was appended, that it is the message, and the equation
     on_ok_weaker c.add_message.result (λ added. (
       added.0,
       subst (λ (told : Bool). IsMessageIf told c.args.options.now c.args.place.now.word.now c.args.place.now.number

@@ -6,6 +6,7 @@ use Rattle.byte_unit_command.specs.Messages.{record_text, field_text}
 use Rattle.std.proofs.lemmas.Result.{on_ok_weaker}
 use Rattle.byte_unit_command.proofs.notice.add_place.Goals as goal
 
+-- without a delimiter, only the number of the record is appended
 pub returns-in-None : goal.returns-in-None
 returns-in-None g c =
     let before = string_bytes c.args.line.now in
@@ -13,6 +14,7 @@ returns-in-None g c =
     c.in_ok-write.ensures.bytes ∙ ap (λ text. before ++ text) (sym (append-nil record_part))
     ∙ ap (λ mark. before ++ (record_part ++ field_text mark c.args.number)) (sym c.in-None.is)
 
+-- with a delimiter, the number of the field is appended after that of the record
 pub returns-in-Some : goal.returns-in-Some
 returns-in-Some g c =
     let before = string_bytes c.args.line.now in

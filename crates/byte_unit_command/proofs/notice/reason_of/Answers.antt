@@ -4,12 +4,14 @@ use Rattle.byte_unit_command.specs.Field.{ignores_case, without_suffix}
 use Rattle.byte_unit_command.proofs.Readings.{reading-of, found-of, sizes_or_not}
 use Rattle.byte_unit_command.proofs.notice.reason_of.Goals as goal
 
+-- this case never happens: a rejected field is not accepted
 pub returns-in-Some-Ok : goal.returns-in-Some-Ok
 returns-in-Some-Ok c =
     let binary = c.args.options.now.binary in
     let kind = c.args.options.now.kind in
     let ignore_case = ignores_case kind c.args.options.now.ignore_case in
     let field = without_suffix c.args.options.now.suffix.now c.args.field.now in
+    -- a pair: the text is UTF-8, and parsing it gives the size
     let read = reading-of binary kind ignore_case field c.in-Some-Ok.is c.in-Some-Ok.field-0-is c.parse.ensures in
     let law = sizes_or_not binary kind ignore_case field in
     elim c.requires [

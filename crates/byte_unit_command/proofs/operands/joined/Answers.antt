@@ -5,10 +5,12 @@ use Rattle.byte_unit_command.specs.Operands.{HasOperands}
 use Rattle.byte_unit_command.proofs.Joining.{joined, joined-append, joined-HasOperands}
 use Rattle.byte_unit_command.proofs.operands.joined.Goals as goal
 
+-- the invariant holds after one more operand and its zero byte
 pub loop-operand-preserved : goal.loop-operand-preserved
 loop-operand-preserved c =
     let operands = c.args.operands.now in
     let at = c.loop-operand.operand-index in
+    -- the record is the operand at an index past the end, which is never used here
     let more = map_more (λ (operand : Bor (List ℕ)). operand.now) operands at (record { ref_ptr = (0, 0); now = [] })
     c.loop-operand-test.true in
     let begun = map (λ (operand : Bor (List ℕ)). operand.now) (take at operands) in
@@ -17,6 +19,7 @@ loop-operand-preserved c =
     ∙ ap (λ front. front ++ (get_or operands at (record { ref_ptr = (0, 0); now = [] })).now) c.loop-operand.invariant)
     ∙ sym (joined-append begun (get_or operands at (record { ref_ptr = (0, 0); now = [] })).now) ∙ ap joined (sym more)
 
+-- the loop has ended, so all operands are joined
 pub returns : goal.returns
 returns c =
     let operands = c.args.operands.now in

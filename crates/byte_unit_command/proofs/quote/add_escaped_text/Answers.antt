@@ -8,6 +8,7 @@ use Rattle.std.proofs.lemmas.Iterator.Consumers.{YieldsList-end}
 use Rattle.byte_unit_command.specs.Messages.{escape_char}
 use Rattle.byte_unit_command.proofs.quote.add_escaped_text.Goals as goal
 
+-- the loop has yielded all characters of the text
 pub returns : goal.returns
 returns g c =
     let text = c.args.text.now in

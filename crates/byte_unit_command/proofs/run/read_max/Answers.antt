@@ -4,7 +4,8 @@ use Rattle.std.proofs.Common.{◌≡◌, ℕ, zero, suc, ◌*◌, ◌/◌, ◌�
 use Rattle.std.proofs.Math.Nat.{mul-le-mul_left, mul-le-mul_right, mul-div-le, mul-one}
 use Rattle.byte_unit_command.specs.Capacity.{texts_max}
 
--- the quotient, or 1, times the divisor or less
+-- a text that is at most `field` long, as often as the quotient says or once, takes no more than `texts_max` or one
+-- text
 quotient-fits : (text field count : ℕ) → text ≤ field → count ≤ max (texts_max / field) 1
     → text * count ≤ max texts_max text
 quotient-fits text field count short few =

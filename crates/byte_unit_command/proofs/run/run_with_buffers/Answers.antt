@@ -1,5 +1,7 @@
--- Each read is served: the records that end in it are written, and the record that it has begun is kept. Memory is not
--- the answer while no record is longer than the limit and there is no message.
+-- Each read is served: the records that end in it are written, and the record that it has begun is kept. `Memory` is
+-- not returned while no record is longer than the limit and there is no message. Of the invariant, `.0` is what was
+-- served, and `.1` are the bounds (`IsWithin`). `.ok.0` of a vector: its length is that of its items. `.ensures.1` of a
+-- `from_residual`: the error in its result is the one that `?` passes on.
 use Rattle.std.proofs.Common.{◌≡◌, ◌+◌, ◌≤◌, ℕ, List, [], ◌++◌, Result, Ok, Err, take, length, vec_len, arith}
 use Rattle.std.proofs.Common.{refl, sym, ap, subst, ◌∙◌, inl, inr, true≢false}
 use Rattle.std.proofs.lemmas.List.{length-take, length-take-le}
@@ -28,8 +30,10 @@ short : (n most : ℕ) (read buffer : List ℕ) → length read ≡ length (take
     → length (take n read) ≤ most
 short n most read buffer same bound = omega (arith, length-take n read, same, length-take-le most buffer bound)
 
+-- the invariant, a pair of what is served and of the bounds (`IsWithin`), holds at the start
 pub reads-init : goal.reads-init
 reads-init g c = (
+  -- the three parts of the precondition: no record has begun, nothing waits to be written, and nothing to be told
   HasServed-start _ _ _ c.args.options.now _ _ c.requires.empty.0 c.requires.empty.1 c.requires.empty.2 refl refl refl
       refl,
   record {
@@ -40,6 +44,7 @@ reads-init g c = (
   },
 )
 
+-- the invariant holds after a read whose records were converted, written and told
 pub reads-preserved : goal.reads-preserved
 reads-preserved g c =
     let options = c.args.options.now in
@@ -74,15 +79,18 @@ reads-preserved g c =
       },
     )
 
+-- a read failed: what was written before is right for that
 pub returns-in-None-clause-run : goal.returns-in-None-clause-run
 returns-in-None-clause-run g c = IsRunOf-read c.reads.invariant.0 c.read.new.self c.in-None.ensures.none
 
+-- the write of what the read gave has failed: a prefix of it is written, and nothing is told
 pub returns-in_err-write_whole-in-Some-clause-run : goal.returns-in_err-write_whole-in-Some-clause-run
 returns-in_err-write_whole-in-Some-clause-run g c =
     let so_far = c.reads.invariant.0 in
     let piece = take c.in-Some.n c.read.new.buf in
     let call = c.feed-fed in
     let failed = c.in_err-write_whole-in-Some in
+    -- a triple: the bytes that were written, that they were appended, and that they are a prefix of what waited
     let written = failed.ensures.err in
     let begins = subst (IsPrefix written.0) c.deref.ensures.value written.2 in
     let fed = HasFed-from_empty c.args.options.now piece c.reads.buffers call.new.self call.result so_far.none_waits
@@ -92,6 +100,7 @@ returns-in_err-write_whole-in-Some-clause-run g c =
     IsRunOf-piece so_far _ call.new.self piece c.in-Some.ensures.came Write
     (piece-unwritten call.new.self fed (written.0, written.1, begins)) c.from_residual.result passed
 
+-- the conversion of a record stopped: what was converted before it is written and told
 pub returns-in_err-fed-in-Some-clause-run : goal.returns-in_err-fed-in-Some-clause-run
 returns-in_err-fed-in-Some-clause-run g c =
     let so_far = c.reads.invariant.0 in
@@ -107,6 +116,7 @@ returns-in_err-fed-in-Some-clause-run g c =
     IsRunOf-piece so_far _ new piece c.in-Some.ensures.came error
     (piece-answered new new fed wrote c.tell.ensures.told refl) passed.result passed.ensures.1
 
+-- the unfinished record exceeds `longest`: the run stops as if it were out of memory
 pub returns-then-len-longest-clause-run : goal.returns-then-len-longest-clause-run
 returns-then-len-longest-clause-run g c =
     let so_far = c.reads.invariant.0 in
@@ -120,6 +130,7 @@ returns-then-len-longest-clause-run g c =
     IsRunOf-long so_far _ new piece c.in-Some.ensures.came
     (piece-answered new new has_fed wrote c.tell.ensures.told refl) fed.part
 
+-- the input was read to its end: what `finish` writes is right for the run
 pub returns-clause-run : goal.returns-clause-run
 returns-clause-run g c =
     let end = c.in-Some-eq0 in
@@ -132,7 +143,7 @@ returns-clause-run g c =
     )))
     c.deref-2.ensures.value c.finish.result c.finish.ensures.written
 
--- the end does not end as a read that failed
+-- `finish` never returns `Read`
 pub returns-clause-read_failed : goal.returns-clause-read_failed
 returns-clause-read_failed g c = λ is.
     let more = c.finish.ensures.written in
@@ -141,7 +152,7 @@ returns-clause-read_failed g c = λ is.
     more.written more.messages in
     absurd (subst Ends is more.holds)
 
--- the record is too long
+-- out of memory since the unfinished record exceeds `longest`: then a record that was read is longer than that
 pub returns-then-len-longest-clause-memory : goal.returns-then-len-longest-clause-memory
 returns-then-len-longest-clause-memory g c = λ _ _.
     let so_far = c.reads.invariant.0 in
@@ -155,7 +166,7 @@ returns-then-len-longest-clause-memory g c = λ _ _.
       inl (omega (arith, long, c.if-len-longest.true, c.len.ensures, part.ok.0)),
     )
 
--- there is a message about a record that ends in the piece
+-- out of memory while the piece is converted: if the capacity suffices, there is a message about one of its records
 pub returns-in_err-fed-in-Some-clause-memory : goal.returns-in_err-fed-in-Some-clause-memory
 returns-in_err-fed-in-Some-clause-memory g c = λ fits _.
     let capacity = subst (λ most. SufficeFor c.args.options.now c.args.longest most c.args.buffers.now.part
@@ -173,7 +184,7 @@ returns-in_err-fed-in-Some-clause-memory g c = λ fits _.
           (piece-untold so_far.served piece none))))),
     )
 
--- there is a message about the last record
+-- out of memory at the end: if the capacity suffices, there is a message about the last record
 pub returns-clause-memory : goal.returns-clause-memory
 returns-clause-memory g c = λ fits is.
     let capacity = subst (λ most. SufficeFor c.args.options.now c.args.longest most c.args.buffers.now.part
@@ -204,7 +215,7 @@ returns-clause-memory g c = λ fits is.
       inr (inr (at_end, λ none. c.finish.ensures.memory room (last-untold served none) is)),
     )
 
--- each record is shorter than the limit and a read together
+-- on `Ok` each record that was read is shorter than `longest` and a read together
 pub returns-clause-bound : goal.returns-clause-bound
 returns-clause-bound g c =
     let so_far = c.reads.invariant.0 in

@@ -5,6 +5,7 @@ use Rattle.byte_unit_stream.proofs.ChunkRecords.{empty_from_length}
 use Rattle.byte_unit_command.proofs.size.accepted.Goals.{else-is_empty, then-is_empty+then-not-options}
 use Rattle.byte_unit_command.proofs.size.accepted.Goals as goal
 
+-- the parser returned no size, so the field without its suffix is none
 pub returns-then-size-ge-NO_SIZE-clause-none : goal.returns-then-size-ge-NO_SIZE-clause-none
 returns-then-size-ge-NO_SIZE-clause-none c =
     let options = c.args.options.now in

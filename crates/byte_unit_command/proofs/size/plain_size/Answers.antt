@@ -4,11 +4,13 @@ use Rattle.byte_unit.specs.declared.Kind.TheVariants.{Byte, Bit}
 use Rattle.byte_unit_command.proofs.Readings.{no-size-of}
 use Rattle.byte_unit_command.proofs.size.plain_size.Goals as goal
 
+-- as a size in bytes, the text is rejected
 pub returns-in-Some-Err-clause-none : goal.returns-in-Some-Err-clause-none
 returns-in-Some-Err-clause-none c = λ _.
     no-size-of c.args.options.now c.args.text.now false Byte c.requires c.in-Byte.is c.in-Some-Err.is
     c.in-Some-Err.field-0-is c.parse_bytes.ensures.reading
 
+-- as a size in bits, the text is rejected
 pub returns-in-Some-Err-parse_bytes-clause-none : goal.returns-in-Some-Err-parse_bytes-clause-none
 returns-in-Some-Err-parse_bytes-clause-none c = λ _.
     let read = c.in-Some-Err-parse_bytes in

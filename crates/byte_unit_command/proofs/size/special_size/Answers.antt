@@ -5,6 +5,7 @@ use Rattle.byte_unit_command.specs.Prefixes.{IsBytesReadingBy}
 use Rattle.byte_unit_command.proofs.Readings.{no-size-of}
 use Rattle.byte_unit_command.proofs.size.special_size.Goals as goal
 
+-- with decimal prefixes read as binary ones, the text without its suffix is rejected
 pub returns-in-Some-Err-clause-none : goal.returns-in-Some-Err-clause-none
 returns-in-Some-Err-clause-none c = λ _.
     let options = c.args.options.now in

@@ -1,5 +1,6 @@
 -- What is appended is the text that `write_size` wrote, with its suffix, padded to the width. Without a width and a
--- suffix it is appended as it was written: of the bytes that are appended, truncating leaves the first ones.
+-- suffix it is appended as it was written: of the bytes that are appended, truncating leaves the first ones. `.ok.0` of
+-- a vector: its length is that of its items.
 use Rattle.std.proofs.Common.{true≢false, ◌≡◌, ◌≤◌, ℕ, List, [], ◌++◌, length, take, ap, sym, ◌∙◌, arith}
 use Rattle.std.proofs.Common.{append-nil, is_ok, refl}
 use Rattle.std.proofs.lemmas.List.{length-take-le, nil_from_length}
@@ -9,6 +10,7 @@ use Rattle.byte_unit_command.proofs.Texts.{first_bytes, padded-none}
 use Rattle.byte_unit_stream.proofs.Prefixes.{IsPrefix-if}
 use Rattle.byte_unit_command.proofs.text.add_in_width.Goals as goal
 
+-- with a width, the padded text is appended
 pub returns-then-width-gt0-clause-ok : goal.returns-then-width-gt0-clause-ok
 returns-then-width-gt0-clause-ok g c =
     let options = c.args.options.now in
@@ -20,6 +22,7 @@ returns-then-width-gt0-clause-ok g c =
       added ∙ ap (λ text. c.args.text.now.items ++ shown text) written.begins,
     )) c.add_padded.ensures.ok
 
+-- with a suffix and no width, the text is appended with its suffix
 pub returns-in-len1-up-clause-ok : goal.returns-in-len1-up-clause-ok
 returns-in-len1-up-clause-ok g c =
     let options = c.args.options.now in
@@ -32,16 +35,19 @@ returns-in-len1-up-clause-ok g c =
       added ∙ ap (λ text. c.args.text.now.items ++ (text ++ options.suffix.now)) written.begins,
     )) c.add_suffixed.ensures.ok
 
+-- a text of more than 64 bytes is appended as it is: what was there is kept
 pub returns-then-len-gt-AT_ONCE-clause-kept : goal.returns-then-len-gt-AT_ONCE-clause-kept
 returns-then-len-gt-AT_ONCE-clause-kept g c =
     IsPrefix-if (is_ok c.extend_from_slice.result) c.args.text.now.items
     (take c.write_size-len.result c.write_size-len.new.out) c.extend_from_slice.ensures.items
 
+-- the array that is written to has at least 64 bytes, so its first 64 can be taken
 pub slice_bounds-extend_from_slice-end-in-empty-2 : goal.slice_bounds-extend_from_slice-end-in-empty-2
 slice_bounds-extend_from_slice-end-in-empty-2 g c =
     let long : 64 ≤ length c.write_size-len.new.out = omega (arith, c.requires.capacity, c.write_size-len.auto.out) in
     omega (arith, length-take-le 64 c.write_size-len.new.out long)
 
+-- if the capacity covers 64 bytes more, appending them does not fail
 pub returns-in_err-extend_from_slice-in-empty-clause-succeeds :
     goal.returns-in_err-extend_from_slice-in-empty-clause-succeeds
 returns-in_err-extend_from_slice-in-empty-clause-succeeds g c = λ room.
@@ -49,12 +55,14 @@ returns-in_err-extend_from_slice-in-empty-clause-succeeds g c = λ room.
     let copied = length-take-le 64 c.write_size-len.new.out long in
     absurd (true≢false (sym (c.in_err-extend_from_slice-in-empty.ensures.succeeds (omega (arith, room, copied)))))
 
+-- after 64 bytes are appended, the length is at least 64, so 64 can be taken off
 pub overflow_sub-len-in-empty : goal.overflow_sub-len-in-empty
 overflow_sub-len-in-empty g c =
     let long : 64 ≤ length c.write_size-len.new.out = omega (arith, c.requires.capacity, c.write_size-len.auto.out) in
     let copied = length-take-le 64 c.write_size-len.new.out long in
     omega (arith, c.len.ensures, c.in_ok-extend_from_slice-in-empty.ensures.len, copied)
 
+-- of the 64 bytes that were appended, truncating leaves the text
 pub returns-in_ok-extend_from_slice-in-empty-clause-ok : goal.returns-in_ok-extend_from_slice-in-empty-clause-ok
 returns-in_ok-extend_from_slice-in-empty-clause-ok g c =
     let options = c.args.options.now in
@@ -77,10 +85,12 @@ returns-in_ok-extend_from_slice-in-empty-clause-ok g c =
           ∙ ap (λ shown. text ++ shown) (written.begins ∙ sym same),
     )
 
+-- what was there before the 64 bytes is kept; `added` is the triple of the clause above
 pub returns-in_ok-extend_from_slice-in-empty-clause-kept : goal.returns-in_ok-extend_from_slice-in-empty-clause-kept
 returns-in_ok-extend_from_slice-in-empty-clause-kept g c =
     let added = returns-in_ok-extend_from_slice-in-empty-clause-ok g c in (added.0, added.2)
 
+-- the length grows by that of the text
 pub returns-in_ok-extend_from_slice-in-empty-clause-len : goal.returns-in_ok-extend_from_slice-in-empty-clause-len
 returns-in_ok-extend_from_slice-in-empty-clause-len g c =
     let long : 64 ≤ length c.write_size-len.new.out = omega (arith, c.requires.capacity, c.write_size-len.auto.out) in

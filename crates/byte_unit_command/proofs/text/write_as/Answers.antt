@@ -5,12 +5,14 @@ use Rattle.byte_unit_command.specs.Capacity.{form_max}
 use Rattle.byte_unit_command.proofs.Lengths.{adjusted-narrow}
 use Rattle.byte_unit_command.proofs.text.write_as.Goals as goal
 
+-- in a given unit, the text is within `form_max`
 pub returns-in-InUnit-clause-narrow : goal.returns-in-InUnit-clause-narrow
 returns-in-InUnit-clause-narrow g c =
     let precision = c.args.options.now.precision in
     subst (λ form. c.write_adjusted.result ≤ form_max form precision) (sym c.in-InUnit.is)
     (adjusted-narrow _ precision c.requires.size c.write_adjusted.ensures.written)
 
+-- in the largest unit, the text is within `form_max`
 pub returns-in-Largest-clause-narrow : goal.returns-in-Largest-clause-narrow
 returns-in-Largest-clause-narrow g c =
     let precision = c.args.options.now.precision in

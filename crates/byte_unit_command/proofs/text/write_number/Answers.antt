@@ -6,14 +6,17 @@ use Rattle.byte_unit_command.proofs.Lengths.{adjusted-narrow}
 use Rattle.byte_unit_command.proofs.Numbers.{begins_with_number, needed_is}
 use Rattle.byte_unit_command.proofs.text.write_number.Goals as goal
 
+-- the text has at least a space, which can be taken off its length
 pub overflow_sub-result : goal.overflow_sub-result
 overflow_sub-result c = omega (arith, needed_is _ _ _ _ _ _ _ c.write_adjusted-len.ensures.written)
 
+-- the text has the name of the unit, whose length can be taken off too
 pub overflow_sub-result-2 : goal.overflow_sub-result-2
 overflow_sub-result-2 c =
     let name = ap (λ (name : List ℕ). length name) c.as_str.ensures in
     omega (arith, needed_is _ _ _ _ _ _ _ c.write_adjusted-len.ensures.written, name)
 
+-- what is left is the number of the text
 pub returns-clause-written : goal.returns-clause-written
 returns-clause-written c =
     let len = c.write_adjusted-len.result in
@@ -23,6 +26,7 @@ returns-clause-written c =
     (sym c.as_str.ensures)
     (begins_with_number _ _ _ _ _ _ _ c.write_adjusted-len.ensures.written room)
 
+-- the number is no longer than the text, which is within `unit_text_max`
 pub returns-clause-narrow : goal.returns-clause-narrow
 returns-clause-narrow c =
     omega (arith, adjusted-narrow c.args.unit c.args.precision c.requires.size c.write_adjusted-len.ensures.written)

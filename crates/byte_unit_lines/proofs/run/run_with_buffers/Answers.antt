@@ -1,5 +1,6 @@
 -- Each read is served: the answers to the lines that end in it are written, and the line that it has begun waits.
--- `Memory` is not returned while the lines are no longer than the limit.
+-- `Memory` is not returned while the lines are no longer than the limit. Of the invariant, `.0` is what was served, and
+-- `.1` are the bounds (`IsWithin`). `.ok.0` of a vector: its length is that of its items.
 use Rattle.std.proofs.Common.{◌≡◌, ◌≢◌, ◌+◌, ◌≤◌, [], ◌++◌, refl, sym, ap, subst, ◌∙◌, take, length, vec_len, arith, rules}
 use Rattle.std.proofs.lemmas.List.{length-take, take_all}
 use Rattle.std.proofs.lemmas.Result.{on_ok_weaker}
@@ -16,8 +17,10 @@ use Rattle.byte_unit_stream.proofs.Longest.{longest_of-ended_records-append, lon
 use Rattle.byte_unit_stream.proofs.ChunkRecords.{begun_record-append, empty_from_length, nonempty_from_length}
 use Rattle.byte_unit_lines.proofs.run.run_with_buffers.Goals as goal
 
+-- a read failed: the answers to all finished lines of what was read before are written
 pub returns-in-None-clause-run : goal.returns-in-None-clause-run
 returns-in-None-clause-run g c =
+    -- the invariant is a pair: what was served, and the bounds (`IsWithin`)
     let so_far = c.reads.invariant.0 in (
       so_far.read,
       so_far.written,
@@ -26,6 +29,7 @@ returns-in-None-clause-run g c =
       finished_lines_answered c.args.kind (course_of so_far) so_far.served,
     )
 
+-- the invariant holds at the start: nothing is read or written, and both buffers are empty
 pub reads-init : goal.reads-init
 reads-init g c = (
   record {
@@ -33,6 +37,7 @@ reads-init g c = (
     written = [];
     gave = search rules;
     took = search rules;
+    -- the two parts of `AreEmpty`: no line has begun, and no answer waits
     served = record { answered = refl; begun = c.requires.empty.0 };
     none_wait = c.requires.empty.1;
   },
@@ -44,16 +49,20 @@ reads-init g c = (
   },
 )
 
+-- the invariant holds after a read whose lines were answered, and whose unfinished line is at most `longest`
 pub reads-preserved : goal.reads-preserved
 reads-preserved g c =
     let so_far = c.reads.invariant.0 in
     let within = c.reads.invariant.1 in
     let piece = take c.in-Some.n c.read.new.buf in
     let fed = c.in-Ok.ensures in
+    -- a triple: the bytes that were written, that they were appended to the writer, and that they are the answers
     let answers = fed.written in
     let line = c.answer_piece.new.line in
+    -- the line that was unfinished before this read is at most `longest` too
     let begun : length (begun_record line_end [] so_far.read) ≤ c.args.longest =
     omega (arith, ap length so_far.served.begun, c.reads.buffers.line.ok.0, within.unfinished) in
+    -- and the bytes of this read are at most a `buffer`
     let short : length piece ≤ length c.args.buffer.now =
     omega (arith, length-take c.in-Some.n c.read.new.buf, c.read.auto.buf, c.reads.auto.buffer) in (
       HasServed-piece so_far _ _ piece answers.0 line.items c.answer_piece.new.waiting.items c.in-Some.ensures.came
@@ -67,16 +76,19 @@ reads-preserved g c =
       },
     )
 
+-- the unfinished line exceeds `longest`: the answers to all finished lines are written, as `Memory` allows
 pub returns-then-len-longest-clause-run : goal.returns-then-len-longest-clause-run
 returns-then-len-longest-clause-run g c =
     let so_far = c.reads.invariant.0 in
     let piece = take c.in-Some.n c.read.new.buf in
     let fed = c.in-Ok.ensures in
     let answers = fed.written in
+    -- what is served with this read
     let next = HasServed-piece so_far _ _ piece answers.0 c.answer_piece.new.line.items c.answer_piece.new.waiting.items
     c.in-Some.ensures.came answers.1 answers.2 fed.line fed.waiting in
     (next.read, next.written, next.gave, next.took, first_lines_answered c.args.kind (course_of next) next.served)
 
+-- the unfinished line exceeds `longest`: what was read has a line that is longer than `longest`
 pub returns-then-len-longest-clause-memory : goal.returns-then-len-longest-clause-memory
 returns-then-len-longest-clause-memory g c = λ _ _.
     let so_far = c.reads.invariant.0 in
@@ -86,21 +98,25 @@ returns-then-len-longest-clause-memory g c = λ _ _.
     let fed = c.in-Ok.ensures in
     let begun : line.items ≡ begun_record line_end [] read =
     rw (fed.line, so_far.served.begun, begun_record-append line_end [] so_far.read piece) refl in
+    -- the unfinished line is no longer than the longest line
     let long = longest_record-unfinished line_end read line.items begun in (
       read,
       Consumes-trans _ _ _ so_far.read piece so_far.gave c.in-Some.ensures.came,
       omega (arith, long, c.if-len-longest.true, c.len.ensures, line.ok.0),
     )
 
+-- the input has ended after a line end: each line that was read is shorter than `longest` and a `buffer` together
 pub returns-then-is_empty-clause-bound : goal.returns-then-is_empty-clause-bound
 returns-then-is_empty-clause-bound g c =
     let so_far = c.reads.invariant.0 in
+    -- the read returned no byte
     let end = c.in-Some-eq0 in (
       so_far.read,
       HasServed-at_end so_far _ c.read.new.buf end.ensures.came end.field-0-test,
       longest_line-below c.args.longest _ _ _ c.reads.buffers.line _ so_far c.reads.invariant.1 c.requires.buffer,
     )
 
+-- the input has ended in a line: on `Ok` each line that was read is shorter than `longest` and a `buffer` together
 pub returns-in_ok-add_answer-clause-bound : goal.returns-in_ok-add_answer-clause-bound
 returns-in_ok-add_answer-clause-bound g c =
     let so_far = c.reads.invariant.0 in
@@ -110,11 +126,14 @@ returns-in_ok-add_answer-clause-bound g c =
     c.requires.buffer in
     on_ok_weaker c.write_whole.result (λ _. (so_far.read, gave, below)) c.write_whole.ensures.ok
 
+-- the lines of a read could not all be answered: what is written is what the error allows
 pub returns-in-Err-clause-run : goal.returns-in-Err-clause-run
 returns-in-Err-clause-run g c =
     let each = c.each_line_has_an_answer.ensures in
     let so_far = c.reads.invariant.0 in
     let piece = take c.in-Some.n c.read.new.buf in
+    -- a triple: the bytes that were written for this read, that they were appended, and that they answer its lines as
+    -- far as the error allows
     let answers = c.in-Err.ensures.written in (
       so_far.read ++ piece,
       so_far.written ++ answers.0,
@@ -123,11 +142,13 @@ returns-in-Err-clause-run g c =
       IsWritten-piece each c.args.kind (course_of so_far) so_far.served piece c.in-Err.error answers.0 answers.2,
     )
 
+-- the input has ended after a line end: the report on what was read is written
 pub returns-then-is_empty-clause-run : goal.returns-then-is_empty-clause-run
 returns-then-is_empty-clause-run g c =
     let so_far = c.reads.invariant.0 in
     let end = c.in-Some-eq0 in
     let line = c.reads.buffers.line in
+    -- there is no unfinished line; `line.ok.0` says that the length of a vector is that of its items
     let empty = empty_from_length line.items (vec_len line) line.ok.0 c.if-is_empty.ensures in (
       so_far.read,
       so_far.written,
@@ -136,10 +157,12 @@ returns-then-is_empty-clause-run g c =
       report_without_last_line c.args.kind (course_of so_far) so_far.served empty,
     )
 
+-- allocation failed for the answer to the last line: the answers to all finished lines are written
 pub returns-in_err-add_answer-clause-run : goal.returns-in_err-add_answer-clause-run
 returns-in_err-add_answer-clause-run g c =
     let so_far = c.reads.invariant.0 in
     let end = c.in-Some-eq0 in
+    -- `result` is the error that `?` returns; the second part of its contract says that it is `Memory`
     let error = c.from_residual in
     let at = first_lines_answered c.args.kind (course_of so_far) so_far.served in (
       so_far.read,
@@ -149,26 +172,34 @@ returns-in_err-add_answer-clause-run g c =
       IsWritten-error c.args.kind so_far.read so_far.written error.result Memory error.ensures.1 at,
     )
 
+-- the input has ended in a line: what is written for it is right for the result of the last write
 pub returns-in_ok-add_answer-clause-run : goal.returns-in_ok-add_answer-clause-run
 returns-in_ok-add_answer-clause-run g c =
     let so_far = c.reads.invariant.0 in
     let end = c.in-Some-eq0 in
+    -- the last line, as the slice that is answered
     let line = c.deref.result.now in
     let part = c.reads.buffers.line in
+    -- it is not empty
     let begun = nonempty_from_length part.items (vec_len part) part.ok.0 c.if-is_empty.ensures in
     let some : line ≢ [] = λ empty. begun (sym c.deref.ensures.value ∙ empty) in
     let course : Course = record { read = so_far.read; written = so_far.written; line = line } in
+    -- what is served, with the slice in place of the vector
     let served : IsServed c.args.kind course =
     record { answered = so_far.served.answered; begun = c.deref.ensures.value ∙ so_far.served.begun } in
+    -- a triple: the answer, that it is the answer to the first `len` bytes, and that it was appended to `waiting`
     let added = c.in_ok-add_answer.ensures.ok in
     let bytes = c.deref-else-is_empty.result.now in
+    -- no answer waited, so the bytes that are written are this answer
     let same : added.0 ≡ bytes =
     sym (c.deref-else-is_empty.ensures.value ∙ added.2 ∙ ap (λ before. before ++ added.0) so_far.none_wait) in
+    -- the first `len` bytes are the whole line
     let whole = take_all c.len-else-is_empty.result line (omega arith) in
     let is_answer = subst (IsAnswer c.args.kind line) same (subst (λ text. IsAnswer c.args.kind text added.0) whole added.1) in
     let write = c.write_whole.ensures in
     let by : IsWrittenBy _ _ bytes Write c.write_whole.result =
     record { whole = write.ok; part = write.err; is_error = write.write } in
+    -- a triple: the bytes that were written, that they were appended, and that they are right for the result
     let answer = IsWritten-last_line c.args.kind course served some bytes is_answer c.write_whole.result by in (
       so_far.read,
       so_far.written ++ answer.0,

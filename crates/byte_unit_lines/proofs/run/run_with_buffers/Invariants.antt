@@ -7,6 +7,7 @@ use Rattle.byte_unit_lines.specs.Lines.{line_end}
 use Rattle.byte_unit_lines.proofs.Runs.{HasServed}
 use Rattle.byte_unit_lines.proofs.run.run_with_buffers.Given as goal
 
+-- against the state at the start: what was read is served, and the lengths and capacities are within their bounds
 abbrev pub invariant-reads : goal.invariant-reads
 invariant-reads g l =
     let remaining = g.R.Read.remaining in
@@ -17,5 +18,6 @@ invariant-reads g l =
     × IsWithin line_end l.longest (length l.initial.buffer) l.initial.buffers.line l.initial.buffers.waiting
     so_far.read buffers.line buffers.waiting
 
+-- each read that gives bytes leaves fewer reads
 abbrev pub decreases-reads : goal.decreases-reads
 decreases-reads g l = reads_left l.reader

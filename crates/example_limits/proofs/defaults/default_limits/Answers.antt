@@ -16,6 +16,7 @@ is_document : {A : Type 0} (document : Option A) → IsSome document → documen
 is_document (Some members) e none = let z : ⊥ = cc in z
 is_document None e none = let z : ⊥ = cc in z
 
+-- an error other than out of memory is never returned, since the constant is a TOML document
 pub unreachable-requires : goal.unreachable-requires
 unfolding toml_on_literals
 unreachable-requires c =
@@ -28,6 +29,7 @@ no_rule_is_broken FileInTotal = λ broken. omega (arith, broken)
 no_rule_is_broken AllOnDisk = λ broken. omega (arith, broken)
 no_rule_is_broken WithinHour = λ broken. omega (arith, broken)
 
+-- the limits of the constant are the default limits, so they break no rule
 pub returns-in-Ok-clause-valid : goal.returns-in-Ok-clause-valid
 returns-in-Ok-clause-valid c =
     let found = sym c.unwrap.ensures ∙ c.limits_in.ensures ∙ defaults_in _ c.in-Ok.ensures.ok in

@@ -4,14 +4,17 @@ use Rattle.byte_unit_c.specs.Many.{offsets_of, position}
 use Rattle.byte_unit_c.proofs.Ascending.{as_read, is_position, between, rises, positions}
 use Rattle.byte_unit_c.proofs.offsets.Offsets.text_at.Goals as goal
 
+-- the offset where the text begins is not negative
 pub position-begin-requires : goal.position-begin-requires
 position-begin-requires c =
     is_position c.at.result _ _ c.args.i (search rules) c.at.ensures c.requires.ascends (omega (arith, c.requires.within))
 
+-- the offset where it ends is not negative
 pub position-end-requires : goal.position-end-requires
 position-end-requires c =
     is_position c.at-2.result _ _ (c.args.i + 1) (search rules) c.at-2.ensures c.requires.ascends c.requires.within
 
+-- the text begins no later than it ends, and ends within the data
 pub part-requires : goal.part-requires
 part-requires c =
     let xs = offsets_of c.args.self in
@@ -24,6 +27,7 @@ part-requires c =
     let within = positions end high (between (pos 0) high xs (c.args.i + 1) c.requires.ascends c.requires.within).1 in
     record { ordered = omega (arith, begin_is, end_is, ordered); within = omega (arith, end_is, within) }
 
+-- the part of the data between the two positions is the text
 pub returns : goal.returns
 returns c =
     let xs = offsets_of c.args.self in

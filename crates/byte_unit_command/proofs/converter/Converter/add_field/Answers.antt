@@ -18,6 +18,7 @@ use Rattle.byte_unit_command.proofs.converter.Converter.add_field.Goals.{then-ad
 use Rattle.byte_unit_command.proofs.converter.Converter.add_field.Goals.{then-this-ne0, else-this-ne0}
 use Rattle.byte_unit_command.proofs.converter.Converter.add_field.Goals as goal
 
+-- a field that is not chosen: the copy of it is what is appended
 pub returns-then-not-chosen-clause-ok : goal.returns-then-not-chosen-clause-ok
 returns-then-not-chosen-clause-ok g c =
     let old : State = state_of c.args.self.now in
@@ -25,7 +26,7 @@ returns-then-not-chosen-clause-ok g c =
     AddsField-other c.args.options.now c.args.number c.args.field.now old _
     (c.requires.no c.if-not-chosen.true) (ap With c.in_ok-extend_from_slice.ensures.items)
 
--- the blank that separates the field, and the columns of the size
+-- the code has the blank that separates the field and the columns of the size, as the definitions say
 spaces : (g : Over) (c : Joined-this-ne0 g)
     → (c.if-this-ne0.width.0.now ≡ gap_of c.args.options.now c.args.number c.args.field.now)
     × (c.if-this-ne0.width.1 ≡ width_of c.args.options.now c.args.number c.args.field.now)
@@ -35,6 +36,7 @@ spaces g c =
     let width : Bool → ℕ = λ blanks. width_by blanks options.width c.args.number c.args.field.now in
     elim c.if-this-ne0.branch [
       | then-this-ne0 w ↦
+          -- `width` is a pair: the blank, or no byte, and the columns
           let at : true ≡ at_blanks options = search rules in (
             ap (λ both. both.0.now) w.width-is ∙ w.gap_of.ensures.items ∙ ap gap at,
             ap (λ both. both.1) w.width-is ∙ w.width_of.ensures.width ∙ ap width at,
@@ -44,6 +46,7 @@ spaces g c =
           (ap (λ both. both.0.now) w.width-is ∙ ap gap at, ap (λ both. both.1) w.width-is ∙ ap width at)
     ]
 
+-- a chosen field that is a size: its text is appended, and it is counted
 pub returns-clause-ok : goal.returns-clause-ok
 returns-clause-ok g c =
     let options = c.args.options.now in
@@ -52,6 +55,7 @@ returns-clause-ok g c =
     let field = c.args.field.now in
     let size = c.in-Some.size in
     let between : State = state_of c.if-add.self in
+    -- what holds after the size is counted: the messages about it, that they are right, and the new state
     let Counted : Type 0 = (text : List ℕ) × AreLimitMessages options old.word old.place number field size text
     × (between ≡ record old { tally = c.add.new.self; messages = old.messages ++ text }) in
     let counted : Counted = elim c.if-add.branch [
@@ -72,6 +76,7 @@ returns-clause-ok g c =
     let gap = c.if-this-ne0.width.0.now in
     let shown = c.in_ok-add_in_width.ensures.ok in
     let text = gap ++ shown.0 in
+    -- the first part is on the blank, the second on the columns
     let spaces = spaces g (goal.at.returns-clause-ok g c).Joined-this-ne0 in
     let placed : IsPlaced options number field size text = record {
       shown = shown.0;
@@ -84,7 +89,7 @@ returns-clause-ok g c =
     c.add_in_width.new.text.items (shown.2 ∙ ap (λ items. items ++ shown.0) c.in_ok-extend_from_slice-2.ensures.items
     ∙ append_assoc between.out gap shown.0 ∙ ap (λ (state : State). state.out ++ text) counted.2))
 
--- before the text is appended, messages were, or none
+-- before the text is appended, the earlier messages are kept, with or without new ones, and `waiting` is untouched
 told : (g : Over) (c : Joined-add g)
     → KeepsMessages c.args.self.now c.if-add.self × (c.if-add.self.waiting ≡ c.args.self.now.waiting)
 told g c =
@@ -96,14 +101,17 @@ told g c =
       | else-add w ↦ (kept _ _ w.self-is (IsPrefix-self (messages_of old.notices)), ap (λ at. at.waiting) w.self-is)
     ]
 
+-- the messages that were there are kept if the text is appended
 pub returns-clause-kept_messages : goal.returns-clause-kept_messages
 returns-clause-kept_messages g c = (told g (goal.at.returns-clause-kept_messages g c).Joined-add).0
 
+-- the messages that were there are kept if allocation fails for the blank
 pub returns-in_err-extend_from_slice-2-clause-kept_messages :
     goal.returns-in_err-extend_from_slice-2-clause-kept_messages
 returns-in_err-extend_from_slice-2-clause-kept_messages g c =
     (told g (goal.at.returns-in_err-extend_from_slice-2-clause-kept_messages g c).Joined-add).0
 
+-- the messages that were there are kept if allocation fails for the text
 pub returns-in_err-add_in_width-clause-kept_messages : goal.returns-in_err-add_in_width-clause-kept_messages
 returns-in_err-add_in_width-clause-kept_messages g c =
     (told g (goal.at.returns-in_err-add_in_width-clause-kept_messages g c).Joined-add).0
@@ -121,15 +129,18 @@ extends g c same = record {
   capacity = search rules;
 }
 
+-- what waited is kept, and grows by no more than the room of the field
 pub returns-clause-extends : goal.returns-clause-extends
 returns-clause-extends g c =
     let at = goal.at.returns-clause-extends g c in extends g at.After-add_in_width (told g at.Joined-add).1
 
+-- what waited grows by no more than the room of the field if allocation fails for the text, after the blank
 pub returns-in_err-add_in_width-clause-extends : goal.returns-in_err-add_in_width-clause-extends
 returns-in_err-add_in_width-clause-extends g c =
     let at = goal.at.returns-in_err-add_in_width-clause-extends g c in
     extends g at.After-add_in_width (told g at.Joined-add).1
 
+-- what waited is unchanged if allocation fails for the blank
 pub returns-in_err-extend_from_slice-2-clause-extends : goal.returns-in_err-extend_from_slice-2-clause-extends
 returns-in_err-extend_from_slice-2-clause-extends g c =
     let same = (told g (goal.at.returns-in_err-extend_from_slice-2-clause-extends g c).Joined-add).1 in

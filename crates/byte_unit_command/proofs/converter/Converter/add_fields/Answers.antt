@@ -8,15 +8,19 @@ use Rattle.byte_unit_command.proofs.Rooms.{fields_room-whole}
 use Rattle.byte_unit_command.proofs.Untold.{first-untold}
 use Rattle.byte_unit_command.proofs.converter.Converter.add_fields.Goals as goal
 
+-- the record as its one field has been added
 pub returns-in-None-clause-ok : goal.returns-in-None-clause-ok
 returns-in-None-clause-ok g c =
     on_ok_weaker c.add_field.result (AddsFields-whole c.args.options.now c.args.bytes.now (state_of c.args.self.now)
     (state_of c.add_field.new.self) c.in-None.is) c.add_field.ensures.ok
 
+-- the one field was rejected in the mode `abort`, and so the record is
 pub returns-in-None-clause-rejected : goal.returns-in-None-clause-rejected
 returns-in-None-clause-rejected g c = λ is. Aborts-whole c.args.options.now c.args.bytes.now (state_of c.args.self.now)
     (messages_of c.add_field.new.self.notices) c.in-None.is (c.add_field.ensures.rejected is)
 
+-- the call fails only for a reason that `add_field` allows; with room for the field and no message about it, it
+-- succeeds
 pub returns-in-None-clause-stops : goal.returns-in-None-clause-stops
 returns-in-None-clause-stops g c = record {
   error = c.add_field.ensures.stops.error;
@@ -31,6 +35,7 @@ returns-in-None-clause-stops g c = record {
       c.add_field.ensures.stops.succeeds (omega (arith, room, whole)) first;
 }
 
+-- what waits grows by no more than the room of the record, which is that of its one field
 pub returns-in-None-clause-extends : goal.returns-in-None-clause-extends
 returns-in-None-clause-extends g c = record {
   kept = c.add_field.ensures.extends.kept;

@@ -1,5 +1,5 @@
 -- After an error, truncating leaves what was there before, since it is a prefix of what is there then. The messages
--- stay if a field was rejected.
+-- stay if a field was rejected. `.ok.0` of a vector: its length is that of its items.
 use Rattle.std.proofs.Common.{◌≢◌, Err, take, refl, sym, ap, subst, ◌∙◌, arith}
 use Rattle.byte_unit_command.specs.RunState.{Aborts, at_next, messages_of, state_of}
 use Rattle.byte_unit_command.specs.declared.error.RunError.TheVariants.{Memory, Rejected}
@@ -7,9 +7,11 @@ use Rattle.byte_unit_stream.proofs.Prefixes.{take-IsPrefix}
 use Rattle.byte_unit_command.proofs.Results.{error-passed}
 use Rattle.byte_unit_command.proofs.converter.Converter.add_record.Goals as goal
 
+-- the two errors that adding a record may return are different
 rejected_is_not_memory : Rejected ≢ Memory
 rejected_is_not_memory same = cc
 
+-- after an error, `waiting` is as it was before: `truncate` takes off what was appended
 pub returns-in-Err-clause-err : goal.returns-in-Err-clause-err
 returns-in-Err-clause-err g c =
     let before = c.args.self.now.waiting.items in
@@ -18,6 +20,7 @@ returns-in-Err-clause-err g c =
     ∙ ap (λ count. take count after) (omega (arith, c.len-len.ensures, c.args.self.now.waiting.ok.0))
     ∙ take-IsPrefix before after c.in-Err.ensures.extends.kept
 
+-- if allocation failed, the messages are as they were before
 pub returns-in-Err-clause-memory : goal.returns-in-Err-clause-memory
 returns-in-Err-clause-memory g c = λ is.
     let before = messages_of c.args.self.now.notices in
@@ -27,6 +30,7 @@ returns-in-Err-clause-memory g c = λ is.
     (omega (arith, c.len-messages.ensures, c.args.self.now.notices.messages.ok.0))
     ∙ take-IsPrefix before after c.in-Err.ensures.kept_messages
 
+-- if a field was rejected, the messages about it are kept, so that they can be told
 pub returns-in-Err-clause-rejected : goal.returns-in-Err-clause-rejected
 returns-in-Err-clause-rejected g c = λ is.
     let error = error-passed (Err c.in-Err.error) c.in-Err.error Rejected refl is in

@@ -17,14 +17,17 @@ ignored : (options : Options) (old : State) (number : ℕ) (field : List ℕ) �
 ignored options old number field chosen none untold =
     ignored-untold options old.word old.place number field untold.0 chosen none untold.1
 
+-- the copy of the field is appended, after the message about it
 pub returns-clause-ok : goal.returns-clause-ok
 returns-clause-ok g c =
+    -- a triple: the text that was appended to the messages, that it is the message about the field, and the equation
     let told = c.in_ok-add_reject_notice.ensures.ok in
     let goes_on : ¬ (c.args.options.now.invalid ≡ Abort) = search rules in
     AddsField-rejected c.args.options.now c.args.number c.args.field.now (state_of c.args.self.now) _ told.0
     (messages_of c.add_reject_notice.new.notices) c.extend_from_slice.new.self.items c.requires.chosen c.requires.none
     told.1 told.2 goes_on c.in_ok-extend_from_slice.ensures.items refl
 
+-- what waited is kept if the field cannot be appended
 pub returns-in_err-extend_from_slice-clause-extends : goal.returns-in_err-extend_from_slice-clause-extends
 returns-in_err-extend_from_slice-clause-extends g c = record {
   kept = IsPrefix-if (is_ok c.extend_from_slice.result) c.args.self.now.waiting.items c.args.field.now
@@ -33,6 +36,7 @@ returns-in_err-extend_from_slice-clause-extends g c = record {
   capacity = search rules;
 }
 
+-- the call fails here only if there is a message about the field
 pub returns-in_err-add_reject_notice-clause-stops : goal.returns-in_err-add_reject_notice-clause-stops
 returns-in_err-add_reject_notice-clause-stops g c = record {
   error = search rules;
@@ -41,6 +45,7 @@ returns-in_err-add_reject_notice-clause-stops g c = record {
       (state_of c.args.self.now) c.args.number c.args.field.now c.requires.chosen c.requires.none untold))));
 }
 
+-- the mode is `abort`: the call fails here only if there is a message about the field
 pub returns-then-eq-clause-stops : goal.returns-then-eq-clause-stops
 returns-then-eq-clause-stops g c =
     let abort : c.args.options.now.invalid ≡ Abort = search rules in record {

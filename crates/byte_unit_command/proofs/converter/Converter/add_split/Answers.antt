@@ -1,5 +1,6 @@
 -- Each iteration adds one field with the bytes after it; the last field follows the loop, or a rest without a chosen
--- field. A field that is rejected in the mode `abort` is one of the record.
+-- field. A field that is rejected in the mode `abort` is one of the record. The parts of the invariant are in
+-- `Invariants.antt`. `.ensures.1` of a `from_residual`: the error in its result is the one that `?` passes on.
 use Rattle.std.proofs.Common.{◌⊎◌, true≢false, ◌≡◌, ◌≤◌, ◌+◌, ◌-◌, ◌∙◌, ◌++◌, [], List, ℕ, take, drop, length, ap, sym}
 use Rattle.std.proofs.Common.{subst, Err, arith, length-drop, vec_len}
 use Rattle.std.proofs.lemmas.Bool.{eqb-true}
@@ -18,6 +19,7 @@ use Rattle.byte_unit_command.proofs.Splitting.{EndsFirst, IsSplitting, IsSplitti
 use Rattle.byte_unit_command.proofs.Splitting.{AddsFields-last, AddsFields-copied, FieldHasNoMessage-now, fields_copied}
 use Rattle.byte_unit_command.proofs.converter.Converter.add_split.Goals as goal
 
+-- a field before the last was rejected in the mode `abort`, and so the record is
 pub returns-in_err-add_field-clause-rejected : goal.returns-in_err-add_field-clause-rejected
 returns-in_err-add_field-clause-rejected g c = λ is.
     let error = c.in_err-add_field.field-0.0 in
@@ -29,6 +31,7 @@ returns-in_err-add_field-clause-rejected g c = λ is.
     (fields_of options (drop (place + length (between_of options)) rest)) c.in-Some.ensures.some.2
     (messages_of c.add_field.new.self.notices) (c.in_err-add_field.ensures.rejected (ap Err same))
 
+-- at the start no field is added, the rest is the record, and all ranges from the first field on are left
 pub loop-n-init : goal.loop-n-init
 loop-n-init g c = (
   IsSplitting-start c.args.options.now c.args.bytes.now (state_of c.args.self.now),
@@ -38,6 +41,7 @@ loop-n-init g c = (
   c.ranges_from-fields.ensures.goes,
 )
 
+-- the invariant holds after one more field; its parts are in the order of `Invariants.antt`
 pub loop-n-preserved : goal.loop-n-preserved
 loop-n-preserved g c =
     let options = c.args.options.now in
@@ -90,6 +94,7 @@ loop-n-preserved g c =
       c.ranges_from-ranges.ensures.goes,
     )
 
+-- no range is left: the other fields are copied at once
 pub returns-then-is_empty-clause-ok : goal.returns-then-is_empty-clause-ok
 returns-then-is_empty-clause-ok g c =
     let options = c.args.options.now in
@@ -116,16 +121,19 @@ returns-then-is_empty-clause-ok g c =
     subst (λ (out : List ℕ). AddsFields options c.args.bytes.now (state_of c.args.self.now)
     (record next { out = out })) (sym out) copied
 
+-- the last field: if it is added, all fields are
 pub returns-clause-ok : goal.returns-clause-ok
 returns-clause-ok g c =
     on_ok_weaker c.add_field-2.result (AddsFields-last c.loop-n.invariant.0 c.in_default.ensures.none
     (state_of c.add_field-2.new.self)) c.add_field-2.ensures.ok
 
+-- the last field was rejected in the mode `abort`, and so the record is
 pub returns-clause-rejected : goal.returns-clause-rejected
 returns-clause-rejected g c = λ is.
     Aborts-first c.loop-n.invariant.0 c.loop-n.rest.now [] c.in_default.ensures.none
     (messages_of c.add_field-2.new.self.notices) (c.add_field-2.ensures.rejected is)
 
+-- a field before the last cannot fail if the room for the record is left and there is no message about it
 pub returns-in_err-add_field-clause-stops : goal.returns-in_err-add_field-clause-stops
 returns-in_err-add_field-clause-stops g c = record {
   error = IfErr-passed (λ (error : RunError). (error ≡ Memory) ⊎ (error ≡ Rejected)) _ _ c.from_residual.ensures.1
@@ -136,6 +144,7 @@ returns-in_err-add_field-clause-stops g c = record {
       let place = c.in-Some.n in
       let gap = length (between_of options) in
       let field = take place rest in
+      -- a triple, `EndsFirst`: the end is not at the start, it is within the rest, and there the fields are cut
       let ends = c.in-Some.ensures.some in
       let within = c.loop-n.invariant.1 in
       let first = IsSplitWithin-first within field (fields_of options (drop (place + gap) rest)) ends.2 untold in

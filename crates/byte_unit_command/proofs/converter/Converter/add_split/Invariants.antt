@@ -7,6 +7,8 @@ use Rattle.byte_unit_command.proofs.Rooms.{IsSplitWithin}
 use Rattle.byte_unit_command.proofs.Splitting.{IsSplitting}
 use Rattle.byte_unit_command.proofs.converter.Converter.add_split.Given as goal
 
+-- five parts: the fields before the rest are added; the lengths; which later fields are chosen, by the options and by
+-- the ranges that are left; the order of these; and that the first of them has not ended yet
 abbrev pub invariant-loop-n : goal.invariant-loop-n
 invariant-loop-n g l =
     let old = state_of l.initial.self in
@@ -15,5 +17,6 @@ invariant-loop-n g l =
     × ((later : ℕ) → l.number ≤ later → IsChosen l.options.fields.now later ↔ IsChosen l.ranges later)
     × (IsTrue l.in_order → IsInOrder l.ranges) × GoesTo l.ranges l.number
 
+-- the rest gets shorter with each field
 abbrev pub decreases-loop-n : goal.decreases-loop-n
 decreases-loop-n g l = length l.rest

@@ -7,6 +7,7 @@ use Rattle.byte_unit_command.proofs.converter.Converter.append_record.Goals.{the
 use Rattle.byte_unit_command.proofs.converter.Converter.append_record.Goals.{else-self-gt0+in_ok-add_fields}
 use Rattle.byte_unit_command.proofs.converter.Converter.append_record.Goals as goal
 
+-- the record is appended with its end byte: a copy of a header record, or the fields of any other
 pub returns-clause-ok : goal.returns-clause-ok
 returns-clause-ok g c =
     let options = c.args.options.now in
@@ -36,6 +37,7 @@ returns-clause-ok g c =
           (ended ∙ ap (λ (state : State). record state { out = state.out ++ mark }) (ap state_of w.self-is))
     ]
 
+-- the messages that were there are kept if the record is appended
 pub returns-clause-kept_messages : goal.returns-clause-kept_messages
 returns-clause-kept_messages g c = elim c.if-self-gt0.branch [
   | then-self-gt0+in_ok-extend_from_slice w ↦
@@ -44,6 +46,7 @@ returns-clause-kept_messages g c = elim c.if-self-gt0.branch [
       kept_messages-same c.args.self.now _ _ w.self-is w.in_ok-add_fields.ensures.kept_messages
 ]
 
+-- the messages that were there are kept if allocation fails for the end byte
 pub returns-in_err-extend_from_slice-2-clause-kept_messages :
     goal.returns-in_err-extend_from_slice-2-clause-kept_messages
 returns-in_err-extend_from_slice-2-clause-kept_messages g c =

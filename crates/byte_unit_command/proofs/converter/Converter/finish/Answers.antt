@@ -1,5 +1,5 @@
 -- What is written and told at the end is right for each result: with and without a last record and a total, and if a
--- write fails.
+-- write fails. `.ensures.1` of a `from_residual`: the error in its result is the one that `?` passes on.
 use Rattle.std.proofs.Common.{◌≡◌, subst, ap, ◌∙◌, Err, List, ℕ, [], length, refl, rules}
 use Rattle.std.specs.Io.KnownBytes.{Appends}
 use Rattle.std.proofs.KnownBytes.{Appends-nil}
@@ -16,6 +16,7 @@ use Rattle.byte_unit_command.proofs.converter.Converter.finish.Goals.{then-not-i
 use Rattle.byte_unit_command.proofs.converter.Converter.finish.Goals.{Joined-not-is_empty}
 use Rattle.byte_unit_command.proofs.converter.Converter.finish.Goals as goal
 
+-- the last record could not be added: nothing is written, and its messages are told only if a field was rejected
 pub returns-in_err-added-clause-written : goal.returns-in_err-added-clause-written
 returns-in_err-added-clause-written g c =
     let options = c.args.options.now in
@@ -24,6 +25,8 @@ returns-in_err-added-clause-written g c =
     let messages = messages_of c.add_record-added.new.self.notices in
     let failed = c.in_err-added in
     let error = failed.field-0.0 in
+    -- what is known of a rejected last record, by the text and the messages that waited before it, both of which are
+    -- empty
     let AbortsAt : List ℕ → List ℕ → Type 0 = λ out told. (before.header ≡ 0)
     × Aborts options part (at_next (record before { out = out; messages = told })) messages in
     let at = IsFinished-early options part (idle before) messages error failed.ensures.stops.error
@@ -56,20 +59,24 @@ converts_last g c =
           (empty_from_length part (length part) refl w.if-not-is_empty.ensures) w.self-is w.errors-is
     ]
 
+-- the total is asked for, and the write of it has failed: what is written is right for that error
 pub returns-in_err-write_with_total-clause-written : goal.returns-in_err-write_with_total-clause-written
 returns-in_err-write_with_total-clause-written g c =
     let last = converts_last g (goal.at.returns-in_err-write_with_total-clause-written g c).Joined-not-is_empty in
     let error = c.in_err-write_with_total.field-0.0 in
+    -- a triple: the bytes that were written, that they were appended, and that they are right for the error
     let written = c.in_err-write_with_total.ensures.written in
     let passed = c.from_residual-in_err-write_with_total in
     let at = IsFinished-total_error c.args.part.now last.adds (search rules) error written.0 written.2 in
     WritesAndTells-by written.0 written.1 last.told
     (IsFinished-passed _ _ _ _ _ passed.result error passed.ensures.1 at)
 
+-- no total is asked for, and the write of what waits has failed: a prefix of it is written
 pub returns-in_err-write_whole-clause-written : goal.returns-in_err-write_whole-clause-written
 returns-in_err-write_whole-clause-written g c =
     let last = converts_last g (goal.at.returns-in_err-write_whole-clause-written g c).Joined-not-is_empty in
     let failed = c.in_err-write_whole in
+    -- a triple, as in the case before
     let written = failed.ensures.err in
     let begins : IsPrefix written.0 c.if-not-is_empty.self.waiting.items =
     subst (IsPrefix written.0) c.deref.ensures.value written.2 in
@@ -78,6 +85,7 @@ returns-in_err-write_whole-clause-written g c =
     WritesAndTells-by written.0 written.1 last.told
     (IsFinished-passed _ _ _ _ _ passed.result failed.field-0.0 passed.ensures.1 at)
 
+-- the total is asked for and was written
 pub returns-in_ok-write_with_total-clause-written : goal.returns-in_ok-write_with_total-clause-written
 returns-in_ok-write_with_total-clause-written g c =
     let last = converts_last g (goal.at.returns-in_ok-write_with_total-clause-written g c).Joined-not-is_empty in
@@ -85,6 +93,7 @@ returns-in_ok-write_with_total-clause-written g c =
     WritesAndTells-by written.0 written.1 last.told
     (IsFinished-total_ok c.args.part.now last.adds (search rules) written.0 written.2)
 
+-- no total is asked for, and what waited was written
 pub returns-in_ok-write_whole-clause-written : goal.returns-in_ok-write_whole-clause-written
 returns-in_ok-write_whole-clause-written g c =
     let last = converts_last g (goal.at.returns-in_ok-write_whole-clause-written g c).Joined-not-is_empty in

@@ -1,5 +1,7 @@
 -- Each iteration adds one record, the first of the rest: with the part that was read before, or alone. If it stops,
--- what was appended is that of the records before.
+-- what was appended is that of the records before. Of the invariant, `.0` is what was converted, and `.1` are the
+-- bounds (`IsFedWithin`). `.ok.0` of a vector: its length is that of its items. `.ensures.1` of a `from_residual`: the
+-- error in its result is the one that `?` passes on.
 use Rattle.std.proofs.Common.{true≢false, ◌≡◌, ◌+◌, ◌-◌, ◌∷◌, [], length, take, drop, sym, ap, subst, ◌∙◌}
 use Rattle.std.proofs.Common.{Err, arith, length-drop, vec_len}
 use Rattle.std.proofs.lemmas.List.{take_rest, length-take-le}
@@ -14,9 +16,11 @@ use Rattle.byte_unit_command.proofs.run.Buffers.feed.Goals.{then-is_empty+in_ok-
 use Rattle.byte_unit_command.proofs.run.Buffers.feed.Goals.{else-is_empty+in_ok-extend_from_slice+in_ok-add_record-2}
 use Rattle.byte_unit_command.proofs.run.Buffers.feed.Goals as goal
 
+-- a record that lies wholly in the read could not be added: what was appended is that of the records before
 pub returns-in_err-add_record-clause-error : goal.returns-in_err-add_record-clause-error
 returns-in_err-add_record-clause-error g c =
     let part = c.loop-n.self.part in
+    -- nothing of it was read before; `part.ok.0` says that the length of a vector is that of its items
     let none = empty_from_length part.items (vec_len part) part.ok.0 c.if-is_empty.ensures in
     let next = IsNext-alone c.args.options.now c.loop-n.self c.loop-n.rest.now c.in-Some.n c.in-Some.ensures.some
     none in
@@ -28,6 +32,7 @@ returns-in_err-add_record-clause-error g c =
     error failed.ensures.stops.error (λ is. failed.ensures.memory (ap Err is))
     (λ is. failed.ensures.rejected (ap Err is)))
 
+-- a record that has begun in an earlier read could not be added: what was appended is that of the records before
 pub returns-in_err-add_record-2-clause-error : goal.returns-in_err-add_record-2-clause-error
 returns-in_err-add_record-2-clause-error g c =
     let bytes_are = c.deref.ensures.value ∙ c.in_ok-extend_from_slice.ensures.items in
@@ -41,6 +46,7 @@ returns-in_err-add_record-2-clause-error g c =
     failed.field-0.0 failed.ensures.stops.error (λ is. failed.ensures.memory (ap Err is))
     (λ is. failed.ensures.rejected (ap Err is)))
 
+-- at the start no record is added, and no buffer has grown
 pub loop-n-init : goal.loop-n-init
 loop-n-init g c = (
   IsFed-start c.args.options.now (feed_of c.args.self.now c.args.bytes.now),
@@ -52,6 +58,7 @@ loop-n-init g c = (
   },
 )
 
+-- the invariant, a pair of what is fed and of the lengths, holds after one more record
 pub loop-n-preserved : goal.loop-n-preserved
 loop-n-preserved g c =
     let options = c.args.options.now in
@@ -64,6 +71,7 @@ loop-n-preserved g c =
     let rest_is = take_rest rest (place + 1) in
     let taken : length (take place rest) ≡ place = length-take-le place rest (omega (arith, ends.0)) in
     let left : length next.rest ≡ length rest - (place + 1) = ap length rest_is ∙ length-drop (place + 1) rest in
+    -- the cases of the `if`: the record lies wholly in this read, or has begun in an earlier one
     elim c.if-is_empty.branch [
       | then-is_empty+in_ok-add_record w ↦
           let none = empty_from_length part.items (vec_len part) part.ok.0 w.if-is_empty.ensures in
@@ -99,6 +107,7 @@ loop-n-preserved g c =
           )
     ]
 
+-- a record that lies wholly in the read can be added, if the capacity suffices and there is no message about it
 pub returns-in_err-add_record-clause-succeeds : goal.returns-in_err-add_record-clause-succeeds
 returns-in_err-add_record-clause-succeeds g c = λ suffice untold.
     let rest = c.loop-n.rest.now in
@@ -113,6 +122,7 @@ returns-in_err-add_record-clause-succeeds g c = λ suffice untold.
     let told = IsNext-untold c.loop-n.invariant.0 next untold in
     absurd (true≢false (sym (c.in_err-add_record.ensures.stops.succeeds room told)))
 
+-- a record that has begun in an earlier read can be added, if the capacity suffices and there is no message about it
 pub returns-in_err-add_record-2-clause-succeeds : goal.returns-in_err-add_record-2-clause-succeeds
 returns-in_err-add_record-2-clause-succeeds g c = λ suffice untold.
     let rest = c.loop-n.rest.now in

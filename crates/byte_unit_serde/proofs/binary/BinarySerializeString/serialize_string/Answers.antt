@@ -2,6 +2,7 @@
 use Rattle.std.proofs.lemmas.Result.{on_ok_weaker}
 use Rattle.byte_unit_serde.proofs.binary.BinarySerializeString.serialize_string.Goals as goal
 
+-- `wrote` is a triple: the text, that it is the text by the spec that was chosen, and that it was written.
 pub returns-clause-written : goal.returns-clause-written
 returns-clause-written g c =
     on_ok_weaker c.write_as.result

@@ -6,6 +6,7 @@ use Rattle.byte_unit_serde.specs.Serialized.{ReadsEach}
 use Rattle.byte_unit_serde.proofs.Reading.{reads_each_snoc, holds_of_error}
 use Rattle.byte_unit_serde.proofs.lists.Lists.deserialize.Goals as goal
 
+-- The format failed at the next item: the second case of `IsListError`, in its first part.
 pub returns-in_err-next_in_list-clause-error : goal.returns-in_err-next_in_list-clause-error
 returns-in_err-next_in_list-clause-error g c =
     let returned : g.F.Source.next_returns c.loop-alloc.from (Err c.in_err-next_in_list.field-0.0)
@@ -13,10 +14,12 @@ returns-in_err-next_in_list-clause-error g c =
     holds_of_error _ c.from_residual-in_err-next_in_list.result c.in_err-next_in_list.field-0.0 (search rules)
     (inr (_, _, _, c.in_ok-begin_list.ensures.given, c.loop-alloc.invariant, inl returned))
 
+-- The sequence has ended: the items are all its values.
 pub returns-then-not-branch-clause-list : goal.returns-then-not-branch-clause-list
 returns-then-not-branch-clause-list g c =
     (c.begin_list.new.from, c.loop-alloc.from, c.in_ok-begin_list.ensures.given, c.loop-alloc.invariant, search rules)
 
+-- The next item could not be read: the second case of `IsListError`, in its second part.
 pub returns-in_err-item-clause-error : goal.returns-in_err-item-clause-error
 returns-in_err-item-clause-error g c =
     let looks : Stays g.F.Format.stays c.loop-alloc.from c.next_in_list.new.from = search rules in
@@ -25,6 +28,7 @@ returns-in_err-item-clause-error g c =
     holds_of_error _ c.from_residual-in_err-item.result c.in_err-item.field-0.0 (search rules)
     (inr (_, _, _, c.in_ok-begin_list.ensures.given, c.loop-alloc.invariant, inr (inl (_, looks, failed))))
 
+-- An item was read and stored: the items are the values that were read.
 pub loop-alloc-preserved : goal.loop-alloc-preserved
 loop-alloc-preserved g c =
     let pushed : c.append.new.items.items ≡ c.loop-alloc.items.items ++ c.in_ok-item.item ∷ [] = search rules in
@@ -35,6 +39,7 @@ loop-alloc-preserved g c =
     subst (λ items. ReadsEach g.R.DeserializeString.means g.F.Format.gives g.F.Format.stays c.begin_list.new.from
     c.deserialize.new.from items) (sym pushed) more
 
+-- An item was read and could not be stored: the second case of `IsListError`, in its third part.
 pub returns-in_err-append-clause-error : goal.returns-in_err-append-clause-error
 returns-in_err-append-clause-error g c =
     let looks : Stays g.F.Format.stays c.loop-alloc.from c.next_in_list.new.from = search rules in

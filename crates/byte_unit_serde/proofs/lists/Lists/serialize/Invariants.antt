@@ -4,6 +4,7 @@ use Rattle.serde.specs.Event.{WritesEach}
 use Rattle.byte_unit_serde.proofs.Writing.{Continues}
 use Rattle.byte_unit_serde.proofs.lists.Lists.serialize.Given as goal
 
+-- A pair: the values before the index were written, and what is returned for the others is returned for all.
 abbrev pub invariant-loop-item : goal.invariant-loop-item
 invariant-loop-item g l =
     WritesEach g.W.SerializeString.writes (take l.item-index l.item-items) (g.S.Serializer.written l.initial.out)

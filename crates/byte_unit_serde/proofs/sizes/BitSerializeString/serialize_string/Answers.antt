@@ -1,5 +1,6 @@
 -- The number that is written is that of the size.
 use Rattle.byte_unit_serde.proofs.sizes.BitSerializeString.serialize_string.Goals as goal
 
+-- The text of the number of bits was written.
 pub returns-clause-written : goal.returns-clause-written
 returns-clause-written g c = rw c.as_u128.ensures.number at c.write_as.ensures.written

@@ -44,25 +44,32 @@ use Rattle.byte_unit_lines.specs.contracts.tests.refusing.RefusingAllocator.deal
 use Rattle.byte_unit_lines.proofs.tests.refusing.RefusingAllocator.deallocate.Statement.{statement}
 use Rattle.byte_unit_lines.proofs.tests.refusing.RefusingAllocator.deallocate.Code as code
 
+-- the type of `size` and `align`
 abbrev word : Slot 2
 word = plain (λ _. usize)
 
+-- the type of `block`
 abbrev pointer : Slot 2
 pointer = plain (λ _. RawPtr)
 
 module _ (Z : Al) where
+  -- the type arguments of the call: the inner allocator, with its contract and its drop
   abbrev args : Args
   args = bounded (a_type ∷ []) (Z.row, tt) (dcons Z.d (dcons Z.drops dnil))
 
+  -- the body of `deallocate` for this inner allocator
   abbrev here : Fn
   here = inst_fn args code.function
 
+  -- the type of `&self`
   abbrev self : Slot 2
   self = RefOf (0 ∷ []) tt (plain (λ _. heap.the_row (param 0 Z.row))) (λ _. tt)
 
+  -- the signature of `deallocate`, with what its arguments are at the end
   abbrev ended : Ended
   ended = deallocate.ended Z.row Z.g Z.d Z.drops
 
+  -- what is known of each argument after the call: nothing, since it is dropped
   abbrev stayed : Stays ended.signature.params ended.kept
   stayed = (stay_dropped self yes, (stay_dropped pointer yes, (stay_dropped word yes, (stay_dropped word yes, tt))))
 
@@ -73,25 +80,30 @@ module _ (Z : Al) where
 module _ {M : Type 1} (𝓤 : Ura M) (𝓛 : Logic 𝓤) (𝓜 : Model 𝓤 𝓛.H) (𝓡 : Running 𝓤 𝓛.H 𝓜) (Z : Al) where
   open 𝓛 use {H}
 
+  -- the functions that the program calls
   abbrev 𝓣 : MachineTables 𝓤 H 𝓜
   𝓣 = tables 𝓤 H 𝓜 𝓡 𝓡.env
 
+  -- the contract of `deallocate`, clause by clause
   abbrev clauses : Clauses 𝓤 (ended Z)
   clauses = deallocate.clauses Z.row Z.g Z.d Z.drops 𝓛 𝓜.mem 𝓡.returns
 
+  -- the statement that the body is walked with
   abbrev Walk : Contract 𝓤
   Walk = walk_of 𝓛 (ended Z) (stayed Z) clauses
 
+  -- the contract of the inner allocator's `deallocate`
   abbrev Giving : Contract 𝓤
   Giving = Gives Z 𝓛 𝓜.mem 𝓡.returns
 
-  -- the exit: both tokens go back
+  -- the exit: the postcondition holds, and both tokens go back
   ends : (y : Walk.Ghost) → Sq 𝓛 (‵ (flft y.0.0.0 y.0.1.0) ∷ ‵ (flft y.0.0.1.0 y.0.1.1.0) ∷ []) (prop (Walk.post y vunit))
   ends y = suffices ! _ (leaves 𝓛 (ended Z) (stayed Z) clauses y vunit tt (tt, (tt, (tt, (tt, tt)))) (tt, (tt, (tt, (tt, tt))))) $
       nothing ! $ feq_i ! _ (vunit ∷ []) _ refl $ join ! $ nothing ! $ nothing ! $ fjoin ! $ nothing ! $ fjoin ! $ nothing ! $ fjoin ! $
       nothing ! $ fjoin ! $ join ! $
       nothing ! $ move ! (3 ∷ 0 ∷ []) $ join ! $ move ! (2 ∷ 0 ∷ []) $ join ! $ join ! $ done !
 
+  -- the body meets the contract: it calls the inner allocator's `deallocate` with the block
   meets : Wired 𝓡.env code.code → bound.Met 𝓛 𝓜 𝓡 𝓡.env Z.row Z.g Z.d
       → Meets 𝓛 (deallocate.signature Z.row) (𝓡.run (𝓡.env (key.name (args Z)))) (deallocate.spec Z.row Z.g Z.d Z.drops 𝓛 𝓜.mem 𝓡.returns)
   meets wired met =
@@ -120,11 +132,14 @@ module _ {M : Type 1} (𝓤 : Ura M) (𝓛 : Logic 𝓤) (𝓜 : Model 𝓤 𝓛
         ),
         τ,
       ) in
+      -- at entry: the tokens of both lifetimes, the arguments, the facts that the contract requires, and the right to
+      -- free the block
       qed 𝓛 (((‵ (flft κ q) ⊛ ‵ (flft κ' qs.1.0) ⊛ ‵ ftrue) ⊛ ‵ (owns (types_at (ended Z).signature.params κs) a (y a.1.0).0.4)) ∷
       (raw (fact 𝓤 (κ' ⊑ Z.row.lives)) ⊛ raw (fact 𝓤 Sized) ⊛ ‵ (owned_block (token Z h.inner) τ a.1.0)) ∷ []) ∵
       move ! (1 ∷ []) $ split ! $ heard ! (κ' ⊑ Z.row.lives) (λ lives. split ! $ heard ! Sized (λ sized. move ! (1 ∷ []) $
       split ! $ split ! $ move ! (1 ∷ []) $ split ! $ move ! (3 ∷ []) $ fsplit ! $ fsplit ! $ move ! (1 ∷ []) $
       unhide ! $ fsplit ! $ fsplit ! $ use1 𝓛 (‵ (seen Z κ at_inner h.inner)) (id⊢ 𝓤 _) $ keep ! (8 ∷ 0 ∷ 7 ∷ 5 ∷ []) $
+      -- the pointer is one to a block, since there is no right to free a null pointer
       in_a_block ! a.1.0 (λ x. owned_block (token Z h.inner) τ x) (fst∗ 𝓤 (never 𝓤) (sem 𝓛 (token Z h.inner τ null_ptr))) (λ b o at.
       regoal !
       (λ x. prop (WpFn 𝓤 H 𝓣.C 𝓣.Λ (here Z) (vptr p.0 p.1 ∷ ptr_val x ∷ vint w64 n ∷ vint w64 al ∷ []) (Walk.post (y x)))) at refl $
@@ -136,6 +151,7 @@ module _ {M : Type 1} (𝓤 : Ura M) (𝓛 : Logic 𝓤) (𝓜 : Model 𝓤 𝓛
       sets ! (addr ! (through ! refl (fld ! refl (stop !)))) refl (tt, tt) $ fsplit ! $ group ! 4 $
       use1 𝓛 (raw (Giving.pre gives)) (Gives-goes Z 𝓛 𝓜.mem 𝓡.returns κ q at_inner h.inner (⊑_trans κ κ' Z.row.lives bounds.0 lives) b o n
       al τ sized.0 sized.1 are.1.1.0.1 are.1.1.1.0.1) $
+      -- the inner allocator is called with the block, its size and its alignment
       calls_at ! (framed 𝓤 H 𝓜 𝓣) Giving (met.deallocate Z.drops) gives
       (and_then ! (get ! refl) (and_then ! (get ! refl) (and_then ! (get ! refl) (and_then ! (get ! refl) (no_more !))))) (λ v.
       use1 𝓛 (later (given (v ≡ vunit) (‵ (flft κ q)))) (Gives-Gives Z 𝓛 𝓜.mem 𝓡.returns κ q at_inner h.inner b o n al τ v) $ await ! tt $
@@ -143,6 +159,7 @@ module _ {M : Type 1} (𝓤 : Ura M) (𝓛 : Logic 𝓤) (𝓜 : Model 𝓤 𝓛
       lands_as ! is refl (tt, tt) $ sets ! (of_opd ! (unit_lit !)) refl (tt, tt) $ returns ! (look_at ! 0 refl) $ free_all ! refl $
       ends (y (block_ptr b o)))))))))
 
+-- the statement that the toolchain asks for: the body meets the contract for each inner allocator
 pub deallocate_spec : {M : Type 1} → statement M
 deallocate_spec 𝓤 𝓛 𝓜 𝓡 wired A laws ghosts dict drops met _ = meets 𝓤 𝓛 𝓜 𝓡
     (record { row = A; laws = laws; g = ghosts; d = dict; drops = drops }) wired met
