@@ -16,7 +16,8 @@ use Rattle.byte_unit_base.specs.LeastOfKind.{IsLeastOf}
 use Rattle.byte_unit_base.specs.UnitScan.{unit_scan, unit_result, start}
 use Rattle.byte_unit_base.specs.SizeScan.{size_scan, size_result, Beginning}
 use Rattle.byte_unit_base.specs.Scan.{read}
-use Rattle.byte_unit_base.specs.Parsed.{parsed_unit, parsed_number, parts_of_crate, rounded_up, size_within_limit}
+use Rattle.byte_unit_base.specs.Parsed.{parsed_unit, parsed_number, number_and_unit_of_crate, rounded_up}
+use Rattle.byte_unit_base.specs.Parsed.{size_within_limit}
 use Rattle.byte_unit_base.specs.declared.unit.Unit.{Unit as UnitName}
 use Rattle.byte_unit_base.specs.declared.errors.UnitParseError.{UnitParseError}
 use Rattle.byte_unit_base.specs.declared.errors.ParseError.{ParseError}
@@ -49,11 +50,12 @@ unit_computed flags bytes (Err error) e = ap (result_map_both unit_of_shape (λ 
 -- a parser of a number and a unit that returns the result of the state machine
 pub number_computed : (flags : Flags) (bytes : List ℕ) (r : Result (ℕ × UnitName) ParseError)
     → size_result r ≡ read (size_scan flags) Beginning (trim_of bytes)
-    → result_map_both (λ r. r) size_fault r ≡ result_map_both parts_of_crate (λ fault. fault) (parsed_number flags bytes)
+    → result_map_both (λ r. r) size_fault r
+    ≡ result_map_both number_and_unit_of_crate (λ fault. fault) (parsed_number flags bytes)
 unfolding parsed_number
 number_computed flags bytes (Ok found) e = ap (λ unit. Ok (found.0, unit)) (sym (unit_of_its_shape found.1))
-    ∙ ap (result_map_both parts_of_crate (λ fault. fault)) e
-number_computed flags bytes (Err error) e = ap (result_map_both parts_of_crate (λ fault. fault)) e
+    ∙ ap (result_map_both number_and_unit_of_crate (λ fault. fault)) e
+number_computed flags bytes (Err error) e = ap (result_map_both number_and_unit_of_crate (λ fault. fault)) e
 
 -- the quotient that is rounded up is the least size
 pub rounded_up_is_least : (kind : Kind) (N : ℕ) (unit : Shape) → IsLeastOf kind N unit (rounded_up kind N unit)

@@ -18,7 +18,7 @@ use Rattle.core.proofs.dec2flt.Rows.{many_more}
 use Rattle.core.specs.Dec2flt.Digits.{IsEightBytes}
 use lib.Lanes.{number_l}
 use Rattle.byte_unit_base.specs.Line.{IsLine}
-use Rattle.byte_unit_base.specs.PartsReading.{IsAfterLine, IsLineOf, first_eight}
+use Rattle.byte_unit_base.specs.ParserEnds.{IsAfterLine, IsLineOf, first_eight}
 
 -- if a line feed (10) or nothing is at the end of a line, the bytes after the line start so
 after_line : (bytes : List ℕ) (len : ℕ) → (len < length bytes → slice_index bytes len ≡ 10)
@@ -32,14 +32,14 @@ after_line (byte ∷ bytes) (suc n) after = after_line bytes n (λ inside. after
 pub first_line : (bytes : List ℕ) (len : ℕ) → IsLine bytes len → IsLineOf (take len bytes) bytes
 first_line bytes len line = record {
   after = drop len bytes;
-  parts_are = sym (take-append-drop len bytes);
+  bytes_are = sym (take-append-drop len bytes);
   ends = after_line bytes len line.after;
 }
 
 -- the rest of the bytes is the rest of the line, and what follows it
 pub rest_of_line : (line bytes : List ℕ) (from : ℕ) (is : IsLineOf line bytes) → from ≤ length line
     → drop from bytes ≡ drop from line ++ is.after
-rest_of_line line bytes from is within = ap (drop from) is.parts_are ∙ drop-append-le from line is.after within
+rest_of_line line bytes from is within = ap (drop from) is.bytes_are ∙ drop-append-le from line is.after within
 
 -- `n` bytes are a number below 256^n
 pub word_below : (n : ℕ) (bytes : List ℕ) → AllBelowBase 256 bytes → number_l 256 (take n bytes) < 256 ^ n

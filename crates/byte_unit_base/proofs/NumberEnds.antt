@@ -29,8 +29,8 @@ use Rattle.byte_unit_base.specs.SizeText.{space}
 use Rattle.byte_unit_base.specs.Fault.{no_value, not_number, too_long}
 use Rattle.byte_unit_base.specs.Scan.{read}
 use Rattle.byte_unit_base.specs.SizeScan.{Beginning, Whole, Point, size_scan, size_step, fixed_point}
-use Rattle.byte_unit_base.specs.PartsReading.{IsFirst, IsNoSpace, IsStopAt, EndsNumber, IsLeadingNumber, IsUnitStop}
-use Rattle.byte_unit_base.specs.PartsReading.{missing_digit, next_char, unit_stop_fault}
+use Rattle.byte_unit_base.specs.ParserEnds.{IsFirst, IsNoSpace, IsStopAt, EndsNumber, IsLeadingNumber, IsUnitStop}
+use Rattle.byte_unit_base.specs.ParserEnds.{missing_digit, next_char, unit_stop_fault}
 use Rattle.byte_unit_base.specs.declared.read.stop.Reason.TheVariants.{NoDigit, TooLong, InUnit}
 use Rattle.byte_unit_base.specs.declared.unit.scan.UnitStop.{UnitStop}
 use Rattle.byte_unit_base.proofs.Scans.{read_through, read_some}

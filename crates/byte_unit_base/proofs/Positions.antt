@@ -19,7 +19,7 @@ use Rattle.byte_unit_base.specs.UnitScan.{UnitScan, unit_step, unit_parser_state
 use Rattle.byte_unit_base.specs.UnitScan.{word_parser_state, Multiple, Word, Bi}
 use Rattle.byte_unit_base.specs.SizeScan.{size_step, size_parser_state}
 use Rattle.byte_unit_base.specs.Outcome.{IsPositionOfStop}
-use Rattle.byte_unit_base.specs.PartsReading.{HasVisibleEnds, IsFirst, IsLeadingUnit, IsUnitStop, IsWrongAt, IsWrongPlace}
+use Rattle.byte_unit_base.specs.ParserEnds.{HasVisibleEnds, IsFirst, IsLeadingUnit, IsUnitStop, IsWrongAt, IsWrongPlace}
 use Rattle.byte_unit_base.specs.PlaceReading.{IsUnitPlace, IsSizePlace}
 use Rattle.byte_unit_base.specs.ErrorPosition.{leading_white, IsErrorAt, IsSizePosition, IsUnitPosition}
 use Rattle.byte_unit_base.specs.declared.read.stop.Reason.{Reason}

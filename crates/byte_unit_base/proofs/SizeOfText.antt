@@ -21,7 +21,7 @@ use Rattle.byte_unit_base.specs.declared.read.stop.Reason.{Reason}
 use Rattle.byte_unit_base.specs.LeastOfKind.{IsLeastOf}
 use Rattle.byte_unit_base.specs.SizeOrNone.{IsSizeOrNone}
 use Rattle.byte_unit_base.specs.Kinds.{flags_for}
-use Rattle.byte_unit_base.specs.PartsReading.{HasVisibleEnds, IsStopAt, next_char, stop_fault}
+use Rattle.byte_unit_base.specs.ParserEnds.{HasVisibleEnds, IsStopAt, next_char, stop_fault}
 use Rattle.byte_unit_base.specs.Readings.{IsNumberReading}
 use Rattle.byte_unit_base.specs.Accepted.{IsReadAs}
 use Rattle.byte_unit_base.specs.SizeReading.{IsReadingAs}

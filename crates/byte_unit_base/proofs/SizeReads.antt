@@ -26,7 +26,7 @@ use Rattle.byte_unit_base.specs.UnitScan.{unit_step, unit_of, unit_at_end, word_
 use Rattle.byte_unit_base.specs.SizeScan.{size_step, size_scan, size_result, with_shape, size_at_end}
 use Rattle.byte_unit_base.specs.SizeScan.{size_parser_state, size_or_fault, fixed_point, SizeScan, Beginning, Whole}
 use Rattle.byte_unit_base.specs.SizeScan.{Point, Fraction, Gap, UnitAt}
-use Rattle.byte_unit_base.specs.PartsReading.{IsStopAt, next_char, stop_fault}
+use Rattle.byte_unit_base.specs.ParserEnds.{IsStopAt, next_char, stop_fault}
 use Rattle.byte_unit_base.specs.declared.read.stop.Reason.{Reason}
 use Rattle.byte_unit_base.specs.declared.unit.Unit.{Unit as UnitName}
 use Rattle.byte_unit_base.specs.declared.errors.ParseError.{ParseError}
@@ -187,17 +187,17 @@ read_no_bounds flags text (Err x) e = λ n.
 -- what the contracts of the parsers say, and the laws
 
 -- a result that has this number and this unit's shape has both
-parts_meant : (r : Result (ℕ × UnitName) ParseError) (n : ℕ) (unit : Shape)
+number_and_unit_meant : (r : Result (ℕ × UnitName) ParseError) (n : ℕ) (unit : Shape)
     → IsOkAnd r (λ found. with_shape found ≡ (n, unit)) → IsOkAnd r (λ found. (found.0 ≡ n) × (shape_of found.1 ≡ unit))
-parts_meant (Ok found) n unit e = (ap (λ x. x.0) e, ap (λ x. x.1) e)
-parts_meant (Err error) n unit e = absurd e
+number_and_unit_meant (Ok found) n unit e = (ap (λ x. x.0) e, ap (λ x. x.1) e)
+number_and_unit_meant (Err error) n unit e = absurd e
 
 -- a parser that returns the result of the state machine returns the number and unit of the input, or its error
 pub number_reading : (flags : Flags) (bytes : List ℕ) (r : Result (ℕ × UnitName) ParseError)
     → size_result r ≡ read (size_scan flags) Beginning (trim_of bytes) → IsNumberReading flags bytes r
 number_reading flags bytes r e = record {
   found = read_found (size_scan_is flags) with_shape size_fault (trim_of bytes) r e;
-  reads = λ n unit h. parts_meant r n unit
+  reads = λ n unit h. number_and_unit_meant r n unit
       (read_meant (size_scan_is flags) with_shape size_fault (trim_of bytes) r (n, unit) e h);
   fault = read_refused (size_scan_is flags) with_shape size_fault (trim_of bytes) r e;
   no_bounds = read_no_bounds flags (trim_of bytes) r e;

@@ -26,7 +26,7 @@ use Rattle.byte_unit_base.specs.Scan.{read}
 use Rattle.byte_unit_base.specs.UnitScan.{unit_step, unit_scan, unit_of, unit_at_end, unit_parser_state, start}
 use Rattle.byte_unit_base.specs.SizeScan.{SizeScan, Beginning, Whole, Point, Fraction, Gap, UnitAt, is_digit, size_step}
 use Rattle.byte_unit_base.specs.SizeScan.{size_scan, size_at_end, size_or_fault, size_parser_state, after_number}
-use Rattle.byte_unit_base.specs.PartsReading.{IsFirst, IsNoSpace, EndsNumber, missing_digit, next_char}
+use Rattle.byte_unit_base.specs.ParserEnds.{IsFirst, IsNoSpace, EndsNumber, missing_digit, next_char}
 use Rattle.byte_unit_base.specs.UnitScan.{UnitScan}
 use Rattle.byte_unit_base.proofs.Scans.{read_some, read_none, read_through}
 use Rattle.byte_unit_base.proofs.SizeRuns.{step_point, step_whole, step_pointed, step_fraction, run_whole, AtNumber}

@@ -12,7 +12,7 @@ use Rattle.std.proofs.lemmas.Str.{IsCharBoundary-before_ascii, IsUtf8-take}
 use Rattle.std.proofs.lemmas.Str.Ascii.{IsAscii-nil, IsAscii-cons}
 use Rattle.byte_unit_base.specs.ErrorPosition.{leading_white}
 use Rattle.byte_unit_base.specs.SizeText.{trim_of}
-use Rattle.byte_unit_base.specs.PartsReading.{HasVisibleEnds}
+use Rattle.byte_unit_base.specs.ParserEnds.{HasVisibleEnds}
 
 -- without leading white space, characters still are Unicode scalar values
 scalars_skip : (cs : List ℕ) → all_scalars cs ≡ true → all_scalars (skip_leading_whitespace cs) ≡ true

@@ -11,7 +11,7 @@ use Rattle.core.proofs.dec2flt.Eight.{bytes_of, bytes-drop, zeros_after}
 use lib.Lanes.{digits_l, number_l}
 use mir.Val.{bool_byte}
 use Rattle.byte_unit_base.specs.Shape.{shape}
-use Rattle.byte_unit_base.specs.PartsReading.{first_eight, IsLineOf, IsLeadingUnit}
+use Rattle.byte_unit_base.specs.ParserEnds.{first_eight, IsLineOf, IsLeadingUnit}
 use Rattle.byte_unit_base.specs.UnitScan.{unit_step, multiple_step, multiple_shape, prefix_at, is_i, scan_of}
 use Rattle.byte_unit_base.specs.UnitScan.{start}
 use Rattle.byte_unit_base.specs.UnitWord.{letter_power, multiple_of, word_of, bits_len, has_prefix}

@@ -162,10 +162,11 @@ count_spelled flags Bit text bit e h = inr (inr (inr (inl (h, cc))))
 count_spelled flags Bits text bit e h = inr (inr (inr (inr (h, cc))))
 
 -- a prefix and a suffix spell their unit
-parts_spell_unit : (flags : Flags) (m : Multiple) (front word : List ℕ) (bit : Bool) → IsMultipleText m front
-    → SpellsCount flags word bit → Spells current flags (front ++ word) (multiple_shape m bit)
-parts_spell_unit flags One front word bit h k = rw h (inl (record { count_is = k; power_is = refl; binary_is = refl }))
-parts_spell_unit flags m front word bit h k =
+prefix_and_suffix_spell_unit : (flags : Flags) (m : Multiple) (front word : List ℕ) (bit : Bool)
+    → IsMultipleText m front → SpellsCount flags word bit → Spells current flags (front ++ word) (multiple_shape m bit)
+prefix_and_suffix_spell_unit flags One front word bit h k =
+    rw h (inl (record { count_is = k; power_is = refl; binary_is = refl }))
+prefix_and_suffix_spell_unit flags m front word bit h k =
     inr (record { prefix_part = front; count_part = word; text_is = refl; prefix_is = h; count_is = k })
 
 -- if a state has a unit, the text that led to it spells this unit
@@ -173,7 +174,7 @@ pub Spells-reached : (flags : Flags) (m : Multiple) (w : Word) (text : List ℕ)
     → unit_of flags (scan_of m w) ≡ Some unit → Reached (scan_of m w) text → Spells current flags text unit
 Spells-reached flags m w text unit e r =
     let bit = some_mapped (multiple_shape m) unit (count_of flags w) e in
-    let spells = parts_spell_unit flags m r.front r.word bit.0 r.front_is
+    let spells = prefix_and_suffix_spell_unit flags m r.front r.word bit.0 r.front_is
     (count_spelled flags w r.word bit.0 bit.1 r.word_is) in
     subst (Spells current flags text) bit.2
     (subst (λ x. Spells current flags x (multiple_shape m bit.0)) (sym r.text_is) spells)

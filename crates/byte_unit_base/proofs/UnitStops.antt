@@ -19,8 +19,8 @@ use Rattle.byte_unit_base.specs.UnitScan.{start}
 use Rattle.byte_unit_base.specs.UnitWord.{unit_stop, stop_parser_state}
 use Rattle.byte_unit_base.specs.Fault.{fault_at}
 use Rattle.byte_unit_base.specs.declared.unit.scan.UnitStop.{UnitStop}
-use Rattle.byte_unit_base.specs.PartsReading.{IsAfterLine, IsFirst, IsLeadingUnit, IsUnitStop, next_char}
-use Rattle.byte_unit_base.specs.PartsReading.{unit_stop_fault}
+use Rattle.byte_unit_base.specs.ParserEnds.{IsAfterLine, IsFirst, IsLeadingUnit, IsUnitStop, next_char}
+use Rattle.byte_unit_base.specs.ParserEnds.{unit_stop_fault}
 use Rattle.byte_unit_base.specs.UnitScan.{UnitScan}
 use Rattle.byte_unit_base.specs.UnitScan.{Multiple}
 use Rattle.byte_unit_base.specs.UnitScan.{One}

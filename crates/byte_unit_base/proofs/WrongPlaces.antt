@@ -23,7 +23,7 @@ use Rattle.byte_unit_base.specs.Scan.{run}
 use Rattle.byte_unit_base.specs.UnitScan.{UnitScan, One, Empty, unit_step, unit_parser_state, start as unit_start}
 use Rattle.byte_unit_base.specs.SizeScan.{SizeScan, Beginning, Whole, Point, Fraction, Gap, UnitAt, size_step}
 use Rattle.byte_unit_base.specs.SizeScan.{size_parser_state, after_number, fixed_point}
-use Rattle.byte_unit_base.specs.PartsReading.{IsFirst, IsNoSpace, EndsNumber, IsLeadingNumber, IsLeadingUnit, IsWrongAt}
+use Rattle.byte_unit_base.specs.ParserEnds.{IsFirst, IsNoSpace, EndsNumber, IsLeadingNumber, IsLeadingUnit, IsWrongAt}
 use Rattle.byte_unit_base.specs.PlaceReading.{IsWholeLen, IsPlacesLen, IsUnitPlace, IsSizePlace}
 use Rattle.byte_unit_base.proofs.Options.{some_passed}
 use Rattle.byte_unit_base.proofs.Scans.{run_through, run_step}
@@ -410,10 +410,10 @@ wrong_in_unit bytes utf8 n end spaces place scan number within gap other leads a
     }
 
 -- a number, spaces and a unit are a size, whatever the flags
-pub size_of_parts : (bytes : List ℕ) (n end spaces : ℕ) → IsLeadingNumber bytes n end
+pub size_of_number_and_unit : (bytes : List ℕ) (n end spaces : ℕ) → IsLeadingNumber bytes n end
     → take spaces (drop end bytes) ≡ replicate spaces space → IsUnitPlace (drop (end + spaces) bytes) None
     → IsSizePlace bytes None
-size_of_parts bytes n end spaces number gap unit flags =
+size_of_number_and_unit bytes n end spaces number gap unit flags =
     let found = unit flags in (
       n,
       found.0,

@@ -32,7 +32,7 @@ pub mod BinaryLaws
 pub mod ParsedLaws
 pub mod Versions
 -- private: no public contract cites these
-pub mod PartsReading
+pub mod ParserEnds
 pub mod Expected
 pub mod Outcome
 pub mod PlaceReading

@@ -5,7 +5,7 @@ use Rattle.std.specs.Str.{IsUtf8}
 use Rattle.byte_unit_base.specs.ErrorPosition.{IsSizePosition, IsUnitPosition}
 use Rattle.byte_unit_base.specs.Errors.{size_fault, unit_fault}
 use Rattle.byte_unit_base.specs.Kinds.{flags_for}
-use Rattle.byte_unit_base.specs.PartsReading.{IsStopAt, stop_fault, unit_stop_fault}
+use Rattle.byte_unit_base.specs.ParserEnds.{IsStopAt, stop_fault, unit_stop_fault}
 use Rattle.byte_unit_base.specs.Readings.{IsNumberReading, IsUnitReading}
 use Rattle.byte_unit_base.specs.Shape.{Shape}
 use Rattle.byte_unit_base.specs.SizeReading.{IsReadingAs}

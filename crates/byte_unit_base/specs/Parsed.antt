@@ -26,8 +26,8 @@ unfoldable pub parsed_number : Flags → List ℕ → Result (ℕ × Shape) Faul
 parsed_number flags bytes = read (size_scan flags) Beginning (trim_of bytes)
 
 -- the number and the unit of the crate that has this shape
-abbrev pub parts_of_crate : ℕ × Shape → ℕ × UnitName
-parts_of_crate found = (found.0, unit_of_shape found.1)
+abbrev pub number_and_unit_of_crate : ℕ × Shape → ℕ × UnitName
+number_and_unit_of_crate found = (found.0, unit_of_shape found.1)
 
 -- N / 10^28 of a unit in bytes or bits, rounded up to a whole number
 abbrev pub rounded_up : Kind → ℕ → Shape → ℕ

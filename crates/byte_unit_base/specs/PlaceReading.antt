@@ -1,4 +1,4 @@
--- Private: where the parts of a string are wrong, by the state machines. Contracts of private functions of this crate
+-- Private: where a number or a unit is wrong, by the state machines. Contracts of private functions of this crate
 -- alone cite this file.
 use Rattle.std.specs.Prelude.{◌≡◌, ℕ, ◌+◌, ◌*◌, ◌<◌, ◌≤◌, List, length, take, get_or, Option, Some, None}
 use Rattle.std.specs.Prelude.{Result, Ok, Err}
@@ -11,7 +11,7 @@ use Rattle.byte_unit_base.specs.Spelling.{Flags, Spells}
 use Rattle.byte_unit_base.specs.SizeText.{IsSizeText}
 use Rattle.byte_unit_base.specs.Fault.{fault_at_end, stops_at_bi}
 use Rattle.byte_unit_base.specs.UnitScan.{UnitScan, unit_parser_state}
-use Rattle.byte_unit_base.specs.PartsReading.{IsLeadingNumber, IsLeadingUnit, IsWrongAt}
+use Rattle.byte_unit_base.specs.ParserEnds.{IsLeadingNumber, IsLeadingUnit, IsWrongAt}
 
 -- the bytes begin with this many digits of a whole part, and one more would reach its limit; `value` is
 -- their value

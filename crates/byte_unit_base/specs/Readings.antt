@@ -10,7 +10,7 @@ use Rattle.byte_unit_base.specs.Spelling.{Flags, Spells}
 use Rattle.byte_unit_base.specs.SizeText.{trim_of, IsSizeText}
 use Rattle.byte_unit_base.specs.Fault.{IsUnitFault, IsSizeFault, exceeded}
 use Rattle.byte_unit_base.specs.Errors.{unit_fault, size_fault}
-use Rattle.byte_unit_base.specs.Parsed.{parsed_unit, parsed_number, parts_of_crate}
+use Rattle.byte_unit_base.specs.Parsed.{parsed_unit, parsed_number, number_and_unit_of_crate}
 use Rattle.byte_unit_base.specs.declared.unit.Unit.{Unit as UnitName}
 use Rattle.byte_unit_base.specs.declared.errors.UnitParseError.{UnitParseError}
 use Rattle.byte_unit_base.specs.declared.errors.ParseError.{ParseError}
@@ -40,4 +40,4 @@ pub record IsNumberReading (flags : Flags) (bytes : List ℕ) (result : Result (
   pub no_bounds : IfErr result (λ error. (number : ℕ) → size_fault error ≢ exceeded number)
   -- the same as an equation, which a proof can compute for a literal; it follows from the others
   pub computed : result_map_both (λ r. r) size_fault result
-      ≡ result_map_both parts_of_crate (λ fault. fault) (parsed_number flags bytes)
+      ≡ result_map_both number_and_unit_of_crate (λ fault. fault) (parsed_number flags bytes)

@@ -4,11 +4,11 @@ ghost use Rattle.std.specs.Prelude.{◌≡◌, IsTrue};
 ghost use Rattle.std.specs.Str.{chars};
 ghost use Rattle.byte_unit_base.specs.Spelling.{flags_of};
 ghost use Rattle.byte_unit_base.specs.SizeText.{trim_of};
-ghost use Rattle.byte_unit_base.specs.PartsReading.{HasVisibleEnds};
+ghost use Rattle.byte_unit_base.specs.ParserEnds.{HasVisibleEnds};
 ghost use Rattle.byte_unit_base.specs.Readings.{IsNumberReading};
 ghost use Rattle.byte_unit_base.specs.Outcome.{IsNumberOrStop};
 
-use crate::read::number::read_parts;
+use crate::read::number::read_number_and_unit;
 use crate::read::stop::{Stop, error_at, first_char};
 use crate::unit::scan::Flags;
 use crate::{ParseError, Unit};
@@ -54,7 +54,7 @@ pub fn read_size(
     };
     let text = trimmed(s);
     let bytes = text.as_bytes();
-    match read_parts::<true>(bytes, bytes, flags) {
+    match read_number_and_unit::<true>(bytes, bytes, flags) {
         Ok(found) => Ok((found.1, found.0)),
         Err(stop) => {
             let next = first_char(&text[stop.place..]);
@@ -78,7 +78,7 @@ pub(crate) fn read_or_stop(
 {
     let text = trimmed(s);
     let bytes = text.as_bytes();
-    match read_parts::<true>(bytes, bytes, flags) {
+    match read_number_and_unit::<true>(bytes, bytes, flags) {
         Ok(found) => Ok(found),
         Err(stop) => Err((stop, first_char(&text[stop.place..]))),
     }

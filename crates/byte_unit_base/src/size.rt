@@ -11,11 +11,11 @@ ghost use Rattle.byte_unit_base.specs.SizeReading.{IsReadingAs, IsBytesReadingAs
 ghost use Rattle.byte_unit_base.specs.Units.{shape_of};
 ghost use Rattle.byte_unit_base.specs.SizeOrNone.{IsSizeOfUnit, IsSizeOfDecimal};
 ghost use Rattle.byte_unit_base.specs.Line.{IsLine};
-ghost use Rattle.byte_unit_base.specs.PartsReading.{HasVisibleEnds};
+ghost use Rattle.byte_unit_base.specs.ParserEnds.{HasVisibleEnds};
 ghost use Rattle.byte_unit_base.specs.Outcome.{IsCharOfStops, IsOutcome, IsSizeOrStop};
 
 use crate::read::{has_visible_ends, read_or_stop};
-use crate::read::number::read_parts;
+use crate::read::number::read_number_and_unit;
 use crate::read::stop::{Reason, Stop, error_at, first_ascii};
 use crate::unit::scan::Flags;
 use crate::{Kind, ParseError, Unit, ValueParseError, binary, read_size};
@@ -179,7 +179,7 @@ pub fn parse_line<const BINARY: bool>(
 {
     let line = &bytes[..len];
     let flags = flags_for(kind, ignore_case);
-    match read_parts::<false>(line, bytes, flags) {
+    match read_number_and_unit::<false>(line, bytes, flags) {
         Ok(found) => Some(size_of::<BINARY>((found.1, found.0), kind)),
         Err(stop) => {
             if is_visible_ascii(line, stop.place) {
@@ -220,7 +220,7 @@ pub enum Outcome {
 pub fn read_bytes(bytes: &[u8], ignore_case: bool, kind: Kind) -> Outcome
     ensures { IsOutcome kind ignore_case bytes.now result }
 {
-    match read_parts::<true>(bytes, bytes, flags_for(kind, ignore_case)) {
+    match read_number_and_unit::<true>(bytes, bytes, flags_for(kind, ignore_case)) {
         Ok(found) => Outcome::Accepted(found.0, found.1),
         Err(stop) => Outcome::Stopped(stop.reason, stop.place),
     }

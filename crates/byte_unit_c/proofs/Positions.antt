@@ -6,7 +6,7 @@ use Rattle.byte_unit_base.specs.Accepted.{IsRejectedAs}
 use Rattle.byte_unit_base.specs.Kinds.{flags_for}
 use Rattle.byte_unit_base.specs.ErrorPosition.{IsSizePosition}
 use Rattle.byte_unit_base.specs.Fault.{Fault, exceeded, not_number, no_value, too_long, bad_unit}
-use Rattle.byte_unit_base.specs.PartsReading.{missing_digit}
+use Rattle.byte_unit_base.specs.ParserEnds.{missing_digit}
 use Rattle.byte_unit_base.specs.declared.kind.Kind.{Kind}
 use Rattle.byte_unit_base.specs.Errors.{value_fault}
 use Rattle.byte_unit_base.specs.declared.errors.ValueParseError.{ValueParseError}

@@ -3,7 +3,7 @@ use Rattle.std.specs.Prelude.{◌≡◌, ℕ, ◌-◌, Bool, false, List, [], �
 use Rattle.std.specs.Prelude.{if◌then◌else◌, Option, Some}
 use Rattle.byte_unit_base.specs.Fault.{Fault, bad_unit, not_number, no_value, too_long, exceeded}
 use Rattle.byte_unit_base.specs.Errors.{unit_fault}
-use Rattle.byte_unit_base.specs.PartsReading.{unit_stop_fault}
+use Rattle.byte_unit_base.specs.ParserEnds.{unit_stop_fault}
 use Rattle.byte_unit_base.specs.declared.unit.scan.Flags.{Flags}
 use Rattle.byte_unit_base.specs.declared.errors.UnitParseError.{UnitParseError}
 use Rattle.byte_unit_base.specs.declared.unit.scan.UnitStop.{UnitStop}

@@ -2,7 +2,7 @@
 
 ghost use Rattle.std.specs.Prelude.{◌≡◌, ℕ, ◌≤◌, Option, Some, Result, Err, IfSome, IfNone, codes};
 ghost use Rattle.byte_unit_base.specs.Errors.{size_fault};
-ghost use Rattle.byte_unit_base.specs.PartsReading.{stop_fault};
+ghost use Rattle.byte_unit_base.specs.ParserEnds.{stop_fault};
 ghost use Rattle.byte_unit_base.specs.SizeReading.{IsBytesReading};
 ghost use Rattle.byte_unit_base.specs.BinaryReading.{unit_meant, IsBinaryBytesReading};
 ghost use Rattle.byte_unit_base.specs.declared.errors.ParseError.{ParseError};

@@ -7,7 +7,7 @@ ghost use Rattle.std.specs.Fmt.InlineText.{inline_text};
 ghost use Rattle.byte_unit_base.specs.Expected.{expected_codes, expects_end};
 ghost use Rattle.byte_unit_base.specs.FaultText.{parse_text, expected_text};
 ghost use Rattle.byte_unit_base.specs.Errors.{unit_fault};
-ghost use Rattle.byte_unit_base.specs.PartsReading.{unit_stop_fault};
+ghost use Rattle.byte_unit_base.specs.ParserEnds.{unit_stop_fault};
 ghost use Rattle.byte_unit_base.specs.declared.errors.ParseError.TheVariants.{Unit as UnitError};
 ghost use Rattle.byte_unit_base.specs.declared.errors.UnitParseError.{UnitParseError};
 ghost use Rattle.byte_unit_format.specs.Written.{WritesForm};

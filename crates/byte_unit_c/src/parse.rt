@@ -7,7 +7,7 @@ ghost use Rattle.byte_unit_base.specs.Errors.{size_fault};
 ghost use Rattle.byte_unit_base.specs.ErrorPosition.{IsSizePosition};
 ghost use Rattle.byte_unit_base.specs.Kinds.{flags_for};
 ghost use Rattle.byte_unit_base.specs.Outcome.{IsUnitOrStop};
-ghost use Rattle.byte_unit_base.specs.PartsReading.{IsStopAt};
+ghost use Rattle.byte_unit_base.specs.ParserEnds.{IsStopAt};
 ghost use Rattle.byte_unit_base.specs.Shape.{Shape};
 ghost use Rattle.byte_unit_base.specs.SizeReading.{IsBytesReading, IsBytesReadingAs};
 ghost use Rattle.byte_unit_base.specs.Spelling.{flags_of};

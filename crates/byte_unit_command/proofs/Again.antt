@@ -1,4 +1,4 @@
--- Lemmas: what is shown can be read again.
+-- Lemmas: what is formatted can be read again.
 use Rattle.std.proofs.Common.{◌≡◌, ◌≢◌, ℕ, ◌<◌, Bool, List, ◌++◌, Option, refl, sym, ap, subst, ◌∙◌}
 use Rattle.byte_unit.specs.Accepted.{IsAccepted}
 use Rattle.byte_unit.specs.Bounds.{size_limit}
@@ -8,9 +8,9 @@ use Rattle.byte_unit.specs.NamedSpecs.{plain_spec}
 use Rattle.byte_unit.specs.declared.Kind.{Kind}
 use Rattle.byte_unit.specs.declared.Sign.TheVariants.{Unset, Plus}
 use Rattle.byte_unit_command.specs.Field.{ignores_case, without_suffix}
-use Rattle.byte_unit_command.specs.Laws.{IsLossless, TextsAreSizesOrNot, ShownSizesAreRead, ExactTwiceIsOnce}
+use Rattle.byte_unit_command.specs.Laws.{IsLossless, TextsAreSizesOrNot, FormattedSizesAreRead, ExactTwiceIsOnce}
 use Rattle.byte_unit_command.specs.Prefixes.{IsAcceptedBy}
-use Rattle.byte_unit_command.specs.Shown.{IsFormText, exact_spec, padded}
+use Rattle.byte_unit_command.specs.Formatted.{IsFormText, exact_spec, padded}
 use Rattle.byte_unit_command.specs.declared.options.Form.{Form}
 use Rattle.byte_unit_command.specs.declared.options.Form.TheVariants.{Exact, Plain, InUnit, NumberOf, Largest}
 use Rattle.byte_unit_command.proofs.Suffixes.{without_it}
@@ -35,15 +35,15 @@ form_is_read exact digits kind (NumberOf unit) precision size ignore_case text b
 form_is_read exact digits kind (Largest unit_type) precision size ignore_case text below lossless is_text =
     absurd lossless
 
--- a text that was shown in a lossless form, without a width, is parsed as the size that it shows
-pub shown_is_read : SizeFormReadsBack → PlainFormReadsBack → ShownSizesAreRead
-shown_is_read exact digits =
-    λ options others size text below lossless no_width same_kind same_suffix no_binary (form, is_form, shown_is).
+-- a size formatted in a lossless form, without a width, is parsed as that size
+pub formatted_is_read : SizeFormReadsBack → PlainFormReadsBack → FormattedSizesAreRead
+formatted_is_read exact digits =
+    λ options others size text below lossless no_width same_kind same_suffix no_binary (form, is_form, formatted_is).
     let suffix = options.suffix.now in
-    let shown = shown_is ∙ padded-none options.width options.align_left (form ++ suffix) no_width in
+    let formatted = formatted_is ∙ padded-none options.width options.align_left (form ++ suffix) no_width in
     let is : without_suffix others.suffix.now text ≡ form =
     ap (λ suffix. without_suffix suffix text) same_suffix
-    ∙ (ap (without_suffix suffix) shown ∙ without_it form suffix) in
+    ∙ (ap (without_suffix suffix) formatted ∙ without_it form suffix) in
     let ignore_case = ignores_case others.kind others.ignore_case in
     let at = form_is_read exact digits options.kind options.form options.precision size ignore_case form below
     lossless is_form in
@@ -53,22 +53,22 @@ shown_is_read exact digits =
     (subst (λ kind. IsAccepted kind ignore_case text size) (sym same_kind) (subst Accepts (sym is) at))
 
 -- converting a text in the form `exact` once more gives the same text
-pub exact_again : ShownSizesAreRead → TextsAreSizesOrNot → SizeHasOneForm → ExactTwiceIsOnce
-exact_again shown_read texts one_form =
-    λ options size text below exact no_width no_binary shown again text_again read (form_again, is_again, again_is).
+pub exact_again : FormattedSizesAreRead → TextsAreSizesOrNot → SizeHasOneForm → ExactTwiceIsOnce
+exact_again formatted_read texts one_form =
+    λ options size text below exact no_width no_binary formatted again text_again read (form_again, is_again, again_is).
     let kind = options.kind in
     let ignore_case = ignores_case kind options.ignore_case in
     let spec = exact_spec options.precision in
     let lossless : IsLossless options.form = subst IsLossless (sym exact) tt in
-    let accepted = shown_read options options size text below lossless no_width refl refl no_binary shown in
+    let accepted = formatted_read options options size text below lossless no_width refl refl no_binary formatted in
     let answer = texts options.binary kind ignore_case (without_suffix options.suffix.now text) in
     let same : again ≡ size = answer.one_meaning again size read accepted in
-    let form = shown.0 in
+    let form = formatted.0 in
     let is_form : IsFormText kind Exact options.precision size form =
-    subst (λ way. IsFormText kind way options.precision size form) exact shown.1 in
+    subst (λ way. IsFormText kind way options.precision size form) exact formatted.1 in
     let is_form_again : IsFormText kind Exact options.precision size form_again =
     subst (λ size. IsFormText kind Exact options.precision size form_again) same
     (subst (λ way. IsFormText kind way options.precision again form_again) exact is_again) in
     let only = one_form current kind size spec in
     let forms : form_again ≡ form = only.one form_again is_form_again ∙ sym (only.one form is_form) in
-    again_is ∙ ap (λ form. padded options.width options.align_left (form ++ options.suffix.now)) forms ∙ sym shown.2
+    again_is ∙ ap (λ form. padded options.width options.align_left (form ++ options.suffix.now)) forms ∙ sym formatted.2

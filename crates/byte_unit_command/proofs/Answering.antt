@@ -11,7 +11,7 @@ use Rattle.byte_unit_command.specs.declared.error.RunError.{RunError}
 use Rattle.byte_unit_command.specs.declared.error.RunError.TheVariants.{Memory, Read, Write, Rejected, Total}
 use Rattle.byte_unit_command.proofs.Telling.{Tells-nothing, WritesAndTells-by}
 use Rattle.byte_unit_stream.specs.Chunks.{ended_records}
-use Rattle.byte_unit_stream.specs.Prefix.{IsPrefix}
+use Rattle.byte_unit_stream.specs.Beginnings.{IsBeginningOf}
 use Rattle.byte_unit_stream.specs.Streams.{HasWritten, writer_of, writing_failed}
 use Rattle.byte_unit_stream.specs.declared.writer.FusedWriter.{FusedWriter}
 
@@ -42,8 +42,8 @@ abbrev pub IsAnswered : Options → List (List ℕ) → State → State → Resu
 IsAnswered options records old new (Ok _) written messages =
     AddsRecords options records old (record new { out = written; messages = messages })
 IsAnswered options records old new (Err Write) written messages =
-    ((first : List (List ℕ)) × (whole : State) × IsPrefix first records × AddsRecords options first old whole
-    × IsPrefix written whole.out) × (messages ≡ [])
+    ((first : List (List ℕ)) × (whole : State) × IsBeginningOf first records × AddsRecords options first old whole
+    × IsBeginningOf written whole.out) × (messages ≡ [])
 IsAnswered options records old new (Err error) written messages = EndsEarly options records old error written messages
 
 -- what a call has appended is what is written if all of it was; `now` is the state after that
@@ -58,18 +58,18 @@ IsAnswered-fed (Err Read) fed now same = absurd fed.error
 IsAnswered-fed (Err Write) fed now same = absurd fed.error
 IsAnswered-fed (Err Total) fed now same = absurd fed.error
 
--- if only a prefix of what a call has appended was written, that is right for `Write`
+-- if only a beginning of what a call has appended was written, that is right for `Write`
 IsAnswered-begun : (options : Options) (records : List (List ℕ)) (old new now : State) (written : List ℕ)
-    → IsPrefix written new.out → (result : Result ⊤ RunError) → HasFed options records old new result
+    → IsBeginningOf written new.out → (result : Result ⊤ RunError) → HasFed options records old new result
     → IsAnswered options records old now (Err Write) written []
 IsAnswered-begun options records old new now written begins (Ok _) fed =
     ((records, new, ([], sym (append-nil records)), fed.ok, begins), refl)
 IsAnswered-begun options records old new now written begins (Err Memory) fed =
     let error = fed.error in
-    ((error.0, error.1, error.2, error.3, subst (IsPrefix written) (sym error.4) begins), refl)
+    ((error.0, error.1, error.2, error.3, subst (IsBeginningOf written) (sym error.4) begins), refl)
 IsAnswered-begun options records old new now written begins (Err Rejected) fed =
     let error = fed.error in
-    let whole = subst (IsPrefix written) (sym error.6) begins in
+    let whole = subst (IsBeginningOf written) (sym error.6) begins in
     ((error.0, error.3, (error.2 ∷ error.1, error.4), error.5, whole), refl)
 IsAnswered-begun options records old new now written begins (Err Read) fed = absurd fed.error
 IsAnswered-begun options records old new now written begins (Err Write) fed = absurd fed.error
@@ -97,7 +97,7 @@ pub piece-unwritten : {W E A : Type 0} {contents : W → Option (List ℕ)} {tel
     {old : State} {result : Result ⊤ RunError} (fed : Buffers A)
     → HasFed options records old (state_of fed.converter) result
     → (written : List ℕ) × HasWritten contents old_writer writer written
-    × IsPrefix written fed.converter.waiting.items
+    × IsBeginningOf written fed.converter.waiting.items
     → WritesAndTells contents tells old_writer writer errors errors
     (IsAnswered options records old (state_of fed.converter) (Err Write))
 piece-unwritten {tells = tells} {errors = errors} {options = options} {records = records} {old = old}

@@ -7,7 +7,7 @@ use Rattle.byte_unit_command.specs.Fields.{IsChosen, fields_by, fields_of, split
 use Rattle.byte_unit_command.specs.Messages.{AreFieldMessages, AreLimitMessages, AreMessagesOfFields}
 use Rattle.byte_unit_command.specs.Messages.{AreMessagesToRejected, AreRecordMessages, AreMessages, IsMessageIf}
 use Rattle.byte_unit_command.specs.Messages.{next_place, last_place, other as other_told, size as size_told}
-use Rattle.byte_unit_command.specs.Outcome.{Passes}
+use Rattle.byte_unit_command.specs.RunOutput.{Passes}
 use Rattle.byte_unit_command.specs.Output.{AreFields, IsRecord, AreRecords, HasRejectedField}
 use Rattle.byte_unit_command.specs.RunState.{AddsField, AddsFields, AddsRecords, Aborts, IsRejectedField, State}
 use Rattle.byte_unit_command.specs.RunState.{after, at_next, messages_of, tally_after, tally_with}
@@ -19,8 +19,8 @@ use Rattle.byte_unit_command.specs.declared.options.Options.{Options}
 use Rattle.byte_unit_command.specs.declared.options.Invalid.TheVariants.{Abort}
 use Rattle.byte_unit_command.specs.declared.tally.Tally.{Tally}
 use Rattle.byte_unit_command.proofs.Tallies.{tally_after-append, tally_after-then, Passes-append}
-use Rattle.byte_unit_stream.specs.Prefix.{IsPrefix}
-use Rattle.byte_unit_stream.proofs.Prefixes.{IsPrefix-same}
+use Rattle.byte_unit_stream.specs.Beginnings.{IsBeginningOf}
+use Rattle.byte_unit_stream.proofs.Beginnings.{IsBeginningOf-same}
 
 -- if a disjunction is false, both its parts are
 or-false-left : (a b : Bool) → (a || b) ≡ false → a ≡ false
@@ -52,8 +52,8 @@ messages_in converter = messages_of converter.notices
 
 -- the messages of a converter are kept by one that is equal to a converter that keeps them
 pub kept_messages-same : {A : Type 0} (old now same : Converter A) → now ≡ same
-    → IsPrefix (messages_in old) (messages_in same) → IsPrefix (messages_in old) (messages_in now)
-kept_messages-same old now same is = IsPrefix-same (messages_in old) (ap messages_in is)
+    → IsBeginningOf (messages_in old) (messages_in same) → IsBeginningOf (messages_in old) (messages_in now)
+kept_messages-same old now same is = IsBeginningOf-same (messages_in old) (ap messages_in is)
 
 -- the state after a text, where messages and tally were written before it
 pub after-is : (options : Options) (old between : State) (text messages : List ℕ) (found : List Found) (tally : Tally)
@@ -109,14 +109,15 @@ module _ (options : Options) (number : ℕ) (field : List ℕ) (old new : State)
   }
 
   -- the text of a size was appended, and the size counted
-  pub AddsField-size : (n : ℕ) (shown messages : List ℕ) → IsChosen options.fields.now number → IsSize options field n
-      → IsPlaced options number field n shown → AreLimitMessages options old.word old.place number field n messages
-      → new ≡ after options old shown messages (Some n ∷ []) → AddsField options number field old new
-  AddsField-size n shown messages chosen is_size is_shown are_messages new_is = record {
-    text = shown;
+  pub AddsField-size : (n : ℕ) (formatted messages : List ℕ) → IsChosen options.fields.now number
+      → IsSize options field n → IsPlaced options number field n formatted
+      → AreLimitMessages options old.word old.place number field n messages
+      → new ≡ after options old formatted messages (Some n ∷ []) → AddsField options number field old new
+  AddsField-size n formatted messages chosen is_size is_formatted are_messages new_is = record {
+    text = formatted;
     messages = messages;
     found = Some n ∷ [];
-    is_field = size n chosen is_size is_shown refl;
+    is_field = size n chosen is_size is_formatted refl;
     are_messages = size_told n chosen is_size refl are_messages;
     passes = λ mode. refl;
     new_is = new_is;

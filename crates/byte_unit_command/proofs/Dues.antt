@@ -4,7 +4,7 @@ use Rattle.std.specs.Prelude.{vec_capacity}
 use Rattle.std.specs.declared.vec.Vec.{Vec}
 use Rattle.byte_unit_command.specs.Capacity.{SufficeFor, end_room}
 use Rattle.byte_unit_command.specs.Messages.{AreMessages}
-use Rattle.byte_unit_command.specs.Outcome.{all_of, finished_of}
+use Rattle.byte_unit_command.specs.RunOutput.{all_of, finished_of}
 use Rattle.byte_unit_command.specs.RunState.{RecordsHaveNoMessage, State, start_of}
 use Rattle.byte_unit_command.specs.declared.options.Options.{Options}
 use Rattle.byte_unit_command.proofs.Rooms.{read_room-more, end_room-read}

@@ -129,7 +129,7 @@ EndsEarly-rejected options start now place bytes fed next out messages same head
   aborts,
 )
 
--- if the call that converts the next record stops with an error, the loop ends early with that error; a field is
+-- if the call that converts the next record ends early by an error, the loop does so by that error; a field is
 -- rejected only if no header records are left (`header` is their number)
 pub EndsEarly-record : {options : Options} {start now : Feed} {place : ℕ} {bytes : List ℕ} → IsFed options start now
     → IsNext options now place bytes → (out messages : List ℕ) → now.state.out ≡ out → (error : RunError)

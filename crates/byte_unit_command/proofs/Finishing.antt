@@ -17,7 +17,7 @@ use Rattle.byte_unit_command.proofs.Converting.{AddsRecords-none}
 use Rattle.byte_unit_command.proofs.Results.{Err-passed}
 use Rattle.byte_unit_command.proofs.Telling.{Tells-nothing}
 use Rattle.byte_unit_stream.specs.Chunks.{nonempty_record}
-use Rattle.byte_unit_stream.specs.Prefix.{IsPrefix}
+use Rattle.byte_unit_stream.specs.Beginnings.{IsBeginningOf}
 use Rattle.byte_unit_stream.specs.Streams.{HasWritten, writer_of, writing_failed}
 use Rattle.byte_unit_stream.specs.declared.writer.FusedWriter.{FusedWriter}
 use Rattle.byte_unit_stream.proofs.Bytes.{IsWrittenBy}
@@ -101,7 +101,7 @@ module _ (options : Options) (total : ℕ) (before : List ℕ) where
   IsTotalWritten-line line bytes is_for are (Ok _) by = (bytes, by.whole, (line, is_for, are))
   IsTotalWritten-line line bytes is_for are (Err error) by =
       let at : IsTotalWritten options total before (Err Write) by.part.0 =
-      (line, inr is_for, subst (IsPrefix by.part.0) are by.part.2) in (
+      (line, inr is_for, subst (IsBeginningOf by.part.0) are by.part.2) in (
         by.part.0,
         by.part.1,
         subst (λ error. IsTotalWritten options total before (Err error) by.part.0) (sym by.is_error) at,
@@ -150,10 +150,11 @@ module _ {options : Options} (part : List ℕ) {old new : State}
       (new, [], adds, refl, line, sym (append-nil new.out), refl)
 
   -- no total is asked for, and the write of what waits has failed
-  pub IsFinished-plain_error : (error : RunError) (written : List ℕ) → error ≡ Write → IsPrefix written new.out
+  pub IsFinished-plain_error : (error : RunError) (written : List ℕ) → error ≡ Write → IsBeginningOf written new.out
       → IsFinished options part old (Err error) written new.messages
   IsFinished-plain_error error written is begins =
-      let whole : IsPrefix written (new.out ++ []) = subst (IsPrefix written) (sym (append-nil new.out)) begins in
+      let whole : IsBeginningOf written (new.out ++ []) =
+      subst (IsBeginningOf written) (sym (append-nil new.out)) begins in
       subst (λ error. IsFinished options part old (Err error) written new.messages) (sym is)
       (new, [], adds, inl refl, whole, refl)
 

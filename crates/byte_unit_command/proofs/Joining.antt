@@ -5,8 +5,8 @@ use Rattle.std.proofs.lemmas.List.Elements.{All-head, All-tail}
 use Rattle.std.proofs.lemmas.List.Splits.{slice_split_at}
 use Rattle.std.specs.List.{All}
 use Rattle.byte_unit_command.specs.Operands.{HasOperands}
-use Rattle.byte_unit_stream.specs.Records.{parts, but_empty_last}
-use Rattle.byte_unit_stream.proofs.ChunkRecords.{parts_IsSplit, IsSplit}
+use Rattle.byte_unit_stream.specs.Records.{split_by, but_empty_last}
+use Rattle.byte_unit_stream.proofs.ChunkRecords.{split_by_IsSplit, IsSplit}
 
 -- the texts, each with a zero byte after it
 abbrev pub joined : List (List ℕ) → List ℕ
@@ -40,5 +40,5 @@ joined-HasOperands [] none = refl
 joined-HasOperands (text ∷ texts) none =
     let own = All-head (All (λ byte. byte ≢ 0)) text texts none in
     let cut = slice_split_at (λ byte. eqb byte 0) text 0 (joined texts) (λ k d bound. ne_eqb _ _ (own k d bound)) refl
-    in ap but_empty_last cut ∙ first_record text (parts 0 (joined texts)) (parts_IsSplit 0 (joined texts))
+    in ap but_empty_last cut ∙ first_record text (split_by 0 (joined texts)) (split_by_IsSplit 0 (joined texts))
     ∙ ap (λ records. text ∷ records) (joined-HasOperands texts (All-tail (All (λ byte. byte ≢ 0)) text texts none))

@@ -25,7 +25,7 @@ use Rattle.byte_unit_format.proofs.ShownForms.{exact_in_unit}
 use Rattle.byte_unit_format.proofs.Widths.{name_short, layout_fills_width}
 use Rattle.byte_unit_format.proofs.WrittenForms.{length_of_fraction_text}
 use Rattle.byte_unit_command.specs.Capacity.{unit_places, unit_text_max}
-use Rattle.byte_unit_command.specs.Shown.{adjusted_spec}
+use Rattle.byte_unit_command.specs.Formatted.{adjusted_spec}
 
 -- a number below 10^digits has at most that many digits
 digits_few : (whole digits : ℕ) → 0 < digits → digits ≤ 32 → whole < 10 ^ digits → length (decimal whole) ≤ digits

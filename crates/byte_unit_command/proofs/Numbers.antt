@@ -11,7 +11,7 @@ use Rattle.byte_unit.specs.Version.{unit_name}
 use Rattle.byte_unit.specs.Written.{WritesForm}
 use Rattle.byte_unit.specs.declared.Kind.{Kind}
 use Rattle.byte_unit.specs.declared.Unit.{Unit as UnitName}
-use Rattle.byte_unit_command.specs.Shown.{BeginsWithForm, adjusted_spec}
+use Rattle.byte_unit_command.specs.Formatted.{BeginsWithForm, adjusted_spec}
 use Rattle.byte_unit_command.proofs.Texts.{written_bytes}
 
 -- what was written begins with the text

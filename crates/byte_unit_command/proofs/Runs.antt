@@ -1,7 +1,8 @@
 -- Lemmas: the loop of a run, read by read.
 use Rattle.std.proofs.Common.{◌≡◌, ℕ, List, [], ◌∷◌, ◌++◌, Result, Ok, Err}
 use Rattle.std.proofs.Common.{refl, sym, ap, subst, ◌∙◌, append_assoc, append-nil, arith, inl, inr, ◌⊎◌}
-use Rattle.byte_unit_command.specs.Outcome.{AreFirst, IsAborted, IsBegun, IsBegunOutput, IsWritten, all_of, finished_of}
+use Rattle.byte_unit_command.specs.RunOutput.{AreFirst, IsAborted, IsBegun, IsBegunOutput, IsWritten, all_of}
+use Rattle.byte_unit_command.specs.RunOutput.{finished_of}
 use Rattle.byte_unit_command.specs.RunState.{AddsRecords, State, IsFinished, at_next, idle, no_tally, start_of}
 use Rattle.byte_unit_command.specs.Told.{AreFirstMessages, AreRunMessages}
 use Rattle.byte_unit_command.specs.declared.options.Options.{Options}
@@ -13,18 +14,18 @@ use Rattle.byte_unit_command.proofs.Converting.{AddsRecords-append, AddsRecords-
 use Rattle.byte_unit_command.proofs.Starts.{aborted-from_start, converted-from_start, large-from_start}
 use Rattle.byte_unit_command.proofs.Starts.{messages-from_start, tally-from_start, total_line-from_start}
 use Rattle.byte_unit_stream.specs.Chunks.{ended_records, begun_record, nonempty_record}
-use Rattle.byte_unit_stream.specs.Prefix.{IsPrefix}
+use Rattle.byte_unit_stream.specs.Beginnings.{IsBeginningOf}
 use Rattle.byte_unit_stream.proofs.ChunkRecords.{ended_records-append, begun_record-append}
 use Rattle.byte_unit_stream.proofs.ChunkRecords.{finished_records-ended_records, records_of-ended_records}
-use Rattle.byte_unit_stream.proofs.Prefixes.{IsPrefix-after, IsPrefix-self}
+use Rattle.byte_unit_stream.proofs.Beginnings.{IsBeginningOf-after, IsBeginningOf-self}
 
 -- a state with other texts and messages
 abbrev pub with_output : State → List ℕ → List ℕ → State
 with_output state out messages = record state { out = out; messages = messages }
 
 -- what is right for a run that has read these bytes, and ends with this result
-abbrev pub IsOutcome : Options → List ℕ → List ℕ → Type 0 → Result Tally RunError → List ℕ → List ℕ → Type 0
-IsOutcome options word read complete result written messages =
+abbrev pub IsRunResult : Options → List ℕ → List ℕ → Type 0 → Result Tally RunError → List ℕ → List ℕ → Type 0
+IsRunResult options word read complete result written messages =
     IsWritten options read complete result written × AreRunMessages options word read complete result messages
 
 -- between two reads: the records that end in what was read are converted, and the rest is the unfinished record
@@ -101,12 +102,13 @@ module _ {options : Options} {word read written messages part : List ℕ} {state
   finished-piece piece = ended-piece piece ∙ sym (finished_records-ended_records options.record_end (read ++ piece))
 
   -- the records that were read, then the first that end in the piece, are the first finished records of both
-  prefix-piece : (piece : List ℕ) (first : List (List ℕ)) → IsPrefix first (ended_records options.record_end part piece)
-      → IsPrefix (ended_records options.record_end [] read ++ first) (finished_of options (read ++ piece))
-  prefix-piece piece first is_prefix =
-      subst (IsPrefix (ended_records options.record_end [] read ++ first)) (finished-piece piece)
-      (IsPrefix-after (ended_records options.record_end [] read) first (ended_records options.record_end part piece)
-      is_prefix)
+  beginning-piece : (piece : List ℕ) (first : List (List ℕ))
+      → IsBeginningOf first (ended_records options.record_end part piece)
+      → IsBeginningOf (ended_records options.record_end [] read ++ first) (finished_of options (read ++ piece))
+  beginning-piece piece first is_beginning =
+      subst (IsBeginningOf (ended_records options.record_end [] read ++ first)) (finished-piece piece)
+      (IsBeginningOf-after (ended_records options.record_end [] read) first
+      (ended_records options.record_end part piece) is_beginning)
 
   -- the unfinished record after the piece is that of all that was read
   pub begun-piece : (piece next_part : List ℕ) → next_part ≡ begun_record options.record_end part piece
@@ -128,67 +130,67 @@ module _ {options : Options} {word read written messages part : List ℕ} {state
   }
 
   -- between two reads, all finished records are converted, and all messages about them are told: if a read failed
-  pub IsOutcome-read : (complete : Type 0) → IsOutcome options word read complete (Err Read) written messages
-  IsOutcome-read complete =
+  pub IsRunResult-read : (complete : Type 0) → IsRunResult options word read complete (Err Read) written messages
+  IsRunResult-read complete =
       let adds = AddsRecords-finished in
       ((adds.found, converted-from_start options word adds), messages-from_start options word adds)
 
   -- between two reads, what is written and told is also right for a run that is out of memory
-  pub IsOutcome-memory : (complete : Type 0) → IsOutcome options word read complete (Err Memory) written messages
-  IsOutcome-memory complete =
+  pub IsRunResult-memory : (complete : Type 0) → IsRunResult options word read complete (Err Memory) written messages
+  IsRunResult-memory complete =
       let adds = AddsRecords-finished in
       let finished = finished_of options read in (
         record {
           first = finished;
           found = adds.found;
-          is_prefix = IsPrefix-self finished;
+          is_beginning = IsBeginningOf-self finished;
           converted = converted-from_start options word adds;
         },
-        inl (finished, IsPrefix-self finished, messages-from_start options word adds),
+        inl (finished, IsBeginningOf-self finished, messages-from_start options word adds),
       )
 
   -- the next piece could not be converted or written
   module _ (piece more more_messages : List ℕ) (next : State) (complete : Type 0) where
     -- the messages before the piece, then those about its first records, are those about the first finished records
     first-messages : (first : List (List ℕ)) (new : State)
-        → IsPrefix first (ended_records options.record_end part piece) → AddsRecords options first (idle state) new
+        → IsBeginningOf first (ended_records options.record_end part piece) → AddsRecords options first (idle state) new
         → new.messages ≡ more_messages
         → AreFirstMessages options word (finished_of options (read ++ piece)) (messages ++ more_messages)
-    first-messages first new is_prefix adds told_is = (
+    first-messages first new is_beginning adds told_is = (
       ended_records options.record_end [] read ++ first,
-      prefix-piece piece first is_prefix,
+      beginning-piece piece first is_beginning,
       messages-from_start options word (AddsRecords-then {new = new} {out = new.out} adds refl told_is),
     )
 
     -- what an error in the next piece leaves written and told is right for a run that ends with this error
-    pub IsOutcome-piece : (error : RunError)
+    pub IsRunResult-piece : (error : RunError)
         → IsAnswered options (ended_records options.record_end part piece) (idle state) next (Err error) more
         more_messages
-        → IsOutcome options word (read ++ piece) complete (Err error) (written ++ more) (messages ++ more_messages)
-    IsOutcome-piece Memory (first, new, is_prefix, adds, out_is, told_is) =
+        → IsRunResult options word (read ++ piece) complete (Err error) (written ++ more) (messages ++ more_messages)
+    IsRunResult-piece Memory (first, new, is_beginning, adds, out_is, told_is) =
         let whole = AddsRecords-then {new = new} adds out_is told_is in (
           record {
             first = ended_records options.record_end [] read ++ first;
             found = whole.found;
-            is_prefix = prefix-piece piece first is_prefix;
+            is_beginning = beginning-piece piece first is_beginning;
             converted = converted-from_start options word whole;
           },
-          inl (first-messages first new is_prefix adds told_is),
+          inl (first-messages first new is_beginning adds told_is),
         )
-    IsOutcome-piece Write ((first, new, is_prefix, adds, begins), none) =
+    IsRunResult-piece Write ((first, new, is_beginning, adds, begins), none) =
         let whole = AddsRecords-then {new = new} {out = new.out} {told = new.messages} adds refl refl in
         let records = ended_records options.record_end part piece in (
           inl (record {
             first = ended_records options.record_end [] read ++ first;
             found = whole.found;
             text = written ++ new.out;
-            is_prefix = prefix-piece piece first is_prefix;
+            is_beginning = beginning-piece piece first is_beginning;
             converted = converted-from_start options word whole;
-            begins = IsPrefix-after written more new.out begins;
+            begins = IsBeginningOf-after written more new.out begins;
           }),
           inl (first-messages [] (idle state) (records, refl) (AddsRecords-none options (idle state)) (sym none)),
         )
-    IsOutcome-piece Rejected (before, after, bytes, new, are, adds, out_is, header_is, aborts) =
+    IsRunResult-piece Rejected (before, after, bytes, new, are, adds, out_is, header_is, aborts) =
         let ended = ended_records options.record_end [] read in
         let whole = AddsRecords-then {new = new} {told = new.messages} adds out_is refl in
         let records_are = sym (finished-piece piece) ∙ ap (λ records. ended ++ records) are
@@ -198,8 +200,8 @@ module _ {options : Options} {word read written messages part : List ℕ} {state
         (ap (λ more. messages ++ more) aborts.messages_are
         ∙ sym (append_assoc messages new.messages aborts.messages)) in
         (inl at.0, inl at.1)
-    IsOutcome-piece Read at = absurd at
-    IsOutcome-piece Total at = absurd at
+    IsRunResult-piece Read at = absurd at
+    IsRunResult-piece Total at = absurd at
 
   -- the records that end in what was read, then the unfinished one if it is not empty, are all records of the input
   pub records-last : ended_records options.record_end [] read ++ nonempty_record part ≡ all_of options read
@@ -223,15 +225,15 @@ module _ {options : Options} {word read written messages part : List ℕ} {state
         → more_messages ≡ new.messages → AreFirstMessages options word (all_of options read) (messages ++ more_messages)
     all-messages new adds messages_are = (
       all_of options read,
-      IsPrefix-self (all_of options read),
+      IsBeginningOf-self (all_of options read),
       messages-from_start options word (AddsRecords-all new new.out adds refl messages_are),
     )
 
     -- what is written and told at the end of the input is right for a run that ends with that result
-    pub IsOutcome-finished : (result : Result Tally RunError)
+    pub IsRunResult-finished : (result : Result Tally RunError)
         → IsFinished options part (idle state) result more more_messages
-        → IsOutcome options word read complete result (written ++ more) (messages ++ more_messages)
-    IsOutcome-finished (Ok tally) (new, line, adds, tally_is, total_line, written_is, messages_are) =
+        → IsRunResult options word read complete result (written ++ more) (messages ++ more_messages)
+    IsRunResult-finished (Ok tally) (new, line, adds, tally_is, total_line, written_is, messages_are) =
         let whole = AddsRecords-all new new.out adds refl messages_are in (
           (
             at_end,
@@ -247,18 +249,18 @@ module _ {options : Options} {word read written messages part : List ℕ} {state
           ),
           (at_end, messages-from_start options word whole),
         )
-    IsOutcome-finished (Err Memory) (none, inl untold) =
+    IsRunResult-finished (Err Memory) (none, inl untold) =
         let finished = finished_of options read in (
-          subst (AreFirst options finished) (append-nothing written more none) (IsOutcome-memory complete).0,
+          subst (AreFirst options finished) (append-nothing written more none) (IsRunResult-memory complete).0,
           inl (subst (AreFirstMessages options word finished) (append-nothing messages more_messages untold)
-              (finished, IsPrefix-self finished, messages-from_start options word AddsRecords-finished)),
+              (finished, IsBeginningOf-self finished, messages-from_start options word AddsRecords-finished)),
         )
-    IsOutcome-finished (Err Memory) (none, inr (new, adds, messages_are)) = (
+    IsRunResult-finished (Err Memory) (none, inr (new, adds, messages_are)) = (
       subst (AreFirst options (finished_of options read)) (append-nothing written more none)
-          (IsOutcome-memory complete).0,
+          (IsRunResult-memory complete).0,
       inr (at_end, all-messages new adds messages_are),
     )
-    IsOutcome-finished (Err Rejected) (none, header_is, aborts, last_is) =
+    IsRunResult-finished (Err Rejected) (none, header_is, aborts, last_is) =
         let ended = ended_records options.record_end [] read in
         let records_are = sym records-last ∙ ap (λ last. ended ++ last) last_is in
         let at = aborted-from_start options word served.added part [] (all_of options read) records_are header_is
@@ -270,7 +272,7 @@ module _ {options : Options} {word read written messages part : List ℕ} {state
           ),
           inr (at_end, at.1),
         )
-    IsOutcome-finished (Err Total) (new, adds, asked, large, written_is, messages_are) =
+    IsRunResult-finished (Err Total) (new, adds, asked, large, written_is, messages_are) =
         let whole = AddsRecords-all new more adds (sym written_is) messages_are in (
           (
             at_end,
@@ -283,14 +285,14 @@ module _ {options : Options} {word read written messages part : List ℕ} {state
           ),
           (at_end, messages-from_start options word whole),
         )
-    IsOutcome-finished (Err Write) (new, line, adds, total_line, begins, messages_are) =
+    IsRunResult-finished (Err Write) (new, line, adds, total_line, begins, messages_are) =
         let whole = AddsRecords-all new new.out adds refl messages_are in
         let records = all_of options read in
         let text = written ++ new.out in
         let converted = converted-from_start options word whole in
-        let begins_with : IsPrefix (written ++ more) (text ++ line) =
-        subst (IsPrefix (written ++ more)) (sym (append_assoc written new.out line))
-        (IsPrefix-after written more (new.out ++ line) begins) in
+        let begins_with : IsBeginningOf (written ++ more) (text ++ line) =
+        subst (IsBeginningOf (written ++ more)) (sym (append_assoc written new.out line))
+        (IsBeginningOf-after written more (new.out ++ line) begins) in
         let Begun : Type 0 = IsBegun options records (written ++ more) in
         let Output : Type 0 = IsBegunOutput options records (written ++ more) in
         let either : Begun ⊎ Output = elim total_line [
@@ -298,9 +300,9 @@ module _ {options : Options} {word read written messages part : List ℕ} {state
             first = records;
             found = whole.found;
             text = text;
-            is_prefix = IsPrefix-self records;
+            is_beginning = IsBeginningOf-self records;
             converted = converted;
-            begins = subst (IsPrefix (written ++ more)) (sym (append-nothing text line none)) begins_with;
+            begins = subst (IsBeginningOf (written ++ more)) (sym (append-nothing text line none)) begins_with;
           })
           | inr asked ↦ inr (record {
             output = text ++ line;
@@ -316,4 +318,4 @@ module _ {options : Options} {word read written messages part : List ℕ} {state
           })
         ] in
         (inr (at_end, either), inr (at_end, all-messages new adds messages_are))
-    IsOutcome-finished (Err Read) at = absurd at
+    IsRunResult-finished (Err Read) at = absurd at

@@ -12,8 +12,8 @@ use Rattle.byte_unit_command.specs.declared.streams.Streams.{Streams}
 use Rattle.byte_unit_command.specs.declared.tally.Tally.{Tally}
 use Rattle.byte_unit_command.proofs.Answering.{IsAnswered}
 use Rattle.byte_unit_command.proofs.Results.{Err-passed}
-use Rattle.byte_unit_command.proofs.Runs.{IsOutcome, IsOutcome-finished, IsOutcome-memory, IsOutcome-piece}
-use Rattle.byte_unit_command.proofs.Runs.{IsOutcome-read, IsServed, IsServed-piece, IsServed-start}
+use Rattle.byte_unit_command.proofs.Runs.{IsRunResult, IsRunResult-finished, IsRunResult-memory, IsRunResult-piece}
+use Rattle.byte_unit_command.proofs.Runs.{IsRunResult-read, IsServed, IsServed-piece, IsServed-start}
 use Rattle.byte_unit_command.proofs.Telling.{IsTold-more, IsTold-nothing}
 use Rattle.byte_unit_stream.specs.Chunks.{ended_records, begun_record}
 use Rattle.byte_unit_stream.specs.Streams.{HasRead, HasReadAll, HasReadNothing, reader_of, writer_of, writing_failed}
@@ -114,7 +114,7 @@ module _ {R W E A : Type 0} {remaining : R → Option (List ℕ)} {contents : W 
     IsRunOf-long =
         let served = IsServed-piece so_far.served piece answered.written answered.messages next.part.items
         (state_of next.converter) answered.holds part_is in
-        let at = IsOutcome-memory served (HasReadAll remaining new.reader) in
+        let at = IsRunResult-memory served (HasReadAll remaining new.reader) in
         (Course-more (so_far.course.read ++ piece) (HasRead-more new.reader piece came) answered, at.0, at.1)
 
   -- if the call that converts the next piece has failed, what is written and told is right for its error
@@ -127,10 +127,10 @@ module _ {R W E A : Type 0} {remaining : R → Option (List ℕ)} {contents : W 
       → IsRunOf remaining contents tells options old new result
   IsRunOf-piece new next piece came error failed result passed =
       let read = so_far.course.read ++ piece in
-      let Outcome : Result Tally RunError → Type 0 = λ result. IsOutcome options old.word.now read
+      let RunResult : Result Tally RunError → Type 0 = λ result. IsRunResult options old.word.now read
       (HasReadAll remaining new.reader) result (so_far.course.written ++ failed.written)
       (so_far.course.messages ++ failed.messages) in
-      let at = Err-passed Outcome result error passed (IsOutcome-piece so_far.served piece failed.written
+      let at = Err-passed RunResult result error passed (IsRunResult-piece so_far.served piece failed.written
       failed.messages (state_of next.converter) (HasReadAll remaining new.reader) error failed.holds) in
       (Course-more read (HasRead-more new.reader piece came) failed, at.0, at.1)
 
@@ -138,7 +138,7 @@ module _ {R W E A : Type 0} {remaining : R → Option (List ℕ)} {contents : W 
   pub IsRunOf-read : (reader : FusedReader R) → HasReadNothing remaining between.reader reader
       → IsRunOf remaining contents tells options old (record between { reader = reader }) (Err Read)
   IsRunOf-read reader nothing =
-      let at = IsOutcome-read so_far.served (HasReadAll remaining reader) in (
+      let at = IsRunResult-read so_far.served (HasReadAll remaining reader) in (
         record {
           read = so_far.course.read;
           written = so_far.course.written;
@@ -164,6 +164,6 @@ module _ {R W E A : Type 0} {remaining : R → Option (List ℕ)} {contents : W 
   IsRunOf-finished new piece part came none at_end part_is result finished =
       let served : IsServed options old.word.now so_far.course.read so_far.course.written so_far.course.messages part
       (state_of buffers.converter) = record { added = so_far.served.added; begun = part_is ∙ so_far.served.begun } in
-      let at = IsOutcome-finished served finished.written finished.messages (HasReadAll remaining new.reader) at_end
+      let at = IsRunResult-finished served finished.written finished.messages (HasReadAll remaining new.reader) at_end
       result finished.holds in
       (Course-more so_far.course.read (HasRead-end new.reader piece came none) finished, at.0, at.1)

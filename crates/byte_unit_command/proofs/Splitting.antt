@@ -9,23 +9,23 @@ use Rattle.byte_unit_command.specs.Fields.{IsChosen, at_blanks, begins_blank, be
 use Rattle.byte_unit_command.specs.Fields.{fields_by, fields_of, is_blank}
 use Rattle.byte_unit_command.specs.Messages.{AreFieldMessages, AreMessagesOfFields, AreMessagesToRejected}
 use Rattle.byte_unit_command.specs.Messages.{other as other_told}
-use Rattle.byte_unit_command.specs.Outcome.{Passes}
+use Rattle.byte_unit_command.specs.RunOutput.{Passes}
 use Rattle.byte_unit_command.specs.Output.{AreFields, HasRejectedField}
 use Rattle.byte_unit_command.specs.RunState.{AddsField, AddsFields, Aborts, IsRejectedField, FieldHasNoMessage, State}
 use Rattle.byte_unit_command.specs.RunState.{after}
-use Rattle.byte_unit_stream.specs.Records.{parts}
+use Rattle.byte_unit_stream.specs.Records.{split_by}
 use Rattle.byte_unit_command.specs.Sums.{has_rejected}
 use Rattle.byte_unit_command.specs.declared.options.Options.{Options}
 use Rattle.byte_unit_command.specs.declared.options.Invalid.TheVariants.{Abort}
-use Rattle.byte_unit_stream.proofs.ChunkRecords.{parts_IsSplit, IsSplit}
+use Rattle.byte_unit_stream.proofs.ChunkRecords.{split_by_IsSplit, IsSplit}
 use Rattle.byte_unit_command.proofs.Converting.{after-more, after-then}
 use Rattle.byte_unit_command.proofs.Tallies.{Passes-append}
 
 -- with a delimiter, and not between blanks
 module _ (options : Options) where
-  -- the fields are the parts between the delimiters
+  -- the fields are the subslices between the delimiters
   pub fields_of-split : (bytes : List ℕ) (delimiter : ℕ) → options.delimiter ≡ Some delimiter
-      → at_blanks options ≡ false → fields_of options bytes ≡ parts delimiter bytes
+      → at_blanks options ≡ false → fields_of options bytes ≡ split_by delimiter bytes
   fields_of-split bytes delimiter is none =
       ap (λ blanks. fields_by blanks options.delimiter bytes) none ∙ ap (λ mark. fields_by false mark bytes) is
 
@@ -55,7 +55,7 @@ IsField-byte : (options : Options) (number byte : ℕ) (field text : List ℕ) (
     → IsField options number field text found → IsField options number (byte ∷ field) (byte ∷ text) found
 IsField-byte options number byte field text found not_chosen (other _ text_is found_is) =
     other not_chosen (ap (λ bytes. byte ∷ bytes) text_is) found_is
-IsField-byte options number byte field text found not_chosen (size n chosen is_size is_shown found_is) =
+IsField-byte options number byte field text found not_chosen (size n chosen is_size is_formatted found_is) =
     absurd (not_chosen chosen)
 IsField-byte options number byte field text found not_chosen (rejected chosen none text_is found_is) =
     absurd (not_chosen chosen)
@@ -83,22 +83,23 @@ AreFields-byte options number byte (field ∷ next ∷ others) text found not_ch
 -- fields none of which is chosen are copied, with the delimiters between them
 AreFields-copied : (options : Options) (delimiter : ℕ) → between_of options ≡ delimiter ∷ []
     → (bytes : List ℕ) (number : ℕ) → ((later : ℕ) → number ≤ later → ¬ IsChosen options.fields.now later)
-    → AreFields options number (parts delimiter bytes) bytes []
+    → AreFields options number (split_by delimiter bytes) bytes []
 AreFields-copied options delimiter between [] number past = other (past number (omega arith)) refl refl
 AreFields-copied options delimiter between (byte ∷ bytes) number past =
     let not_chosen = past number (omega arith) in
     let next = AreFields-copied options delimiter between bytes (number + 1)
     (λ later high. past later (omega (arith, high))) in
     let Copies : Bool → Type 0 = λ ends. eqb byte delimiter ≡ ends
-    → AreFields options number (cond ends ([] ∷ parts delimiter bytes) (onto_first byte (parts delimiter bytes)))
+    → AreFields options number (cond ends ([] ∷ split_by delimiter bytes) (onto_first byte (split_by delimiter bytes)))
     (byte ∷ bytes) [] in
     let on_end : Copies true = λ ends.
     let same : between_of options ≡ byte ∷ [] =
     between ∙ ap (λ mark. mark ∷ []) (sym (eqb-true byte delimiter ends)) in
-    subst (λ mark. AreFields options number ([] ∷ parts delimiter bytes) (mark ++ bytes) []) same
-    (AreFields-cons options number [] (parts delimiter bytes) [] bytes [] [] (parts_IsSplit delimiter bytes)
+    subst (λ mark. AreFields options number ([] ∷ split_by delimiter bytes) (mark ++ bytes) []) same
+    (AreFields-cons options number [] (split_by delimiter bytes) [] bytes [] [] (split_by_IsSplit delimiter bytes)
     (other not_chosen refl refl) next) in
-    let on_other : Copies false = λ ends. AreFields-byte options number byte (parts delimiter bytes) bytes [] not_chosen
+    let on_other : Copies false = λ ends.
+    AreFields-byte options number byte (split_by delimiter bytes) bytes [] not_chosen
     (AreFields-copied options delimiter between bytes number past) in
     elim (eqb byte delimiter) as Copies [ true ↦ on_end | false ↦ on_other ] refl
 
@@ -141,7 +142,7 @@ module _ (options : Options) (delimiter : ℕ) (is : options.delimiter ≡ Some 
   fields_IsSplit bytes =
       let either : (blanks : Bool) → IsSplit (fields_by blanks (Some delimiter) bytes) =
       λ blanks. elim blanks as (λ blanks. IsSplit (fields_by blanks (Some delimiter) bytes))
-      [ true ↦ blank_fields_IsSplit bytes | false ↦ parts_IsSplit delimiter bytes ] in
+      [ true ↦ blank_fields_IsSplit bytes | false ↦ split_by_IsSplit delimiter bytes ] in
       subst (λ mark. IsSplit (fields_by (at_blanks options) mark bytes)) (sym is) (either (at_blanks options))
 
   -- fields none of which is chosen are copied, with the bytes between them

@@ -4,10 +4,10 @@ use Rattle.std.proofs.Common.{sym, ap, subst, ◌∙◌, arith, MatchBool}
 use Rattle.byte_unit.specs.Bounds.{size_limit}
 use Rattle.byte_unit_command.specs.Fields.{fields_of}
 use Rattle.byte_unit_command.specs.Messages.{AreMessages, AreMessagesToRejected, next_place, last_place}
-use Rattle.byte_unit_command.specs.Outcome.{AreConverted, IsAborted, IsTotalLine}
+use Rattle.byte_unit_command.specs.RunOutput.{AreConverted, IsAborted, IsTotalLine}
 use Rattle.byte_unit_command.specs.Output.{AreRecords}
 use Rattle.byte_unit_command.specs.RunState.{Aborts, AddsRecords, State, IsTotalFor, start_of}
-use Rattle.byte_unit_command.specs.Shown.{IsShown}
+use Rattle.byte_unit_command.specs.Formatted.{IsFormatted}
 use Rattle.byte_unit_command.specs.Sums.{sum_of, tally_of}
 use Rattle.byte_unit_command.specs.Told.{AreAbortMessages}
 use Rattle.byte_unit_command.specs.declared.options.Options.{Options}
@@ -51,14 +51,14 @@ module _ (options : Options) (word : List ℕ) {records : List (List ℕ)} {new 
   total_line-from_start line at =
       let For : Type 0 = IsTotalFor options new.tally.total line in
       let sum = sum_of adds.found in
-      let Line : Type 0 = (shown : List ℕ) × (sum < size_limit) × IsShown options sum shown
-      × (line ≡ shown ++ options.output_end ∷ []) in
+      let Line : Type 0 = (formatted : List ℕ) × (sum < size_limit) × IsFormatted options sum formatted
+      × (line ≡ formatted ++ options.output_end ∷ []) in
       elim options.total as (λ asked. MatchBool asked For (line ≡ []) → MatchBool asked Line (line ≡ [])) [
-        | true ↦ λ (shown, small, is_shown, is).
+        | true ↦ λ (formatted, small, is_formatted, is).
             let same = sum-from_start small in (
-              shown,
+              formatted,
               subst (λ total. total < size_limit) same small,
-              subst (λ total. IsShown options total shown) same is_shown,
+              subst (λ total. IsFormatted options total formatted) same is_formatted,
               is,
             )
         | false ↦ λ none. none

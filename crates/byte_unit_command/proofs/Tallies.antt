@@ -4,7 +4,7 @@ use Rattle.std.proofs.Common.{refl, sym, ap, ◌∙◌, arith, zero-add}
 use Rattle.std.proofs.lemmas.List.Sums.{sum_by-cons}
 use Rattle.byte_unit.specs.Bounds.{size_limit}
 use Rattle.byte_unit_command.specs.Field.{Found}
-use Rattle.byte_unit_command.specs.Outcome.{Passes}
+use Rattle.byte_unit_command.specs.RunOutput.{Passes}
 use Rattle.byte_unit_command.specs.RunState.{no_tally, tally_with, tally_after}
 use Rattle.byte_unit_command.specs.Sums.{has_rejected, is_beyond, any_beyond, sizes_of, sum_of, tally_of}
 use Rattle.byte_unit_command.specs.declared.options.Options.{Options}

@@ -1,11 +1,11 @@
 -- Lemmas: what is told, one list of messages after the other.
 use Rattle.std.proofs.Common.{◌≡◌, ℕ, Bool, true, false, List, [], ◌++◌, Option, refl, sym, ap, subst, ◌∙◌, append-nil}
-use Rattle.byte_unit_stream.specs.Prefix.{IsPrefix}
+use Rattle.byte_unit_stream.specs.Beginnings.{IsBeginningOf}
 use Rattle.byte_unit_command.specs.RunState.{Tells, WritesAndTells}
 use Rattle.byte_unit_command.specs.Told.{IsTold}
 use Rattle.byte_unit_stream.specs.Streams.{HasWritten, writing_failed}
 use Rattle.byte_unit_stream.specs.declared.writer.FusedWriter.{FusedWriter}
-use Rattle.byte_unit_stream.proofs.Prefixes.{IsPrefix-longer, IsPrefix-after}
+use Rattle.byte_unit_stream.proofs.Beginnings.{IsBeginningOf-longer, IsBeginningOf-after}
 
 -- of no messages, nothing was told
 pub Tells-nothing : (failed : Bool) → Tells failed failed [] []
@@ -22,15 +22,15 @@ pub IsTold-more : (before after : Bool) (messages more told rest : List ℕ) →
 IsTold-more true after messages more told rest so_far tells =
     let stays = tells.stays refl in
     let nothing : told ++ rest ≡ told = ap (λ rest. told ++ rest) stays.0 ∙ append-nil told in record {
-      begins = subst (λ told. IsPrefix told (messages ++ more)) (sym nothing)
-          (IsPrefix-longer told messages more so_far.begins);
+      begins = subst (λ told. IsBeginningOf told (messages ++ more)) (sym nothing)
+          (IsBeginningOf-longer told messages more so_far.begins);
       all = λ is. cc;
     }
 IsTold-more false after messages more told rest so_far tells =
     let same = so_far.all refl in record {
       begins =
-          subst (λ told. IsPrefix (told ++ rest) (messages ++ more)) (sym same)
-          (IsPrefix-after messages rest more tells.begins);
+          subst (λ told. IsBeginningOf (told ++ rest) (messages ++ more)) (sym same)
+          (IsBeginningOf-after messages rest more tells.begins);
       all = λ is. ap (λ told. told ++ rest) same ∙ ap (λ rest. messages ++ rest) (tells.all is);
     }
 

@@ -4,7 +4,7 @@ use Rattle.std.proofs.Common.{◌∙◌, append-nil, arith}
 use Rattle.std.proofs.Math.Seq.{take-append_seam, take-append-add}
 use Rattle.std.proofs.lemmas.List.{take-take, length-append, length-take-le}
 use Rattle.byte_unit.specs.Written.{WritesForm}
-use Rattle.byte_unit_command.specs.Shown.{padded}
+use Rattle.byte_unit_command.specs.Formatted.{padded}
 
 -- the bytes that were written are the text
 pub written_bytes : {IsForm : List ℕ → Type 0} {old new : List ℕ} {needed : ℕ}

@@ -3,7 +3,7 @@ use Rattle.std.specs.Prelude.{◌≡◌, ℕ, ◌≤◌, ⊤, ◌⊎◌, Bool, t
 use Rattle.std.specs.Prelude.{MatchOption, unwrap_or, is_some, codes}
 use Rattle.std.specs.Borrow.{Bor}
 use Rattle.byte_unit.specs.declared.UnitType.TheVariants.{Both}
-use Rattle.byte_unit_command.specs.Meaning.{IsFrom, IsShownForm, MeansNothing}
+use Rattle.byte_unit_command.specs.Meaning.{IsFrom, IsOutputForm, MeansNothing}
 use Rattle.byte_unit_command.specs.Meaning.{IsForm, IsNoForm, IsDelimiter, IsPadding, IsNoPadding}
 use Rattle.byte_unit_command.specs.Meaning.{IsMode, IsLimit, IsNoLimit}
 use Rattle.byte_unit_command.specs.Values.{text_of}
@@ -44,7 +44,7 @@ pub record AreOptions (values : Values) (ranges : List FieldRange) (options : Op
   pub kind : options.kind ≡ values.kind
   pub ignore_case : options.ignore_case ≡ values.ignore_case
   pub binary : IsFrom (text_of values.from) options.binary
-  pub form : (given : Form) × IsFormOf values given × IsShownForm values.no_unit given options.form
+  pub form : (given : Form) × IsFormOf values given × IsOutputForm values.no_unit given options.form
   pub suffix : options.suffix.now ≡ unwrap_or (text_of values.suffix) []
   pub precision : options.precision ≡ precision_of values.human_readable values.precision
   pub padding : IsPadding (text_of values.padding) options.width options.align_left
@@ -85,7 +85,7 @@ IsWrongForm values wrong =
 -- `--no-unit` in a form without one unit for all sizes
 abbrev pub IsWrongNoUnit : Bool → Form → Wrong → Type 0
 IsWrongNoUnit no_unit given wrong =
-    ((form : Form) → ¬ IsShownForm no_unit given form) × (wrong.option.now ≡ codes "--no-unit") × (wrong.value ≡ None)
+    ((form : Form) → ¬ IsOutputForm no_unit given form) × (wrong.option.now ≡ codes "--no-unit") × (wrong.value ≡ None)
     × (wrong.reason ≡ NoUnit)
 
 -- there is something that separates fields, if `--field` names some
@@ -112,7 +112,7 @@ IsWrongSeparator values wrong =
 abbrev pub FormIsRight : Values → Type 0
 FormIsRight values =
     (given : Form) × IsFormOf values given × IsWithinExact given values.precision
-    × ((form : Form) × IsShownForm values.no_unit given form)
+    × ((form : Form) × IsOutputForm values.no_unit given form)
 
 -- all options are right that are looked at before `--padding`
 abbrev pub FieldsAreRight : Values → Type 0

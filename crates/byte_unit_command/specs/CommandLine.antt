@@ -72,7 +72,7 @@ operands = record (new_rule (codes "SIZE")) {
   range = Some (record { start_inclusive = 0; end_inclusive = 18446744073709551615 });
 }
 
--- the options that say how a size is read and shown
+-- the options that say how a size is read and formatted
 abbrev pub size_rules : List Rule
 size_rules =
     flag (codes "bits") ∷ ignore_case ∷ value (codes "from") ∷ value (codes "to") ∷ flag (codes "no-unit")

@@ -7,7 +7,7 @@ use Rattle.byte_unit.specs.declared.Kind.{Kind}
 use Rattle.byte_unit.specs.declared.Kind.TheVariants.{Byte, Bit}
 use Rattle.byte_unit_command.specs.Fields.{IsChosen, gap_of, width_of}
 use Rattle.byte_unit_command.specs.Prefixes.{IsAcceptedBy, IsRejectedBy}
-use Rattle.byte_unit_command.specs.Shown.{IsShown}
+use Rattle.byte_unit_command.specs.Formatted.{IsFormatted}
 use Rattle.byte_unit_command.specs.declared.options.Options.{Options}
 
 -- whether the text ends with the suffix
@@ -51,12 +51,12 @@ IsNoSize options field = IsNoSizeText options (without_suffix options.suffix.now
 abbrev pub Found : Type 0
 Found = Option ℕ
 
--- the text that replaces the field with this number if it is this size: it is shown in the columns that it has, after
--- the blank that separates it
+-- the text that replaces the field with this number if it is this size: it is formatted in the columns that it has,
+-- after the blank that separates it
 pub record IsPlaced (options : Options) (number : ℕ) (field : List ℕ) (size : ℕ) (text : List ℕ) : Type 0 where
-  pub shown : List ℕ
-  pub is_shown : IsShown (record options { width = width_of options number field }) size shown
-  pub text_is : text ≡ gap_of options number field ++ shown
+  pub formatted : List ℕ
+  pub is_formatted : IsFormatted (record options { width = width_of options number field }) size formatted
+  pub text_is : text ≡ gap_of options number field ++ formatted
 
 -- what is written for the field with this number, and what is found in it: a field that is not chosen is copied; a size
 -- is replaced by its text; a field that is not a size is copied too

@@ -22,8 +22,8 @@ blank_fields (byte ∷ bytes) =
     cond (not (is_blank byte) && begins_blank bytes) ((byte ∷ []) ∷ blank_fields bytes)
     (onto_first byte (blank_fields bytes))
 
--- the fields of a record: those between blanks; or the parts between its delimiters, empty ones included; without a
--- delimiter the record itself
+-- the fields of a record: those between blanks; or the subslices between its delimiters, empty ones included;
+-- without a delimiter the record itself
 abbrev pub fields_by : Bool → Option ℕ → List ℕ → List (List ℕ)
 fields_by true delimiter record_bytes = blank_fields record_bytes
 fields_by false None record_bytes = record_bytes ∷ []

@@ -1,11 +1,11 @@
--- Laws of the texts of sizes: what is shown can be read again.
+-- Laws of the texts of sizes: what is formatted can be read again.
 use Rattle.std.specs.Prelude.{◌≡◌, ℕ, ◌<◌, ⊤, Bool, false, List}
 use Rattle.byte_unit.specs.Bounds.{size_limit}
 use Rattle.byte_unit.specs.ReaderLaws.{IsOneAnswer}
 use Rattle.byte_unit.specs.declared.Kind.{Kind}
 use Rattle.byte_unit_command.specs.Field.{ignores_case, without_suffix}
 use Rattle.byte_unit_command.specs.Prefixes.{IsAcceptedBy, IsRejectedBy}
-use Rattle.byte_unit_command.specs.Shown.{IsShown}
+use Rattle.byte_unit_command.specs.Formatted.{IsFormatted}
 use Rattle.byte_unit_command.specs.declared.options.Form.{Form}
 use Rattle.byte_unit_command.specs.declared.options.Form.TheVariants.{Exact, Plain, InUnit, NumberOf, Largest}
 use Rattle.byte_unit_command.specs.declared.options.Options.{Options}
@@ -31,19 +31,19 @@ TextsAreSizesOrNot =
     (binary : Bool) (kind : Kind) (ignore_case : Bool) (text : List ℕ)
     → IsOneAnswer ℕ (IsAcceptedBy binary kind ignore_case text) (IsRejectedBy binary kind ignore_case text)
 
--- law: what is shown for a size in the exact form or as digits, without padding, is parsed as that size by a run with
+-- law: a size formatted in the exact form or as digits, without padding, is parsed as that size by a run with
 -- any options of the same kind and suffix that read prefixes as they are. So nothing is lost by `--to=plain` and then
 -- `--to=exact`
-abbrev pub ShownSizesAreRead : Type 0
-ShownSizesAreRead =
+abbrev pub FormattedSizesAreRead : Type 0
+FormattedSizesAreRead =
     (options others : Options) (size : ℕ) (text : List ℕ) → size < size_limit → IsLossless options.form
     → options.width ≡ 0 → others.kind ≡ options.kind → others.suffix.now ≡ options.suffix.now → others.binary ≡ false
-    → IsShown options size text → IsReadAs others text size
+    → IsFormatted options size text → IsReadAs others text size
 
--- law: what is shown in the exact form for the size that a text of the exact form is parsed as is that text. So a
+-- law: what is formatted in the exact form for the size that a text of the exact form is parsed as is that text. So a
 -- second run of `--to=exact` changes nothing, if prefixes are read as they are
 abbrev pub ExactTwiceIsOnce : Type 0
 ExactTwiceIsOnce =
     (options : Options) (size : ℕ) (text : List ℕ) → size < size_limit → options.form ≡ Exact → options.width ≡ 0
-    → options.binary ≡ false → IsShown options size text → (again : ℕ) (text_again : List ℕ)
-    → IsReadAs options text again → IsShown options again text_again → text_again ≡ text
+    → options.binary ≡ false → IsFormatted options size text → (again : ℕ) (text_again : List ℕ)
+    → IsReadAs options text again → IsFormatted options again text_again → text_again ≡ text

@@ -3,12 +3,12 @@ pub mod Fields
 pub mod Field
 pub mod Laws
 pub mod Messages
-pub mod Outcome
+pub mod RunOutput
 pub mod Output
 pub mod RunState
 pub mod CallEnds
 pub mod Run
-pub mod Shown
+pub mod Formatted
 pub mod Sums
 pub mod Prefixes
 pub mod Positive

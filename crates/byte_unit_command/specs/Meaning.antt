@@ -65,11 +65,11 @@ IsNoForm kind ignore_case text reason =
     ((form : Form) → ¬ IsFormWord text form) × IsNoUnitName kind ignore_case text reason
 
 -- `--no-unit`: the number alone, in the unit of `--to`; digits have no unit. No other form has one unit for all sizes
-abbrev pub IsShownForm : Bool → Form → Form → Type 0
-IsShownForm false given form = form ≡ given
-IsShownForm true (InUnit unit) form = form ≡ NumberOf unit
-IsShownForm true Plain form = form ≡ Plain
-IsShownForm true given form = ⊥
+abbrev pub IsOutputForm : Bool → Form → Form → Type 0
+IsOutputForm false given form = form ≡ given
+IsOutputForm true (InUnit unit) form = form ≡ NumberOf unit
+IsOutputForm true Plain form = form ≡ Plain
+IsOutputForm true given form = ⊥
 
 -- `--delimiter`: one byte, or `\t` (92, 116) for a tab (9); nothing for none
 abbrev pub IsDelimiter : Option (List ℕ) → Option ℕ → Type 0

@@ -1,6 +1,6 @@
 -- What a run has done with its streams.
 use Rattle.std.specs.Prelude.{ℕ, ◌<◌, ◌⊎◌, List, Option, Result}
-use Rattle.byte_unit_command.specs.Outcome.{IsWritten}
+use Rattle.byte_unit_command.specs.RunOutput.{IsWritten}
 use Rattle.byte_unit_command.specs.Told.{AreRunMessages, IsMessageDue, IsTold}
 use Rattle.byte_unit_command.specs.declared.options.Options.{Options}
 use Rattle.byte_unit_command.specs.declared.error.RunError.{RunError}

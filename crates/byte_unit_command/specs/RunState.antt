@@ -8,10 +8,10 @@ use Rattle.byte_unit_command.specs.Field.{Found, IsField, IsNoSize}
 use Rattle.byte_unit_command.specs.Fields.{IsChosen, fields_of}
 use Rattle.byte_unit_command.specs.Messages.{AreFieldMessages, AreMessagesOfFields, AreMessagesToRejected}
 use Rattle.byte_unit_command.specs.Messages.{AreRecordMessages, AreMessages, next_place, last_place}
-use Rattle.byte_unit_command.specs.Outcome.{Passes}
-use Rattle.byte_unit_stream.specs.Prefix.{IsPrefix}
+use Rattle.byte_unit_command.specs.RunOutput.{Passes}
+use Rattle.byte_unit_stream.specs.Beginnings.{IsBeginningOf}
 use Rattle.byte_unit_command.specs.Output.{AreFields, AreRecords, HasRejectedField}
-use Rattle.byte_unit_command.specs.Shown.{IsShown}
+use Rattle.byte_unit_command.specs.Formatted.{IsFormatted}
 use Rattle.byte_unit_command.specs.Sums.{is_beyond, has_rejected}
 use Rattle.byte_unit_command.specs.declared.notice.Notices.{Notices}
 use Rattle.byte_unit_command.specs.declared.options.Invalid.TheVariants.{Abort}
@@ -124,9 +124,9 @@ pub record Aborts (options : Options) (bytes : List ℕ) (old : State) (new_mess
   pub to_rejected : AreMessagesToRejected options old.word old.place 1 (fields_of options bytes) messages
   pub messages_are : new_messages ≡ old.messages ++ messages
 
--- if a call stops, it is out of memory, or at a rejected field
-abbrev pub StopsEarly : Result ⊤ RunError → Type 0
-StopsEarly result = IfErr result (λ error. (error ≡ Memory) ⊎ (error ≡ Rejected))
+-- if a call ends early, it is out of memory, or at a rejected field
+abbrev pub IsEarlyError : Result ⊤ RunError → Type 0
+IsEarlyError result = IfErr result (λ error. (error ≡ Memory) ⊎ (error ≡ Rejected))
 
 -- there is no message about the field with this number
 abbrev pub FieldHasNoMessage : Options → ℕ → List ℕ → State → Type 0
@@ -162,12 +162,12 @@ pub record AddsRecords (options : Options) (records : List (List ℕ)) (old new 
   pub messages_are : new.messages ≡ old.messages ++ messages
   pub tally_is : new.tally ≡ tally_after options old.tally found
 
--- what a call that converts these records leaves appended if it stops: the texts of some first ones of them if it is
--- out of memory; or those of the records before the one that has a rejected field, in the mode `abort`. And so for the
--- messages, with those up to the rejected field
+-- what a call that converts these records leaves appended if it ends early: the texts of some first ones of them if
+-- it is out of memory; or those of the records before the one that has a rejected field, in the mode `abort`. And so
+-- for the messages, with those up to the rejected field
 abbrev pub EndsEarly : Options → List (List ℕ) → State → RunError → List ℕ → List ℕ → Type 0
 EndsEarly options records old Memory out messages =
-    (first : List (List ℕ)) × (new : State) × IsPrefix first records
+    (first : List (List ℕ)) × (new : State) × IsBeginningOf first records
     × AddsRecords options first old new × (new.out ≡ out) × (new.messages ≡ messages)
 EndsEarly options records old Rejected out messages =
     (before after : List (List ℕ)) × (bytes : List ℕ) × (new : State) × (records ≡ before ++ bytes ∷ after)
@@ -176,10 +176,10 @@ EndsEarly options records old Rejected out messages =
 EndsEarly options records old _ out messages = ⊥
 
 -- from one state of standard error to another one, this was told of these messages: nothing if a write had failed
--- before; a prefix if a write fails; and else all of them
+-- before; a beginning if a write fails; and else all of them
 pub record Tells (failed_before failed : Bool) (messages told : List ℕ) : Type 0 where
   pub stays : IsTrue failed_before → (told ≡ []) × IsTrue failed
-  pub begins : IsPrefix told messages
+  pub begins : IsBeginningOf told messages
   pub all : failed ≡ false → told ≡ messages
 
 -- from these states of the output and of standard error to those, something was written and told of messages for which
@@ -206,7 +206,7 @@ Grows old new bytes = vec_len new ≤ vec_len old + bytes
 -- the line of the total, if it is asked for and is a size
 abbrev pub IsTotalFor : Options → ℕ → List ℕ → Type 0
 IsTotalFor options total line =
-    (shown : List ℕ) × (total < size_limit) × IsShown options total shown × (line ≡ shown ++ options.output_end ∷ [])
+    (text : List ℕ) × (total < size_limit) × IsFormatted options total text × (line ≡ text ++ options.output_end ∷ [])
 
 -- what a call has written that writes these bytes and then the total
 abbrev pub IsTotalWritten : Options → ℕ → List ℕ → Result ⊤ RunError → List ℕ → Type 0
@@ -215,7 +215,7 @@ IsTotalWritten options total before (Ok _) written =
 IsTotalWritten options total before (Err Memory) written = written ≡ []
 IsTotalWritten options total before (Err Total) written = (size_limit ≤ total) × (written ≡ before)
 IsTotalWritten options total before (Err Write) written =
-    (line : List ℕ) × ((line ≡ []) ⊎ IsTotalFor options total line) × IsPrefix written (before ++ line)
+    (line : List ℕ) × ((line ≡ []) ⊎ IsTotalFor options total line) × IsBeginningOf written (before ++ line)
 IsTotalWritten options total before (Err _) written = ⊥
 
 -- what a call has written that converts the last record, if there is one, and then writes the total, if it is asked
@@ -236,5 +236,5 @@ IsFinished options part old (Err Total) written messages =
 IsFinished options part old (Err Write) written messages =
     (new : State) × (line : List ℕ) × AddsRecords options (nonempty_record part) old new
     × ((line ≡ []) ⊎ MatchBool options.total (IsTotalFor options new.tally.total line) (line ≡ []))
-    × IsPrefix written (new.out ++ line) × (messages ≡ new.messages)
+    × IsBeginningOf written (new.out ++ line) × (messages ≡ new.messages)
 IsFinished options part old (Err Read) written messages = ⊥

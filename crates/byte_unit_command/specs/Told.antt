@@ -2,8 +2,8 @@
 use Rattle.std.specs.Prelude.{◌≡◌, ◌⊎◌, Bool, false, List, [], ◌∷◌, ◌++◌, ℕ, Result, Ok, Err}
 use Rattle.byte_unit_command.specs.Fields.{fields_of}
 use Rattle.byte_unit_command.specs.Messages.{AreMessages, AreMessagesToRejected, next_place, last_place}
-use Rattle.byte_unit_command.specs.Outcome.{all_of, finished_of}
-use Rattle.byte_unit_stream.specs.Prefix.{IsPrefix}
+use Rattle.byte_unit_command.specs.RunOutput.{all_of, finished_of}
+use Rattle.byte_unit_stream.specs.Beginnings.{IsBeginningOf}
 use Rattle.byte_unit_command.specs.declared.options.Options.{Options}
 use Rattle.byte_unit_command.specs.declared.error.RunError.{RunError}
 use Rattle.byte_unit_command.specs.declared.error.RunError.TheVariants.{Read, Rejected, Total}
@@ -12,7 +12,7 @@ use Rattle.byte_unit_command.specs.declared.tally.Tally.{Tally}
 -- the messages about the first of these records, for some number of them
 abbrev pub AreFirstMessages : Options → List ℕ → List (List ℕ) → List ℕ → Type 0
 AreFirstMessages options word records messages =
-    (first : List (List ℕ)) × IsPrefix first records × AreMessages options word 0 options.header first messages
+    (first : List (List ℕ)) × IsBeginningOf first records × AreMessages options word 0 options.header first messages
 
 -- the messages, `front`, about the records before one that has a rejected field, and those, `own`, about the fields of
 -- that record, `bytes`, up to the first such one
@@ -46,9 +46,9 @@ AreRunMessages options word read complete (Err _) messages =
     AreFirstMessages options word (finished_of options read) messages
     ⊎ complete × AreFirstMessages options word (all_of options read) messages
 
--- of these messages, what was told: all of them, or a prefix if a write to standard error failed
+-- of these messages, what was told: all of them, or a beginning if a write to standard error failed
 pub record IsTold (failed : Bool) (messages told : List ℕ) : Type 0 where
-  pub begins : IsPrefix told messages
+  pub begins : IsBeginningOf told messages
   pub all : failed ≡ false → told ≡ messages
 
 -- there is a message about these records

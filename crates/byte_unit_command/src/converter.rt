@@ -7,9 +7,9 @@ ghost use Rattle.byte_unit_command.specs.Capacity.{field_room, fields_room, reco
 ghost use Rattle.byte_unit_command.specs.Field.{IsNoSize};
 ghost use Rattle.byte_unit_command.specs.Fields.{AreRangesFrom, GoesTo, InRange, IsChosen, IsInOrder, at_blanks};
 ghost use Rattle.byte_unit_command.specs.RunState.{AddsRecords, Grows, messages_of, state_of};
-ghost use Rattle.byte_unit_command.specs.CallEnds.{AbortsNext, Extends, FieldIsAdded, FieldIsRejected, FieldStops};
-ghost use Rattle.byte_unit_command.specs.CallEnds.{FieldsAreAdded, FieldsAreRejected, FieldsStop, KeepsMessages};
-ghost use Rattle.byte_unit_command.specs.CallEnds.{RecordStops};
+ghost use Rattle.byte_unit_command.specs.CallEnds.{AbortsNext, Extends, FieldEndsEarly, FieldIsAdded, FieldIsRejected};
+ghost use Rattle.byte_unit_command.specs.CallEnds.{FieldsAreAdded, FieldsAreRejected, FieldsEndEarly, KeepsMessages};
+ghost use Rattle.byte_unit_command.specs.CallEnds.{RecordEndsEarly};
 
 use crate::blanks::{between, end_of_first, gap_of, width_of};
 use crate::error::{RunError, RunResult};
@@ -64,7 +64,7 @@ impl<A: Allocator> Converter<A> {
             → messages_of self.new.notices ≡ messages_of self.old.notices }
         ensures rejected { IsErrOf result RunError.Rejected → AbortsNext
             options.now bytes.now (state_of self.old) (messages_of self.new.notices) }
-        ensures stops { RecordStops options.now bytes.now self.old result }
+        ensures early { RecordEndsEarly options.now bytes.now self.old result }
         ensures len { Grows self.old.waiting self.new.waiting
             (record_room options.now (length bytes.now)) }
         ensures capacity { vec_capacity self.old.waiting ≤ vec_capacity self.new.waiting }
@@ -89,7 +89,7 @@ impl<A: Allocator> Converter<A> {
             (AddsRecords options.now (bytes.now ∷ []) (state_of self.old) (state_of self.new)) }
         ensures rejected { IsErrOf result RunError.Rejected → AbortsNext
             options.now bytes.now (state_of self.old) (messages_of self.new.notices) }
-        ensures stops { RecordStops options.now bytes.now self.old result }
+        ensures early { RecordEndsEarly options.now bytes.now self.old result }
         ensures kept_messages { KeepsMessages self.old self.new }
         ensures extends { Extends (record_room options.now (length bytes.now)) self.old self.new }
     {
@@ -117,7 +117,7 @@ impl<A: Allocator> Converter<A> {
         requires { text_limit ≤ length digits.old }
         ensures ok { FieldsAreAdded options.now bytes.now self.old self.new result }
         ensures rejected { FieldsAreRejected options.now bytes.now self.old self.new result }
-        ensures stops { FieldsStop options.now bytes.now self.old result }
+        ensures early { FieldsEndEarly options.now bytes.now self.old result }
         ensures kept_messages { KeepsMessages self.old self.new }
         ensures extends { Extends (fields_room options.now (length bytes.now)) self.old self.new }
     {
@@ -151,7 +151,7 @@ impl<A: Allocator> Converter<A> {
         requires capacity { text_limit ≤ length digits.old }
         ensures ok { FieldsAreAdded options.now bytes.now self.old self.new result }
         ensures rejected { FieldsAreRejected options.now bytes.now self.old self.new result }
-        ensures stops { FieldsStop options.now bytes.now self.old result }
+        ensures early { FieldsEndEarly options.now bytes.now self.old result }
         ensures kept_messages { KeepsMessages self.old self.new }
         ensures extends { Extends (fields_room options.now (length bytes.now)) self.old self.new }
     {
@@ -205,7 +205,7 @@ impl<A: Allocator> Converter<A> {
         requires no { IsFalse chosen → ¬ IsChosen options.now.fields.now number }
         ensures ok { FieldIsAdded options.now number field.now self.old self.new result }
         ensures rejected { FieldIsRejected options.now number field.now self.old self.new result }
-        ensures stops { FieldStops options.now number field.now self.old result }
+        ensures early { FieldEndsEarly options.now number field.now self.old result }
         ensures kept_messages { KeepsMessages self.old self.new }
         ensures extends { Extends (field_room options.now (length field.now)) self.old self.new }
     {
@@ -241,7 +241,7 @@ impl<A: Allocator> Converter<A> {
         requires none { IsNoSize options.now field.now }
         ensures ok { FieldIsAdded options.now number field.now self.old self.new result }
         ensures rejected { FieldIsRejected options.now number field.now self.old self.new result }
-        ensures stops { FieldStops options.now number field.now self.old result }
+        ensures early { FieldEndsEarly options.now number field.now self.old result }
         ensures kept_messages { KeepsMessages self.old self.new }
         ensures extends { Extends (field_room options.now (length field.now)) self.old self.new }
     {

@@ -1,6 +1,6 @@
 //! Laws of the texts of sizes. The contract of each function is the law; its body calls the laws that it follows from.
 
-ghost use Rattle.byte_unit_command.specs.Laws.{TextsAreSizesOrNot, ShownSizesAreRead, ExactTwiceIsOnce};
+ghost use Rattle.byte_unit_command.specs.Laws.{TextsAreSizesOrNot, FormattedSizesAreRead, ExactTwiceIsOnce};
 
 use byte_unit::laws;
 
@@ -9,9 +9,9 @@ pub(crate) fn texts_are_sizes_or_not()
     ensures { TextsAreSizesOrNot }
 {}
 
-/// States that what is shown in the exact form or as digits is parsed as the same size.
-pub fn shown_sizes_are_read()
-    ensures { ShownSizesAreRead }
+/// States that a size formatted in the exact form or as digits is parsed as the same size.
+pub fn formatted_sizes_are_read()
+    ensures { FormattedSizesAreRead }
 {
     laws::size_form_reads_back();
     laws::plain_form_reads_back();
@@ -21,7 +21,7 @@ pub fn shown_sizes_are_read()
 pub fn exact_twice_is_once()
     ensures { ExactTwiceIsOnce }
 {
-    shown_sizes_are_read();
+    formatted_sizes_are_read();
     texts_are_sizes_or_not();
     laws::size_has_one_form();
 }

@@ -6,7 +6,7 @@ ghost use Rattle.byte_unit_command.specs.CallOptions.{IsFormOf, IsWithinExact, I
 ghost use Rattle.byte_unit_command.specs.CallOptions.{IsWrongNoUnit, AreFieldsSeparated};
 ghost use Rattle.byte_unit_command.specs.CallOptions.{IsSeparator, IsWrongSeparator};
 ghost use Rattle.byte_unit_command.specs.Field.{ignores_case};
-ghost use Rattle.byte_unit_command.specs.Meaning.{IsFrom, IsShownForm};
+ghost use Rattle.byte_unit_command.specs.Meaning.{IsFrom, IsOutputForm};
 ghost use Rattle.byte_unit_command.specs.Meaning.{IsUnitName, IsNoUnitName};
 ghost use Rattle.byte_unit_command.specs.Meaning.{IsPadding, IsNoPadding, IsWidth};
 ghost use Rattle.byte_unit_command.specs.Meaning.{IsMode, MeansNothing, IsLimit, IsNoLimit};
@@ -39,7 +39,7 @@ pub fn options_of<'a>(
     let kind = values.kind;
     let binary = from_of(values.from)?;
     let given = form_of(values)?;
-    let form = shown_form(values.no_unit, given)?;
+    let form = output_form(values.no_unit, given)?;
     let delimiter = separator_of(values)?;
     let (width, align_left) = padding_of(values.padding)?;
     let invalid = invalid_of(values.invalid)?;
@@ -101,7 +101,7 @@ fn from_of(value: Option<&str>) -> Result<bool, Wrong<'_>>
     }
 }
 
-/// Returns how a size is shown.
+/// Returns how a size is formatted.
 ///
 /// # Errors
 ///
@@ -142,13 +142,13 @@ fn form_of<'a>(values: &Values<'a>) -> Result<Form, Wrong<'a>>
     }
 }
 
-/// Returns the form with or without the unit.
+/// Returns the form of the output, with or without the unit.
 ///
 /// # Errors
 ///
 /// Returns an error if there is no unit that could be left out.
-fn shown_form<'a>(no_unit: bool, given: Form) -> Result<Form, Wrong<'a>>
-    ensures ok { IfOk result (IsShownForm no_unit given) }
+fn output_form<'a>(no_unit: bool, given: Form) -> Result<Form, Wrong<'a>>
+    ensures ok { IfOk result (IsOutputForm no_unit given) }
     ensures err { IfErr result (IsWrongNoUnit no_unit given) }
 {
     if !no_unit {

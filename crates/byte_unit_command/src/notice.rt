@@ -9,7 +9,7 @@ ghost use Rattle.byte_unit_command.specs.Messages.{IsMessage, IsMessageIf, IsFie
 ghost use Rattle.byte_unit_command.specs.WrongCharacter.{character_words};
 ghost use Rattle.byte_unit_command.specs.Messages.{place_text, tells_rejected as has_rejected_told};
 ghost use Rattle.byte_unit_command.specs.RunState.{messages_of, Tells};
-ghost use Rattle.byte_unit_stream.specs.Prefix.{IsPrefix};
+ghost use Rattle.byte_unit_stream.specs.Beginnings.{IsBeginningOf};
 ghost use Rattle.byte_unit_stream.specs.Streams.{HasWritten, writing_failed};
 
 use crate::error::RunError;
@@ -53,7 +53,7 @@ pub(crate) struct Notices<A: Allocator> {
 }
 
 impl<A: Allocator> Notices<A> {
-    /// Forgets all messages but those in the first `len` bytes, if a call has stopped since it was out of memory.
+    /// Forgets all messages but those in the first `len` bytes, if a call ended early, out of memory.
     pub(crate) fn undo(&mut self, len: usize, error: RunError)
         ensures memory { error ≡ RunError.Memory
             → messages_of self.new ≡ take len (messages_of self.old) }
@@ -116,7 +116,7 @@ pub(crate) fn add_reject_notice<A: Allocator>(
         × AreFieldMessages options.now place.now.word.now place.now.number
         number field.now true text
         × (messages_of notices.new ≡ messages_of notices.old ++ text)) }
-    ensures kept { IsPrefix (messages_of notices.old) (messages_of notices.new) }
+    ensures kept { IsBeginningOf (messages_of notices.old) (messages_of notices.new) }
     ensures untold { has_rejected_told options.now.invalid ≡ false → IsOk result }
 {
     let told = tells_rejected(options.invalid);
@@ -175,7 +175,7 @@ pub(crate) fn add_limit_notice<A: Allocator>(
         × AreLimitMessages options.now place.now.word.now place.now.number
         number field.now size text
         × (messages_of notices.new ≡ messages_of notices.old ++ text)) }
-    ensures kept { IsPrefix (messages_of notices.old) (messages_of notices.new) }
+    ensures kept { IsBeginningOf (messages_of notices.old) (messages_of notices.new) }
 {
     let above = options.max.is_some_and(|most| most < size);
     let below = options.min.is_some_and(|least| size < least);
@@ -204,7 +204,7 @@ fn add_message_if<A: Allocator>(
         × IsMessageIf told options.now place.now.word.now place.now.number
         field.entry.number field.entry.bytes.now
         reason.now text × (messages_of notices.new ≡ messages_of notices.old ++ text)) }
-    ensures kept { IsPrefix (messages_of notices.old) (messages_of notices.new) }
+    ensures kept { IsBeginningOf (messages_of notices.old) (messages_of notices.new) }
 {
     if told {
         add_message(options, place, field, reason, notices)
@@ -229,7 +229,7 @@ fn add_message<A: Allocator>(
         × IsMessage options.now place.now.word.now place.now.number
         field.entry.number field.entry.bytes.now reason.now text
         × (messages_of notices.new ≡ messages_of notices.old ++ text)) }
-    ensures kept { IsPrefix (messages_of notices.old) (messages_of notices.new) }
+    ensures kept { IsBeginningOf (messages_of notices.old) (messages_of notices.new) }
 {
     notices.line.clear();
     add_place(options, place, field.number, &mut notices.line)?;

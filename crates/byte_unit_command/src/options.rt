@@ -2,7 +2,7 @@
 
 pub use byte_unit::{Kind, Unit, UnitType};
 
-/// How a size is shown.
+/// How a size is formatted.
 #[derive(Debug, Clone, Copy, PartialEq, Eq)]
 pub enum Form {
     /// In the largest unit, not above the size, that represents it exactly within the precision.
@@ -48,7 +48,7 @@ pub struct Options<'a> {
     pub ignore_case: bool,
     /// Whether a decimal prefix in a size means the binary one, so that `K` is 1024.
     pub binary: bool,
-    /// How a size is shown.
+    /// How a size is formatted.
     pub form: Form,
     /// The number of digits after the point.
     pub precision: Option<u16>,

@@ -42,7 +42,7 @@ const DIGITS: usize = 65600;
 ///
 /// - `Read` if a read fails. All records that ended before have been written.
 /// - `Memory` if allocation fails. Some number of first records have been written, each whole.
-/// - `Write` if a write fails. A prefix of the output has been written.
+/// - `Write` if a write fails. A beginning of the output has been written.
 /// - `Rejected` if a field is rejected in the mode `abort`. The records before it have been written.
 /// - `Total` if the total is asked for and is 10^30 or more. All records have been written.
 pub fn run<R: Read, W: Write, E: Write>(
@@ -164,7 +164,7 @@ pub fn run_with_buffers<A: Allocator, R: Read, W: Write, E: Write>(
             Some(0) => break 'reads,
             Some(n) => {
                 let fed = buffers.feed(options, &chunk[..n], digits);
-                // Even if the call stopped, the records before are written.
+                // Even if the call ended early, the records before are written.
                 write_whole(
                     &mut streams.writer,
                     &buffers.converter.waiting,
@@ -353,7 +353,7 @@ fn read_room(options: &Options, longest: usize, chunk: usize) -> Option<usize>
 fn text_max(options: &Options) -> usize
     ensures most { result ≡ most_of_text options.now }
     ensures bound { result < 2 ^ 63 + 65573 }
-    ensures positive { 0 < result }
+    ensures some { 0 < result }
 {
     let number_len = match options.form {
         Form::Exact | Form::Plain => NARROW_TEXT,

@@ -5,8 +5,8 @@ ghost use Rattle.std.specs.Prelude.{vec_len, vec_capacity};
 ghost use Rattle.byte_unit.specs.Bounds.{size_limit};
 ghost use Rattle.byte_unit.specs.Forms.{text_limit};
 ghost use Rattle.byte_unit_command.specs.Capacity.{form_max, text_room, unit_text_max};
-ghost use Rattle.byte_unit_stream.specs.Prefix.{IsPrefix};
-ghost use Rattle.byte_unit_command.specs.Shown.{BeginsWithForm, IsFormText, IsShown, padded};
+ghost use Rattle.byte_unit_stream.specs.Beginnings.{IsBeginningOf};
+ghost use Rattle.byte_unit_command.specs.Formatted.{BeginsWithForm, IsFormText, IsFormatted, padded};
 ghost use Rattle.byte_unit_command.specs.Values.{kind_of};
 
 use crate::options::{Form, Kind, Options, Unit};
@@ -36,10 +36,10 @@ pub(crate) fn add_in_width<A: Allocator>(
 ) -> Result<(), AllocError>
     requires size { size < size_limit }
     requires capacity { text_limit ≤ length digits.old }
-    ensures ok { OnOk result ((shown : List ℕ)
-        × IsShown (record options.now { width = width }) size shown
-        × (text.new.items ≡ text.old.items ++ shown)) }
-    ensures kept { IsPrefix text.old.items text.new.items }
+    ensures ok { OnOk result ((formatted : List ℕ)
+        × IsFormatted (record options.now { width = width }) size formatted
+        × (text.new.items ≡ text.old.items ++ formatted)) }
+    ensures kept { IsBeginningOf text.old.items text.new.items }
     ensures succeeds { vec_len text.old + max width (text_room options.now) ≤ vec_capacity text.old
         → IsOk result }
     ensures len { vec_len text.new ≤ vec_len text.old + max width (text_room options.now) }
@@ -81,7 +81,7 @@ fn add_suffixed<A: Allocator>(
     text: &mut Vec<u8, A>,
 ) -> Result<(), AllocError>
     ensures ok { OnOk result (text.new.items ≡ text.old.items ++ (bytes.now ++ suffix.now)) }
-    ensures kept { IsPrefix text.old.items text.new.items }
+    ensures kept { IsBeginningOf text.old.items text.new.items }
     ensures succeeds { vec_len text.old + (length bytes.now + length suffix.now)
         ≤ vec_capacity text.old → IsOk result }
     ensures len { vec_len text.new ≤ vec_len text.old + (length bytes.now + length suffix.now) }
@@ -105,7 +105,7 @@ fn add_padded<A: Allocator>(
 ) -> Result<(), AllocError>
     ensures ok { OnOk result (text.new.items ≡ text.old.items
         ++ padded width align_left (bytes.now ++ suffix.now)) }
-    ensures kept { IsPrefix text.old.items text.new.items }
+    ensures kept { IsBeginningOf text.old.items text.new.items }
     ensures succeeds { vec_len text.old
         + max width (length bytes.now + length suffix.now)
         ≤ vec_capacity text.old → IsOk result }
@@ -133,7 +133,7 @@ fn add_padded<A: Allocator>(
 /// Returns `AllocError` if allocation fails.
 fn add_spaces<A: Allocator>(count: usize, text: &mut Vec<u8, A>) -> Result<(), AllocError>
     ensures ok { OnOk result (text.new.items ≡ text.old.items ++ replicate count 32) }
-    ensures kept { IsPrefix text.old.items text.new.items }
+    ensures kept { IsBeginningOf text.old.items text.new.items }
     ensures succeeds { vec_len text.old + count ≤ vec_capacity text.old → IsOk result }
     ensures len { vec_len text.new ≤ vec_len text.old + count }
     ensures capacity { vec_capacity text.old ≤ vec_capacity text.new }

@@ -2,11 +2,11 @@
 use Rattle.std.proofs.Common.{ℕ, Err, List, [], ◌∷◌, ◌++◌, refl, sym, ap, subst, ◌∙◌, append_assoc, append-nil}
 use Rattle.byte_unit_lines.specs.Answer.{Kind, IsAnswer}
 use Rattle.byte_unit_lines.specs.Report.{AreAnswers}
-use Rattle.byte_unit_lines.specs.Outcome.{AnswerFirst}
+use Rattle.byte_unit_lines.specs.RunOutput.{AnswerFirst}
 use Rattle.byte_unit_lines.specs.Answered.{IsAnswered}
 use Rattle.byte_unit_lines.specs.declared.run.RunError.{RunError}
 use Rattle.byte_unit_lines.specs.declared.run.RunError.TheVariants.{Memory, Read, Write}
-use Rattle.byte_unit_stream.proofs.Prefixes.{IsPrefix-after}
+use Rattle.byte_unit_stream.proofs.Beginnings.{IsBeginningOf-after}
 
 -- the answers to two lists of lines, one after the other, are the answers to the concatenated list
 pub AreAnswers-append : (kind : Kind) (before lines : List (List ℕ)) (front back : List ℕ)
@@ -37,9 +37,9 @@ lines_have_answers kind each (line ∷ lines) =
 -- all answers to `before`, then the answers to the first of `lines`, are the answers to the first of them together
 pub AnswerFirst-append : (kind : Kind) (before lines : List (List ℕ)) (front written : List ℕ)
     → AreAnswers kind before front → AnswerFirst kind lines written → AnswerFirst kind (before ++ lines) (front ++ written)
-AnswerFirst-append kind before lines front written answers (answered, is_prefix, are_answers) = (
+AnswerFirst-append kind before lines front written answers (answered, is_beginning, are_answers) = (
   before ++ answered,
-  IsPrefix-after before answered lines is_prefix,
+  IsBeginningOf-after before answered lines is_beginning,
   AreAnswers-append kind before answered front written answers are_answers,
 )
 
@@ -49,8 +49,8 @@ pub IsAnswered-append : (kind : Kind) (before lines : List (List ℕ)) (front : 
     → IsAnswered kind (before ++ lines) (Err error) (front ++ written)
 IsAnswered-append kind before lines front answers Memory written at = AnswerFirst-append kind before lines front written answers at
 IsAnswered-append kind before lines front answers Read written at = at
-IsAnswered-append kind before lines front answers Write written (whole, answer_first, is_prefix) = (
+IsAnswered-append kind before lines front answers Write written (whole, answer_first, is_beginning) = (
   front ++ whole,
   AnswerFirst-append kind before lines front whole answers answer_first,
-  IsPrefix-after front written whole is_prefix,
+  IsBeginningOf-after front written whole is_beginning,
 )

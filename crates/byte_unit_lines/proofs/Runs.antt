@@ -9,7 +9,7 @@ use Rattle.byte_unit_lines.specs.Answer.{Kind, IsAnswer}
 use Rattle.byte_unit_lines.specs.Laws.{EachLineHasAnAnswer}
 use Rattle.byte_unit_lines.specs.Lines.{finished_lines, lines_of, line_end, longest_line}
 use Rattle.byte_unit_lines.specs.Report.{AreAnswers, IsReport}
-use Rattle.byte_unit_lines.specs.Outcome.{IsWritten}
+use Rattle.byte_unit_lines.specs.RunOutput.{IsWritten}
 use Rattle.byte_unit_lines.specs.Answered.{BeginFirst, IsAnswered}
 use Rattle.byte_unit_lines.specs.declared.run.RunError.{RunError}
 use Rattle.byte_unit_lines.specs.declared.run.RunError.TheVariants.{Memory, Read, Write}
@@ -21,7 +21,7 @@ use Rattle.byte_unit_stream.proofs.ChunkRecords.{ended_records-append, begun_rec
 use Rattle.byte_unit_stream.proofs.ChunkRecords.{finished_records-ended_records, records_of-ended_records}
 use Rattle.byte_unit_stream.proofs.ChunkRecords.{nonempty_record-nonempty}
 use Rattle.byte_unit_stream.proofs.Longest.{IsWithin, longest_record-below}
-use Rattle.byte_unit_stream.proofs.Prefixes.{IsPrefix-after, IsPrefix-longer}
+use Rattle.byte_unit_stream.proofs.Beginnings.{IsBeginningOf-after, IsBeginningOf-longer}
 
 -- the bytes that were read and written so far, and the unfinished line
 pub record Course : Type 0 where
@@ -120,16 +120,16 @@ module _ (kind : Kind) (course : Course) (served : IsServed kind course) where
       → (written : List ℕ) × Appends held holds written × IsWritten kind course.read result (course.written ++ written)
   IsWritten-last_line some answer is_answer (Ok _) by = (answer, by.whole, report_with_last_line some answer is_answer)
   IsWritten-last_line some answer is_answer (Err error) by =
-      let begins = IsPrefix-after course.written by.part.0 answer by.part.2 in
+      let begins = IsBeginningOf-after course.written by.part.0 answer by.part.2 in
       let written = course.written ++ by.part.0 in
       let at : IsWritten kind course.read (Err Write) written =
       (course.written ++ answer, report_with_last_line some answer is_answer, begins) in
       (by.part.0, by.part.1, subst (λ error. IsWritten kind course.read (Err error) written) (sym by.is_error) at)
 
--- a prefix of the answers to first lines is a prefix of a report, since each of the other lines has an answer too
-prefix_of_report : EachLineHasAnAnswer → (kind : Kind) (read written : List ℕ) → BeginFirst kind (ended_records line_end [] read) written
-    → IsWritten kind read (Err Write) written
-prefix_of_report each kind read written (whole, (answered, (unanswered, ended_is), are_answers), is_prefix) =
+-- a beginning of the answers to first lines is a beginning of a report, since each of the other lines has an answer too
+beginning_of_report : EachLineHasAnAnswer → (kind : Kind) (read written : List ℕ)
+    → BeginFirst kind (ended_records line_end [] read) written → IsWritten kind read (Err Write) written
+beginning_of_report each kind read written (whole, (answered, (unanswered, ended_is), are_answers), is_beginning) =
     let last = nonempty_record (begun_record line_end [] read) in
     let others = unanswered ++ last in
     let rest = lines_have_answers kind (each kind) others in
@@ -138,7 +138,7 @@ prefix_of_report each kind read written (whole, (answered, (unanswered, ended_is
       whole ++ rest.0,
       subst (λ lines. AreAnswers kind lines (whole ++ rest.0)) lines
           (AreAnswers-append kind answered others whole rest.0 are_answers rest.1),
-      IsPrefix-longer written whole rest.0 is_prefix,
+      IsBeginningOf-longer written whole rest.0 is_beginning,
     )
 
 -- what an error leaves written for the lines that ended is right for a run that fails with this error
@@ -146,7 +146,7 @@ IsWritten-ended_lines : EachLineHasAnAnswer → (kind : Kind) (read : List ℕ) 
     → IsAnswered kind (ended_records line_end [] read) (Err error) written → IsWritten kind read (Err error) written
 IsWritten-ended_lines each kind read Memory written at = rw (finished_records-ended_records line_end read) at
 IsWritten-ended_lines each kind read Read written at = absurd at
-IsWritten-ended_lines each kind read Write written at = prefix_of_report each kind read written at
+IsWritten-ended_lines each kind read Write written at = beginning_of_report each kind read written at
 
 -- what is written before a piece, then what an error leaves written for it, is right for a run that fails with this
 -- error

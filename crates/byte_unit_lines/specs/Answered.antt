@@ -5,10 +5,10 @@ use Rattle.std.specs.declared.vec.Vec.{Vec}
 use Rattle.byte_unit_lines.specs.Answer.{Kind, IsAnswer}
 use Rattle.byte_unit_lines.specs.Capacity.{answer_max}
 use Rattle.byte_unit_lines.specs.Report.{AreAnswers}
-use Rattle.byte_unit_lines.specs.Outcome.{AnswerFirst}
+use Rattle.byte_unit_lines.specs.RunOutput.{AnswerFirst}
 use Rattle.byte_unit_lines.specs.declared.run.RunError.{RunError}
 use Rattle.byte_unit_lines.specs.declared.run.RunError.TheVariants.{Memory, Read, Write}
-use Rattle.byte_unit_stream.specs.Prefix.{IsPrefix}
+use Rattle.byte_unit_stream.specs.Beginnings.{IsBeginningOf}
 
 -- the answer to the line was appended
 abbrev pub AddsAnswer : Kind → List ℕ → List ℕ → List ℕ → Type 0
@@ -29,11 +29,11 @@ AddsAnswers kind lines old new = (answers : List ℕ) × AreAnswers kind lines a
 -- the answers to the first of these lines were appended, each answer whole
 abbrev pub AddsFirst : Kind → List (List ℕ) → List ℕ → List ℕ → Type 0
 AddsFirst kind lines old new =
-    (answered : List (List ℕ)) × IsPrefix answered lines × AddsAnswers kind answered old new
+    (answered : List (List ℕ)) × IsBeginningOf answered lines × AddsAnswers kind answered old new
 
--- a prefix of the answers to the first of these lines
+-- a beginning of the answers to the first of these lines
 abbrev pub BeginFirst : Kind → List (List ℕ) → List ℕ → Type 0
-BeginFirst kind lines written = (whole : List ℕ) × AnswerFirst kind lines whole × IsPrefix written whole
+BeginFirst kind lines written = (whole : List ℕ) × AnswerFirst kind lines whole × IsBeginningOf written whole
 
 -- what a call has written that answers these lines, reads nothing and returns this result
 abbrev pub IsAnswered : Kind → List (List ℕ) → Result ⊤ RunError → List ℕ → Type 0

@@ -2,7 +2,7 @@
 use Rattle.std.specs.Prelude.{◌≡◌, ◌⊎◌, ℕ, List, [], ◌∷◌, Option, None, Some, Ok, Err, codes}
 use Rattle.byte_unit_lines.specs.Answer.{Kind}
 use Rattle.byte_unit.specs.declared.Kind.TheVariants.{Byte, Bit}
-use Rattle.byte_unit_lines.specs.Outcome.{IsWritten}
+use Rattle.byte_unit_lines.specs.RunOutput.{IsWritten}
 use Rattle.byte_unit_lines.specs.declared.ending.Ending.{Ending}
 use Rattle.byte_unit_lines.specs.declared.ending.Ending.TheVariants.{Done, Usage, Failed}
 use Rattle.byte_unit_lines.specs.declared.run.RunError.TheVariants.{Memory, Read, Write}

@@ -3,6 +3,6 @@ pub mod Capacity
 pub mod Ending
 pub mod Laws
 pub mod Lines
-pub mod Outcome
+pub mod RunOutput
 pub mod Answered
 pub mod Report

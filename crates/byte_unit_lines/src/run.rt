@@ -7,7 +7,7 @@ ghost use Rattle.std.specs.Prelude.{IsTrue, IsOk, IsErrOf, IfOk, OnOk, OnErr};
 ghost use Rattle.std.specs.Prelude.{vec_len, vec_capacity};
 ghost use Rattle.byte_unit_lines.specs.Capacity.{AreEmpty, HaveCapacity};
 ghost use Rattle.byte_unit_lines.specs.Lines.{line_end, longest_line};
-ghost use Rattle.byte_unit_lines.specs.Outcome.{IsWritten};
+ghost use Rattle.byte_unit_lines.specs.RunOutput.{IsWritten};
 ghost use Rattle.byte_unit_lines.specs.Answered.{AddsAnswers, AddsFirst, IsAnswered};
 ghost use Rattle.byte_unit_stream.specs.Chunks.{ended_records, begun_record};
 ghost use Rattle.byte_unit_stream.specs.Streams.{HasRead, HasReadAll, reading_failed};
@@ -77,7 +77,7 @@ impl From<AllocError> for RunError {
 /// # Errors
 /// - `Read` if a read fails. The answers to all lines that ended before have been written.
 /// - `Memory` if allocation fails. The answers to some number of first lines have been written, each whole.
-/// - `Write` if a write fails. A prefix of the report on what was read has been written.
+/// - `Write` if a write fails. A beginning of the report on what was read has been written.
 pub fn run<R: Read, W: Write>(
     alloc: Global,
     reader: &mut FusedReader<R>,
@@ -227,7 +227,7 @@ pub fn run_with_buffers<A: Allocator, R: Read, W: Write>(
 ///
 /// # Errors
 /// - `Memory` if allocation fails. The answers to the lines before have been written.
-/// - `Write` if a write fails. A prefix of the answers has been written.
+/// - `Write` if a write fails. A beginning of the answers has been written.
 fn answer_piece<A: Allocator, W: Write>(
     line: &mut Vec<u8, A>,
     bytes: &[u8],

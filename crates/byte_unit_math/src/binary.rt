@@ -23,7 +23,7 @@ pub(crate) fn binary_digits(numerator: u128, places: u32) -> [u8; EXPANSION_PLAC
     requires few { places ≤ expansion_places }
     requires below { numerator < 2 ^ places }
     ensures size { length result ≡ expansion_places }
-    ensures small { All (λ d. d < 10) result }
+    ensures bound { All (λ d. d < 10) result }
     ensures digits { take places result ≡ last_digits places (numerator * 5 ^ places) }
     ensures zeros { drop places result ≡ replicate (expansion_places - places) 0 }
 {

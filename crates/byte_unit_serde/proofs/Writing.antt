@@ -2,7 +2,7 @@
 use Rattle.std.proofs.Common.{arith, ◌≡◌, ℕ, suc, ◌+◌, ◌<◌, ◌≤◌, List, ◌∷◌, length, drop, get_or, Result, sym, ◌∙◌, ap, subst}
 use Rattle.std.proofs.Math.Seq.{drop-cons}
 use Rattle.std.proofs.Math.ListN.{drop_of_length-le}
-use Rattle.byte_unit_serde.specs.Outcomes.{Returns, WritingEach}
+use Rattle.byte_unit_serde.specs.Returns.{Returns, WritingEach}
 
 -- Whatever is returned for the rest of the values is returned for all of them.
 abbrev pub Continues :

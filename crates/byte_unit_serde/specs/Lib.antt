@@ -1,4 +1,4 @@
 pub mod Messages
-pub mod Outcomes
+pub mod Returns
 pub mod Serialized
 pub mod TomlErrors

@@ -6,7 +6,7 @@ ghost use Rattle.byte_unit.specs.BinaryString.{IsBinaryString, has_binary_prefix
 ghost use Rattle.byte_unit.specs.Forms.{IsText};
 ghost use Rattle.byte_unit.specs.Units.{shape_of};
 ghost use Rattle.byte_unit.specs.declared.Kind.TheVariants.{Byte as InBytes};
-ghost use Rattle.byte_unit_serde.specs.Outcomes.{ParsesSize, WritingSizeAs};
+ghost use Rattle.byte_unit_serde.specs.Returns.{ParsesSize, WritingSizeAs};
 ghost use Rattle.byte_unit_serde.specs.Serialized.{WritesSizeAs};
 
 use crate::Sink;

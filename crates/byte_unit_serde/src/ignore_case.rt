@@ -4,7 +4,7 @@ ghost use Rattle.std.specs.Prelude.{true};
 ghost use Rattle.byte_unit.specs.Accepted.{IsAccepted};
 ghost use Rattle.byte_unit.specs.SizeReading.{IsSizeReading};
 ghost use Rattle.byte_unit.specs.declared.Kind.TheVariants.{Byte as InBytes};
-ghost use Rattle.byte_unit_serde.specs.Outcomes.{ParsesSize};
+ghost use Rattle.byte_unit_serde.specs.Returns.{ParsesSize};
 
 use crate::messages::size_message;
 use crate::strings::DeserializeString;

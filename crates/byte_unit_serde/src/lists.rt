@@ -2,7 +2,7 @@
 
 ghost use Rattle.std.specs.Prelude.{IfErr, IfOk, OnOk};
 ghost use Rattle.serde.specs.Event.{WritesSeq};
-ghost use Rattle.byte_unit_serde.specs.Outcomes.{IsListError, Reading, WritingList};
+ghost use Rattle.byte_unit_serde.specs.Returns.{IsListError, Reading, WritingList};
 ghost use Rattle.byte_unit_serde.specs.Serialized.{ReadsSeq};
 
 use crate::strings::{DeserializeString, SerializeString, Strings};

@@ -2,7 +2,7 @@
 
 ghost use Rattle.std.specs.Prelude.{IfOk, OnOk};
 ghost use Rattle.serde.specs.Event.{WritesOption};
-ghost use Rattle.byte_unit_serde.specs.Outcomes.{Reading, ReadingOption, WritingOption};
+ghost use Rattle.byte_unit_serde.specs.Returns.{Reading, ReadingOption, WritingOption};
 ghost use Rattle.byte_unit_serde.specs.Serialized.{ReadsOption};
 
 use crate::strings::{DeserializeString, SerializeString, Strings};

@@ -2,7 +2,7 @@
 
 ghost use Rattle.std.specs.Prelude.{ℕ, List, Some, OnOk};
 ghost use Rattle.serde.specs.Event.{Logs, text, nothing, seq_begins, seq_ends};
-ghost use Rattle.byte_unit_serde.specs.Outcomes.{Returns};
+ghost use Rattle.byte_unit_serde.specs.Returns.{Returns};
 
 use serde::Serializer;
 

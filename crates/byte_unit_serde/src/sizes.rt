@@ -6,7 +6,7 @@ ghost use Rattle.byte_unit.specs.Bounds.{size_limit};
 ghost use Rattle.byte_unit.specs.Forms.{IsText};
 ghost use Rattle.byte_unit.specs.SizeReading.{IsSizeReading};
 ghost use Rattle.byte_unit.specs.declared.Kind.TheVariants.{Bit as InBits, Byte as InBytes};
-ghost use Rattle.byte_unit_serde.specs.Outcomes.{ParsesSize, WritingSize, WritingSizeAs};
+ghost use Rattle.byte_unit_serde.specs.Returns.{ParsesSize, WritingSize, WritingSizeAs};
 ghost use Rattle.byte_unit_serde.specs.Serialized.{WritesSize, WritesSizeAs};
 
 use crate::Sink;

@@ -5,7 +5,7 @@ ghost use Rattle.std.specs.Result.{result_map_both};
 ghost use Rattle.serde.specs.Event.{text, nothing, seq_begins, seq_ends};
 ghost use Rattle.serde.specs.Steps.{Gives, Stays};
 ghost use Rattle.serde.specs.declared.deserializer.Deserializer.{Deserializer};
-ghost use Rattle.byte_unit_serde.specs.Outcomes.{Returns};
+ghost use Rattle.byte_unit_serde.specs.Returns.{Returns};
 
 use serde::{Deserializer, Format};
 use std::alloc::Global;

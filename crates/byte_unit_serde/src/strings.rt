@@ -3,7 +3,7 @@
 ghost use Rattle.std.specs.Prelude.{ℕ, List, Result, IfOk, OnOk};
 ghost use Rattle.std.specs.Result.{result_map_both};
 ghost use Rattle.serde.specs.Event.{Log};
-ghost use Rattle.byte_unit_serde.specs.Outcomes.{Reading, Returns};
+ghost use Rattle.byte_unit_serde.specs.Returns.{Reading, Returns};
 ghost use Rattle.byte_unit_serde.specs.Serialized.{ReadsString};
 
 use crate::{Sink, Source};

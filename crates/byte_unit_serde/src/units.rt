@@ -1,7 +1,7 @@
 //! Units as strings.
 
 ghost use Rattle.byte_unit.specs.Version.{unit_name};
-ghost use Rattle.byte_unit_serde.specs.Outcomes.{ParsesUnit};
+ghost use Rattle.byte_unit_serde.specs.Returns.{ParsesUnit};
 ghost use Rattle.byte_unit_serde.specs.Serialized.{SpellsUnit, WritesUnit};
 
 use crate::Sink;

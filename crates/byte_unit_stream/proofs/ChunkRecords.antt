@@ -5,25 +5,25 @@ use Rattle.std.proofs.lemmas.List.{nil_from_length, take_more}
 use Rattle.std.proofs.lemmas.Bool.{eq-eqb, ne_eqb, eqb-true, eqb-false}
 use Rattle.std.proofs.lemmas.Bool.Decides.{nat_tests}
 use Rattle.std.specs.List.{onto_first}
-use Rattle.byte_unit_stream.specs.Records.{parts, but_last, but_empty_last, records_of, finished_records}
+use Rattle.byte_unit_stream.specs.Records.{split_by, but_last, but_empty_last, records_of, finished_records}
 use Rattle.byte_unit_stream.specs.Chunks.{ended_records, begun_record, nonempty_record}
 
--- the function that puts these bytes before the first of the parts
+-- the function that puts these bytes before the first of the subslices
 abbrev onto : List ℕ → List (List ℕ) → List (List ℕ)
 onto part [] = part ∷ []
 onto part (own ∷ others) = (part ++ own) ∷ others
 
--- there is a first part, so the list is not empty
+-- there is a first subslice, so the list is not empty
 abbrev pub IsSplit : List (List ℕ) → Type 0
 IsSplit split = (own : List ℕ) × (others : List (List ℕ)) × (split ≡ own ∷ others)
 
--- a last part is taken off
+-- a last subslice is taken off
 but_last-snoc : (front : List (List ℕ)) (last : List ℕ) → but_last (front ++ last ∷ []) ≡ front
 but_last-snoc [] last = refl
 but_last-snoc (part ∷ []) last = refl
 but_last-snoc (part ∷ next ∷ others) last = ap (λ records. part ∷ records) (but_last-snoc (next ∷ others) last)
 
--- a last part is taken off if it is empty
+-- a last subslice is taken off if it is empty
 but_empty_last-snoc : (front : List (List ℕ)) (last : List ℕ)
     → but_empty_last (front ++ last ∷ []) ≡ front ++ nonempty_record last
 but_empty_last-snoc [] [] = refl
@@ -48,35 +48,44 @@ module _ (end : ℕ) where
       grind (arith, nat_tests, begun_record-append [] front back, begun_record-append (part ++ byte ∷ []) front back)
 
   -- an input has a first part, even if it has no bytes
-  pub parts_IsSplit : (bytes : List ℕ) → IsSplit (parts end bytes)
-  parts_IsSplit [] = ([], [], refl)
-  parts_IsSplit (byte ∷ bytes) =
-      let split = parts_IsSplit bytes in
-      elim (eqb byte end) as (λ ends. IsSplit (cond ends ([] ∷ parts end bytes) (onto_first byte (parts end bytes))))
-      [ true ↦ ([], parts end bytes, refl) | false ↦ (byte ∷ split.0, split.1, ap (onto_first byte) split.2) ]
+  pub split_by_IsSplit : (bytes : List ℕ) → IsSplit (split_by end bytes)
+  split_by_IsSplit [] = ([], [], refl)
+  split_by_IsSplit (byte ∷ bytes) =
+      let split = split_by_IsSplit bytes in
+      elim (eqb byte end) as (λ ends. IsSplit (cond ends ([] ∷ split_by end bytes)
+      (onto_first byte (split_by end bytes))))
+      [ true ↦ ([], split_by end bytes, refl) | false ↦ (byte ∷ split.0, split.1, ap (onto_first byte) split.2) ]
 
-  -- the parts are the records that end, and the unfinished record
-  parts-onto : (part bytes : List ℕ)
-      → onto part (parts end bytes) ≡ ended_records end part bytes ++ begun_record end part bytes ∷ []
-  parts-onto part [] = ap (λ own. own ∷ []) (append-nil part)
-  parts-onto part (byte ∷ bytes) =
-      let split = parts_IsSplit bytes in
+  -- the subslices are the records that end, and the unfinished record
+  split_by-onto : (part bytes : List ℕ)
+      → onto part (split_by end bytes) ≡ ended_records end part bytes ++ begun_record end part bytes ∷ []
+  split_by-onto part [] = ap (λ own. own ∷ []) (append-nil part)
+  split_by-onto part (byte ∷ bytes) =
+      let split = split_by_IsSplit bytes in
       let joined = append_assoc part (byte ∷ []) split.0 in
-      grind (arith, nat_tests, append-nil part, split.2, joined, parts-onto [] bytes, parts-onto (part ++ byte ∷ []) bytes)
+      grind (
+        arith,
+        nat_tests,
+        append-nil part,
+        split.2,
+        joined,
+        split_by-onto [] bytes,
+        split_by-onto (part ++ byte ∷ []) bytes,
+      )
 
-  -- the parts of an input are the records that end in it, then the unfinished record
-  pub parts-ended_records : (bytes : List ℕ)
-      → parts end bytes ≡ ended_records end [] bytes ++ begun_record end [] bytes ∷ []
-  parts-ended_records bytes = grind (arith, (parts_IsSplit bytes).2, parts-onto [] bytes)
+  -- the subslices of an input are the records that end in it, then the unfinished record
+  pub split_by-ended_records : (bytes : List ℕ)
+      → split_by end bytes ≡ ended_records end [] bytes ++ begun_record end [] bytes ∷ []
+  split_by-ended_records bytes = grind (arith, (split_by_IsSplit bytes).2, split_by-onto [] bytes)
 
   -- the finished records of an input are the records that end in it
   pub finished_records-ended_records : (bytes : List ℕ) → finished_records end bytes ≡ ended_records end [] bytes
-  finished_records-ended_records bytes = ap but_last (parts-ended_records bytes) ∙ but_last-snoc _ _
+  finished_records-ended_records bytes = ap but_last (split_by-ended_records bytes) ∙ but_last-snoc _ _
 
   -- the records of an input are the records that end in it, then the unfinished record if it is not empty
   pub records_of-ended_records : (bytes : List ℕ)
       → records_of end bytes ≡ ended_records end [] bytes ++ nonempty_record (begun_record end [] bytes)
-  records_of-ended_records bytes = ap but_empty_last (parts-ended_records bytes) ∙ but_empty_last-snoc _ _
+  records_of-ended_records bytes = ap but_empty_last (split_by-ended_records bytes) ∙ but_empty_last-snoc _ _
 
   -- one byte more, that at `place`: an end byte finishes the record that was begun, and any other byte extends it
   module _ (part bytes : List ℕ) (place : ℕ) (fits : place < length bytes) where

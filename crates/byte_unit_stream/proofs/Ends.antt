@@ -4,10 +4,11 @@ use Rattle.std.proofs.Common.{◌≡◌, ◌≢◌, ◌+◌, ◌<◌, ◌≤◌,
 use Rattle.std.proofs.Common.{arith, false, eqb, refl, sym, subst, append_assoc, false-eqb}
 use Rattle.std.proofs.lemmas.List.{take_more}
 use Rattle.byte_unit_stream.specs.Chunks.{ended_records, begun_record, IsUnbroken}
-use Rattle.byte_unit_stream.specs.Records.{parts}
+use Rattle.byte_unit_stream.specs.Records.{split_by}
 use Rattle.byte_unit_stream.proofs.ChunkRecords.{ended_records-take-end_byte, begun_record-take-end_byte}
 use Rattle.byte_unit_stream.proofs.ChunkRecords.{ended_records-take-other_byte, begun_record-take-other_byte}
-use Rattle.byte_unit_stream.proofs.ChunkRecords.{ended_records-take-drop, begun_record-take-drop, parts-ended_records}
+use Rattle.byte_unit_stream.proofs.ChunkRecords.{ended_records-take-drop, begun_record-take-drop}
+use Rattle.byte_unit_stream.proofs.ChunkRecords.{split_by-ended_records}
 
 -- if no record ends before a place, and the byte there is no end byte, no record ends before the next place
 pub IsUnbroken-other_byte : (end : ℕ) (bytes : List ℕ) (place : ℕ) → place < length bytes → IsUnbroken end (take place bytes)
@@ -47,14 +48,14 @@ module _ (end : ℕ) (part bytes : List ℕ) (place : ℕ) (ends : EndsAt end by
   begun_record-EndsAt =
       rw (begun_record-take-drop end part bytes (place + 1), begun_record-take-end_byte end part bytes place ends.0 ends.1) refl
 
--- the parts of bytes in which none ends: the bytes themselves
-pub parts-IsUnbroken : (end : ℕ) (bytes : List ℕ) → IsUnbroken end bytes → parts end bytes ≡ bytes ∷ []
-parts-IsUnbroken end bytes unbroken = rw (parts-ended_records end bytes, (unbroken []).0, (unbroken []).1) refl
+-- the subslices of bytes in which none ends: the bytes themselves
+pub split_by-IsUnbroken : (end : ℕ) (bytes : List ℕ) → IsUnbroken end bytes → split_by end bytes ≡ bytes ∷ []
+split_by-IsUnbroken end bytes unbroken = rw (split_by-ended_records end bytes, (unbroken []).0, (unbroken []).1) refl
 
--- the parts of bytes in which the first one ends at this place: that one, then the parts of the rest
-pub parts-EndsAt : (end : ℕ) (bytes : List ℕ) (place : ℕ) → EndsAt end bytes place
-    → parts end bytes ≡ take place bytes ∷ parts end (drop (place + 1) bytes)
-parts-EndsAt end bytes place ends =
-    let others = parts-ended_records end (drop (place + 1) bytes) in
+-- the subslices of bytes in which the first one ends at this place: that one, then the subslices of the rest
+pub split_by-EndsAt : (end : ℕ) (bytes : List ℕ) (place : ℕ) → EndsAt end bytes place
+    → split_by end bytes ≡ take place bytes ∷ split_by end (drop (place + 1) bytes)
+split_by-EndsAt end bytes place ends =
+    let others = split_by-ended_records end (drop (place + 1) bytes) in
     let begun = begun_record-EndsAt end [] bytes place ends in
-    rw (parts-ended_records end bytes, ended_records-EndsAt end [] bytes place ends, begun, others) refl
+    rw (split_by-ended_records end bytes, ended_records-EndsAt end [] bytes place ends, begun, others) refl

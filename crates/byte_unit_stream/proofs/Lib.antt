@@ -2,4 +2,4 @@ pub mod Bytes
 pub mod Ends
 pub mod Longest
 pub mod ChunkRecords
-pub mod Prefixes
+pub mod Beginnings

@@ -2,17 +2,17 @@
 use Rattle.std.specs.Prelude.{ℕ, List, [], ◌∷◌, ◌==◌, length, max}
 use Rattle.std.specs.List.{slice_split}
 
--- the parts between the end bytes, empty ones included
-abbrev pub parts : ℕ → List ℕ → List (List ℕ)
-parts end bytes = slice_split (λ byte. byte == end) bytes
+-- the subslices between the end bytes, empty ones included
+abbrev pub split_by : ℕ → List ℕ → List (List ℕ)
+split_by end bytes = slice_split (λ byte. byte == end) bytes
 
--- all parts but the last
+-- all subslices but the last
 abbrev pub but_last : List (List ℕ) → List (List ℕ)
 but_last [] = []
 but_last (part ∷ []) = []
 but_last (part ∷ next ∷ others) = part ∷ but_last (next ∷ others)
 
--- all parts, without the last one if it is empty
+-- all subslices, without the last one if it is empty
 abbrev pub but_empty_last : List (List ℕ) → List (List ℕ)
 but_empty_last [] = []
 but_empty_last ([] ∷ []) = []
@@ -21,11 +21,11 @@ but_empty_last (part ∷ next ∷ others) = part ∷ but_empty_last (next ∷ ot
 
 -- the records of an input: a last one without an end byte is one too, if it is not empty
 abbrev pub records_of : ℕ → List ℕ → List (List ℕ)
-records_of end bytes = but_empty_last (parts end bytes)
+records_of end bytes = but_empty_last (split_by end bytes)
 
 -- the records of an input that have an end byte
 abbrev pub finished_records : ℕ → List ℕ → List (List ℕ)
-finished_records end bytes = but_last (parts end bytes)
+finished_records end bytes = but_last (split_by end bytes)
 
 -- the number of bytes of the longest of these records; 0 if there is none
 abbrev pub longest_of : List (List ℕ) → ℕ

@@ -2,7 +2,7 @@
 
 ghost use Rattle.std.specs.Prelude.{ℕ, List, false, ◌≡◌, ◌≤◌, ◌<◌, ◌↔◌, take, length};
 ghost use Rattle.std.specs.Prelude.{IsTrue, IsNone, IsSome, IfNone, IfSome, IfErr, OnOk, OnErr};
-ghost use Rattle.byte_unit_stream.specs.Prefix.{IsPrefix};
+ghost use Rattle.byte_unit_stream.specs.Beginnings.{IsBeginningOf};
 ghost use Rattle.byte_unit_stream.specs.Streams.{HasWritten, HasWrittenNothing, writer_of, writing_failed};
 ghost use Rattle.byte_unit_stream.specs.Streams.{output_closed};
 
@@ -77,7 +77,7 @@ impl<W: Write> FusedWriter<W> {
         inner
     }
 
-    /// Writes a non-empty prefix of `bytes` by one call of the writer, and returns its length.
+    /// Writes a non-empty beginning of `bytes` by one call of the writer, and returns its length.
     ///
     /// Precondition (proved at every call): `bytes` is not empty.
     ///
@@ -129,7 +129,7 @@ impl<W: Write> FusedWriter<W> {
 ///
 /// # Errors
 ///
-/// Returns `error` if a write fails. A prefix of `bytes` has been written.
+/// Returns `error` if a write fails. A beginning of `bytes` has been written.
 ///
 /// # Examples
 /// ```rust
@@ -146,7 +146,7 @@ pub fn write_whole<W: Write, E: Copy>(
 ) -> Result<(), E>
     ensures ok { OnOk result (HasWritten W.contents writer.old writer.new bytes.now) }
     ensures err { OnErr result ((written : List ℕ)
-        × HasWritten W.contents writer.old writer.new written × IsPrefix written bytes.now) }
+        × HasWritten W.contents writer.old writer.new written × IsBeginningOf written bytes.now) }
     ensures write { IfErr result (λ e. e ≡ error) }
     ensures failed { OnErr result (IsTrue (writing_failed writer.new)) }
 {

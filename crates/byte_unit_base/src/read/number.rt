@@ -13,8 +13,8 @@ ghost use Rattle.byte_unit_base.specs.SizeText.{space};
 ghost use Rattle.byte_unit_base.specs.Units.{shape_of};
 ghost use Rattle.byte_unit_base.specs.UnitScan.{count_of, multiple_shape};
 ghost use Rattle.byte_unit_base.specs.UnitWord.{multiple_of, letters_of, word_of, bits_len};
-ghost use Rattle.byte_unit_base.specs.PartsReading.{IsFirst, IsLineOf, IsNoSpace, IsNumberEnd, IsUnitEnd, first_eight};
-ghost use Rattle.byte_unit_base.specs.PartsReading.{IsPartsReading};
+ghost use Rattle.byte_unit_base.specs.ParserEnds.{IsFirst, IsLineOf, IsNoSpace, IsNumberEnd, IsUnitEnd, first_eight};
+ghost use Rattle.byte_unit_base.specs.ParserEnds.{IsNumberAndUnitEnd};
 
 use crate::read::stop::{Reason, Stop};
 use crate::unit::Unit;
@@ -45,13 +45,13 @@ const PAIR_OF_FOUR_BYTES: u64 = 0x0000_00ff_0000_00ff;
 /// # Errors
 /// Returns where it stops.
 #[inline(always)]
-pub fn read_parts<const ALONE: bool>(
+pub fn read_number_and_unit<const ALONE: bool>(
     line: &[u8],
     bytes: &[u8],
     flags: Flags,
 ) -> Result<(Unit, Decimal), Stop>
     requires { IsLineOf line.now bytes.now }
-    ensures { IsPartsReading flags line.now result }
+    ensures { IsNumberAndUnitEnd flags line.now result }
 {
     match read_number::<ALONE>(line, bytes) {
         Ok(found) => {

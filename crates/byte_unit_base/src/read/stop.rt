@@ -3,7 +3,7 @@
 ghost use Rattle.std.specs.Prelude.{◌≡◌};
 ghost use Rattle.std.specs.Str.{chars, IsAscii};
 ghost use Rattle.byte_unit_base.specs.Errors.{size_fault};
-ghost use Rattle.byte_unit_base.specs.PartsReading.{next_char, stop_fault};
+ghost use Rattle.byte_unit_base.specs.ParserEnds.{next_char, stop_fault};
 
 use crate::unit::scan::{Flags, UnitStop};
 use crate::{ParseError, ValueParseError};

@@ -61,7 +61,7 @@ pub struct Flags {
 
 impl UnitStop {
     ghost use Rattle.byte_unit_base.specs.UnitWord.{stop_parser_state};
-    ghost use Rattle.byte_unit_base.specs.PartsReading.{unit_stop_fault};
+    ghost use Rattle.byte_unit_base.specs.ParserEnds.{unit_stop_fault};
     ghost use Rattle.byte_unit_base.specs.Expected.{expected_codes, named_in};
     ghost use Rattle.byte_unit_base.specs.Version.{current};
     ghost use Rattle.byte_unit_base.specs.Fault.{fault_at};

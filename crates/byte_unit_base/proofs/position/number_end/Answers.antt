@@ -3,7 +3,7 @@
 use Rattle.std.proofs.Common.{◌<◌, ◌≤◌, ◌+◌, length, get_or, drop, sym, subst, arith}
 use Rattle.std.specs.Char.{digit_value}
 use Rattle.std.proofs.lemmas.List.{take_rest}
-use Rattle.byte_unit_base.specs.PartsReading.{IsWrongAt}
+use Rattle.byte_unit_base.specs.ParserEnds.{IsWrongAt}
 use Rattle.byte_unit_base.specs.PlaceReading.{IsWholeLen, IsPlacesLen}
 use Rattle.byte_unit_base.proofs.WrongPlaces.{wrong_at_start, wrong_in_whole, wrong_after_point, wrong_in_fraction}
 use Rattle.byte_unit_base.proofs.WrongPlaces.{number_of_whole, number_of_fraction, digit_small, digit_large}

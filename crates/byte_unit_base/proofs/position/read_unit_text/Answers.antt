@@ -6,7 +6,7 @@ use Rattle.byte_unit_base.specs.Spelling.{Spells}
 use Rattle.byte_unit_base.specs.Units.{shape_of}
 use Rattle.byte_unit_base.specs.Scan.{read}
 use Rattle.byte_unit_base.specs.UnitScan.{unit_scan, start}
-use Rattle.byte_unit_base.specs.PartsReading.{IsUnitStop, next_char, unit_stop_fault}
+use Rattle.byte_unit_base.specs.ParserEnds.{IsUnitStop, next_char, unit_stop_fault}
 use Rattle.byte_unit_base.proofs.Positions.{stop_place, unit_position}
 use Rattle.byte_unit_base.proofs.Scans.{reads_meaning}
 use Rattle.byte_unit_base.proofs.SizeRest.{boundary_at}

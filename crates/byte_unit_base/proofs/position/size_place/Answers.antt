@@ -2,8 +2,8 @@
 use Rattle.std.proofs.Common.{◌≡◌, ◌≤◌, length, take, drop, replicate, subst}
 use Rattle.std.proofs.lemmas.List.{take_rest}
 use Rattle.byte_unit_base.specs.SizeText.{space}
-use Rattle.byte_unit_base.specs.PartsReading.{IsFirst, IsNoSpace}
-use Rattle.byte_unit_base.proofs.WrongPlaces.{wrong_in_unit, size_of_parts}
+use Rattle.byte_unit_base.specs.ParserEnds.{IsFirst, IsNoSpace}
+use Rattle.byte_unit_base.proofs.WrongPlaces.{wrong_in_unit, size_of_number_and_unit}
 use Rattle.byte_unit_base.proofs.position.size_place.Goals as goal
 
 -- `in-Ok.ensures` is the number and that it leads; `wrong` is the state of the unit, that its beginning leads, and its
@@ -25,5 +25,5 @@ returns-in-None c =
     let bytes = c.args.bytes.now in
     let spaces = c.leading_spaces in
     let rest = take_rest bytes c.in-Ok.end in
-    size_of_parts bytes c.in-Ok.ensures.0 c.in-Ok.end spaces.result c.in-Ok.ensures.1
+    size_of_number_and_unit bytes c.in-Ok.ensures.0 c.in-Ok.end spaces.result c.in-Ok.ensures.1
     (subst (λ r. take spaces.result r ≡ replicate spaces.result space) rest spaces.ensures.spaces) c.in-None.ensures

@@ -2,7 +2,7 @@
 use Rattle.std.proofs.Common.{nat_eq, ap, subst, ◌∙◌}
 use Rattle.std.specs.Str.{chars, IsUtf8}
 use Rattle.byte_unit_base.specs.Units.{shape_of}
-use Rattle.byte_unit_base.specs.PartsReading.{IsStop, next_char, stop_fault}
+use Rattle.byte_unit_base.specs.ParserEnds.{IsStop, next_char, stop_fault}
 use Rattle.byte_unit_base.proofs.SizeAscii.{size_of_chars}
 use Rattle.byte_unit_base.proofs.SizeReads.{stop_reading, stated_reading}
 use Rattle.byte_unit_base.proofs.SizeRest.{boundary_at}

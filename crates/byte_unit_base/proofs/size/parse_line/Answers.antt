@@ -5,13 +5,13 @@ use Rattle.std.specs.Str.{chars}
 use Rattle.std.proofs.lemmas.List.{take_rest}
 use Rattle.byte_unit_base.specs.BinaryReading.{unit_meant}
 use Rattle.byte_unit_base.specs.Kinds.{flags_for}
-use Rattle.byte_unit_base.specs.PartsReading.{IsStopAt, next_char, stop_fault}
+use Rattle.byte_unit_base.specs.ParserEnds.{IsStopAt, next_char, stop_fault}
 use Rattle.byte_unit_base.proofs.Lines.{first_line}
 use Rattle.byte_unit_base.proofs.SizeOfText.{ascii_stop, bytes_number, visible_stop}
 use Rattle.byte_unit_base.proofs.size.parse_line.Goals as goal
 
-pub read_parts-requires : goal.read_parts-requires
-read_parts-requires g c = first_line c.args.bytes.now c.args.len c.requires
+pub read_number_and_unit-requires : goal.read_number_and_unit-requires
+read_number_and_unit-requires g c = first_line c.args.bytes.now c.args.len c.requires
 
 pub returns-in-Ok-clause-reading : goal.returns-in-Ok-clause-reading
 returns-in-Ok-clause-reading g c =

@@ -4,7 +4,7 @@ use Rattle.std.proofs.Common.{nat_eq, ap, ◌∙◌}
 use Rattle.std.specs.Str.{chars}
 use Rattle.std.proofs.lemmas.List.{take_rest}
 use Rattle.byte_unit_base.specs.Kinds.{flags_for}
-use Rattle.byte_unit_base.specs.PartsReading.{next_char, stop_fault}
+use Rattle.byte_unit_base.specs.ParserEnds.{next_char, stop_fault}
 use Rattle.byte_unit_base.proofs.Positions.{stop_position}
 use Rattle.byte_unit_base.proofs.SizeOfText.{ascii_stop, visible_stop}
 use Rattle.byte_unit_base.proofs.size.visible_next.Goals as goal

@@ -4,7 +4,7 @@ use Rattle.byte_unit_base.specs.Accepted.{as_written}
 use Rattle.byte_unit_base.specs.ErrorPosition.{IsSizePosition}
 use Rattle.byte_unit_base.specs.Kinds.{flags_for}
 use Rattle.byte_unit_base.specs.Outcome.{IsPositionOfStop}
-use Rattle.byte_unit_base.specs.PartsReading.{stop_fault}
+use Rattle.byte_unit_base.specs.ParserEnds.{stop_fault}
 use Rattle.byte_unit_base.specs.declared.errors.ParseError.TheVariants.{Unit as UnitError}
 use Rattle.byte_unit_c.specs.Error.{IsPositionOf}
 use Rattle.byte_unit_c.proofs.Positions.{at_missing_digit}

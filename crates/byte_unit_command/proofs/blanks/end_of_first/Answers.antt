@@ -2,8 +2,8 @@
 use Rattle.std.proofs.Common.{◌≡◌, ◌+◌, ◌<◌, ◌≤◌, ℕ, List, [], ◌∷◌, true, false, Option, None, Some, length, take, drop}
 use Rattle.std.proofs.Common.{ap, sym, ◌∙◌, arith}
 use Rattle.std.specs.Prelude.{IfSome, IfNone}
-use Rattle.byte_unit_stream.specs.Records.{parts}
-use Rattle.byte_unit_stream.proofs.Ends.{parts-EndsAt, parts-IsUnbroken}
+use Rattle.byte_unit_stream.specs.Records.{split_by}
+use Rattle.byte_unit_stream.proofs.Ends.{split_by-EndsAt, split_by-IsUnbroken}
 use Rattle.byte_unit_command.specs.Fields.{at_blanks, between_of, fields_of, blank_fields}
 use Rattle.byte_unit_command.specs.declared.options.Options.{Options}
 use Rattle.byte_unit_command.proofs.BlankFields.{between_of-blanks, fields_of-blanks}
@@ -63,9 +63,9 @@ returns-clause-some c =
     let delimiter = c.args.delimiter in
     let at : at_blanks options ≡ false = c.requires.blanks ∙ c.if-blanks.false in
     let fields_are = λ (bytes : List ℕ). fields_of-split options bytes delimiter c.requires.delimiter at in
-    IfSome-map (λ n ends. ends-first options bytes (parts delimiter) (delimiter ∷ []) n fields_are
+    IfSome-map (λ n ends. ends-first options bytes (split_by delimiter) (delimiter ∷ []) n fields_are
     (between_of-split options delimiter c.requires.delimiter at) (omega arith) (omega (arith, ends.0))
-    (parts-EndsAt delimiter bytes n ends))
+    (split_by-EndsAt delimiter bytes n ends))
     c.end_of.result c.end_of.ensures.some
 
 -- at a delimiter: nothing is found, so the bytes are one field
@@ -74,5 +74,5 @@ returns-clause-none c =
     let options = c.args.options.now in
     let at : at_blanks options ≡ false = c.requires.blanks ∙ c.if-blanks.false in
     IfNone-map (λ unbroken. fields_of-split options c.args.bytes.now c.args.delimiter c.requires.delimiter at
-    ∙ parts-IsUnbroken c.args.delimiter c.args.bytes.now unbroken)
+    ∙ split_by-IsUnbroken c.args.delimiter c.args.bytes.now unbroken)
     c.end_of.result c.end_of.ensures.none

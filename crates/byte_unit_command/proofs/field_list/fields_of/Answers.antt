@@ -1,5 +1,5 @@
--- The items of the loop are the parts of the list between its commas. A sort leaves no range that begins after the next
--- one.
+-- The items of the loop are the substrings of the list between its commas. A sort leaves no range that begins after the
+-- next one.
 use Rattle.std.proofs.Common.{◌≡◌, ℕ, List, ◌++◌, [], ◌∷◌, map, length, ap, sym, subst, lit<, Bor, Option}
 use Rattle.std.proofs.Common.{None, Some, codes, rules}
 use Rattle.std.specs.Prelude.{option_map, unwrap_or}

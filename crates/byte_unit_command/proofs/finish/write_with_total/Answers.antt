@@ -27,15 +27,15 @@ returns-clause-written g c =
     let held = g.W.Write.contents (writer_of c.args.writer.now) in
     let holds = g.W.Write.contents (writer_of c.write_whole-2.new.writer) in
     let bytes = c.deref-2.result.now in
-    -- a triple: the text of the total, that it is its shown form, and that it was appended
-    let shown = c.in_ok-add_in_width.ensures.ok in
-    let line = shown.0 ++ mark in
+    -- a triple: the text of the total, that it is formatted so, and that it was appended
+    let formatted = c.in_ok-add_in_width.ensures.ok in
+    let line = formatted.0 ++ mark in
     let small : c.args.total < size_limit = omega (arith, c.if-total-ge-TOTAL_LIMIT.false) in
     let are : bytes ≡ waiting ++ line =
-    c.deref-2.ensures.value ∙ c.in_ok-extend_from_slice.ensures.items ∙ ap (λ text. text ++ mark) shown.2
-    ∙ append_assoc waiting shown.0 mark in
+    c.deref-2.ensures.value ∙ c.in_ok-extend_from_slice.ensures.items ∙ ap (λ text. text ++ mark) formatted.2
+    ∙ append_assoc waiting formatted.0 mark in
     let write = c.write_whole-2.ensures in
     let by : IsWrittenBy held holds bytes Write c.write_whole-2.result =
     record { whole = write.ok; part = write.err; is_error = write.write } in
-    IsTotalWritten-line options c.args.total waiting line bytes (shown.0, small, shown.1, refl) are
+    IsTotalWritten-line options c.args.total waiting line bytes (formatted.0, small, formatted.1, refl) are
     c.write_whole-2.result by

@@ -1,8 +1,8 @@
--- The text shown is parsed as the size, a text is parsed as at most one size, and a size has one exact form.
+-- The formatted text is parsed as the size, a text is parsed as at most one size, and a size has one exact form.
 use Rattle.byte_unit_command.proofs.Again.{exact_again}
 use Rattle.byte_unit_command.proofs.laws.exact_twice_is_once.Goals as goal
 
 -- converting a text in the form `exact` twice gives what converting it once gives
 pub returns : goal.returns
-returns c = exact_again c.shown_sizes_are_read.ensures c.texts_are_sizes_or_not.ensures
+returns c = exact_again c.formatted_sizes_are_read.ensures c.texts_are_sizes_or_not.ensures
     c.size_has_one_form.ensures

@@ -5,7 +5,7 @@ use Rattle.byte_unit_command.specs.CallOptions.{AreFieldsSeparated, FieldsAreRig
 use Rattle.byte_unit_command.specs.CallOptions.{IsSeparator, IsWrongForm, IsWrongSeparator}
 use Rattle.byte_unit_command.specs.CallOptions.{IsWithinExact, wrong_delimiter, wrong_field, wrong_invalid, wrong_max}
 use Rattle.byte_unit_command.specs.CallOptions.{wrong_min, wrong_no_unit, wrong_padding, wrong_precision, wrong_to}
-use Rattle.byte_unit_command.specs.Meaning.{IsFrom, IsShownForm}
+use Rattle.byte_unit_command.specs.Meaning.{IsFrom, IsOutputForm}
 use Rattle.byte_unit_command.specs.Values.{text_of}
 use Rattle.byte_unit_command.specs.declared.options.Form.{Form}
 use Rattle.byte_unit_command.specs.declared.values.Values.{Values}
@@ -13,10 +13,10 @@ use Rattle.byte_unit_command.specs.declared.wrong.Wrong.{Wrong}
 use Rattle.byte_unit_command.proofs.Results.{IfErr-passed}
 use Rattle.byte_unit_command.proofs.meaning.options_of.Goals as goal
 
--- the form is right if it can be read, is within its precision, and can be shown without its unit if that is asked for
+-- the form is right if it can be read, is within its precision, and can be used without its unit if that is asked for
 form_right : (values : Values) (given form : Form) → IsFormOf values given → IsWithinExact given values.precision
-    → IsShownForm values.no_unit given form → FormIsRight values
-form_right values given form is within shown = (given, is, within, (form, shown))
+    → IsOutputForm values.no_unit given form → FormIsRight values
+form_right values given form is within output = (given, is, within, (form, output))
 
 -- an error of the form is the first one, if `--from` is right: of `--to`, or of `--precision` with that form
 form_wrong : (values : Values) (wrong : Wrong) (binary : Bool) → IsFrom (text_of values.from) binary
@@ -26,10 +26,10 @@ form_wrong values wrong binary is_from (inr (form, is_form, is)) = wrong_precisi
 
 -- the fields are right if the form, the separator and the list of fields are
 fields_right : (values : Values) (given form : Form) (separator : Option ℕ)
-    → IsFormOf values given × IsWithinExact given values.precision → IsShownForm values.no_unit given form
+    → IsFormOf values given × IsWithinExact given values.precision → IsOutputForm values.no_unit given form
     → IsSeparator values separator × AreFieldsSeparated values → FieldsAreRight values
-fields_right values given form separator (is, within) shown ((mark, delimits, _), separated) =
-    (form_right values given form is within shown, (mark, delimits), separated)
+fields_right values given form separator (is, within) output ((mark, delimits, _), separated) =
+    (form_right values given form is within output, (mark, delimits), separated)
 
 -- an error of the separator is the first one, if `--from` and the form are right: of `--delimiter`, or of `--field`
 separator_wrong : (values : Values) (wrong : Wrong) (binary : Bool) → IsFrom (text_of values.from) binary
@@ -44,7 +44,7 @@ returns-in_err-given-clause-err c =
     IfErr-passed (IsFirstWrong c.args.values.now) _ _ c.from_residual-in_err-given.ensures.1
     (form_wrong c.args.values.now c.in_err-given.field-0.0 _ c.in_ok-binary.ensures.ok c.in_err-given.ensures.err)
 
--- the form cannot be shown without its unit; what comes before is right
+-- the form cannot be used without its unit; what comes before is right
 pub returns-in_err-form-clause-err : goal.returns-in_err-form-clause-err
 returns-in_err-form-clause-err c =
     IfErr-passed (IsFirstWrong c.args.values.now) _ _ c.from_residual-in_err-form.ensures.1

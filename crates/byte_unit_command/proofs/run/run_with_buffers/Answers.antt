@@ -19,7 +19,7 @@ use Rattle.byte_unit_command.proofs.Runs.{IsServed, begun-piece}
 use Rattle.byte_unit_command.proofs.Served.{HasRead-end, HasRead-more, HasServed-piece, HasServed-start}
 use Rattle.byte_unit_command.proofs.Served.{IsRunOf-finished, IsRunOf-long, IsRunOf-piece, IsRunOf-read}
 use Rattle.byte_unit_stream.specs.Chunks.{begun_record}
-use Rattle.byte_unit_stream.specs.Prefix.{IsPrefix}
+use Rattle.byte_unit_stream.specs.Beginnings.{IsBeginningOf}
 use Rattle.byte_unit_stream.specs.Streams.{HasWritten, reader_of}
 use Rattle.byte_unit_stream.proofs.Longest.{longest_of-ended_records-append, longest_record-unfinished}
 use Rattle.byte_unit_stream.proofs.Longest.{longest_record-below}
@@ -83,16 +83,16 @@ reads-preserved g c =
 pub returns-in-None-clause-run : goal.returns-in-None-clause-run
 returns-in-None-clause-run g c = IsRunOf-read c.reads.invariant.0 c.read.new.self c.in-None.ensures.none
 
--- the write of what the read gave has failed: a prefix of it is written, and nothing is told
+-- the write of what the read gave has failed: a beginning of it is written, and nothing is told
 pub returns-in_err-write_whole-in-Some-clause-run : goal.returns-in_err-write_whole-in-Some-clause-run
 returns-in_err-write_whole-in-Some-clause-run g c =
     let so_far = c.reads.invariant.0 in
     let piece = take c.in-Some.n c.read.new.buf in
     let call = c.feed-fed in
     let failed = c.in_err-write_whole-in-Some in
-    -- a triple: the bytes that were written, that they were appended, and that they are a prefix of what waited
+    -- a triple: the bytes that were written, that they were appended, and that they are a beginning of what waited
     let written = failed.ensures.err in
-    let begins = subst (IsPrefix written.0) c.deref.ensures.value written.2 in
+    let begins = subst (IsBeginningOf written.0) c.deref.ensures.value written.2 in
     let fed = HasFed-from_empty c.args.options.now piece c.reads.buffers call.new.self call.result so_far.none_waits
     so_far.none_untold call.ensures.ok call.ensures.error in
     let passed = subst (λ error. IsErrAnd c.from_residual.result (λ other. other ≡ error)) failed.ensures.write
@@ -100,7 +100,7 @@ returns-in_err-write_whole-in-Some-clause-run g c =
     IsRunOf-piece so_far _ call.new.self piece c.in-Some.ensures.came Write
     (piece-unwritten call.new.self fed (written.0, written.1, begins)) c.from_residual.result passed
 
--- the conversion of a record stopped: what was converted before it is written and told
+-- the conversion of a record ended early: what was converted before it is written and told
 pub returns-in_err-fed-in-Some-clause-run : goal.returns-in_err-fed-in-Some-clause-run
 returns-in_err-fed-in-Some-clause-run g c =
     let so_far = c.reads.invariant.0 in
@@ -116,7 +116,7 @@ returns-in_err-fed-in-Some-clause-run g c =
     IsRunOf-piece so_far _ new piece c.in-Some.ensures.came error
     (piece-answered new new fed wrote c.tell.ensures.told refl) passed.result passed.ensures.1
 
--- the unfinished record exceeds `longest`: the run stops as if it were out of memory
+-- the unfinished record exceeds `longest`: the run ends as if it were out of memory
 pub returns-then-len-longest-clause-run : goal.returns-then-len-longest-clause-run
 returns-then-len-longest-clause-run g c =
     let so_far = c.reads.invariant.0 in

@@ -5,9 +5,9 @@ use Rattle.std.proofs.Common.{true≢false, ◌≡◌, ◌≤◌, ℕ, List, [],
 use Rattle.std.proofs.Common.{append-nil, is_ok, refl}
 use Rattle.std.proofs.lemmas.List.{length-take-le, nil_from_length}
 use Rattle.std.proofs.lemmas.Result.{on_ok_weaker}
-use Rattle.byte_unit_command.specs.Shown.{padded}
+use Rattle.byte_unit_command.specs.Formatted.{padded}
 use Rattle.byte_unit_command.proofs.Texts.{first_bytes, padded-none}
-use Rattle.byte_unit_stream.proofs.Prefixes.{IsPrefix-if}
+use Rattle.byte_unit_stream.proofs.Beginnings.{IsBeginningOf-if}
 use Rattle.byte_unit_command.proofs.text.add_in_width.Goals as goal
 
 -- with a width, the padded text is appended
@@ -15,11 +15,11 @@ pub returns-then-width-gt0-clause-ok : goal.returns-then-width-gt0-clause-ok
 returns-then-width-gt0-clause-ok g c =
     let options = c.args.options.now in
     let written = c.write_size-len.ensures.written in
-    let shown : List ℕ → List ℕ = λ text. padded c.args.width options.align_left (text ++ options.suffix.now) in
+    let formatted : List ℕ → List ℕ = λ text. padded c.args.width options.align_left (text ++ options.suffix.now) in
     on_ok_weaker c.add_padded.result (λ added. (
-      shown written.form,
+      formatted written.form,
       (written.form, written.is_form, refl),
-      added ∙ ap (λ text. c.args.text.now.items ++ shown text) written.begins,
+      added ∙ ap (λ text. c.args.text.now.items ++ formatted text) written.begins,
     )) c.add_padded.ensures.ok
 
 -- with a suffix and no width, the text is appended with its suffix
@@ -27,18 +27,18 @@ pub returns-in-len1-up-clause-ok : goal.returns-in-len1-up-clause-ok
 returns-in-len1-up-clause-ok g c =
     let options = c.args.options.now in
     let written = c.write_size-len.ensures.written in
-    let shown = written.form ++ options.suffix.now in
+    let formatted = written.form ++ options.suffix.now in
     let none : c.args.width ≡ 0 = omega (arith, c.if-width-gt0.false) in
     on_ok_weaker c.add_suffixed.result (λ added. (
-      shown,
-      (written.form, written.is_form, sym (padded-none c.args.width options.align_left shown none)),
+      formatted,
+      (written.form, written.is_form, sym (padded-none c.args.width options.align_left formatted none)),
       added ∙ ap (λ text. c.args.text.now.items ++ (text ++ options.suffix.now)) written.begins,
     )) c.add_suffixed.ensures.ok
 
 -- a text of more than 64 bytes is appended as it is: what was there is kept
 pub returns-then-len-gt-AT_ONCE-clause-kept : goal.returns-then-len-gt-AT_ONCE-clause-kept
 returns-then-len-gt-AT_ONCE-clause-kept g c =
-    IsPrefix-if (is_ok c.extend_from_slice.result) c.args.text.now.items
+    IsBeginningOf-if (is_ok c.extend_from_slice.result) c.args.text.now.items
     (take c.write_size-len.result c.write_size-len.new.out) c.extend_from_slice.ensures.items
 
 -- the array that is written to has at least 64 bytes, so its first 64 can be taken
@@ -76,13 +76,13 @@ returns-in_ok-extend_from_slice-in-empty-clause-ok g c =
     let short : len ≤ 64 = omega (arith, c.if-len-gt-AT_ONCE.false) in
     let none : suffix ≡ [] = nil_from_length suffix (omega (arith, c.in-empty.len_below)) in
     let unpadded : c.args.width ≡ 0 = omega (arith, c.if-width-gt0.false) in
-    let shown = written.form ++ suffix in
-    let same : shown ≡ written.form = ap (λ suffix. written.form ++ suffix) none ∙ append-nil written.form in (
-      shown,
-      (written.form, written.is_form, sym (padded-none c.args.width options.align_left shown unpadded)),
+    let formatted = written.form ++ suffix in
+    let same : formatted ≡ written.form = ap (λ suffix. written.form ++ suffix) none ∙ append-nil written.form in (
+      formatted,
+      (written.form, written.is_form, sym (padded-none c.args.width options.align_left formatted unpadded)),
       c.truncate.ensures.items ∙ ap (λ count. take count after.items) (omega (arith, after.ok.0, c.len.ensures))
           ∙ first_bytes text bytes after.items len c.in_ok-extend_from_slice-in-empty.ensures.items long short
-          ∙ ap (λ shown. text ++ shown) (written.begins ∙ sym same),
+          ∙ ap (λ formatted. text ++ formatted) (written.begins ∙ sym same),
     )
 
 -- what was there before the 64 bytes is kept; `added` is the triple of the clause above

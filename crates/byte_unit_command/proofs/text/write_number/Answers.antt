@@ -1,6 +1,6 @@
 -- The text in the unit is the number, a space and the unit.
 use Rattle.std.proofs.Common.{◌-◌, ◌≤◌, List, ℕ, length, arith, ap, sym, subst}
-use Rattle.byte_unit_command.specs.Shown.{BeginsWithForm, IsFormText}
+use Rattle.byte_unit_command.specs.Formatted.{BeginsWithForm, IsFormText}
 use Rattle.byte_unit_command.specs.declared.options.Form.TheVariants.{NumberOf}
 use Rattle.byte_unit_command.proofs.Lengths.{adjusted-narrow}
 use Rattle.byte_unit_command.proofs.Numbers.{begins_with_number, needed_is}

@@ -25,7 +25,7 @@ invariant_of-result c =
     record {
       size = c.binary_digits.ensures.size;
       few = c.requires.few;
-      small = c.binary_digits.ensures.small;
+      small = c.binary_digits.ensures.bound;
       rest = c.binary_digits.ensures.zeros;
       last = λ some.
           let digits_are = c.binary_digits.ensures.digits

@@ -7,10 +7,10 @@ use Rattle.byte_unit_command.specs.Field.{IsPlaced}
 use Rattle.byte_unit_command.specs.Fields.{at_blanks, gap_by, gap_of, width_by, width_of}
 use Rattle.byte_unit_command.specs.Messages.{AreLimitMessages}
 use Rattle.byte_unit_command.specs.RunState.{State, messages_of, state_of}
-use Rattle.byte_unit_command.specs.Shown.{IsShown}
+use Rattle.byte_unit_command.specs.Formatted.{IsFormatted}
 use Rattle.byte_unit_command.proofs.Converting.{AddsField-other, AddsField-size, AreLimitMessages-none, after-is}
 use Rattle.byte_unit_command.proofs.Converting.{kept_messages-same}
-use Rattle.byte_unit_stream.proofs.Prefixes.{IsPrefix-same, IsPrefix-self, IsPrefix-trans}
+use Rattle.byte_unit_stream.proofs.Beginnings.{IsBeginningOf-same, IsBeginningOf-self, IsBeginningOf-trans}
 use Rattle.byte_unit_command.proofs.Untold.{within-untold}
 use Rattle.byte_unit_command.proofs.converter.Converter.add_field.Given.{Over}
 use Rattle.byte_unit_command.proofs.converter.Converter.add_field.Goals.{After-add_in_width, Joined-add, Joined-this-ne0}
@@ -74,20 +74,22 @@ returns-clause-ok g c =
       )
     ] in
     let gap = c.if-this-ne0.width.0.now in
-    let shown = c.in_ok-add_in_width.ensures.ok in
-    let text = gap ++ shown.0 in
+    let formatted = c.in_ok-add_in_width.ensures.ok in
+    let text = gap ++ formatted.0 in
     -- the first part is on the blank, the second on the columns
     let spaces = spaces g (goal.at.returns-clause-ok g c).Joined-this-ne0 in
     let placed : IsPlaced options number field size text = record {
-      shown = shown.0;
-      is_shown = subst (λ width. IsShown (record options { width = width }) size shown.0) spaces.1 shown.1;
-      text_is = ap (λ gap. gap ++ shown.0) spaces.0;
+      formatted = formatted.0;
+      is_formatted =
+          subst (λ width. IsFormatted (record options { width = width }) size formatted.0) spaces.1 formatted.1;
+      text_is = ap (λ gap. gap ++ formatted.0) spaces.0;
     } in
     AddsField-size options number field old _ size text counted.0 (c.requires.yes c.if-not-chosen.false)
     c.in-Some.ensures.some placed counted.1
     (after-is options old between text counted.0 (Some size ∷ []) c.add.new.self counted.2 c.add.ensures.tally
-    c.add_in_width.new.text.items (shown.2 ∙ ap (λ items. items ++ shown.0) c.in_ok-extend_from_slice-2.ensures.items
-    ∙ append_assoc between.out gap shown.0 ∙ ap (λ (state : State). state.out ++ text) counted.2))
+    c.add_in_width.new.text.items (formatted.2
+    ∙ ap (λ items. items ++ formatted.0) c.in_ok-extend_from_slice-2.ensures.items
+    ∙ append_assoc between.out gap formatted.0 ∙ ap (λ (state : State). state.out ++ text) counted.2))
 
 -- before the text is appended, the earlier messages are kept, with or without new ones, and `waiting` is untouched
 told : (g : Over) (c : Joined-add g)
@@ -98,7 +100,8 @@ told g c =
     elim c.if-add.branch [
       | then-add+in_ok-add_limit_notice w ↦
           (kept _ _ w.self-is w.in_ok-add_limit_notice.ensures.kept, ap (λ at. at.waiting) w.self-is)
-      | else-add w ↦ (kept _ _ w.self-is (IsPrefix-self (messages_of old.notices)), ap (λ at. at.waiting) w.self-is)
+      | else-add w ↦
+          (kept _ _ w.self-is (IsBeginningOf-self (messages_of old.notices)), ap (λ at. at.waiting) w.self-is)
     ]
 
 -- the messages that were there are kept if the text is appended
@@ -122,7 +125,7 @@ extends : (g : Over) (c : After-add_in_width g) → c.if-add.self.waiting ≡ c.
     (record c.if-add.self { waiting = c.add_in_width.new.text })
 extends g c same = record {
   kept =
-      rw same at (IsPrefix-trans c.if-add.self.waiting.items c.extend_from_slice-2.new.self.items
+      rw same at (IsBeginningOf-trans c.if-add.self.waiting.items c.extend_from_slice-2.new.self.items
       c.add_in_width.new.text.items (c.if-this-ne0.width.0.now, c.in_ok-extend_from_slice-2.ensures.items)
       c.add_in_width.ensures.kept);
   len = search rules;
@@ -146,14 +149,15 @@ returns-in_err-extend_from_slice-2-clause-extends g c =
     let same = (told g (goal.at.returns-in_err-extend_from_slice-2-clause-extends g c).Joined-add).1 in
     let old = c.args.self.now.waiting.items in record {
       kept =
-          IsPrefix-same old (c.in_err-extend_from_slice-2.ensures.items ∙ ap (λ at. at.items) same) (IsPrefix-self old);
+          IsBeginningOf-same old (c.in_err-extend_from_slice-2.ensures.items ∙ ap (λ at. at.items) same)
+          (IsBeginningOf-self old);
       len = search rules;
       capacity = search rules;
     }
 
 -- a size about which there is no message is beyond no limit
-pub returns-in_err-add_limit_notice-clause-stops : goal.returns-in_err-add_limit_notice-clause-stops
-returns-in_err-add_limit_notice-clause-stops g c = record {
+pub returns-in_err-add_limit_notice-clause-early : goal.returns-in_err-add_limit_notice-clause-early
+returns-in_err-add_limit_notice-clause-early g c = record {
   error = search rules;
   succeeds = λ _ untold.
       let old : State = state_of c.args.self.now in

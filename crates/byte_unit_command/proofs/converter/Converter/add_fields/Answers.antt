@@ -21,9 +21,9 @@ returns-in-None-clause-rejected g c = λ is. Aborts-whole c.args.options.now c.a
 
 -- the call fails only for a reason that `add_field` allows; with room for the field and no message about it, it
 -- succeeds
-pub returns-in-None-clause-stops : goal.returns-in-None-clause-stops
-returns-in-None-clause-stops g c = record {
-  error = c.add_field.ensures.stops.error;
+pub returns-in-None-clause-early : goal.returns-in-None-clause-early
+returns-in-None-clause-early g c = record {
+  error = c.add_field.ensures.early.error;
   succeeds = λ room untold.
       let options = c.args.options.now in
       let old : State = state_of c.args.self.now in
@@ -32,7 +32,7 @@ returns-in-None-clause-stops g c = record {
       (fields_of-whole options bytes c.in-None.is) untold in
       let first = first-untold options old.word old.place 1 bytes [] fields in
       let whole = fields_room-whole options (length bytes) c.in-None.is in
-      c.add_field.ensures.stops.succeeds (omega (arith, room, whole)) first;
+      c.add_field.ensures.early.succeeds (omega (arith, room, whole)) first;
 }
 
 -- what waits grows by no more than the room of the record, which is that of its one field

@@ -1,9 +1,9 @@
--- After an error, truncating leaves what was there before, since it is a prefix of what is there then. The messages
+-- After an error, truncating leaves what was there before, since it is a beginning of what is there then. The messages
 -- stay if a field was rejected. `.ok.0` of a vector: its length is that of its items.
 use Rattle.std.proofs.Common.{◌≢◌, Err, take, refl, sym, ap, subst, ◌∙◌, arith}
 use Rattle.byte_unit_command.specs.RunState.{Aborts, at_next, messages_of, state_of}
 use Rattle.byte_unit_command.specs.declared.error.RunError.TheVariants.{Memory, Rejected}
-use Rattle.byte_unit_stream.proofs.Prefixes.{take-IsPrefix}
+use Rattle.byte_unit_stream.proofs.Beginnings.{take-IsBeginningOf}
 use Rattle.byte_unit_command.proofs.Results.{error-passed}
 use Rattle.byte_unit_command.proofs.converter.Converter.add_record.Goals as goal
 
@@ -18,7 +18,7 @@ returns-in-Err-clause-err g c =
     let after = c.append_record.new.self.waiting.items in
     c.truncate.ensures.items
     ∙ ap (λ count. take count after) (omega (arith, c.len-len.ensures, c.args.self.now.waiting.ok.0))
-    ∙ take-IsPrefix before after c.in-Err.ensures.extends.kept
+    ∙ take-IsBeginningOf before after c.in-Err.ensures.extends.kept
 
 -- if allocation failed, the messages are as they were before
 pub returns-in-Err-clause-memory : goal.returns-in-Err-clause-memory
@@ -28,7 +28,7 @@ returns-in-Err-clause-memory g c = λ is.
     let error = error-passed (Err c.in-Err.error) c.in-Err.error Memory refl is in
     c.undo.ensures.memory error ∙ ap (λ count. take count after)
     (omega (arith, c.len-messages.ensures, c.args.self.now.notices.messages.ok.0))
-    ∙ take-IsPrefix before after c.in-Err.ensures.kept_messages
+    ∙ take-IsBeginningOf before after c.in-Err.ensures.kept_messages
 
 -- if a field was rejected, the messages about it are kept, so that they can be told
 pub returns-in-Err-clause-rejected : goal.returns-in-Err-clause-rejected

@@ -8,7 +8,7 @@ use Rattle.byte_unit_command.specs.declared.options.Options.{Options}
 use Rattle.byte_unit_command.specs.declared.options.Invalid.TheVariants.{Abort}
 use Rattle.byte_unit_command.proofs.Converting.{AddsField-rejected}
 use Rattle.byte_unit_command.proofs.Untold.{ignored-untold}
-use Rattle.byte_unit_stream.proofs.Prefixes.{IsPrefix-if}
+use Rattle.byte_unit_stream.proofs.Beginnings.{IsBeginningOf-if}
 use Rattle.byte_unit_command.proofs.converter.Converter.add_rejected.Goals as goal
 
 -- a rejected field about which there is no message is ignored
@@ -30,15 +30,15 @@ returns-clause-ok g c =
 -- what waited is kept if the field cannot be appended
 pub returns-in_err-extend_from_slice-clause-extends : goal.returns-in_err-extend_from_slice-clause-extends
 returns-in_err-extend_from_slice-clause-extends g c = record {
-  kept = IsPrefix-if (is_ok c.extend_from_slice.result) c.args.self.now.waiting.items c.args.field.now
+  kept = IsBeginningOf-if (is_ok c.extend_from_slice.result) c.args.self.now.waiting.items c.args.field.now
       c.extend_from_slice.ensures.items;
   len = search rules;
   capacity = search rules;
 }
 
 -- the call fails here only if there is a message about the field
-pub returns-in_err-add_reject_notice-clause-stops : goal.returns-in_err-add_reject_notice-clause-stops
-returns-in_err-add_reject_notice-clause-stops g c = record {
+pub returns-in_err-add_reject_notice-clause-early : goal.returns-in_err-add_reject_notice-clause-early
+returns-in_err-add_reject_notice-clause-early g c = record {
   error = search rules;
   succeeds = λ _ untold.
       absurd (true≢false (sym (c.in_err-add_reject_notice.ensures.untold (ignored c.args.options.now
@@ -46,8 +46,8 @@ returns-in_err-add_reject_notice-clause-stops g c = record {
 }
 
 -- the mode is `abort`: the call fails here only if there is a message about the field
-pub returns-then-eq-clause-stops : goal.returns-then-eq-clause-stops
-returns-then-eq-clause-stops g c =
+pub returns-then-eq-clause-early : goal.returns-then-eq-clause-early
+returns-then-eq-clause-early g c =
     let abort : c.args.options.now.invalid ≡ Abort = search rules in record {
       error = search rules;
       succeeds = λ _ untold.

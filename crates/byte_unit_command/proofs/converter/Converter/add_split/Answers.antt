@@ -134,10 +134,10 @@ returns-clause-rejected g c = λ is.
     (messages_of c.add_field-2.new.self.notices) (c.add_field-2.ensures.rejected is)
 
 -- a field before the last cannot fail if the room for the record is left and there is no message about it
-pub returns-in_err-add_field-clause-stops : goal.returns-in_err-add_field-clause-stops
-returns-in_err-add_field-clause-stops g c = record {
+pub returns-in_err-add_field-clause-early : goal.returns-in_err-add_field-clause-early
+returns-in_err-add_field-clause-early g c = record {
   error = IfErr-passed (λ (error : RunError). (error ≡ Memory) ⊎ (error ≡ Rejected)) _ _ c.from_residual.ensures.1
-      c.in_err-add_field.ensures.stops.error;
+      c.in_err-add_field.ensures.early.error;
   succeeds = λ room untold.
       let options = c.args.options.now in
       let rest = c.loop-n.rest.now in
@@ -152,5 +152,5 @@ returns-in_err-add_field-clause-stops g c = record {
       let taken : length field ≡ place = length-take-le place rest (omega (arith, ends.1)) in
       let step = split_room-cut (text_room options) (length rest) (place + gap) ends.0 ends.1 in
       let here = FieldHasNoMessage-now c.loop-n.invariant.0 field first in
-      absurd (true≢false (sym (c.in_err-add_field.ensures.stops.succeeds (omega (arith, fits, step, taken)) here)));
+      absurd (true≢false (sym (c.in_err-add_field.ensures.early.succeeds (omega (arith, fits, step, taken)) here)));
 }

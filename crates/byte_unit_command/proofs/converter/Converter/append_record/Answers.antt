@@ -2,7 +2,7 @@
 use Rattle.std.proofs.Common.{◌≡◌, ◌-◌, ◌++◌, ◌∷◌, [], List, ℕ, suc, ap, subst, ◌∙◌, arith}
 use Rattle.byte_unit_command.specs.RunState.{AddsFields, State, messages_of, state_of}
 use Rattle.byte_unit_command.proofs.Converting.{AddsRecords-header, AddsRecords-fields, kept_messages-same}
-use Rattle.byte_unit_stream.proofs.Prefixes.{IsPrefix-self}
+use Rattle.byte_unit_stream.proofs.Beginnings.{IsBeginningOf-self}
 use Rattle.byte_unit_command.proofs.converter.Converter.append_record.Goals.{then-self-gt0+in_ok-extend_from_slice}
 use Rattle.byte_unit_command.proofs.converter.Converter.append_record.Goals.{else-self-gt0+in_ok-add_fields}
 use Rattle.byte_unit_command.proofs.converter.Converter.append_record.Goals as goal
@@ -41,7 +41,7 @@ returns-clause-ok g c =
 pub returns-clause-kept_messages : goal.returns-clause-kept_messages
 returns-clause-kept_messages g c = elim c.if-self-gt0.branch [
   | then-self-gt0+in_ok-extend_from_slice w ↦
-      kept_messages-same c.args.self.now _ _ w.self-is (IsPrefix-self (messages_of c.args.self.now.notices))
+      kept_messages-same c.args.self.now _ _ w.self-is (IsBeginningOf-self (messages_of c.args.self.now.notices))
   | else-self-gt0+in_ok-add_fields w ↦
       kept_messages-same c.args.self.now _ _ w.self-is w.in_ok-add_fields.ensures.kept_messages
 ]
@@ -50,7 +50,7 @@ returns-clause-kept_messages g c = elim c.if-self-gt0.branch [
 pub returns-in_err-extend_from_slice-2-clause-kept_messages :
     goal.returns-in_err-extend_from_slice-2-clause-kept_messages
 returns-in_err-extend_from_slice-2-clause-kept_messages g c =
-    let none = IsPrefix-self (messages_of c.args.self.now.notices) in
+    let none = IsBeginningOf-self (messages_of c.args.self.now.notices) in
     elim c.if-self-gt0.branch [
       | then-self-gt0+in_ok-extend_from_slice w ↦ kept_messages-same c.args.self.now _ _ w.self-is none
       | else-self-gt0+in_ok-add_fields w ↦

@@ -9,7 +9,7 @@ use Rattle.byte_unit_command.proofs.Finishing.{IsFinished-early, IsFinished-pass
 use Rattle.byte_unit_command.proofs.Finishing.{IsFinished-plain_ok, IsFinished-total_error, IsFinished-total_ok}
 use Rattle.byte_unit_command.proofs.Telling.{WritesAndTells-by}
 use Rattle.byte_unit_stream.proofs.ChunkRecords.{empty_from_length}
-use Rattle.byte_unit_stream.specs.Prefix.{IsPrefix}
+use Rattle.byte_unit_stream.specs.Beginnings.{IsBeginningOf}
 use Rattle.byte_unit_stream.specs.Streams.{writer_of}
 use Rattle.byte_unit_command.proofs.converter.Converter.finish.Given.{Over}
 use Rattle.byte_unit_command.proofs.converter.Converter.finish.Goals.{then-not-is_empty+in_ok-added, else-not-is_empty}
@@ -29,7 +29,7 @@ returns-in_err-added-clause-written g c =
     -- empty
     let AbortsAt : List ℕ → List ℕ → Type 0 = λ out told. (before.header ≡ 0)
     × Aborts options part (at_next (record before { out = out; messages = told })) messages in
-    let at = IsFinished-early options part (idle before) messages error failed.ensures.stops.error
+    let at = IsFinished-early options part (idle before) messages error failed.ensures.early.error
     (λ is. failed.ensures.memory (ap Err is) ∙ c.requires.untold)
     (λ is.
     let aborts = subst (λ out. AbortsAt out []) c.requires.empty
@@ -71,15 +71,15 @@ returns-in_err-write_with_total-clause-written g c =
     WritesAndTells-by written.0 written.1 last.told
     (IsFinished-passed _ _ _ _ _ passed.result error passed.ensures.1 at)
 
--- no total is asked for, and the write of what waits has failed: a prefix of it is written
+-- no total is asked for, and the write of what waits has failed: a beginning of it is written
 pub returns-in_err-write_whole-clause-written : goal.returns-in_err-write_whole-clause-written
 returns-in_err-write_whole-clause-written g c =
     let last = converts_last g (goal.at.returns-in_err-write_whole-clause-written g c).Joined-not-is_empty in
     let failed = c.in_err-write_whole in
     -- a triple, as in the case before
     let written = failed.ensures.err in
-    let begins : IsPrefix written.0 c.if-not-is_empty.self.waiting.items =
-    subst (IsPrefix written.0) c.deref.ensures.value written.2 in
+    let begins : IsBeginningOf written.0 c.if-not-is_empty.self.waiting.items =
+    subst (IsBeginningOf written.0) c.deref.ensures.value written.2 in
     let passed = c.from_residual-in_err-write_whole in
     let at = IsFinished-plain_error c.args.part.now last.adds failed.field-0.0 written.0 failed.ensures.write begins in
     WritesAndTells-by written.0 written.1 last.told

@@ -1,7 +1,7 @@
--- Each iteration adds one record, the first of the rest: with the part that was read before, or alone. If it stops,
--- what was appended is that of the records before. Of the invariant, `.0` is what was converted, and `.1` are the
--- bounds (`IsFedWithin`). `.ok.0` of a vector: its length is that of its items. `.ensures.1` of a `from_residual`: the
--- error in its result is the one that `?` passes on.
+-- Each iteration adds one record, the first of the rest: with the part that was read before, or alone. If it ends
+-- early, what was appended is that of the records before. Of the invariant, `.0` is what was converted, and `.1` are
+-- the bounds (`IsFedWithin`). `.ok.0` of a vector: its length is that of its items. `.ensures.1` of a
+-- `from_residual`: the error in its result is the one that `?` passes on.
 use Rattle.std.proofs.Common.{true≢false, ◌≡◌, ◌+◌, ◌-◌, ◌∷◌, [], length, take, drop, sym, ap, subst, ◌∙◌}
 use Rattle.std.proofs.Common.{Err, arith, length-drop, vec_len}
 use Rattle.std.proofs.lemmas.List.{take_rest, length-take-le}
@@ -29,7 +29,7 @@ returns-in_err-add_record-clause-error g c =
     let after = c.add_record.new.self in
     IfErr-passed _ c.from_residual.result error c.from_residual.ensures.1
     (EndsEarly-record c.loop-n.invariant.0 next after.waiting.items (messages_of after.notices) (sym failed.ensures.err)
-    error failed.ensures.stops.error (λ is. failed.ensures.memory (ap Err is))
+    error failed.ensures.early.error (λ is. failed.ensures.memory (ap Err is))
     (λ is. failed.ensures.rejected (ap Err is)))
 
 -- a record that has begun in an earlier read could not be added: what was appended is that of the records before
@@ -43,7 +43,7 @@ returns-in_err-add_record-2-clause-error g c =
     let after = c.add_record-else-is_empty.new.self in
     IfErr-passed _ passed.result failed.field-0.0 passed.ensures.1
     (EndsEarly-record c.loop-n.invariant.0 next after.waiting.items (messages_of after.notices) (sym failed.ensures.err)
-    failed.field-0.0 failed.ensures.stops.error (λ is. failed.ensures.memory (ap Err is))
+    failed.field-0.0 failed.ensures.early.error (λ is. failed.ensures.memory (ap Err is))
     (λ is. failed.ensures.rejected (ap Err is)))
 
 -- at the start no record is added, and no buffer has grown
@@ -120,7 +120,7 @@ returns-in_err-add_record-clause-succeeds g c = λ suffice untold.
     let room = IsFedWithin-fits c.loop-n.invariant.1 suffice place (length (take place rest)) ends.0
     (omega (arith, taken, part.ok.0, ap length none)) in
     let told = IsNext-untold c.loop-n.invariant.0 next untold in
-    absurd (true≢false (sym (c.in_err-add_record.ensures.stops.succeeds room told)))
+    absurd (true≢false (sym (c.in_err-add_record.ensures.early.succeeds room told)))
 
 -- a record that has begun in an earlier read can be added, if the capacity suffices and there is no message about it
 pub returns-in_err-add_record-2-clause-succeeds : goal.returns-in_err-add_record-2-clause-succeeds
@@ -140,5 +140,5 @@ returns-in_err-add_record-2-clause-succeeds g c = λ suffice untold.
       length-take-le place rest (omega (arith, within)),
     ) in
     let room = IsFedWithin-fits c.loop-n.invariant.1 suffice place (length bytes) within joined in
-    absurd (true≢false (sym (c.in_err-add_record-2.ensures.stops.succeeds room
+    absurd (true≢false (sym (c.in_err-add_record-2.ensures.early.succeeds room
     (IsNext-untold c.loop-n.invariant.0 next untold))))

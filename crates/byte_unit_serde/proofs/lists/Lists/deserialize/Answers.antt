@@ -1,7 +1,7 @@
 -- Each iteration reads one more item; the sequence ends after the last, or with an error.
 use Rattle.std.proofs.Common.{rules, ◌≡◌, [], ◌∷◌, ◌++◌, subst, sym, Err, inl, inr}
 use Rattle.serde.specs.Steps.{Stays}
-use Rattle.byte_unit_serde.specs.Outcomes.{Reading}
+use Rattle.byte_unit_serde.specs.Returns.{Reading}
 use Rattle.byte_unit_serde.specs.Serialized.{ReadsEach}
 use Rattle.byte_unit_serde.proofs.Reading.{reads_each_snoc, holds_of_error}
 use Rattle.byte_unit_serde.proofs.lists.Lists.deserialize.Goals as goal

@@ -42,11 +42,11 @@ padded width align_left text =
     let spaces = replicate (width - length text) 32 in
     if align_left then text ++ spaces else spaces ++ text
 
--- the text that is shown for a size
-abbrev pub IsShown : Options → ℕ → List ℕ → Type 0
-IsShown options size shown =
-    (text : List ℕ) × IsFormText options.kind options.form options.precision size text
-    × (shown ≡ padded options.width options.align_left (text ++ options.suffix.now))
+-- the text that is written for a size
+abbrev pub IsFormatted : Options → ℕ → List ℕ → Type 0
+IsFormatted options size text =
+    (form : List ℕ) × IsFormText options.kind options.form options.precision size form
+    × (text ≡ padded options.width options.align_left (form ++ options.suffix.now))
 
 -- the first `len` of these bytes are a text for which this holds
 pub record BeginsWithForm (IsForm : List ℕ → Type 0) (bytes : List ℕ) (len : ℕ) : Type 0 where

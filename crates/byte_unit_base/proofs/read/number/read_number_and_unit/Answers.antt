@@ -2,7 +2,7 @@
 use Rattle.std.proofs.Common.{sym}
 use Rattle.std.proofs.lemmas.List.{take_rest}
 use Rattle.byte_unit_base.proofs.NumberEnds.{stops_in_unit}
-use Rattle.byte_unit_base.proofs.read.number.read_parts.Goals as goal
+use Rattle.byte_unit_base.proofs.read.number.read_number_and_unit.Goals as goal
 
 -- after the number, which is `found`: its end and its value; `stop` is what the parser of the unit keeps, and its place
 pub returns-in-Err-read_unit : goal.returns-in-Err-read_unit

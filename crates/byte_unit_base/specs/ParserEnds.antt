@@ -1,5 +1,5 @@
--- Private: what the parts of the parser of a number and a unit return. Contracts of this crate, and of private
--- functions of byte_unit_c, cite this file.
+-- Private: where the parsers of a number, of a unit and of both end, and with which result. Contracts of this crate,
+-- and of private functions of byte_unit_c, cite this file.
 use Rattle.std.specs.Prelude.{◌≡◌, ◌≢◌, ⊤, ℕ, ◌-◌, ◌<◌, ◌≤◌, nat_eq, Bool, true, false, List, [], ◌∷◌, ◌++◌, length}
 use Rattle.std.specs.Prelude.{take, replicate}
 use Rattle.std.specs.Prelude.{drop, slice_index, Option, Some, None, Result, Ok, Err}
@@ -37,7 +37,7 @@ IsAfterLine (byte ∷ rest) = byte ≡ 10
 -- the bytes begin with the line; `after` is what follows it
 pub record IsLineOf (line bytes : List ℕ) : Type 0 where
   pub after : List ℕ
-  pub parts_are : bytes ≡ line ++ after
+  pub bytes_are : bytes ≡ line ++ after
   pub ends : IsAfterLine after
 
 -- the first eight bytes, and 0 in place of those after the end
@@ -144,6 +144,6 @@ IsNumberEnd bytes (Ok found) = IsLeadingNumber bytes found.1 found.0
 IsNumberEnd bytes (Err stop) = (flags : Flags) → IsStop flags bytes stop
 
 -- the number and the unit that the bytes are, or where the parser stops in them
-abbrev pub IsPartsReading : Flags → List ℕ → Result (UnitName × ℕ) Stop → Type 0
-IsPartsReading flags bytes (Ok found) = IsSizeText current flags bytes found.1 (shape_of found.0)
-IsPartsReading flags bytes (Err stop) = IsStop flags bytes stop
+abbrev pub IsNumberAndUnitEnd : Flags → List ℕ → Result (UnitName × ℕ) Stop → Type 0
+IsNumberAndUnitEnd flags bytes (Ok found) = IsSizeText current flags bytes found.1 (shape_of found.0)
+IsNumberAndUnitEnd flags bytes (Err stop) = IsStop flags bytes stop

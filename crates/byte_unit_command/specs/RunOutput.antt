@@ -5,14 +5,14 @@ use Rattle.byte_unit.specs.Bounds.{size_limit}
 use Rattle.byte_unit_command.specs.Field.{Found}
 use Rattle.byte_unit_command.specs.Fields.{fields_of}
 use Rattle.byte_unit_command.specs.Output.{AreRecords, HasRejectedField}
-use Rattle.byte_unit_command.specs.Shown.{IsShown}
+use Rattle.byte_unit_command.specs.Formatted.{IsFormatted}
 use Rattle.byte_unit_command.specs.Sums.{sum_of, has_rejected, tally_of}
 use Rattle.byte_unit_command.specs.declared.options.Options.{Options}
 use Rattle.byte_unit_command.specs.declared.options.Invalid.TheVariants.{Abort}
 use Rattle.byte_unit_command.specs.declared.error.RunError.{RunError}
 use Rattle.byte_unit_command.specs.declared.error.RunError.TheVariants.{Memory, Read, Write, Rejected, Total}
 use Rattle.byte_unit_command.specs.declared.tally.Tally.{Tally}
-use Rattle.byte_unit_stream.specs.Prefix.{IsPrefix}
+use Rattle.byte_unit_stream.specs.Beginnings.{IsBeginningOf}
 use Rattle.byte_unit_stream.specs.Records.{finished_records, records_of}
 
 -- in the mode `abort`, nothing that was found is rejected
@@ -28,8 +28,8 @@ pub record AreConverted (options : Options) (records : List (List ℕ)) (text : 
 -- the line of the total, if it is asked for: the text of the exact sum, which is below 10^30, and the end byte
 abbrev pub IsTotalLine : Options → List Found → List ℕ → Type 0
 IsTotalLine options found line =
-    MatchBool options.total ((shown : List ℕ) × (sum_of found < size_limit) × IsShown options (sum_of found) shown
-    × (line ≡ shown ++ options.output_end ∷ [])) (line ≡ [])
+    MatchBool options.total ((text : List ℕ) × (sum_of found < size_limit) × IsFormatted options (sum_of found) text
+    × (line ≡ text ++ options.output_end ∷ [])) (line ≡ [])
 
 -- the whole output for these records, `text` with the line of the total, and what was found in them
 pub record IsOutput (options : Options) (records : List (List ℕ)) (written : List ℕ) (found : List Found) : Type 0 where
@@ -43,24 +43,24 @@ pub record IsOutput (options : Options) (records : List (List ℕ)) (written : L
 pub record AreFirst (options : Options) (records : List (List ℕ)) (written : List ℕ) : Type 0 where
   pub first : List (List ℕ)
   pub found : List Found
-  pub is_prefix : IsPrefix first records
+  pub is_beginning : IsBeginningOf first records
   pub converted : AreConverted options first written found
 
--- a prefix of the texts of the first of these records, for some number of them
+-- a beginning of the texts of the first of these records, for some number of them
 pub record IsBegun (options : Options) (records : List (List ℕ)) (written : List ℕ) : Type 0 where
   pub first : List (List ℕ)
   pub found : List Found
   pub text : List ℕ
-  pub is_prefix : IsPrefix first records
+  pub is_beginning : IsBeginningOf first records
   pub converted : AreConverted options first text found
-  pub begins : IsPrefix written text
+  pub begins : IsBeginningOf written text
 
--- a prefix of the whole output for these records
+-- a beginning of the whole output for these records
 pub record IsBegunOutput (options : Options) (records : List (List ℕ)) (written : List ℕ) : Type 0 where
   pub output : List ℕ
   pub found : List Found
   pub is_output : IsOutput options records output found
-  pub begins : IsPrefix written output
+  pub begins : IsBeginningOf written output
 
 -- in the mode `abort`, the texts of the records before the first one, `bytes`, that has a rejected field
 pub record IsAborted (options : Options) (records : List (List ℕ)) (written : List ℕ) : Type 0 where
@@ -92,7 +92,7 @@ all_of options read = records_of options.record_end read
 
 -- what a run has written that has read these bytes and ends with this result: the whole output with the tally of what
 -- was found; the texts of all finished records if a read failed; those of some first ones of them if it was out of
--- memory; a prefix of the output if a write failed; the texts of the records before the first one with a rejected
+-- memory; a beginning of the output if a write failed; the texts of the records before the first one with a rejected
 -- field; or those of all records, if their total is too large. A last record without its end byte is converted, and
 -- there is a total, only if `complete`: the input was read to its end
 abbrev pub IsWritten : Options → List ℕ → Type 0 → Result Tally RunError → List ℕ → Type 0
