@@ -9,9 +9,9 @@ ghost use Rattle.byte_unit_base.specs.ErrorPosition.{leading_white, IsSizePositi
 ghost use Rattle.byte_unit_base.specs.Outcome.{IsUnitOrStop};
 ghost use Rattle.byte_unit_base.specs.PlaceReading.{IsWholeLen, IsPlacesLen, IsNumberPlace, IsUnitPlace, IsSizePlace};
 
+use crate::Unit;
 use crate::read::number::{leading_spaces, read_unit};
 use crate::read::stop::first_char;
-use crate::Unit;
 use crate::unit::scan::{Flags, UnitStop};
 use byte_unit_math::{DECIMAL_PLACES, WHOLE_LIMIT};
 

@@ -70,10 +70,7 @@ pub fn read_size(
 /// # Errors
 /// Returns the character before which the parser stops, or `None` at the end, and where it stops in the trimmed string.
 #[inline(always)]
-pub(crate) fn read_or_stop(
-    s: &str,
-    flags: Flags,
-) -> Result<(Unit, Decimal), (Stop, Option<char>)>
+pub(crate) fn read_or_stop(s: &str, flags: Flags) -> Result<(Unit, Decimal), (Stop, Option<char>)>
     ensures { IsNumberOrStop flags s.now result }
 {
     let text = trimmed(s);

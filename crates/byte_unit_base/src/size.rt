@@ -14,9 +14,9 @@ ghost use Rattle.byte_unit_base.specs.Line.{IsLine};
 ghost use Rattle.byte_unit_base.specs.ParserEnds.{HasVisibleEnds};
 ghost use Rattle.byte_unit_base.specs.Outcome.{IsCharOfStops, IsOutcome, IsSizeOrStop};
 
-use crate::read::{has_visible_ends, read_or_stop};
 use crate::read::number::read_number_and_unit;
 use crate::read::stop::{Reason, Stop, error_at, first_ascii};
+use crate::read::{has_visible_ends, read_or_stop};
 use crate::unit::scan::Flags;
 use crate::{Kind, ParseError, Unit, ValueParseError, binary, read_size};
 use byte_unit_math::{Decimal, least_size};
@@ -329,8 +329,8 @@ pub fn read_text(
     ensures { MatchOption result (IsNotUtf8 bytes.now)
         (λ read. IsUtf8 bytes.now × IsSizeOrStop kind ignore_case bytes.now read) }
 {
-    let text = str::from_utf8(bytes).ok()?;
-    Some(read_or_stop(text, flags_for(kind, ignore_case)))
+    let string = str::from_utf8(bytes).ok()?;
+    Some(read_or_stop(string, flags_for(kind, ignore_case)))
 }
 
 /// Returns the result of parsing a string with this number and this unit, or with `BINARY` this number of its binary

@@ -37,12 +37,7 @@ pub fn write_message(error: &ParseError, out: &mut [u8]) -> usize
 /// Writes the message of the error of a parser of a unit that stops here, as `write_message` does, by the character
 /// there.
 #[inline(always)]
-pub fn write_unit_message(
-    stop: UnitStop,
-    next: Option<char>,
-    flags: Flags,
-    out: &mut [u8],
-) -> usize
+pub fn write_unit_message(stop: UnitStop, next: Option<char>, flags: Flags, out: &mut [u8]) -> usize
     ensures some { 0 < result }
     ensures text { (error : UnitParseError) × (unit_fault error ≡ unit_stop_fault flags stop next)
         × WritesForm (IsErrorText (UnitError error)) out.old out.new result }
