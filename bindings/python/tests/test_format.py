@@ -213,15 +213,18 @@ class Ranges(unittest.TestCase):
                 call(None)
 
     def test_flags(self) -> None:
+        """Each flag of each call is `True` or `False`, and nothing that Python takes for one of them."""
         calls = [
             lambda flag: byte_unit.text(1, bits=flag),
             lambda flag: byte_unit.text(1, alternate=flag),
             lambda flag: byte_unit.adjusted_text(1, "B", bits=flag),
+            lambda flag: byte_unit.adjusted_text(1, "B", alternate=flag),
             lambda flag: byte_unit.appropriate_unit(1, bits=flag),
             lambda flag: byte_unit.approximate_text(1, bits=flag),
             lambda flag: byte_unit.approximate_text(1, alternate=flag),
             lambda flag: byte_unit.exact_unit(1, bits=flag),
             lambda flag: byte_unit.exact_unit(1, either_kind=flag),
+            lambda flag: byte_unit.recoverable_unit(1, bits=flag),
             lambda flag: byte_unit.recoverable_unit(1, either_kind=flag),
             lambda flag: byte_unit.from_unit(1, "B", bits=flag),
         ]

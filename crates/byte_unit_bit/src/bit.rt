@@ -1,4 +1,4 @@
-// Rendered from crates/byte_unit_byte/src/byte.rt. Do not edit.
+// Rendered from crates/byte_unit_byte/src/byte.rt by `tools/dev render bits`. Do not edit.
 //! `Bit`, a size in bits: constructors, conversions to numbers, comparisons and arithmetic.
 
 ghost use Rattle.std.specs.Prelude.{◌≡◌, ◌+◌, ◌-◌, ◌*◌, ◌/◌, ◌^◌, ◌<◌, ◌≤◌, ◌↔◌, IsTrue, SomeIff, min};

@@ -1,4 +1,4 @@
-// Rendered from crates/byte_unit_byte/src/laws.rt. Do not edit.
+// Rendered from crates/byte_unit_byte/src/laws.rt by `tools/dev render bits`. Do not edit.
 //! Laws of the constants of `Bit`: public functions whose contracts are the laws.
 
 ghost use Rattle.std.specs.Prelude.{◌≡◌, ◌*◌, ◌+◌, MatchOption};

@@ -1,4 +1,4 @@
-// Rendered from crates/byte_unit_byte/src/lib.rt. Do not edit.
+// Rendered from crates/byte_unit_byte/src/lib.rt by `tools/dev render bits`. Do not edit.
 //! Sizes in bits: [`Bit`], a whole number of bits below 10^30.
 #![tactic(auto)]
 

@@ -296,6 +296,7 @@ module _ {options : Options} {word read written messages part : List ℕ} {state
         let Begun : Type 0 = IsBegun options records (written ++ more) in
         let Output : Type 0 = IsBegunOutput options records (written ++ more) in
         let either : Begun ⊎ Output = elim total_line [
+          -- the write failed before a line of the total was made
           | inl none ↦ inl (record {
             first = records;
             found = whole.found;
@@ -304,6 +305,7 @@ module _ {options : Options} {word read written messages part : List ℕ} {state
             converted = converted;
             begins = subst (IsBeginningOf (written ++ more)) (sym (append-nothing text line none)) begins_with;
           })
+          -- the write failed with the line of the total, or none is asked for
           | inr asked ↦ inr (record {
             output = text ++ line;
             found = whole.found;

@@ -219,7 +219,8 @@ IsTotalWritten options total before (Err Write) written =
 IsTotalWritten options total before (Err _) written = ⊥
 
 -- what a call has written that converts the last record, if there is one, and then writes the total, if it is asked
--- for, and the messages that it tells. Nothing was to be written or told before
+-- for, and the messages that it tells. Nothing was to be written or told before. A write fails before the line of the
+-- total is made, or with it
 abbrev pub IsFinished : Options → List ℕ → State → Result Tally RunError → List ℕ → List ℕ → Type 0
 IsFinished options part old (Ok tally) written messages =
     (new : State) × (line : List ℕ) × AddsRecords options (nonempty_record part) old new × (tally ≡ new.tally)

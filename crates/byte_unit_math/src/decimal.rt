@@ -304,6 +304,7 @@ impl PartialEq for Decimal {
 
     ghost laws = { partial_equiv_from_equiv (Prim.search (comparing, rules)) };
 
+    // Not derived: a derived `eq` would be that of the fields, and the contracts say that of the value, as a number.
     fn eq(&self, other: &Decimal) -> bool {
         self.whole() == other.whole() && self.fraction() == other.fraction()
     }

@@ -30,6 +30,7 @@ fn each_pace_of_reads(rt: HostRuntime) {
         });
         let mut read = Vec::new(rt.alloc());
         let mut buffer = [0u8; 4];
+        // As many calls as the slowest pace needs, one a byte; a faster one reads nothing in those that are left.
         for _ in 0..BYTES.len() {
             let n = reader.read(&mut buffer).unwrap_or(0);
             read.extend_from_slice(&buffer[..n]).expect(&rt, "memory");

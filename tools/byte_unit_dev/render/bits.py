@@ -11,7 +11,7 @@ from ..source import catalogue
 
 CRATE = "byte_unit_bit"
 SOURCE, TARGET, MOST_COLUMNS = "crates/byte_unit_byte", f"crates/{CRATE}", 120
-HEAD = "// Rendered from {}. Do not edit.\n".format
+HEAD = "// Rendered from {} by `tools/dev render bits`. Do not edit.\n".format
 # The differences beside words: the file says what it has.
 ROWS = f"{SOURCE}/bits.toml"
 # The longest `field: value` that `rt fmt` leaves on one line with its struct.

@@ -1,4 +1,4 @@
-// Rendered from crates/byte_unit_byte/src/byte/adjusted.rt. Do not edit.
+// Rendered from crates/byte_unit_byte/src/byte/adjusted.rt by `tools/dev render bits`. Do not edit.
 //! `AdjustedBit`, a size in bits with a unit for its text.
 //!
 //! The `#[inline]` attributes are for speed alone: each is kept because a measurement was better with it.

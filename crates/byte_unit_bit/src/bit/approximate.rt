@@ -1,4 +1,4 @@
-// Rendered from crates/byte_unit_byte/src/byte/approximate.rt. Do not edit.
+// Rendered from crates/byte_unit_byte/src/byte/approximate.rt by `tools/dev render bits`. Do not edit.
 //! The text of a size in bits in its appropriate unit: a few digits, as a person reads it.
 //!
 //! The `#[inline]` attributes are for speed alone: each is kept because a measurement was better with it.

@@ -1,4 +1,4 @@
-// Rendered from crates/byte_unit_byte/src/byte/binary.rt. Do not edit.
+// Rendered from crates/byte_unit_byte/src/byte/binary.rt by `tools/dev render bits`. Do not edit.
 //! Parsing of sizes in bits whose decimal prefixes mean binary ones.
 
 ghost use Rattle.std.specs.Prelude.{false};

@@ -1,4 +1,4 @@
-// Rendered from crates/byte_unit_byte/src/byte/built_in_traits.rt. Do not edit.
+// Rendered from crates/byte_unit_byte/src/byte/built_in_traits.rt by `tools/dev render bits`. Do not edit.
 //! The traits of std that `Bit` implements.
 
 ghost use Rattle.std.specs.Prelude.{◌≡◌, ◌^◌, ◌<◌, ◌-◌, min, Some, OkIff, false};

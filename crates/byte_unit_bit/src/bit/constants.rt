@@ -1,4 +1,4 @@
-// Rendered from crates/byte_unit_byte/src/byte/constants.rt. Do not edit.
+// Rendered from crates/byte_unit_byte/src/byte/constants.rt by `tools/dev render bits`. Do not edit.
 //! The constants of `Bit`, as literals. `laws::bit_constant` proves that each named after a unit is as large as it.
 //!
 //! `Ki` to `Ri` are the binary prefixes of the IEC, powers of 1024. `K` to `R` are the decimal prefixes of the SI,

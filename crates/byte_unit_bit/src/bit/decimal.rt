@@ -1,4 +1,4 @@
-// Rendered from crates/byte_unit_byte/src/byte/decimal.rt. Do not edit.
+// Rendered from crates/byte_unit_byte/src/byte/decimal.rt by `tools/dev render bits`. Do not edit.
 //! Sizes in bits from decimals.
 
 ghost use Rattle.byte_unit_base.specs.SizeOrNone.{IsSizeOrNone, IsSizeOfDecimal};

@@ -1,4 +1,4 @@
-// Rendered from crates/byte_unit_byte/src/byte/json.rt. Do not edit.
+// Rendered from crates/byte_unit_byte/src/byte/json.rt by `tools/dev render bits`. Do not edit.
 //! Sizes in bits as JSON strings.
 
 ghost use Rattle.std.specs.Prelude.{◌≡◌, ℕ, List, false, IfOk};

@@ -1,4 +1,4 @@
-// Rendered from crates/byte_unit_byte/src/byte/parse.rt. Do not edit.
+// Rendered from crates/byte_unit_byte/src/byte/parse.rt by `tools/dev render bits`. Do not edit.
 //! Parsing of sizes in bits.
 //!
 //! The `#[inline]` attributes are for speed alone: each is kept because a measurement was better with it.

@@ -1,4 +1,4 @@
-// Rendered from crates/byte_unit_byte/src/byte/position.rt. Do not edit.
+// Rendered from crates/byte_unit_byte/src/byte/position.rt by `tools/dev render bits`. Do not edit.
 //! Where a string that is no size in bits is wrong.
 
 ghost use Rattle.byte_unit_base.specs.ErrorPosition.{IsSizePosition};

@@ -1,4 +1,4 @@
-// Rendered from crates/byte_unit_byte/src/byte/text.rt. Do not edit.
+// Rendered from crates/byte_unit_byte/src/byte/text.rt by `tools/dev render bits`. Do not edit.
 //! Formatting of sizes in bits.
 //!
 //! The `#[inline]` attributes are for speed alone: each is kept because a measurement was better with it.

@@ -1,4 +1,4 @@
-// Rendered from crates/byte_unit_byte/src/byte/units.rt. Do not edit.
+// Rendered from crates/byte_unit_byte/src/byte/units.rt by `tools/dev render bits`. Do not edit.
 //! The units that represent a size in bits exactly.
 
 ghost use Rattle.std.specs.Prelude.{◌≡◌, ◌*◌, ◌≤◌};

@@ -1,4 +1,4 @@
-// Rendered from crates/byte_unit_byte/src/byte/adjusted/built_in_traits.rt. Do not edit.
+// Rendered from crates/byte_unit_byte/src/byte/adjusted/built_in_traits.rt by `tools/dev render bits`. Do not edit.
 //! The traits of std that `AdjustedBit` implements.
 
 ghost use Rattle.std.specs.Prelude.{◌≡◌, nat_eq, Some};

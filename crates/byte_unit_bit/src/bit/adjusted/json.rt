@@ -1,4 +1,4 @@
-// Rendered from crates/byte_unit_byte/src/byte/adjusted/json.rt. Do not edit.
+// Rendered from crates/byte_unit_byte/src/byte/adjusted/json.rt by `tools/dev render bits`. Do not edit.
 //! Adjusted sizes in bits as JSON strings.
 
 ghost use Rattle.std.specs.Prelude.{◌≡◌, ℕ, List, IfOk};
