@@ -36,7 +36,8 @@ impl<'a> Offsets<'a> {
         }
     }
 
-    /// Returns whether the first offset is 0 or more, none is less than the one before it, and the last is at most `len`.
+    /// Returns whether the first offset is 0 or more, none is less than the one before it, and the last is at most
+    /// `len`.
     pub fn ascend_to(self, len: usize) -> bool
         ensures { IsTrue result ↔ Ascends (pos 0) (pos len) (offsets_of self.entry) }
     {
