@@ -61,7 +61,7 @@ pub boundary_at : (bytes : List ℕ) (end : ℕ) → IsUtf8 bytes → end ≤ le
 boundary_at bytes end utf8 within ascii =
     IsCharBoundary-from_take bytes end utf8 within (IsUtf8-from_ascii (take end bytes) ascii)
 
--- so the rest is UTF-8
+-- what follows ASCII bytes in UTF-8 is UTF-8
 pub utf8_from : (bytes : List ℕ) (end : ℕ) → IsUtf8 bytes → end ≤ length bytes → IsAscii (take end bytes)
     → IsUtf8 (drop end bytes)
 utf8_from bytes end utf8 within ascii = IsUtf8-drop bytes end utf8 (boundary_at bytes end utf8 within ascii)

@@ -29,6 +29,6 @@ IsPositionFor IsViable flags bytes (Some position) = IsErrorAt IsViable flags by
 abbrev pub IsSizePosition : List ℕ → Option ℕ → Type 0
 IsSizePosition bytes result = (flags : Flags) → IsPositionFor (IsViableSizePrefix current) flags bytes result
 
--- the same of a unit; `None` if the input spells one
+-- the position of the error of a unit; `None` if the input spells one
 abbrev pub IsUnitPosition : List ℕ → Option ℕ → Type 0
 IsUnitPosition bytes result = (flags : Flags) → IsPositionFor (IsViableUnitPrefix current) flags bytes result

@@ -31,7 +31,7 @@ pub mod SizeLaws
 pub mod BinaryLaws
 pub mod ParsedLaws
 pub mod Versions
--- private: no public contract cites these
+-- private: no contract that `byte_unit` exports cites these
 pub mod ParserEnds
 pub mod Expected
 pub mod Outcome

@@ -75,7 +75,8 @@ pub record IsLeadingUnit (bytes : List ℕ) (scan : UnitScan) (end : ℕ) : Type
 abbrev pub IsScanStop : Flags → List ℕ → UnitScan → ℕ → Type 0
 IsScanStop flags bytes scan place = IsLeadingUnit bytes scan place × (place ≡ length bytes → unit_of flags scan ≡ None)
 
--- the same, where the state is kept as whether it has a prefix, and the suffix after it
+-- the parser of a unit stops in these bytes at this place, where no unit ends; its state is kept as whether it has a
+-- prefix, and the suffix after it
 abbrev pub IsUnitStop : Flags → List ℕ → UnitStop → ℕ → Type 0
 IsUnitStop flags bytes stop place = (scan : UnitScan) × IsScanStop flags bytes scan place × (unit_stop scan ≡ stop)
 

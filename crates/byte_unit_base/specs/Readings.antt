@@ -23,7 +23,7 @@ pub record IsUnitReading (flags : Flags) (bytes : List ℕ) (result : Result Uni
   pub reads : (unit : Shape) → Spells current flags (trim_of bytes) unit → IsOkAnd result (λ name. shape_of name ≡ unit)
   -- an error that is returned is that of the input
   pub fault : IfErr result (λ error. IsUnitFault current flags (trim_of bytes) (unit_fault error))
-  -- the same as an equation, which a proof can compute for a literal; it follows from the others
+  -- the result as an equation, which a proof can compute for a literal; it follows from the fields above
   pub computed : result_map_both (λ unit. unit) unit_fault result
       ≡ result_map_both unit_of_shape (λ fault. fault) (parsed_unit flags bytes)
 
@@ -38,6 +38,6 @@ pub record IsNumberReading (flags : Flags) (bytes : List ℕ) (result : Result (
   pub fault : IfErr result (λ error. IsSizeFault current flags (trim_of bytes) (size_fault error))
   -- the error is never that of a size which is too large
   pub no_bounds : IfErr result (λ error. (number : ℕ) → size_fault error ≢ exceeded number)
-  -- the same as an equation, which a proof can compute for a literal; it follows from the others
+  -- the result as an equation, which a proof can compute for a literal; it follows from the fields above
   pub computed : result_map_both (λ r. r) size_fault result
       ≡ result_map_both number_and_unit_of_crate (λ fault. fault) (parsed_number flags bytes)

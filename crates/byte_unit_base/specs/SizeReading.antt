@@ -21,7 +21,7 @@ pub record IsReadingAs
   pub exceeds : (number : ℕ) → ExceedsAs meant current kind ignore_case bytes number
       → IsErrAnd result (λ error. size_fault error ≡ exceeded number)
   pub fault : IfErr result (λ error. IsRejectedAs meant current kind ignore_case bytes (size_fault error))
-  -- the same as an equation, which a proof can compute for a literal; it follows from the others
+  -- the result as an equation, which a proof can compute for a literal; it follows from the fields above
   pub computed : result_map_both (λ n. n) size_fault result ≡ parsed_size_as meant kind ignore_case bytes
 
 -- the result is exactly the size that the input is accepted as, or the error that it is rejected with

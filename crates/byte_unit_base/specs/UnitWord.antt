@@ -1,5 +1,6 @@
 -- Private: the prefix and the suffix of a unit as numbers, the position of the prefix and how many letters of `bits`
--- there are; and what the code keeps of a state of the state machine. Contracts of this crate alone cite this file.
+-- there are; and what the code keeps of a state of the state machine. Contracts of this crate cite this file, and
+-- contracts of private functions of byte_unit_c lead to it.
 use Rattle.std.specs.Prelude.{ℕ, zero, suc, Bool, true, false, if◌then◌else◌, ◌==◌, List, Some, None, codes}
 use Rattle.std.specs.List.{common_prefix_len}
 use Rattle.std.specs.Char.{to_ascii_lowercase}

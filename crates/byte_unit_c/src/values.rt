@@ -17,6 +17,7 @@ pub struct Number {
 const TWO_POW_64: u128 = 1 << 64;
 
 impl Number {
+    /// The integer 0.
     pub const ZERO: Number = Number { low: 0, high: 0 };
 
     /// Creates a `Number` from an integer.
@@ -46,6 +47,7 @@ pub struct DecimalParts {
 }
 
 impl DecimalParts {
+    /// The decimal 0.
     pub const ZERO: DecimalParts = DecimalParts {
         whole: Number::ZERO,
         fraction: Number::ZERO,

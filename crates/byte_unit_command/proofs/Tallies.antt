@@ -17,7 +17,7 @@ tally_after-append options tally [] back = refl
 tally_after-append options tally (one ∷ front) back = tally_after-append options (tally_with options tally one) front
     back
 
--- the same for tallies that are given by equations
+-- the tally after two lists, where the tally between them and the one after them are given by equations
 pub tally_after-then : (options : Options) (old between new : Tally) (front back : List Found)
     → between ≡ tally_after options old front → new ≡ tally_after options between back → new
     ≡ tally_after options old (front ++ back)

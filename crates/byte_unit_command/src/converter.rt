@@ -134,7 +134,8 @@ impl<A: Allocator> Converter<A> {
         }
     }
 
-    /// Does what [`add_fields`](Converter::add_fields) does, with the fields between delimiters or blanks.
+    /// Does what [`add_fields`](Converter::add_fields) does, with the fields between delimiters or blanks. After the
+    /// last chosen field, copies the rest at once.
     ///
     /// Preconditions (proved at every call): `delimiter` is that of the options, `BLANKS` says whether fields are
     /// between blanks, and `digits` has capacity for the text of any size.
@@ -171,7 +172,6 @@ impl<A: Allocator> Converter<A> {
             rest = &rest[n + between.len()..];
             number += 1;
             ranges = ranges_from(ranges, number);
-            // No later field is chosen: the rest is copied at once.
             if ranges.is_empty() {
                 self.waiting.extend_from_slice(rest)?;
                 return Ok(());

@@ -174,7 +174,7 @@ fn unit_of(value: &str, kind: Kind, ignore_case: bool) -> Result<Unit, ValueErro
     if value.trim().is_empty() {
         return Err(ValueError::Blank);
     }
-    // The last argument says whether a unit without a suffix is of bytes.
+    // The last argument says whether a unit without the letter `B` or `b` is of bytes.
     let unit = match kind {
         Kind::Byte => Unit::parse_str(value, ignore_case, true),
         Kind::Bit => Unit::parse_str(value, false, false),

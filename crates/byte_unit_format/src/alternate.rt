@@ -1,6 +1,6 @@
 //! The alternate form with no other option set, written from the beginning to the end.
 //!
-//! The `#[inline]` attributes are for speed alone: each is kept because a measurement was better with it.
+//! The `#[inline]` attributes are for speed alone: no contract depends on them.
 
 ghost use Rattle.std.specs.Prelude.{◌≡◌, ◌+◌, ◌-◌, ◌*◌, ◌<◌, ◌≤◌, [], ◌∷◌, ◌++◌, length, take, drop};
 ghost use Rattle.std.specs.Prelude.{◌^◌, IsAscii};
@@ -119,7 +119,7 @@ fn put_unit_fraction(fraction: UnitFraction, kind: Kind, out: &mut [u8], point: 
             put(&unit, out, end);
             end
         }
-        // The same with two letters.
+        // If there are any digits, a point and at most three, in four bytes; then a space and two letters.
         UnitFraction::Thousandths(thousandths, power) => {
             let (digits, len) = digits_of_thousandths(thousandths);
             if len > 0 {

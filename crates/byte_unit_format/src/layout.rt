@@ -1,6 +1,6 @@
 //! Formatting of a number with its unit.
 //!
-//! The `#[inline]` attributes are for speed alone: each is kept because a measurement was better with it.
+//! The `#[inline]` attributes are for speed alone: no contract depends on them.
 
 ghost use Rattle.std.specs.Prelude.{◌≡◌, ◌+◌, ◌≤◌, ◌++◌, length, max};
 ghost use Rattle.std.specs.Fmt.{decimal};
@@ -73,7 +73,8 @@ pub fn write_layout(
     layout_parts(e.whole(), Fraction::First(e, places), unit, spec).write(out)
 }
 
-/// Returns the parts of a number with its unit.
+/// Returns the parts of a number with its unit. With the sign `+`, the spaces and the name, of one to three letters,
+/// take four columns.
 #[inline(always)]
 #[tactic(auto, using(crate::proofs::Widths::name_short))]
 pub(crate) fn layout_parts<'a>(
@@ -94,7 +95,6 @@ pub(crate) fn layout_parts<'a>(
     let name = unit.as_str();
     let gap = match spec.sign {
         Sign::Unset => 1,
-        // The spaces and the name, of one to three letters, take four columns.
         Sign::Plus => 4 - name.len(),
         Sign::Minus => 0,
     };

@@ -1,6 +1,6 @@
 //! The parts of a formatted text, and writing backwards into a buffer.
 //!
-//! The `#[inline]` attributes are for speed alone: each is kept because a measurement was better with it.
+//! The `#[inline]` attributes are for speed alone: no contract depends on them.
 
 ghost use Rattle.std.specs.Prelude.{◌≡◌, ◌+◌, ◌^◌, ◌≤◌, ◌++◌, length, take, drop, replicate, IsAscii};
 ghost use Rattle.byte_unit_math.specs.Numeral.{fraction_text};

@@ -1,6 +1,6 @@
 //! Products of a decimal and a unit's size, rounded up to a whole number.
 //!
-//! The `#[inline]` attributes are for speed alone: each is kept because a measurement was better with it.
+//! The `#[inline]` attributes are for speed alone: no contract depends on them.
 ghost use Rattle.std.specs.Prelude.{◌≡◌, ℕ, ◌+◌, ◌-◌, ◌*◌, ◌/◌, ◌%◌, ◌^◌, ◌<◌, ◌≤◌, IfSome, IfNone};
 ghost use Rattle.byte_unit_math.specs.Bounds.{bits_limit, places_of_decimal, unit_limit};
 ghost use Rattle.byte_unit_math.specs.Least.{IsLeastSize};
@@ -11,7 +11,7 @@ use crate::dividing::{div_rem_by_inverse, div_rem_u24};
 use crate::tens::{POWERS_OF_TEN, power_of_ten};
 use crate::{DECIMAL_PLACES, Decimal, Steps};
 
-/// The radix of groups of seven digits: the product of a group and a unit of less than 40 bits fits a `u64`.
+/// The radix of groups of seven digits: the product of a group and a unit of at most 40 bits fits a `u64`.
 const GROUP: u64 = 10_000_000;
 
 /// The radix of half the digits of a fraction, which fit a `u64`.
@@ -124,7 +124,7 @@ fn carry_of_group(digits: u64, unit_size: u128, carry: u128) -> u128
         // A zero group without a carry needs no division.
         0
     } else if unit_size < 1 << 40 {
-        // A group has less than 24 bits, so the sum fits 64.
+        // The sum is less than 10^7 * 2^40, which is less than 2^64: the carry is at most the unit's size.
         u128::from((digits * unit_size as u64 + carry as u64 + (GROUP - 1)) / GROUP)
     } else {
         let product = u128::from(digits) * unit_size + carry;

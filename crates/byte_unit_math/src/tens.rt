@@ -1,6 +1,6 @@
 //! Powers of 10, of 5 and of 2.
 //!
-//! The `#[inline]` attributes are for speed alone: each is kept because a measurement was better with it.
+//! The `#[inline]` attributes are for speed alone: no contract depends on them.
 ghost use Rattle.std.specs.Prelude.{◌≡◌, ◌^◌, ◌≤◌};
 ghost use Rattle.byte_unit_math.specs.Bounds.{expansion_places};
 

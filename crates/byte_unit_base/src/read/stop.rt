@@ -27,6 +27,7 @@ pub enum Reason {
 pub struct Stop {
     /// The index in bytes of the character that is rejected, or 0 if the number is too long. ASCII comes before it.
     pub place: usize,
+    /// Why it stops.
     pub reason: Reason,
 }
 

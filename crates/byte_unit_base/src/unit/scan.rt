@@ -68,6 +68,13 @@ impl UnitStop {
     ghost use Rattle.byte_unit_base.specs.Errors.{unit_fault};
 
     /// Returns the error of a string in which the parser of a unit stops here, by the character there.
+    ///
+    /// # Examples
+    /// ```rust
+    /// let flags = size::flags_for(Kind::Byte, false);
+    /// let error = position::read_unit_text("Kix", flags).map_err(|(stop, next, _)| stop.error_before(next, flags));
+    /// assert!(rt; matches!(error, Err(UnitParseError { character: 'x', .. })));
+    /// ```
     #[inline(always)]
     pub fn error_before(self, next: Option<char>, flags: Flags) -> UnitParseError
         ensures { unit_fault result ≡ unit_stop_fault flags self next }
@@ -83,6 +90,13 @@ impl UnitStop {
     }
 
     /// Returns what the error of `error_before` names as expected.
+    ///
+    /// # Examples
+    /// ```rust
+    /// let flags = size::flags_for(Kind::Byte, false);
+    /// let named = position::read_unit_text("Kix", flags).map_err(|(stop, next, _)| stop.expected_before(next, flags));
+    /// assert!(rt; matches!(named, Err(Expected::EitherB)));
+    /// ```
     #[inline(always)]
     pub fn expected_before(self, next: Option<char>, flags: Flags) -> Expected
         ensures { expected_codes result ≡ named_in (unit_stop_fault flags self next) }

@@ -1,6 +1,6 @@
 //! The text of a size in bytes in its appropriate unit: a few digits, as a person reads it.
 //!
-//! The `#[inline]` attributes are for speed alone: each is kept because a measurement was better with it.
+//! The `#[inline]` attributes are for speed alone: no contract depends on them.
 
 ghost use Rattle.std.specs.Prelude.{◌≤◌, IfOk};
 ghost use Rattle.std.specs.String.{string_bytes};

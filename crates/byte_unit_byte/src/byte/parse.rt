@@ -1,6 +1,6 @@
 //! Parsing of sizes in bytes.
 //!
-//! The `#[inline]` attributes are for speed alone: each is kept because a measurement was better with it.
+//! The `#[inline]` attributes are for speed alone: no contract depends on them.
 
 ghost use Rattle.std.specs.Prelude.{take};
 ghost use Rattle.byte_unit_base.specs.Line.{IsLine};

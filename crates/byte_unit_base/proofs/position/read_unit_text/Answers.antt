@@ -15,6 +15,7 @@ use Rattle.byte_unit_base.proofs.UnitReads.{unit_reading, unit_scan_is}
 use Rattle.byte_unit_base.proofs.UnitStops.{run_ascii, spelled_chars, stop_read}
 use Rattle.byte_unit_base.proofs.position.read_unit_text.Goals as goal
 
+-- the parser stops where a character begins or the string ends, so the rest of the string can be taken from there
 pub range_from-requires : goal.range_from-requires
 range_from-requires c =
     let flags = c.args.flags in
@@ -25,16 +26,19 @@ range_from-requires c =
     let utf8 = subst IsUtf8 c.as_bytes-bytes.ensures.value c.as_bytes-bytes.ensures.utf8 in
     λ _. boundary_at text stop.1 utf8 leads.within (run_ascii _ start stops.0 leads.run_is)
 
+-- the unit that the trimmed string spells is the reading of the whole string
 pub returns-in-Ok : goal.returns-in-Ok
 returns-in-Ok c =
     let flags = c.args.flags in
     let text = c.trim-text.result.now in
     let unit = shape_of c.in-Ok.unit in
     let spells = subst (λ text. Spells current flags text unit) c.as_bytes-bytes.ensures.value c.in-Ok.ensures in
-    let trimmed = sym (spelled_chars flags text unit spells) ∙ (ap chars c.trim-text.ensures.trim ∙ chars-trim c.args.s.now c.utf8.s) in
+    let trimmed = sym (spelled_chars flags text unit spells)
+    ∙ (ap chars c.trim-text.ensures.trim ∙ chars-trim c.args.s.now c.utf8.s) in
     unit_reading flags c.args.s.now (Ok c.in-Ok.unit)
     (sym (reads_meaning (unit_scan_is flags) text unit spells) ∙ ap (read (unit_scan flags) start) trimmed)
 
+-- the error by the state and what follows is the string's, and its position is the place after the leading white space
 pub returns-in-Err : goal.returns-in-Err
 returns-in-Err c =
     let flags = c.args.flags in
@@ -49,6 +53,7 @@ returns-in-Err c =
       (λ error fault_is.
           let error_is = fault_is ∙ ap (unit_stop_fault flags stop.0) next_is in
           unit_reading flags c.args.s.now (Err error)
-          (ap Err error_is ∙ (sym (stop_read flags text stop.1 stop.0 stops utf8) ∙ ap (read (unit_scan flags) start) trimmed))),
+          (ap Err error_is
+          ∙ (sym (stop_read flags text stop.1 stop.0 stops utf8) ∙ ap (read (unit_scan flags) start) trimmed))),
       position,
     )

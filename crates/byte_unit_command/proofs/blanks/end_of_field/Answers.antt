@@ -17,7 +17,8 @@ ends-by_two bytes place fits =
 pub loop-i-init : goal.loop-i-init
 loop-i-init c = (IsUncut-start c.args.bytes.now, omega arith)
 
--- the invariant, a pair of this and the bound of the index, holds after a byte where no field ends
+-- the invariant holds after a byte where no field ends; it is a pair: no field ends before the index (`IsUncut`), and
+-- the bound of the index
 pub loop-i-preserved : goal.loop-i-preserved
 loop-i-preserved c =
     let bytes = c.args.bytes.now in

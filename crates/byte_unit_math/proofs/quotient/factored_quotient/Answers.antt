@@ -47,13 +47,15 @@ overflow_shl-count c = omega (arith, (few (goal.at.overflow_shl-count c).Start).
 pub overflow_mul-count : goal.overflow_mul-count
 overflow_mul-count c = omega (arith, (few (goal.at.overflow_mul-count c).Start).small)
 
--- The multiple is below 2^112, as the division by an inverse needs it; so in each branch of the places.
+-- The multiple is below 2^112, as the division needs it, in the branch of one place.
 pub div_rem_small-requires-clause-small : goal.div_rem_small-requires-clause-small
 div_rem_small-requires-clause-small c = (few (goal.at.div_rem_small-requires-clause-small c).Start).small
 
+-- The multiple is below 2^112 in the branch of two places.
 pub div_rem_small-requires-in-2-clause-small : goal.div_rem_small-requires-in-2-clause-small
 div_rem_small-requires-in-2-clause-small c = (few (goal.at.div_rem_small-requires-in-2-clause-small c).Start).small
 
+-- The multiple is below 2^112 in the branch of three places.
 pub div_rem_small-requires-in-3-clause-small : goal.div_rem_small-requires-in-3-clause-small
 div_rem_small-requires-in-3-clause-small c = (few (goal.at.div_rem_small-requires-in-3-clause-small c).Start).small
 

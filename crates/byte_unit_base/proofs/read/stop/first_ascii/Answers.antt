@@ -14,10 +14,12 @@ first : (bytes : List ℕ) (c : ℕ) → 1 ≤ length bytes → c ≡ slice_inde
 first [] c some is = absurd (omega (arith, some))
 first (b ∷ bs) c some is = ap Some is
 
+-- if there are no bytes, there is no first character
 pub returns-in-empty : goal.returns-in-empty
 returns-in-empty c =
     none c.args.bytes.now (omega (arith, c.in-empty.len_below)) ∙ ap next_char (sym (chars-IsAscii c.args.bytes.now c.requires))
 
+-- the first byte, if there is one, is the first character
 pub returns-in-len1-up : goal.returns-in-len1-up
 returns-in-len1-up c = first c.args.bytes.now c.from.result (omega (arith, c.in-len1-up.len_at_least)) c.from.ensures
     ∙ ap next_char (sym (chars-IsAscii c.args.bytes.now c.requires))
