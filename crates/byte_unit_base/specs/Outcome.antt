@@ -54,7 +54,8 @@ IsNumberOrStop flags bytes (Err (stop, next)) = (error : ParseError)
     → size_fault error ≡ stop_fault flags (nat_eq stop.place 0) stop.reason next
     → IsNumberReading flags bytes (Err error)
 
--- the same for a size of this kind, where the error is that of the size in each reading
+-- the number and the unit of a size of this kind, or where the parser stops in the string: the error by these is that of
+-- the size, in each reading
 abbrev pub IsSizeOrStop : Kind → Bool → List ℕ → Result (UnitName × ℕ) (Stop × Option ℕ) → Type 0
 IsSizeOrStop kind ignore_case bytes (Ok (unit, number)) =
     IsNumberReading (flags_for kind ignore_case) bytes (Ok (number, unit))
@@ -66,5 +67,6 @@ IsSizeOrStop kind ignore_case bytes (Err (stop, next)) =
 abbrev pub IsUnitOrStop : Flags → List ℕ → Result UnitName (UnitStop × Option ℕ × ℕ) → Type 0
 IsUnitOrStop flags bytes (Ok unit) = IsUnitReading flags bytes (Ok unit)
 IsUnitOrStop flags bytes (Err (stop, next, position)) =
-    ((error : UnitParseError) → unit_fault error ≡ unit_stop_fault flags stop next → IsUnitReading flags bytes (Err error))
+    ((error : UnitParseError) → unit_fault error ≡ unit_stop_fault flags stop next
+    → IsUnitReading flags bytes (Err error))
     × IsUnitPosition bytes (Some position)

@@ -68,7 +68,8 @@ pub fn read_size(
 /// `read_size` does not call it: one result of both is in memory, and a string takes some 10 instructions more.
 ///
 /// # Errors
-/// Returns the character before which the parser stops, or `None` at the end, and where it stops in the trimmed string.
+/// Returns where the parser stops in the trimmed string (0 if the number is too long) and why, and the character there,
+/// or `None` at the end.
 #[inline(always)]
 pub(crate) fn read_or_stop(s: &str, flags: Flags) -> Result<(Unit, Decimal), (Stop, Option<char>)>
     ensures { IsNumberOrStop flags s.now result }

@@ -7,7 +7,8 @@ ghost use Rattle.byte_unit_math.specs.Bounds.{size_limit};
 ghost use Rattle.byte_unit_base.specs.Kinds.{bits_in, flags_for};
 ghost use Rattle.byte_unit_base.specs.Readings.{IsNumberReading};
 ghost use Rattle.byte_unit_base.specs.BinaryReading.{unit_meant};
-ghost use Rattle.byte_unit_base.specs.SizeReading.{IsReadingAs, IsBytesReadingAs, IsNotUtf8, IsSizeReading, IsBytesReading};
+ghost use Rattle.byte_unit_base.specs.SizeReading.{IsReadingAs, IsSizeReading};
+ghost use Rattle.byte_unit_base.specs.SizeReading.{IsBytesReadingAs, IsBytesReading, IsNotUtf8};
 ghost use Rattle.byte_unit_base.specs.Units.{shape_of};
 ghost use Rattle.byte_unit_base.specs.SizeOrNone.{IsSizeOfUnit, IsSizeOfDecimal};
 ghost use Rattle.byte_unit_base.specs.Line.{IsLine};
@@ -312,7 +313,8 @@ pub fn parse_text<const BINARY: bool>(
 /// [`error_at`](crate::error_at). Returns `None` if the bytes are not UTF-8.
 ///
 /// # Errors
-/// Returns the character before which the parser stops, or `None` at the end, and where it stops in the trimmed string.
+/// Returns where the parser stops in the trimmed string (0 if the number is too long) and why, and the character there,
+/// or `None` at the end.
 ///
 /// # Examples
 /// ```rust

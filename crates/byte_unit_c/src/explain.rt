@@ -108,7 +108,7 @@ fn write_stop_message(
     }
 }
 
-/// Writes the message of the error of a number and a unit, if their size is too large, and returns its length.
+/// Writes the message that a size is too large, and returns its length. Returns 0 and writes nothing if it is not.
 ///
 /// `#[inline(always)]`: the result is then never in memory.
 #[inline(always)]

@@ -1,4 +1,4 @@
--- The number and unit of the trimmed string, or where the parser stops in it: the error by what follows is the string's.
+-- The number and unit of the trimmed string, or where the parser stops in it: the error by these is that of the string.
 use Rattle.std.proofs.Common.{nat_eq, ap, subst, ◌∙◌}
 use Rattle.std.specs.Str.{chars, IsUtf8}
 use Rattle.byte_unit_base.specs.Units.{shape_of}
@@ -8,6 +8,7 @@ use Rattle.byte_unit_base.proofs.SizeReads.{stop_reading, stated_reading}
 use Rattle.byte_unit_base.proofs.SizeRest.{boundary_at}
 use Rattle.byte_unit_base.proofs.read.read_or_stop.Goals as goal
 
+-- the parser stops at the boundary of a character, since ASCII comes before
 pub range_from-requires : goal.range_from-requires
 range_from-requires c =
     let flags = c.args.flags in
@@ -15,6 +16,7 @@ range_from-requires c =
     let utf8 = subst IsUtf8 c.as_bytes-bytes.ensures.value c.as_bytes-bytes.ensures.utf8 in
     λ _. boundary_at c.trimmed-text.result.now c.in-Err.stop.place utf8 stop.within stop.ascii
 
+-- the bytes are the number and the unit that the parser has read
 pub returns-in-Ok : goal.returns-in-Ok
 returns-in-Ok c =
     let flags = c.args.flags in
@@ -23,6 +25,7 @@ returns-in-Ok c =
     stated_reading flags c.args.s.now (found.1, found.0)
     (rw c.trimmed-text.ensures at (size_of_chars flags c.trimmed-text.result.now found.1 (shape_of found.0) text))
 
+-- an error that is the one at the stop is that of the string
 pub returns-in-Err : goal.returns-in-Err
 returns-in-Err c error error_is =
     let flags = c.args.flags in

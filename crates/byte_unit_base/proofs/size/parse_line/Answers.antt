@@ -34,5 +34,6 @@ returns-then-is_visible_ascii-clause-reading g c =
     let next_is = c.first_ascii-next.ensures ∙ ap (λ rest. next_char (chars rest)) (take_rest line place) in
     let fault_is = error_is ∙ ap (stop_fault flags (nat_eq place 0) reason) next_is in (
       utf8,
-      visible_stop (unit_meant (not (eqb g.row.BINARY 0))) c.args.kind c.args.ignore_case line place reason c.error_at.result utf8 ends stop fault_is,
+      visible_stop (unit_meant (not (eqb g.row.BINARY 0))) c.args.kind c.args.ignore_case line place reason
+          c.error_at.result utf8 ends stop fault_is,
     )

@@ -4,6 +4,7 @@ use Rattle.byte_unit_base.specs.BinaryReading.{unit_meant}
 use Rattle.byte_unit_base.specs.Outcome.{IsSizeOrStop}
 use Rattle.byte_unit_c.proofs.explain.explain_string.Goals as goal
 
+-- the string is a number and a unit
 pub returns-in-Some-Ok-clause-reading : goal.returns-in-Some-Ok-clause-reading
 returns-in-Some-Ok-clause-reading g c =
     let bytes = c.args.text.now in
@@ -13,6 +14,7 @@ returns-in-Some-Ok-clause-reading g c =
     let reading = c.size_of.ensures.reading c.args.asked.ignore_case bytes read in
     (Some c.size_of.result, (utf8, reading), c.explain_size.ensures.text)
 
+-- the parser stops in the string
 pub returns-in-Some-Err-clause-reading : goal.returns-in-Some-Err-clause-reading
 returns-in-Some-Err-clause-reading g c =
     let bytes = c.args.text.now in

@@ -7,15 +7,17 @@ use Rattle.byte_unit_c.proofs.explain.explain_unit_as.Goals as goal
 pub returns-in-Some-Ok-clause-reading : goal.returns-in-Some-Ok-clause-reading
 returns-in-Some-Ok-clause-reading c =
     -- the second part of the contract says how the bytes are parsed; the first, that they are UTF-8
-    let read = subst (IsUnitOrStop c.unit_flags-flags.result c.args.text.now) c.in-Some-Ok.field-0-is c.in-Some-Ok.ensures.1 in
+    let read = subst (IsUnitOrStop c.unit_flags-flags.result c.args.text.now) c.in-Some-Ok.field-0-is
+    c.in-Some-Ok.ensures.1 in
     let reading = rw c.unit_flags-flags.ensures at read in
     (Some (Ok c.in-Some-Ok.field-0-0), (c.in-Some-Ok.ensures.0, reading), (refl, refl))
 
 -- the string is rejected: the message of its error is written
 pub returns-in-Some-Err-clause-reading : goal.returns-in-Some-Err-clause-reading
 returns-in-Some-Err-clause-reading c =
-    let stops = subst (IsUnitOrStop c.unit_flags-flags.result c.args.text.now) c.in-Some-Err.field-0-is c.in-Some-Err.ensures.1 in
-    -- `stops` is a pair: the error by the stop is that of the string, and the position is its position
+    -- a pair: the error by the stop is that of the string, and the position is its position
+    let stops = subst (IsUnitOrStop c.unit_flags-flags.result c.args.text.now) c.in-Some-Err.field-0-is
+    c.in-Some-Err.ensures.1 in
     -- the error of the unit, that it is the one where the parser stops, and its message
     let text = c.write_unit_message.ensures.text in
     let reading = rw c.unit_flags-flags.ensures at (stops.0 text.0 text.1) in

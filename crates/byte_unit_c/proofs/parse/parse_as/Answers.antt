@@ -12,5 +12,6 @@ returns-in-Accepted g c =
     let reading = c.size_of.ensures.reading c.args.asked.ignore_case c.args.text.now found.1 in (
       Some c.size_of.result,
       (found.0, reading),
-      c.write_result.ensures (unit_meant (not (eqb g.row.BINARY 0))) c.args.asked.kind c.args.asked.ignore_case (found.0, reading),
+      c.write_result.ensures (unit_meant (not (eqb g.row.BINARY 0))) c.args.asked.kind c.args.asked.ignore_case
+          (found.0, reading),
     )

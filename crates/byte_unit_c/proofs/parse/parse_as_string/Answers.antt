@@ -7,4 +7,6 @@ use Rattle.byte_unit_c.proofs.parse.parse_as_string.Goals as goal
 pub returns : goal.returns
 returns g c =
     let reading = c.parse_text-answer.ensures.reading in
-    (c.parse_text-answer.result, reading, c.write_result.ensures (unit_meant (not (eqb g.row.BINARY 0))) c.args.asked.kind c.args.asked.ignore_case reading)
+    let written = c.write_result.ensures (unit_meant (not (eqb g.row.BINARY 0))) c.args.asked.kind
+    c.args.asked.ignore_case reading in
+    (c.parse_text-answer.result, reading, written)

@@ -7,15 +7,17 @@ use Rattle.byte_unit_c.proofs.parse.parse_unit_as.Goals as goal
 pub returns-in-Some-Ok : goal.returns-in-Some-Ok
 returns-in-Some-Ok c =
     -- the second part of the contract says how the bytes are parsed; the first, that they are UTF-8
-    let read = subst (IsUnitOrStop c.unit_flags-flags.result c.args.text.now) c.in-Some-Ok.field-0-is c.in-Some-Ok.ensures.1 in
+    let read = subst (IsUnitOrStop c.unit_flags-flags.result c.args.text.now) c.in-Some-Ok.field-0-is
+    c.in-Some-Ok.ensures.1 in
     let reading = rw c.unit_flags-flags.ensures at read in
     (Some (Ok c.in-Some-Ok.found), (c.in-Some-Ok.ensures.0, reading), (refl, c.code_of.ensures, refl))
 
 -- the string is rejected: the details of its error are written
 pub returns-in-Some-Err : goal.returns-in-Some-Err
 returns-in-Some-Err c =
-    let stops = subst (IsUnitOrStop c.unit_flags-flags.result c.args.text.now) c.in-Some-Err.field-0-is c.in-Some-Err.ensures.1 in
-    -- `stops` is a pair: the error by the stop is that of the string, and the position is its position
+    -- a pair: the error by the stop is that of the string, and the position is its position
+    let stops = subst (IsUnitOrStop c.unit_flags-flags.result c.args.text.now) c.in-Some-Err.field-0-is
+    c.in-Some-Err.ensures.1 in
     -- the error of the unit, that it is the one where the parser stops, and that it is written
     let written = c.write_unit_stop.ensures in
     let reading = rw c.unit_flags-flags.ensures at (stops.0 written.0 written.1) in (

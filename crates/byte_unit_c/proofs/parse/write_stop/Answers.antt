@@ -37,7 +37,7 @@ returns-in-NoDigit-clause-some c =
     let bytes = c.args.text.now in
     let at_start = nat_eq c.args.place 0 in
     let next = c.in_ok-next.next in
-    -- a pair, as in the case before
+    -- a pair: an error that is the one at the stop is the one of the bytes, and the place is the position of the stop
     let stops = c.in_ok-next.ensures c.args.asked.kind c.args.asked.ignore_case c.args.reason c.requires in
     let fault_is = c.error_at.ensures
     ∙ ap (λ flags. stop_fault flags at_start c.args.reason next) c.flags_for-flags.ensures in

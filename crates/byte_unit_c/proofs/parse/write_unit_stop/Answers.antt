@@ -5,6 +5,7 @@ use Rattle.byte_unit_base.specs.Expected.{named_in}
 use Rattle.byte_unit_c.specs.Error.{expected_bytes, IsErrorOf}
 use Rattle.byte_unit_c.proofs.parse.write_unit_stop.Goals as goal
 
+-- the error by what was read of the unit and the character after it
 pub returns : goal.returns
 returns c =
     let error = c.error_before-error.result in
@@ -13,5 +14,8 @@ returns c =
     ∙ ap expected_bytes (c.expected_before.ensures ∙ ap named_in (sym c.error_before-error.ensures)) in
     let details : IsErrorOf (unit_fault error) c.of_unit_parts.result =
     rw (← c.error.view_is)
-    (c.of_unit_parts.ensures.details c.error.inside.expected_characters.now (rw (← c.error.view_is) at bytes_are)) in
-    (error, c.error_before-error.ensures, (c.of_unit_parts.result, details, c.of_unit_parts.ensures.position, c.write.ensures))
+    (c.of_unit_parts.ensures.details c.error.inside.expected_characters.now (rw (← c.error.view_is) at bytes_are)) in (
+      error,
+      c.error_before-error.ensures,
+      (c.of_unit_parts.result, details, c.of_unit_parts.ensures.position, c.write.ensures),
+    )
