@@ -54,8 +54,8 @@ IsNumberOrStop flags bytes (Err (stop, next)) = (error : ParseError)
     → size_fault error ≡ stop_fault flags (nat_eq stop.place 0) stop.reason next
     → IsNumberReading flags bytes (Err error)
 
--- the number and the unit of a size of this kind, or where the parser stops in the string: the error by these is that of
--- the size, in each reading
+-- the number and the unit of a size of this kind, or where the parser stops in the string: the error by these is that
+-- of the size, in each reading
 abbrev pub IsSizeOrStop : Kind → Bool → List ℕ → Result (UnitName × ℕ) (Stop × Option ℕ) → Type 0
 IsSizeOrStop kind ignore_case bytes (Ok (unit, number)) =
     IsNumberReading (flags_for kind ignore_case) bytes (Ok (number, unit))
