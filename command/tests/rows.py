@@ -40,7 +40,7 @@ def unknown(word):
 
 
 def field(text, quoted, why, at=0):
-    """Returns a call on a field that is not a size, with the text that its message quotes."""
+    """Returns the arguments of `row` for a field that is not a size: it is copied, and its message has `quoted`."""
     return "--invalid=warn", text + b"\n", text + b"\n", 0, told(f"line 1: '{quoted}'", why, at)
 
 
@@ -280,6 +280,7 @@ MODELLED += [row(words, b"", b"", 2, message) for words, message in WRONG_VALUES
 OTHERS = [row(words, b"", b"", 2, message) for words, message in WRONG_WORDS]
 OTHERS += [row(word, b"", b"byte-unit 3.0.0\n") for word in ("--version", "-V")]
 LINES = b"1.5 KB\n" * 15_000
+# More than 2^24 bytes: the wrong program "out of memory for 16 MB" of test_wrong.py refuses no less.
 LONG = b"0" * 17_000_000
 
 

@@ -45,7 +45,8 @@ class Server:
         return "nobody" if os.geteuid() == 0 else pwd.getpwuid(os.geteuid()).pw_name
 
     def make(self, *words):
-        """Calls make for the extension, with the server if it runs, and returns its output."""
+        """Calls make for the extension, with the server if it runs, and returns its output. A later word replaces one of
+        these: PG_CONFIG says where it is installed."""
         words = [
             "make",
             "-s",

@@ -99,7 +99,8 @@ stops_at_start bytes none flags = record {
   };
 }
 
--- the bytes begin with the digits of a whole part, as std finds and reads them
+-- the bytes begin with the digits of a whole part, and `whole` is what the code reads them as: their value only if that
+-- is below 2^112
 module _ (bytes : List ℕ) (end whole : ℕ) (run_is : end ≡ 0 + digits_len (drop 0 bytes)) (within : end ≤ length bytes)
     (some : end ≡ 0 → ⊥)
     (small : whole < whole_limit) (exact : whole < whole_limit → whole ≡ digits_value 10 (take end bytes)) where
@@ -186,7 +187,7 @@ module _ (bytes : List ℕ) (end whole : ℕ) (run_is : end ≡ 0 + digits_len (
       };
     }
 
-    -- digits of a fraction follow the point, as std finds and reads them
+    -- digits of a fraction follow the point, up to `stop`
     module _ (stop : ℕ) (stop_is : stop ≡ end + 1 + digits_len rest) (stop_within : stop ≤ length bytes) where
       -- the number of digits of the fraction
       abbrev places : ℕ

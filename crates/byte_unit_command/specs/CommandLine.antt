@@ -95,6 +95,6 @@ without_rules =
     let start = new_app (codes "byte-unit") in
     record start { top = record start.top { has_version = true; args_override_self = true } }
 
--- the command
+-- the command that `arguments::command` makes, with its arguments in the order of the code
 abbrev pub command_line : App
 command_line = with_rules (with_rules without_rules size_rules) record_rules

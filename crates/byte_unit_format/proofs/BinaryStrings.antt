@@ -16,7 +16,8 @@ use Rattle.byte_unit_format.proofs.WrittenForms.{recovered_unit_unique}
 use Rattle.byte_unit_format.proofs.ReadBack.{accepted_as, digits_accepted, form_is_size, size_form_reads_back}
 use Rattle.byte_unit_format.proofs.ReadBack.{plain_form_reads_back}
 
--- A unit with a binary prefix (`some` says that it has one) is unchanged if its prefix is made binary.
+-- A unit with a binary prefix is unchanged if its prefix is made binary. `some` says whether it has a prefix at all: it
+-- is a parameter, since both definitions branch on it.
 by_power : (some : Bool) (unit : Shape) → (if some then unit.binary else false) ≡ true
     → (if some then shape unit.power true unit.bit else unit) ≡ unit
 by_power true unit prefix = ap (λ binary. shape unit.power binary unit.bit) (sym prefix)

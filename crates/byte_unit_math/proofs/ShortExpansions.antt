@@ -173,7 +173,7 @@ short_trimmed {num} {den} {e} h some = ⊎_elim (λ last. last)
     absurd (omega (arith, some, short_places (e.places - 1) h (e.whole * before + e.digits / 10, fewer))))
     (cases_lt 0 (e.digits % 10))
 
--- The whole part of a short expansion is at most the numerator.
+-- The whole part of a short expansion is at most the numerator, so for a size it is below the limit of a `Decimal`.
 pub short_whole : {num den : ℕ} {e : ShortExpansion} → 1 ≤ den → IsShortExpansion num den e → e.whole ≤ num
 short_whole {num} {den} {e} some h =
     let once = mul-le-mul_left (e.whole * 10 ^ e.places + e.digits) some in
