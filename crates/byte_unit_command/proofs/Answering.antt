@@ -1,6 +1,5 @@
 -- Lemmas: a call that converts records, and then writes them.
-use Rattle.std.proofs.Common.{◌≡◌, ℕ, List, [], ◌∷◌, Option, Result, Ok, Err, OnOk, IfErr, refl, sym, subst}
-use Rattle.std.proofs.Common.{append-nil}
+use Rattle.std.proofs.Common.{◌≡◌, ℕ, List, [], ◌∷◌, Option, Result, Ok, Err, OnOk, IfErr, refl, sym, subst, append-nil}
 use Rattle.std.specs.Prelude.{⊤}
 use Rattle.std.proofs.KnownBytes.{Appends-nil}
 use Rattle.byte_unit_command.specs.RunState.{AddsRecords, State, EndsEarly, idle, messages_of, state_of}

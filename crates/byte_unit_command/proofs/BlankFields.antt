@@ -1,11 +1,9 @@
 -- Lemmas: the fields between blanks.
-use Rattle.std.proofs.Common.{◌≡◌, ℕ, suc, ◌+◌, ◌<◌, ◌≤◌, Bool, true, false, not, ◌&&◌, cond, List, [], ◌∷◌, ◌++◌}
-use Rattle.std.proofs.Common.{take, drop, get_or, length, refl, sym, ap, ◌∙◌}
-use Rattle.std.proofs.Common.{append_assoc, append-nil, arith, inl, inr, zero, ◌-◌}
+use Rattle.std.proofs.Common.{◌≡◌, ℕ, suc, ◌+◌, ◌<◌, ◌≤◌, Bool, true, false, not, ◌&&◌, cond, List, [], ◌∷◌, ◌++◌, take}
+use Rattle.std.proofs.Common.{drop, get_or, length, refl, sym, ap, ◌∙◌, append_assoc, append-nil, arith, inl, inr, zero}
+use Rattle.std.proofs.Common.{◌-◌, length-take, take_all, eq-or-lt_of_le, drop-cons}
 use Rattle.std.proofs.Math.Bool.{and-false}
-use Rattle.std.proofs.lemmas.List.{drop_all, length-take, take_more, take_all}
-use Rattle.std.proofs.Math.Nat.{eq-or-lt_of_le}
-use Rattle.std.proofs.Math.Seq.{drop-cons}
+use Rattle.std.proofs.lemmas.List.{drop_all, take_more}
 use Rattle.std.specs.List.{onto_first}
 use Rattle.byte_unit_command.specs.Fields.{at_blanks, begins_blank, between_of, blank_fields, bytes_between, fields_by}
 use Rattle.byte_unit_command.specs.Fields.{fields_of, is_blank, width_by}

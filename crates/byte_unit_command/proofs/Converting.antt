@@ -1,7 +1,7 @@
 -- Lemmas: what is appended for a field, a record, and records one after another.
-use Rattle.std.proofs.Common.{◌≡◌, ℕ, suc, ◌-◌, Bool, true, false, ◌||◌, List, [], ◌∷◌, ◌++◌, length, Some, None}
-use Rattle.std.proofs.Common.{refl, sym, ap, subst, ◌∙◌, arith, append_assoc, append-nil, inl}
-use Rattle.std.proofs.lemmas.List.{length-append}
+use Rattle.std.proofs.Common.{◌≡◌, ℕ, suc, ◌-◌, Bool, true, false, List, [], ◌∷◌, ◌++◌, length, Some, None, refl}
+use Rattle.std.proofs.Common.{sym, ap, subst, ◌∙◌, arith, append_assoc, append-nil, inl, length-append}
+use Rattle.std.proofs.lemmas.Bool.{or_parts}
 use Rattle.byte_unit_command.specs.Field.{Found, IsPlaced, IsSize, IsNoSize, other, size, rejected}
 use Rattle.byte_unit_command.specs.Fields.{IsChosen, fields_by, fields_of, splits_at_blanks}
 use Rattle.byte_unit_command.specs.Messages.{AreFieldMessages, AreLimitMessages, AreMessagesOfFields}
@@ -22,38 +22,27 @@ use Rattle.byte_unit_command.proofs.Tallies.{tally_after-append, tally_after-the
 use Rattle.byte_unit_stream.specs.Beginnings.{IsBeginningOf}
 use Rattle.byte_unit_stream.proofs.Beginnings.{IsBeginningOf-same}
 
--- if a disjunction is false, both its parts are
-or-false-left : (a b : Bool) → (a || b) ≡ false → a ≡ false
-or-false-left true b is = is
-or-false-left false b is = refl
-
--- the second part of a disjunction that is false is false
-or-false-right : (a b : Bool) → (a || b) ≡ false → b ≡ false
-or-false-right true b is = cc
-or-false-right false b is = is
-
 -- a size that is beyond no limit has no message
 pub AreLimitMessages-none : (options : Options) (word : List ℕ) (place number : ℕ) (field : List ℕ) (n : ℕ)
     → is_beyond options n ≡ false → AreLimitMessages options word place number field n []
 AreLimitMessages-none options word place number field n within =
+    let parts = or_parts (is_above options.max n) (is_below options.min n) within in
     let none : (told : Bool) (reason : FieldError) → told ≡ false
     → IsMessageIf told options word place number field reason [] =
     λ told reason is. subst (λ told. IsMessageIf told options word place number field reason []) (sym is) refl in (
       [],
       [],
-      none (is_above options.max n) Above (or-false-left _ _ within),
-      none (is_below options.min n) Below (or-false-right _ _ within),
+      none (is_above options.max n) Above parts.0,
+      none (is_below options.min n) Below parts.1,
       refl,
     )
 
--- the messages of a converter
-abbrev pub messages_in : {A : Type 0} → Converter A → List ℕ
-messages_in converter = messages_of converter.notices
-
 -- the messages of a converter are kept by one that is equal to a converter that keeps them
 pub kept_messages-same : {A : Type 0} (old now same : Converter A) → now ≡ same
-    → IsBeginningOf (messages_in old) (messages_in same) → IsBeginningOf (messages_in old) (messages_in now)
-kept_messages-same old now same is = IsBeginningOf-same (messages_in old) (ap messages_in is)
+    → IsBeginningOf (messages_of old.notices) (messages_of same.notices)
+    → IsBeginningOf (messages_of old.notices) (messages_of now.notices)
+kept_messages-same old now same is =
+    IsBeginningOf-same (messages_of old.notices) (ap (λ converter. messages_of converter.notices) is)
 
 -- the state after a text, where messages and tally were written before it
 pub after-is : (options : Options) (old between : State) (text messages : List ℕ) (found : List Found) (tally : Tally)

@@ -1,7 +1,5 @@
 -- Lemmas: why a run can be out of memory.
-use Rattle.std.proofs.Common.{◌≡◌, ℕ, ◌+◌, ◌<◌, ◌≤◌, List, [], ◌++◌, sym, subst, arith, vec_len}
-use Rattle.std.specs.Prelude.{vec_capacity}
-use Rattle.std.specs.declared.vec.Vec.{Vec}
+use Rattle.std.proofs.Common.{◌≡◌, ℕ, ◌+◌, ◌<◌, ◌≤◌, List, [], ◌++◌, sym, subst, arith, vec_len, vec_capacity, Vec}
 use Rattle.byte_unit_command.specs.Capacity.{SufficeFor, end_room}
 use Rattle.byte_unit_command.specs.Messages.{AreMessages}
 use Rattle.byte_unit_command.specs.RunOutput.{all_of, finished_of}

@@ -1,11 +1,10 @@
 -- Lemmas: the loop over the records that end in a chunk.
 use Rattle.std.proofs.Common.{◌≡◌, ℕ, ◌+◌, List, [], ◌∷◌, ◌++◌, take, drop, refl, sym, ap, subst, ◌∙◌, append_assoc}
 use Rattle.std.proofs.Common.{◌⊎◌, inl, inr}
-use Rattle.std.specs.Prelude.{vec_capacity, vec_len}
 use Rattle.byte_unit_stream.specs.Chunks.{ended_records, begun_record}
 use Rattle.byte_unit_command.specs.RunState.{AddsRecords, Aborts, State, EndsEarly, at_next}
-use Rattle.byte_unit_command.specs.declared.options.Options.{Options}
 use Rattle.byte_unit_command.specs.RunState.{RecordHasNoMessage, RecordsHaveNoMessage, state_of}
+use Rattle.byte_unit_command.specs.declared.options.Options.{Options}
 use Rattle.byte_unit_command.specs.declared.run.Buffers.{Buffers}
 use Rattle.byte_unit_command.specs.declared.error.RunError.{RunError}
 use Rattle.byte_unit_command.specs.declared.error.RunError.TheVariants.{Memory, Rejected}
@@ -22,30 +21,6 @@ pub record Feed : Type 0 where
 -- this state, of the buffers of a run
 abbrev pub feed_of : {A : Type 0} → Buffers A → List ℕ → Feed
 feed_of buffers rest = record { part = buffers.part.items; rest = rest; state = state_of buffers.converter }
-
--- what was converted, and the lengths and capacities of the buffers, as functions of them
-abbrev pub state_in : {A : Type 0} → Buffers A → State
-state_in buffers = state_of buffers.converter
-
--- the bytes of the unfinished record
-abbrev pub part_in : {A : Type 0} → Buffers A → List ℕ
-part_in buffers = buffers.part.items
-
--- the number of bytes of the unfinished record
-abbrev pub part_len : {A : Type 0} → Buffers A → ℕ
-part_len buffers = vec_len buffers.part
-
--- the capacity of the buffer for the unfinished record
-abbrev pub part_capacity : {A : Type 0} → Buffers A → ℕ
-part_capacity buffers = vec_capacity buffers.part
-
--- the number of bytes that wait to be written
-abbrev pub waiting_len : {A : Type 0} → Buffers A → ℕ
-waiting_len buffers = vec_len buffers.converter.waiting
-
--- the capacity of the buffer for what waits
-abbrev pub waiting_capacity : {A : Type 0} → Buffers A → ℕ
-waiting_capacity buffers = vec_capacity buffers.converter.waiting
 
 -- from `start` to `now` some records were converted, and the rest gives the other records and the same unfinished
 -- record

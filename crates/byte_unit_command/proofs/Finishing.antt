@@ -1,11 +1,10 @@
 -- Lemmas: the end of a run.
 use Rattle.std.proofs.Common.{◌≡◌, ℕ, List, [], ◌∷◌, ◌++◌, true, false, Option, Result, Ok, Err, refl, sym, subst}
-use Rattle.std.proofs.Common.{append-nil, inl, inr, MatchBool, ◌⊎◌, length, true≢false}
-use Rattle.std.specs.Prelude.{⊤, IsErrAnd, ◌==◌}
+use Rattle.std.proofs.Common.{append-nil, inl, inr, MatchBool, ◌⊎◌, length, true≢false, IsErrAnd, ◌==◌}
+use Rattle.std.specs.Prelude.{⊤}
 use Rattle.std.specs.Io.KnownBytes.{Appends}
 use Rattle.std.proofs.KnownBytes.{Appends-nil}
-use Rattle.byte_unit_command.specs.RunState.{Aborts, AddsRecords, State, IsTotalFor, IsTotalWritten, IsFinished}
-use Rattle.byte_unit_command.specs.RunState.{Tells}
+use Rattle.byte_unit_command.specs.RunState.{Aborts, AddsRecords, State, IsTotalFor, IsTotalWritten, IsFinished, Tells}
 use Rattle.byte_unit_command.specs.RunState.{at_next, idle, messages_of, state_of}
 use Rattle.byte_unit_command.specs.declared.converter.Converter.{Converter}
 use Rattle.byte_unit_command.specs.declared.notice.Notices.{Notices}

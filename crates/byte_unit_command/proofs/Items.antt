@@ -1,7 +1,6 @@
 -- Lemmas: the items of a list of fields.
 use Rattle.std.proofs.Common.{◌≡◌, ◌≢◌, ◌<◌, ℕ, zero, suc, List, [], ◌∷◌, ◌++◌, length, get_or, Option, Some, None}
-use Rattle.std.proofs.Common.{MatchOption, inl, inr, subst, sym, refl, ◌∙◌, arith, lit<}
-use Rattle.std.specs.Borrow.{Bor}
+use Rattle.std.proofs.Common.{MatchOption, inl, inr, subst, sym, refl, ◌∙◌, arith, lit<, Bor}
 use Rattle.std.specs.Char.{digit_value}
 use Rattle.std.specs.Str.Parse.{AllDigits}
 use Rattle.std.proofs.lemmas.Str.Pattern.{IsSplitOnceResult, split_after, split_parts}

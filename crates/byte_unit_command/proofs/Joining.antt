@@ -1,9 +1,8 @@
 -- Lemmas: the operands as an input.
-use Rattle.std.proofs.Common.{◌≡◌, ◌≢◌, ℕ, List, [], ◌∷◌, ◌++◌, eqb, refl, sym, ap, subst, ◌∙◌, append_assoc}
-use Rattle.std.proofs.lemmas.Bool.{ne_eqb}
+use Rattle.std.proofs.Common.{◌≡◌, ◌≢◌, ℕ, List, [], ◌∷◌, ◌++◌, eqb, refl, sym, ap, subst, ◌∙◌, append_assoc, ne_eqb}
+use Rattle.std.proofs.Common.{All}
 use Rattle.std.proofs.lemmas.List.Elements.{All-head, All-tail}
 use Rattle.std.proofs.lemmas.List.Splits.{slice_split_at}
-use Rattle.std.specs.List.{All}
 use Rattle.byte_unit_command.specs.Operands.{HasOperands}
 use Rattle.byte_unit_stream.specs.Records.{split_by, but_empty_last}
 use Rattle.byte_unit_stream.proofs.ChunkRecords.{split_by_IsSplit, IsSplit}
@@ -27,12 +26,7 @@ first_record : (text : List ℕ) (split : List (List ℕ)) → IsSplit split →
     ≡ text ∷ but_empty_last split
 first_record text split (own, others, split_is) =
     subst (λ split. but_empty_last (text ∷ split) ≡ text ∷ but_empty_last split) (sym split_is)
-    (first_of text own others)
-  where
-    -- the first of two parts or more is kept, by definition
-    first_of : (text own : List ℕ) (others : List (List ℕ)) → but_empty_last (text ∷ own ∷ others)
-        ≡ text ∷ but_empty_last (own ∷ others)
-    first_of text own others = refl
+    refl
 
 -- texts without zero bytes are the records of the input that they are joined to
 pub joined-HasOperands : (texts : List (List ℕ)) → HasOperands texts (joined texts)

@@ -1,10 +1,8 @@
 -- Lemmas: the most bytes of the text of a size in a given unit.
-use Rattle.std.proofs.Common.{ℕ, ◌+◌, ◌*◌, ◌/◌, ◌^◌, ◌<◌, ◌≤◌, true, false, if◌then◌else◌, List, length}
-use Rattle.std.proofs.Common.{Option, None, Some, arith, ap}
-use Rattle.std.proofs.Math.Nat.{mul-le-mul_left, pow-le-pow_right, le_of_mul-le-mul_right, div-le_of_le-mul, one-le-pow}
+use Rattle.std.proofs.Common.{ℕ, ◌+◌, ◌*◌, ◌/◌, ◌^◌, ◌<◌, ◌≤◌, true, false, if◌then◌else◌, List, length, Option, None}
+use Rattle.std.proofs.Common.{Some, arith, ap, mul-le-mul_left, le_of_mul-le-mul_right, length-append, decimal}
+use Rattle.std.proofs.Math.Nat.{pow-le-pow_right, div-le_of_le-mul, one-le-pow}
 use Rattle.std.proofs.lemmas.Fmt.{length-decimal-le_wide}
-use Rattle.std.proofs.lemmas.List.{length-append}
-use Rattle.std.specs.Fmt.{decimal}
 use Rattle.byte_unit.specs.Bounds.{size_limit}
 use Rattle.byte_unit.specs.Written.{WritesForm}
 use Rattle.byte_unit_math.specs.Bounds.{expansion_places}
@@ -87,24 +85,20 @@ bits_few : (kind : Kind) (size : ℕ) → size < size_limit → size * bits_in k
 bits_few Byte size below = omega (arith, below)
 bits_few Bit size below = omega (arith, below)
 
--- the text of a size in a unit is no longer than `unit_text_max`
-adjusted-length : (kind : Kind) (size : ℕ) (unit : UnitName) (precision : Option ℕ) (text : List ℕ) → size < size_limit
-    → IsAdjustedForm kind size unit (adjusted_spec precision) text → length text ≤ unit_text_max precision
-adjusted-length kind size unit precision text below form =
-    let name = unit_name_in current (shape_of unit) in
-    let number = number-length (size * bits_in kind) unit (bits_few kind size below) precision form.number
-    form.number_is in
-    omega (
-      arith,
-      ap length form.text_is,
-      layout_fills_width form.number name (adjusted_spec precision),
-      name_short (shape_of unit),
-      number,
-    )
-
 -- what is written for a size in a unit is no longer than `unit_text_max`
 pub adjusted-narrow : {kind : Kind} {size : ℕ} (unit : UnitName) (precision : Option ℕ) {old new : List ℕ} {needed : ℕ}
     → size < size_limit → WritesForm (IsAdjustedForm kind size unit (adjusted_spec precision)) old new needed
     → needed ≤ unit_text_max precision
 adjusted-narrow {kind} {size} unit precision below written =
-    omega (arith, written.needed_is, adjusted-length kind size unit precision written.form below written.is_form)
+    let form = written.is_form in
+    let name = unit_name_in current (shape_of unit) in
+    let number = number-length (size * bits_in kind) unit (bits_few kind size below) precision form.number
+    form.number_is in
+    omega (
+      arith,
+      written.needed_is,
+      ap length form.text_is,
+      layout_fills_width form.number name (adjusted_spec precision),
+      name_short (shape_of unit),
+      number,
+    )

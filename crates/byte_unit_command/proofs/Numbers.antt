@@ -1,8 +1,7 @@
 -- Lemmas: the number of a size in a unit, without the unit.
-use Rattle.std.proofs.Common.{◌≡◌, ◌∙◌, ℕ, ◌+◌, ◌-◌, ◌*◌, ◌≤◌, false, List, [], ◌∷◌, ◌++◌, length, take}
-use Rattle.std.proofs.Common.{Option, sym, ap, arith, append-nil, append_assoc}
+use Rattle.std.proofs.Common.{◌≡◌, ◌∙◌, ℕ, ◌+◌, ◌-◌, ◌*◌, ◌≤◌, false, List, [], ◌∷◌, ◌++◌, length, take, Option, sym}
+use Rattle.std.proofs.Common.{ap, arith, append-nil, append_assoc, take-take, length-append}
 use Rattle.std.proofs.Math.Seq.{take-append_seam}
-use Rattle.std.proofs.lemmas.List.{take-take, length-append}
 use Rattle.byte_unit.specs.Adjusted.{IsAdjustedForm, IsNumeralBy, rule_of}
 use Rattle.byte_unit.specs.Kinds.{bits_in}
 use Rattle.byte_unit.specs.Shape.{bits}

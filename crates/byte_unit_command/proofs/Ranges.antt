@@ -1,7 +1,6 @@
 -- Lemmas: which fields are in ranges.
 use native.Mathlib.Numerals.{unary_clauses}
-use Rattle.std.proofs.Common.{ℕ, suc, ◌<◌, ◌≤◌, inl, inr, List, [], ◌∷◌, length, arith}
-use Rattle.std.specs.Prelude.{slice_index_or}
+use Rattle.std.proofs.Common.{ℕ, suc, ◌<◌, ◌≤◌, inl, inr, List, [], ◌∷◌, length, arith, slice_index_or}
 use Rattle.std.specs.List.{AllAdjacentBelow}
 use Rattle.byte_unit_command.specs.Fields.{GoesTo, IsChosen, IsInOrder}
 use Rattle.byte_unit_command.specs.declared.options.FieldRange.{FieldRange}

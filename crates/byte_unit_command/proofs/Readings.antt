@@ -1,6 +1,5 @@
 -- Lemmas: what the parser has returned for a field.
-use Rattle.std.proofs.Common.{◌≡◌, ℕ, Bool, true, false, List, Option, Some, Result, Ok, Err, inr, sym, subst}
-use Rattle.std.specs.Str.{IsUtf8}
+use Rattle.std.proofs.Common.{◌≡◌, ℕ, Bool, true, false, List, Option, Some, Result, Ok, Err, inr, sym, subst, IsUtf8}
 use Rattle.byte_unit.specs.Errors.{size_fault}
 use Rattle.byte_unit.specs.Fault.{Fault}
 use Rattle.byte_unit.specs.declared.Kind.{Kind}

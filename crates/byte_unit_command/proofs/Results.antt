@@ -1,6 +1,5 @@
 -- Lemmas: results of calls.
-use Rattle.std.proofs.Common.{◌≡◌, Result, Ok, Err, OnOk, IfErr, sym, subst}
-use Rattle.std.specs.Prelude.{IsErrAnd}
+use Rattle.std.proofs.Common.{◌≡◌, Result, Ok, Err, OnOk, IfErr, sym, subst, IsErrAnd}
 
 -- a fact that holds in any case holds at `Ok`
 pub OnOk-always : {T E : Type 0} {P : Type 0} (result : Result T E) → P → OnOk result P
@@ -11,8 +10,7 @@ OnOk-always (Err _) holds = tt
 pub error-passed : {T E : Type 0} (result : Result T E) (error target : E) → IsErrAnd result (λ other. other ≡ error)
     → result ≡ Err target → error ≡ target
 error-passed {T} {E} result error target passed is =
-    let Passed : Result T E → Type 0 = λ result. IsErrAnd result (λ other. other ≡ error) in sym
-    (subst Passed is passed)
+    sym (subst (λ (result : Result T E). IsErrAnd result (λ other. other ≡ error)) is passed)
 
 -- what holds of an error holds of the result by which `?` passes it on
 pub Err-passed : {T E : Type 0} (P : Result T E → Type 0) (result : Result T E) (error : E)

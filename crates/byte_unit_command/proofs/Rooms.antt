@@ -1,9 +1,6 @@
 -- Lemmas: the bytes that texts take while they are appended.
 use Rattle.std.proofs.Common.{◌≡◌, ℕ, ◌+◌, ◌-◌, ◌*◌, ◌<◌, ◌≤◌, ◌∷◌, Option, None, Some, arith, List, [], length}
-use Rattle.std.proofs.Common.{vec_len, ap, sym, subst, ◌∙◌}
-use Rattle.std.proofs.Math.Nat.{mul-add, mul-le-mul_left, mul-one}
-use Rattle.std.specs.Prelude.{vec_capacity}
-use Rattle.std.specs.declared.vec.Vec.{Vec}
+use Rattle.std.proofs.Common.{vec_len, ap, sym, subst, ◌∙◌, mul-add, mul-le-mul_left, mul-one, vec_capacity, Vec}
 use Rattle.byte_unit_command.specs.Capacity.{text_room, fields_max, fields_room, record_room, end_room}
 use Rattle.byte_unit_command.specs.Capacity.{read_fields_max, read_room, SufficeFor}
 use Rattle.byte_unit_command.specs.Fields.{fields_of}
@@ -15,9 +12,7 @@ use Rattle.byte_unit_command.proofs.Untold.{first-untold}
 -- the room of some fields and that of others are at most the room of as many fields as both
 times-le : (room some others all : ℕ) → some + others ≤ all → room * some + room * others ≤ room * all
 times-le room some others all few =
-    let both : room * (some + others) ≡ room * some + room * others = mul-add room some others in
-    let most : room * (some + others) ≤ room * all = mul-le-mul_left room few in
-    subst (λ bytes. bytes ≤ room * all) both most
+    subst (λ bytes. bytes ≤ room * all) (mul-add room some others) (mul-le-mul_left room few)
 
 -- without a delimiter, the room of the fields is that of one field
 pub fields_room-whole : (options : Options) (bytes : ℕ) → options.delimiter ≡ None → fields_room options bytes
@@ -40,11 +35,8 @@ fields_room-split options bytes delimiter is =
 split_room-step : (room rest place : ℕ) → place < rest
     → room + place + 1 + split_room room (rest - (place + 1)) ≤ split_room room rest
 split_room-step room rest place fits =
-    let left = rest - (place + 1) in
-    let one : room * 1 ≡ room = mul-one room in
-    let texts : room * 1 + room * (left + 1) ≤ room * (rest + 1) =
-    times-le room 1 (left + 1) (rest + 1) (omega (arith, fits)) in
-    omega (arith, one, texts, fits)
+    let texts = times-le room 1 (rest - (place + 1) + 1) (rest + 1) (omega (arith, fits)) in
+    omega (arith, mul-one room, texts, fits)
 
 -- a field that is cut off takes no more of the room than the bytes after it leave
 pub split_room-cut : (room rest count : ℕ) → 0 < count → count ≤ rest
@@ -52,10 +44,8 @@ pub split_room-cut : (room rest count : ℕ) → 0 < count → count ≤ rest
 split_room-cut room rest count some fits =
     let same : count - 1 + 1 ≡ count = omega (arith, some) in
     let step = split_room-step room rest (count - 1) (omega (arith, some, fits)) in
-    let Fits : ℕ → Type 0 = λ taken.
-    room + (count - 1) + 1 + split_room room (rest - taken) ≤ split_room room rest in
-    let cut = subst Fits same step in
-    omega (arith, cut, some)
+    let cut = subst (λ taken. room + (count - 1) + 1 + split_room room (rest - taken) ≤ split_room room rest) same step
+    in omega (arith, cut, some)
 
 -- the room of the records that end in a read, but for the end of the input
 abbrev pub feed_room : Options → ℕ → ℕ → ℕ
@@ -73,11 +63,7 @@ module _ (options : Options) where
   pub feed_room-step : (part rest place : ℕ) → place < rest
       → record_room options (part + place) + feed_room options 0 (rest - (place + 1)) ≤ feed_room options part rest
   feed_room-step part rest place fits =
-      let mark = options.delimiter in
-      let texts = times-le (text_room options) (fields_max mark (part + place))
-      (read_fields_max mark 0 (rest - (place + 1)))
-      (read_fields_max mark part rest) (fields-step mark part rest place fits) in
-      omega (arith, texts, fits)
+      omega (arith, times-le (text_room options) _ _ _ (fields-step options.delimiter part rest place fits), fits)
 
   -- with more bytes before the read, or in it, no fewer fields may end in it
   fields-more : (mark : Option ℕ) (part rest longest chunk : ℕ) → part ≤ longest → rest ≤ chunk
@@ -88,10 +74,7 @@ module _ (options : Options) where
   -- the records that end in a read take no more than the room of a read, which counts the end of the input too
   pub feed_room-read : (part rest : ℕ) → feed_room options part rest ≤ read_room options part rest
   feed_room-read part rest =
-      let fields = read_fields_max options.delimiter part rest in
-      let texts : text_room options * fields ≤ text_room options * (fields + 1) =
-      mul-le-mul_left (text_room options) (omega arith) in
-      omega (arith, texts)
+      omega (arith, mul-add (text_room options) (read_fields_max options.delimiter part rest) 1)
 
   -- the room of a read grows with the bytes before it and in it
   pub read_room-more : (part rest longest chunk : ℕ) → part ≤ longest → rest ≤ chunk → read_room options part rest
@@ -115,12 +98,10 @@ module _ (options : Options) where
       ≤ read_room options longest chunk
   end_room-read part longest chunk short some =
       let mark = options.delimiter in
-      let room = text_room options in
-      let one : room * 1 ≡ room = mul-one room in
       let fields = fields-end mark part longest chunk short some in
-      let texts : room * fields_max mark part + room * 1 ≤ room * (read_fields_max mark longest chunk + 1) =
-      times-le room (fields_max mark part) 1 (read_fields_max mark longest chunk + 1) (omega (arith, fields)) in
-      omega (arith, one, texts, short, some)
+      let texts = times-le (text_room options) (fields_max mark part) 1 (read_fields_max mark longest chunk + 1)
+      (omega (arith, fields)) in
+      omega (arith, mul-one (text_room options), texts, short, some)
 
 -- between two fields of a record: the text has grown by no more than the bytes that are no longer left account for, no
 -- capacity has fallen, and if there is no message about the record, there is none about the fields that are left

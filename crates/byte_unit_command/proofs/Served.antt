@@ -1,6 +1,5 @@
 -- Lemmas: what is read, written and told between two reads of a run, and how a run ends after them.
-use Rattle.std.proofs.Common.{◌≡◌, ℕ, List, [], ◌++◌, Option, Result, Ok, Err, ◌∙◌}
-use Rattle.std.specs.Prelude.{IsErrAnd}
+use Rattle.std.proofs.Common.{◌≡◌, ℕ, List, [], ◌++◌, Option, Result, Ok, Err, ◌∙◌, IsErrAnd}
 use Rattle.std.proofs.KnownBytes.{Appends-nil, Appends-trans, Consumes-kept, Consumes-nil, Consumes-trans}
 use Rattle.byte_unit_command.specs.RunState.{IsFinished, WritesAndTells, idle, messages_of, no_tally, state_of}
 use Rattle.byte_unit_command.specs.Run.{Course, IsRunOf}

@@ -1,8 +1,7 @@
 -- Lemmas: the loop over the fields of a record.
-use Rattle.std.proofs.Common.{◌≡◌, ◌≤◌, ◌<◌, ℕ, ◌+◌, List, [], ◌∷◌, ◌++◌, length, Some, Bool, refl, sym, ap}
-use Rattle.std.proofs.Common.{subst, ◌∙◌, arith, append_assoc, append-nil, inl, inr, true, false, cond, eqb, not, ◌&&◌}
-use Rattle.std.proofs.Common.{take, drop, length-drop}
-use Rattle.std.proofs.lemmas.Bool.{eqb-true}
+use Rattle.std.proofs.Common.{◌≡◌, ◌≤◌, ◌<◌, ℕ, ◌+◌, List, [], ◌∷◌, ◌++◌, length, Some, Bool, refl, sym, ap, subst, ◌∙◌}
+use Rattle.std.proofs.Common.{arith, append_assoc, append-nil, inl, inr, true, false, cond, eqb, not, ◌&&◌, take, drop}
+use Rattle.std.proofs.Common.{length-drop, eqb-true}
 use Rattle.std.specs.List.{onto_first}
 use Rattle.byte_unit_command.specs.Field.{Found, IsField, other, size, rejected}
 use Rattle.byte_unit_command.specs.Fields.{IsChosen, at_blanks, begins_blank, between_of, blank_fields, bytes_between}

@@ -1,5 +1,5 @@
 -- Lemmas: what was converted, counted and told from the start of a run on.
-use Rattle.std.proofs.Common.{◌≡◌, ℕ, ◌<◌, ◌≤◌, min, List, [], ◌∷◌, ◌++◌, true, false}
+use Rattle.std.proofs.Common.{◌≡◌, ℕ, ◌<◌, ◌≤◌, List, [], ◌∷◌, ◌++◌, true, false}
 use Rattle.std.proofs.Common.{sym, ap, subst, ◌∙◌, arith, MatchBool}
 use Rattle.byte_unit.specs.Bounds.{size_limit}
 use Rattle.byte_unit_command.specs.Fields.{fields_of}
@@ -35,15 +35,11 @@ module _ (options : Options) (word : List ℕ) {records : List (List ℕ)} {new 
 
   -- a counted total below 10^30 is the sum of the sizes that were found
   sum-from_start : new.tally.total < size_limit → new.tally.total ≡ sum_of adds.found
-  sum-from_start small =
-      let counted : new.tally.total ≡ min (sum_of adds.found) size_limit = ap (λ tally. tally.total) tally-from_start in
-      omega (arith, small, counted)
+  sum-from_start small = omega (arith, small, ap (λ tally. tally.total) tally-from_start)
 
   -- a counted total of 10^30 or more means that the sum of the sizes is
   pub large-from_start : size_limit ≤ new.tally.total → size_limit ≤ sum_of adds.found
-  large-from_start large =
-      let counted : new.tally.total ≡ min (sum_of adds.found) size_limit = ap (λ tally. tally.total) tally-from_start in
-      omega (arith, large, counted)
+  large-from_start large = omega (arith, large, ap (λ tally. tally.total) tally-from_start)
 
   -- the line for the counted total is the line for the sum of the sizes
   pub total_line-from_start : (line : List ℕ) → MatchBool options.total (IsTotalFor options new.tally.total line)

@@ -1,8 +1,9 @@
 -- Lemmas: tallies, and the mode `abort`, over lists of what is found.
-use Rattle.std.proofs.Common.{◌≡◌, ◌≤◌, ℕ, ◌+◌, min, sum, Bool, true, false, ◌||◌, List, [], ◌∷◌, ◌++◌, Some, None}
+use Rattle.std.proofs.Common.{◌≡◌, ◌≤◌, ℕ, ◌+◌, min, Bool, false, ◌||◌, List, [], ◌∷◌, ◌++◌, Some, None}
 use Rattle.std.proofs.Common.{refl, sym, ap, ◌∙◌, arith, zero-add}
 use Rattle.std.proofs.lemmas.List.Sums.{sum_by-cons}
 use Rattle.byte_unit.specs.Bounds.{size_limit}
+use Rattle.std.proofs.Math.Bool.{or_assoc, or-false, or-true}
 use Rattle.byte_unit_command.specs.Field.{Found}
 use Rattle.byte_unit_command.specs.RunOutput.{Passes}
 use Rattle.byte_unit_command.specs.RunState.{no_tally, tally_with, tally_after}
@@ -36,42 +37,19 @@ pub Passes-append : (options : Options) (front back : List Found) → Passes opt
     → Passes options (front ++ back)
 Passes-append options front back first second = λ mode. has_rejected-append front back (first mode) (second mode)
 
--- `||` is associative
-or_assoc : (a b c : Bool) → ((a || b) || c) ≡ (a || (b || c))
-or_assoc true b c = refl
-or_assoc false b c = refl
-
--- `false` is the neutral element of `||`
-or_false : (a : Bool) → a ≡ (a || false)
-or_false true = refl
-or_false false = refl
-
--- a disjunction with `true` is true
-or_true : (a : Bool) → true ≡ (a || true)
-or_true true = refl
-or_true false = refl
-
--- saturating after each addition gives the same as saturating once, after all of them
-saturating-sum : (total size sum limit : ℕ) → min (min (total + size) limit + sum) limit
-    ≡ min (total + (size + sum)) limit
-saturating-sum total size sum limit = omega arith
-
 -- the total after more fields is the sum of the earlier total and their sizes, at most the limit
 total-after : (options : Options) (tally : Tally) (found : List Found) → tally.total ≤ size_limit
     → (tally_after options tally found).total ≡ min (tally.total + sum_of found) size_limit
 total-after options tally [] small = omega (arith, small)
 total-after options tally (None ∷ found) small = total-after options (tally_with options tally None) found small
 total-after options tally (Some size ∷ found) small =
-    let next = min (tally.total + size) size_limit in
-    let few : next ≤ size_limit = omega arith in
-    total-after options (tally_with options tally (Some size)) found few
-    ∙ saturating-sum tally.total size (sum_of found) size_limit
-    ∙ ap (λ sum. min (tally.total + sum) size_limit) (sym (sum_by-cons (λ n. n) size (sizes_of found)))
+    let next = total-after options (tally_with options tally (Some size)) found (omega arith) in
+    omega (arith, next, sum_by-cons (λ n. n) size (sizes_of found))
 
 -- after more fields, a size is beyond a limit if one was before, or one of theirs is
 beyond-after : (options : Options) (tally : Tally) (found : List Found)
     → (tally_after options tally found).beyond ≡ (tally.beyond || any_beyond options (sizes_of found))
-beyond-after options tally [] = or_false tally.beyond
+beyond-after options tally [] = sym (or-false tally.beyond)
 beyond-after options tally (None ∷ found) = beyond-after options (tally_with options tally None) found
 beyond-after options tally (Some size ∷ found) =
     beyond-after options (tally_with options tally (Some size)) found
@@ -80,9 +58,9 @@ beyond-after options tally (Some size ∷ found) =
 -- after more fields, one is rejected if one was before, or one of them is
 rejected-after : (options : Options) (tally : Tally) (found : List Found)
     → (tally_after options tally found).rejected ≡ (tally.rejected || has_rejected found)
-rejected-after options tally [] = or_false tally.rejected
+rejected-after options tally [] = sym (or-false tally.rejected)
 rejected-after options tally (None ∷ found) = rejected-after options (tally_with options tally None) found
-    ∙ or_true tally.rejected
+    ∙ sym (or-true tally.rejected)
 rejected-after options tally (Some size ∷ found) = rejected-after options (tally_with options tally (Some size)) found
 
 -- a tally by its three fields

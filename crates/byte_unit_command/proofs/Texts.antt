@@ -1,8 +1,7 @@
 -- Lemmas: texts that are written to a buffer, and then appended.
 use Rattle.std.proofs.Common.{◌≡◌, ◌+◌, ◌-◌, ◌≤◌, ℕ, replicate, Bool, true, false, List, ◌++◌, length, take, drop, ap}
-use Rattle.std.proofs.Common.{◌∙◌, append-nil, arith}
+use Rattle.std.proofs.Common.{◌∙◌, append-nil, arith, take-take, length-append, length-take-le}
 use Rattle.std.proofs.Math.Seq.{take-append_seam, take-append-add}
-use Rattle.std.proofs.lemmas.List.{take-take, length-append, length-take-le}
 use Rattle.byte_unit.specs.Written.{WritesForm}
 use Rattle.byte_unit_command.specs.Formatted.{padded}
 

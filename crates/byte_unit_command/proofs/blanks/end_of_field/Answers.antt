@@ -1,7 +1,6 @@
 -- A field ends at a byte before a blank, if that byte is none. Of the invariant, `.0` says that no field ends before
 -- the index, and `.1` that the index is within the bytes.
-use Rattle.std.proofs.Common.{◌≡◌, ◌+◌, ◌<◌, not, ◌&&◌, ℕ, List, get_or, length, ap, sym, ◌∙◌, arith}
-use Rattle.std.proofs.Math.Seq.{drop-cons}
+use Rattle.std.proofs.Common.{◌≡◌, ◌+◌, ◌<◌, not, ◌&&◌, ℕ, List, get_or, length, ap, sym, ◌∙◌, arith, drop-cons}
 use Rattle.byte_unit_command.specs.Fields.{begins_blank, is_blank}
 use Rattle.byte_unit_command.proofs.BlankFields.{IsUncut-start, IsUncut-step, blank_fields-cut}
 use Rattle.byte_unit_command.proofs.BlankFields.{blank_fields-whole, ends_there}

@@ -1,7 +1,7 @@
 -- Between blanks the first field ends before a blank, and else before a delimiter.
 use Rattle.std.proofs.Common.{◌≡◌, ◌+◌, ◌<◌, ◌≤◌, ℕ, List, [], ◌∷◌, true, false, Option, None, Some, length, take, drop}
-use Rattle.std.proofs.Common.{ap, sym, ◌∙◌, arith}
-use Rattle.std.specs.Prelude.{IfSome, IfNone}
+use Rattle.std.proofs.Common.{ap, sym, ◌∙◌, arith, IfNone}
+use Rattle.std.proofs.lemmas.Option.{IfSome_then}
 use Rattle.byte_unit_stream.specs.Records.{split_by}
 use Rattle.byte_unit_stream.proofs.Ends.{split_by-EndsAt, split_by-IsUnbroken}
 use Rattle.byte_unit_command.specs.Fields.{at_blanks, between_of, fields_of, blank_fields}
@@ -9,11 +9,6 @@ use Rattle.byte_unit_command.specs.declared.options.Options.{Options}
 use Rattle.byte_unit_command.proofs.BlankFields.{between_of-blanks, fields_of-blanks}
 use Rattle.byte_unit_command.proofs.Splitting.{EndsFirst, between_of-split, fields_of-split}
 use Rattle.byte_unit_command.proofs.blanks.end_of_first.Goals as goal
-
--- what holds of the index that a search finds, by what its contract says of it
-IfSome-map : {P Q : ℕ → Type 0} → ((n : ℕ) → P n → Q n) → (result : Option ℕ) → IfSome result P → IfSome result Q
-IfSome-map to None is = tt
-IfSome-map to (Some n) is = to n is
 
 -- what holds if a search finds nothing, by what its contract says then
 IfNone-map : {P Q : Type 0} → (P → Q) → (result : Option ℕ) → IfNone result P → IfNone result Q
@@ -40,12 +35,11 @@ returns-then-blanks-clause-some c =
     let bytes = c.args.bytes.now in
     let at : at_blanks options ≡ true = c.requires.blanks ∙ c.if-blanks.true in
     -- the three parts of `ends`: the field has a byte, more bytes follow, and there the fields are cut
-    IfSome-map (λ n ends.
+    IfSome_then c.end_of_field.result c.end_of_field.ensures.some (λ n ends.
     let same : n ≡ n + 0 = omega arith in
     ends-first options bytes blank_fields [] n (fields_of-blanks options at) (between_of-blanks options at)
     (omega (arith, ends.0)) (omega (arith, ends.1))
     (ends.2 ∙ ap (λ count. take n bytes ∷ blank_fields (drop count bytes)) same))
-    c.end_of_field.result c.end_of_field.ensures.some
 
 -- between blanks: nothing is found, so the bytes are one field
 pub returns-then-blanks-clause-none : goal.returns-then-blanks-clause-none
@@ -63,10 +57,10 @@ returns-clause-some c =
     let delimiter = c.args.delimiter in
     let at : at_blanks options ≡ false = c.requires.blanks ∙ c.if-blanks.false in
     let fields_are = λ (bytes : List ℕ). fields_of-split options bytes delimiter c.requires.delimiter at in
-    IfSome-map (λ n ends. ends-first options bytes (split_by delimiter) (delimiter ∷ []) n fields_are
+    IfSome_then c.end_of.result c.end_of.ensures.some (λ n ends.
+    ends-first options bytes (split_by delimiter) (delimiter ∷ []) n fields_are
     (between_of-split options delimiter c.requires.delimiter at) (omega arith) (omega (arith, ends.0))
     (split_by-EndsAt delimiter bytes n ends))
-    c.end_of.result c.end_of.ensures.some
 
 -- at a delimiter: nothing is found, so the bytes are one field
 pub returns-clause-none : goal.returns-clause-none

@@ -1,6 +1,5 @@
 -- The first of ranges in order is the one that can choose the field.
-use Rattle.std.proofs.Common.{None, arith}
-use Rattle.std.proofs.lemmas.Bool.{leb-false, leb-true}
+use Rattle.std.proofs.Common.{None, arith, leb-false, leb-true}
 use Rattle.byte_unit_command.proofs.Ranges.{chosen-by_first, none-before-first}
 use Rattle.byte_unit_command.proofs.converter.is_chosen.Goals as goal
 

@@ -1,8 +1,7 @@
 -- The items of the loop are the substrings of the list between its commas. A sort leaves no range that begins after the
 -- next one.
-use Rattle.std.proofs.Common.{◌≡◌, ℕ, List, ◌++◌, [], ◌∷◌, map, length, ap, sym, subst, lit<, Bor, Option}
-use Rattle.std.proofs.Common.{None, Some, codes, rules}
-use Rattle.std.specs.Prelude.{option_map, unwrap_or}
+use Rattle.std.proofs.Common.{◌≡◌, ℕ, List, ◌++◌, [], ◌∷◌, map, length, ap, sym, subst, lit<, Bor, Option, None, Some}
+use Rattle.std.proofs.Common.{codes, rules, option_map, unwrap_or}
 use Rattle.std.proofs.lemmas.List.{map-append}
 use Rattle.std.proofs.lemmas.List.Sorted.{IsNonDecreasingBy-from_sort_by_key, all_adjacent_from_non_decreasing}
 use Rattle.std.proofs.lemmas.Iterator.Consumers.{YieldsList-turn, YieldsList-end}

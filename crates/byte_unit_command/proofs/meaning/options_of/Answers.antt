@@ -13,11 +13,6 @@ use Rattle.byte_unit_command.specs.declared.wrong.Wrong.{Wrong}
 use Rattle.byte_unit_command.proofs.Results.{IfErr-passed}
 use Rattle.byte_unit_command.proofs.meaning.options_of.Goals as goal
 
--- the form is right if it can be read, is within its precision, and can be used without its unit if that is asked for
-form_right : (values : Values) (given form : Form) → IsFormOf values given → IsWithinExact given values.precision
-    → IsOutputForm values.no_unit given form → FormIsRight values
-form_right values given form is within output = (given, is, within, (form, output))
-
 -- an error of the form is the first one, if `--from` is right: of `--to`, or of `--precision` with that form
 form_wrong : (values : Values) (wrong : Wrong) (binary : Bool) → IsFrom (text_of values.from) binary
     → IsWrongForm values wrong → IsFirstWrong values wrong
@@ -29,7 +24,7 @@ fields_right : (values : Values) (given form : Form) (separator : Option ℕ)
     → IsFormOf values given × IsWithinExact given values.precision → IsOutputForm values.no_unit given form
     → IsSeparator values separator × AreFieldsSeparated values → FieldsAreRight values
 fields_right values given form separator (is, within) output ((mark, delimits, _), separated) =
-    (form_right values given form is within output, (mark, delimits), separated)
+    ((given, is, within, (form, output)), (mark, delimits), separated)
 
 -- an error of the separator is the first one, if `--from` and the form are right: of `--delimiter`, or of `--field`
 separator_wrong : (values : Values) (wrong : Wrong) (binary : Bool) → IsFrom (text_of values.from) binary
@@ -55,10 +50,10 @@ returns-in_err-form-clause-err c =
 -- the delimiter or the list of fields is wrong; what comes before is right
 pub returns-in_err-delimiter-clause-err : goal.returns-in_err-delimiter-clause-err
 returns-in_err-delimiter-clause-err c =
-    let form = form_right c.args.values.now _ _ c.in_ok-given.ensures.ok.0 c.in_ok-given.ensures.ok.1
-    c.in_ok-form.ensures.ok in
+    let given = c.in_ok-given.ensures.ok in
     IfErr-passed (IsFirstWrong c.args.values.now) _ _ c.from_residual-in_err-delimiter.ensures.1
-    (separator_wrong c.args.values.now _ _ c.in_ok-binary.ensures.ok form c.in_err-delimiter.ensures.err)
+    (separator_wrong c.args.values.now _ _ c.in_ok-binary.ensures.ok
+    (_, given.0, given.1, (_, c.in_ok-form.ensures.ok)) c.in_err-delimiter.ensures.err)
 
 -- the width is wrong; what comes before is right
 pub returns-in_err-width-clause-err : goal.returns-in_err-width-clause-err

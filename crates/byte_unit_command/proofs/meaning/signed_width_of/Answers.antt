@@ -5,13 +5,6 @@ use Rattle.byte_unit_command.specs.Meaning.{IsPadding}
 use Rattle.byte_unit_command.proofs.Paddings.{without_hyphen}
 use Rattle.byte_unit_command.proofs.meaning.signed_width_of.Goals as goal
 
--- a text whose hyphen (45) could not be taken off does not begin with one
-lacks_hyphen : (text : List ℕ) (r : Option (Bor (List ℕ))) → r ≡ None
-    → MatchOption r ((rest : List ℕ) → text ≢ 45 ∷ rest) (λ rest. text ≡ 45 ∷ rest.now) → (rest : List ℕ)
-    → text ≢ 45 ∷ rest
-lacks_hyphen text r is stripped =
-    subst (λ r. MatchOption r ((rest : List ℕ) → text ≢ 45 ∷ rest) (λ rest. text ≡ 45 ∷ rest.now)) is stripped
-
 -- `None` is right for a text that is no padding
 no_padding : (text : List ℕ) (found : Option (ℕ × Bool)) → found ≡ None
     → ((width : ℕ) (align_left : Bool) → ¬ IsPadding (Some text) width align_left)
@@ -25,7 +18,10 @@ no_padding text found is none =
 pub returns-in_err-width_of-in-None : goal.returns-in_err-width_of-in-None
 returns-in_err-width_of-in-None c =
     let text = c.args.text.now in
-    no_padding text _ c.from_residual-in_err-width_of-in-None.ensures (without_hyphen text
-    (lacks_hyphen text c.strip_prefix.result c.in-None.is
-    (strip_prefix_char 45 text c.strip_prefix.result c.strip_prefix.ensures.cases (lit< tt)))
-    c.in_err-width_of-in-None.ensures)
+    let Stripped : Option (Bor (List ℕ)) → Type 0 =
+    λ r. MatchOption r ((rest : List ℕ) → text ≢ 45 ∷ rest) (λ rest. text ≡ 45 ∷ rest.now) in
+    -- the hyphen (45) could not be taken off, so the text does not begin with one
+    let lacks_hyphen = subst Stripped c.in-None.is
+    (strip_prefix_char 45 text c.strip_prefix.result c.strip_prefix.ensures.cases (lit< tt)) in
+    no_padding text _ c.from_residual-in_err-width_of-in-None.ensures
+    (without_hyphen text lacks_hyphen c.in_err-width_of-in-None.ensures)

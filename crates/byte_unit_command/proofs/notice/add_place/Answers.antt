@@ -1,7 +1,5 @@
 -- The number of the field follows that of the record, if there is a delimiter.
-use Rattle.std.proofs.Common.{◌++◌, codes, sym, ap, ◌∙◌, append_assoc, append-nil}
-use Rattle.std.specs.Fmt.{decimal}
-use Rattle.std.specs.String.{string_bytes}
+use Rattle.std.proofs.Common.{◌++◌, codes, sym, ap, ◌∙◌, append_assoc, append-nil, decimal, string_bytes}
 use Rattle.byte_unit_command.specs.Messages.{record_text, field_text}
 use Rattle.std.proofs.lemmas.Result.{on_ok_weaker}
 use Rattle.byte_unit_command.proofs.notice.add_place.Goals as goal

@@ -1,7 +1,5 @@
 -- The characters so far are appended, each as it is shown.
-use Rattle.std.proofs.Common.{◌≡◌, ◌++◌}
-use Rattle.std.specs.List.{flat_map}
-use Rattle.std.specs.String.{string_bytes}
+use Rattle.std.proofs.Common.{◌≡◌, ◌++◌, flat_map, string_bytes}
 use Rattle.byte_unit_command.specs.Messages.{escape_char}
 use Rattle.byte_unit_command.proofs.quote.add_escaped_text.Given as goal
 

@@ -2,10 +2,9 @@
 -- not returned while no record is longer than the limit and there is no message. Of the invariant, `.0` is what was
 -- served, and `.1` are the bounds (`IsWithin`). `.ok.0` of a vector: its length is that of its items. `.ensures.1` of a
 -- `from_residual`: the error in its result is the one that `?` passes on.
-use Rattle.std.proofs.Common.{◌≡◌, ◌+◌, ◌≤◌, ℕ, List, [], ◌++◌, Result, Ok, Err, take, length, vec_len, arith}
-use Rattle.std.proofs.Common.{refl, sym, ap, subst, ◌∙◌, inl, inr, true≢false}
-use Rattle.std.proofs.lemmas.List.{length-take, length-take-le}
-use Rattle.std.specs.Prelude.{IsErrAnd, vec_capacity}
+use Rattle.std.proofs.Common.{◌≡◌, ◌+◌, ◌≤◌, ℕ, List, [], ◌++◌, Result, Ok, Err, take, length, vec_len, arith, refl}
+use Rattle.std.proofs.Common.{sym, ap, subst, ◌∙◌, inl, inr, true≢false, length-take, length-take-le, IsErrAnd}
+use Rattle.std.proofs.Common.{vec_capacity}
 use Rattle.std.specs.Io.KnownBytes.{IsAtEnd}
 use Rattle.byte_unit_command.specs.Capacity.{SufficeFor, end_room}
 use Rattle.byte_unit_command.specs.RunState.{IsFinished, idle, state_of}

@@ -1,6 +1,5 @@
 -- The characters that begin in the bytes so far are counted.
-use Rattle.std.proofs.Common.{◌≡◌, ◌≤◌, take}
-use Rattle.std.specs.List.{count_by}
+use Rattle.std.proofs.Common.{◌≡◌, ◌≤◌, take, count_by}
 use Rattle.byte_unit_command.specs.WrongCharacter.{begins_character}
 use Rattle.byte_unit_command.proofs.wrong_character.characters_in.Given as goal
 

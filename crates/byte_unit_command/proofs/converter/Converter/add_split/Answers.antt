@@ -2,9 +2,8 @@
 -- field. A field that is rejected in the mode `abort` is one of the record. The parts of the invariant are in
 -- `Invariants.antt`. `.ensures.1` of a `from_residual`: the error in its result is the one that `?` passes on.
 use Rattle.std.proofs.Common.{◌⊎◌, true≢false, ◌≡◌, ◌≤◌, ◌+◌, ◌-◌, ◌∙◌, ◌++◌, [], List, ℕ, take, drop, length, ap, sym}
-use Rattle.std.proofs.Common.{subst, Err, arith, length-drop, vec_len}
-use Rattle.std.proofs.lemmas.Bool.{eqb-true}
-use Rattle.std.proofs.lemmas.List.{nil_from_length, take_rest, length-take-le}
+use Rattle.std.proofs.Common.{subst, Err, arith, length-drop, vec_len, eqb-true, length-take-le}
+use Rattle.std.proofs.lemmas.List.{nil_from_length, take_rest}
 use Rattle.byte_unit_command.specs.Capacity.{text_room}
 use Rattle.byte_unit_command.specs.Fields.{IsChosen, between_of, fields_of}
 use Rattle.byte_unit_command.specs.Messages.{AreMessagesOfFields}

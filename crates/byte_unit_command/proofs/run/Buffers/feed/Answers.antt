@@ -3,12 +3,11 @@
 -- the bounds (`IsFedWithin`). `.ok.0` of a vector: its length is that of its items. `.ensures.1` of a
 -- `from_residual`: the error in its result is the one that `?` passes on.
 use Rattle.std.proofs.Common.{true≢false, ◌≡◌, ◌+◌, ◌-◌, ◌∷◌, [], length, take, drop, sym, ap, subst, ◌∙◌}
-use Rattle.std.proofs.Common.{Err, arith, length-drop, vec_len}
+use Rattle.std.proofs.Common.{Err, arith, length-drop, vec_capacity, vec_len}
 use Rattle.std.proofs.lemmas.List.{take_rest, length-take-le}
-use Rattle.byte_unit_command.specs.RunState.{AddsRecords, messages_of}
+use Rattle.byte_unit_command.specs.RunState.{AddsRecords, messages_of, state_of}
 use Rattle.byte_unit_command.proofs.Feeding.{IsFed-start, IsFed-step, IsNext, IsNext-alone, IsNext-untold}
-use Rattle.byte_unit_command.proofs.Feeding.{EndsEarly-record, feed_of, part_capacity, part_in, part_len, state_in}
-use Rattle.byte_unit_command.proofs.Feeding.{waiting_capacity, waiting_len}
+use Rattle.byte_unit_command.proofs.Feeding.{EndsEarly-record, feed_of}
 use Rattle.byte_unit_command.proofs.Results.{IfErr-passed}
 use Rattle.byte_unit_command.proofs.Rooms.{IsFedWithin-fits, IsFedWithin-step}
 use Rattle.byte_unit_stream.proofs.ChunkRecords.{empty_from_length}
@@ -76,34 +75,38 @@ loop-n-preserved g c =
       | then-is_empty+in_ok-add_record w ↦
           let none = empty_from_length part.items (vec_len part) part.ok.0 w.if-is_empty.ensures in
           let empty : vec_len part ≡ 0 = part.ok.0 ∙ ap length none in
-          let adds = subst (AddsRecords options (take place rest ∷ []) now.state) (sym (ap state_in w.self-is))
-          w.in_ok-add_record.ensures.ok in (
+          let adds = subst (AddsRecords options (take place rest ∷ []) now.state)
+          (sym (ap (λ at. state_of at.converter) w.self-is)) w.in_ok-add_record.ensures.ok in (
             IsFed-step c.loop-n.invariant.0 (IsNext-alone options c.loop-n.self rest place ends none) next adds
-                (ap part_in w.self-is ∙ none) rest_is,
+                (ap (λ at. at.part.items) w.self-is ∙ none) rest_is,
             IsFedWithin-step c.loop-n.invariant.1 place (length (take place rest)) ends.0 (omega (arith, taken, empty))
-                (ap part_len w.self-is ∙ empty) (omega (arith, ap waiting_len w.self-is, w.add_record.ensures.len))
-                (omega (arith, ap part_capacity w.self-is))
-                (omega (arith, ap waiting_capacity w.self-is, w.add_record.ensures.capacity)) left,
+                (ap (λ at. vec_len at.part) w.self-is ∙ empty)
+                (omega (arith, ap (λ at. vec_len at.converter.waiting) w.self-is, w.add_record.ensures.len))
+                (omega (arith, ap (λ at. vec_capacity at.part) w.self-is))
+                (omega (arith, ap (λ at. vec_capacity at.converter.waiting) w.self-is, w.add_record.ensures.capacity))
+                left,
           )
       | else-is_empty+in_ok-extend_from_slice+in_ok-add_record-2 w ↦
           let bytes = w.deref.result.now in
           let bytes_are = w.deref.ensures.value ∙ w.in_ok-extend_from_slice.ensures.items in
           let is_next : IsNext options now place bytes = record { ends = ends; bytes_are = bytes_are } in
-          let adds = subst (AddsRecords options (bytes ∷ []) now.state) (sym (ap state_in w.self-is))
-          w.in_ok-add_record-2.ensures.ok in
+          let adds = subst (AddsRecords options (bytes ∷ []) now.state)
+          (sym (ap (λ at. state_of at.converter) w.self-is)) w.in_ok-add_record-2.ensures.ok in
           let lens = w.in_ok-extend_from_slice.ensures.len in
           let joined : length bytes ≡ vec_len part + place =
           omega (arith, ap length w.deref.ensures.value, w.extend_from_slice.new.self.ok.0, lens, taken) in
           let added = w.add_record-else-is_empty.ensures in (
-            IsFed-step c.loop-n.invariant.0 is_next next adds (ap part_in w.self-is ∙ w.clear.ensures.items) rest_is,
+            IsFed-step c.loop-n.invariant.0 is_next next adds
+                (ap (λ at. at.part.items) w.self-is ∙ w.clear.ensures.items) rest_is,
             IsFedWithin-step c.loop-n.invariant.1 place (length bytes) ends.0 joined
-                (ap part_len w.self-is ∙ w.clear.ensures.len) (omega (arith, ap waiting_len w.self-is, added.len))
+                (ap (λ at. vec_len at.part) w.self-is ∙ w.clear.ensures.len)
+                (omega (arith, ap (λ at. vec_len at.converter.waiting) w.self-is, added.len))
                 (omega (
                   arith,
-                  ap part_capacity w.self-is,
+                  ap (λ at. vec_capacity at.part) w.self-is,
                   w.extend_from_slice.ensures.capacity,
                   w.clear.ensures.capacity,
-                )) (omega (arith, ap waiting_capacity w.self-is, added.capacity)) left,
+                )) (omega (arith, ap (λ at. vec_capacity at.converter.waiting) w.self-is, added.capacity)) left,
           )
     ]
 
