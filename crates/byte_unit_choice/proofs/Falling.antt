@@ -101,10 +101,7 @@ length_of_prefix _ power = omega arith
 -- without the units of its last prefix letters, the list of units is that of the other letters
 pub drop_prefixes : (family : Family) (dropped n : ℕ)
     → drop (units_per_prefix family * dropped) (units_of_prefixes family (dropped + n)) ≡ units_of_prefixes family n
-drop_prefixes family zero n =
-    let none : units_per_prefix family * 0 ≡ 0 = omega arith in
-    let same : 0 + n ≡ n = omega arith in
-    rw (none, same) refl
+drop_prefixes family zero n = grind arith
 drop_prefixes family (suc d) n =
     let here = units_of_prefix family (suc (d + n)) in
     let later = units_of_prefixes family (d + n) in

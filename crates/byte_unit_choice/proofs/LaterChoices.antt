@@ -1,8 +1,7 @@
 -- The laws of the chosen unit at a precision of 0, at higher precisions, and of its product with the number.
 --
 -- That a unit divides a size, as `d`, is a count, `d.0`, and an equation, `d.1`.
-use Rattle.std.proofs.Common.{ℕ, ◌<◌, ◌≤◌, ⊎_elim, arith}
-use Rattle.std.proofs.Math.Nat.{mul-le-mul_right}
+use Rattle.std.proofs.Common.{ℕ, ◌<◌, ◌≤◌, ⊎_elim, arith, mul-le-mul_right}
 use Rattle.byte_unit_math.proofs.Expanding.{IsQuotient-times}
 use Rattle.byte_unit_base.specs.Shape.{Shape, bits}
 use Rattle.byte_unit_base.specs.Version.{Version}

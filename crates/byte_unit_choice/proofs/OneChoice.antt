@@ -14,12 +14,7 @@ use Rattle.byte_unit_choice.proofs.Choosing.{some_bits}
 
 -- 2^a * 5^b has the exponents a of 2 and b of 5
 pure_powers : (a b : ℕ) → IsTwoFive (2 ^ a * 5 ^ b) a b
-pure_powers a b = record {
-  left = 1;
-  product = omega arith;
-  odd = λ e. let k : ⊥ = cc in k;
-  no_five = λ e. let k : ⊥ = cc in k;
-}
+pure_powers a b = grind arith
 
 -- if 2^c * 5^d is 2^a * 5^b, then c and d are no greater than a and b
 no_greater : (a b c d : ℕ) → 2 ^ a * 5 ^ b ≡ 2 ^ c * 5 ^ d → (c ≤ a) × (d ≤ b)
@@ -37,19 +32,13 @@ same_fields power binary bit other other_binary other_bit some other_some t f = 
 
 -- two units with a prefix and the same number of bits are the same
 pub same_unit : (unit other : Shape) → 1 ≤ unit.power → 1 ≤ other.power → bits unit ≡ bits other → unit ≡ other
-same_unit unit other prefix other_prefix same =
-    let low = no_greater (twos unit) (fives unit) (twos other) (fives other) same in
-    let high = no_greater (twos other) (fives other) (twos unit) (fives unit) (sym same) in
-    same_fields unit.power unit.binary unit.bit other.power other.binary other.bit prefix other_prefix
-    (omega (arith, low.0, high.0)) (omega (arith, low.1, high.1))
+same_unit unit other prefix other_prefix same = grind (arith, no_greater, same_fields)
 
 -- there is only one largest unit in which a size is exact
 pub one_largest : (version : Version) (family : Family) (in_bits precision : ℕ) (unit other : Shape)
     → IsLargest (IsExactUnitIn version family in_bits precision) unit
     → IsLargest (IsExactUnitIn version family in_bits precision) other → unit ≡ other
-one_largest version family in_bits precision unit other largest other_largest =
-    same_unit unit other largest.has.member.prefix.some other_largest.has.member.prefix.some
-    (omega (arith, largest.largest other other_largest.has, other_largest.largest unit largest.has))
+one_largest version family in_bits precision unit other largest other_largest = grind (arith, same_unit)
 
 -- a size has at most one chosen unit and number
 pub one_choice : ChoicesAreOne

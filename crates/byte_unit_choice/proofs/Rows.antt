@@ -1,8 +1,7 @@
 -- The rows of the table of units that a size can have, and the search for the largest that has a property.
 --
 -- The highest bit `top` of a number is its index, the leading zeros before it, and the two powers of two that bound the
--- number. Of a unit that may be found, `m.0` is that it is in the unit set, `m.1` that it is not above the size, and
--- `m.2` that its prefix is listed.
+-- number.
 use Rattle.std.proofs.Common.{◌≡◌, ℕ, ◌+◌, ◌-◌, ◌*◌, ◌/◌, ◌^◌, ◌<◌, ◌≤◌, ⊎_elim, suc, Bool, true, false, List, [], ◌∷◌}
 use Rattle.std.proofs.Common.{length, map, max, drop, get_or, add-one, drop-cons, ◌&&◌, leb, arith, sym, ap, ◌∙◌, subst}
 use Rattle.std.proofs.Common.{refl}
@@ -111,10 +110,7 @@ pub search_start : (Has : Shape → Type 0) (family : Family) (in_bits first : �
     → ListsUnits family in_bits first rows
     → ((unit : Shape) → Has unit → InFamily current family unit × (bits unit ≤ in_bits) × (unit.power ≤ first))
     → Remain Has (drop 0 (map unit_in rows))
-search_start Has family in_bits first rows h within = λ unit has.
-    let m = within unit has in
-    let known = h.within unit m.0.prefix m.1 m.2 in
-    rw (units_of_rows rows _ h.rows_are) (in_falling family h.prefixes unit m.0.kind m.0.prefix.some known)
+search_start Has family in_bits first rows h within = grind (arith, in_falling, units_of_rows)
 
 -- the unit of the row is in the unit set, and the row has its bits and exponents
 pub record IsRow (family : Family) (row : ShapeRow) : Type 0 where
@@ -179,15 +175,12 @@ unit_found {family} {in_bits} {first} {rows} Has i d h remain within has =
 -- if the unit of a row does not have the property, each unit that has it is in a later row
 pub unit_passed : (Has : Shape → Type 0) (rows : List UnitRow) (i : ℕ) (d : UnitRow) → Remain Has (drop i (map unit_in rows))
     → i < length rows → ¬ (Has (unit_in (get_or rows i d))) → Remain Has (drop (i + 1) (map unit_in rows))
-unit_passed Has rows i d remain within without = λ unit h.
-    rw add-one (⊎_elim (λ same. absurd (without (subst Has (sym same) h))) (λ later. later)
-    (subst (IsIn unit) (units_from rows i d within) (remain unit h)))
+unit_passed Has rows i d remain within without = grind (arith, add-one, units_from)
 
 -- if no row is left, no unit has the property
 pub none_found : (Has : Shape → Type 0) (rows : List UnitRow) (i : ℕ) → length rows ≤ i
     → Remain Has (drop i (map unit_in rows)) → NoneHas Has
-none_found Has rows i done remain unit h =
-    subst (IsIn unit) (drop_all i (map unit_in rows) (omega (arith, length-map rows unit_in, done))) (remain unit h)
+none_found Has rows i done remain unit h = grind (arith, drop_all, length-map)
 
 -- if the tests of a row hold, its unit is not above the size and has no greater exponents
 pub row_powers : {family : Family} {row : ShapeRow} (in_bits a b : ℕ) → IsRow family row

@@ -93,15 +93,7 @@ module _ {family : Family} {in_bits most a b : ℕ} (precision : ℕ) (same : mo
   -- the largest unit with no greater exponents than those of the size plus the places is chosen, with its quotient
   pub chosen_by_powers : {number : ℕ} (unit : Shape) → IsLargest (HasPowers family in_bits (a + most) (b + most)) unit
       → IsQuotient in_bits (bits unit) (places_within most) number → IsChosen family in_bits precision unit number
-  chosen_by_powers {number} unit h q =
-      let within : places_within most ≡ places_within precision = omega (arith, same) in
-      record {
-        unit_is = record {
-          has = exact_of_powers unit h.has;
-          largest = λ other s. h.largest other (powers_of_exact other s);
-        };
-        number_is = rw (← within) q;
-      }
+  chosen_by_powers {number} unit h q = grind (arith, exact_of_powers, powers_of_exact)
 
   -- if no unit has exponents that are small enough, the size is exact in no unit
   pub none_by_powers : NoneHas (HasPowers family in_bits (a + most) (b + most))

@@ -76,15 +76,13 @@ module _ (Has : Shape → Type 0) (x : Shape) (xs : List Shape) where
   bounds_more : (bound : ℕ) → (Has x → bits x ≤ bound)
       → ((other : Shape) → IsIn other xs → Has other → bits other ≤ bound)
       → (other : Shape) → IsIn other (x ∷ xs) → Has other → bits other ≤ bound
-  bounds_more bound first rest other i h =
-      ⊎_elim (λ e. omega (arith, ap bits e, first (subst Has (sym e) h))) (λ k. rest other k h) i
+  bounds_more bound first rest other i h = grind arith
 
   -- with one unit more, there still is a largest unit that has the property, or none has it
   one_more : Decided (Has x) → LargestOrNone Has xs → LargestOrNone Has (x ∷ xs)
   one_more (inr fails) (inl (unit, found, low)) = inl (unit, found, bounds_more (bits unit) (λ h. absurd (fails h)) low)
   one_more (inr fails) (inr none) = inr (λ other i h. ⊎_elim (λ e. fails (subst Has (sym e) h)) (λ k. none other k h) i)
-  one_more (inl has) (inr none) =
-      inl (x, has, bounds_more (bits x) (λ h. omega arith) (λ other i h. absurd (none other i h)))
+  one_more (inl has) (inr none) = grind (arith, bounds_more)
   one_more (inl has) (inl (unit, found, low)) =
       ⊎_elim
       (λ smaller. inl (unit, found, bounds_more (bits unit) (λ h. omega (arith, smaller)) low))

@@ -1,9 +1,8 @@
 -- The digits after the point of a binary fraction: each product with a power of five gives the next group of them.
-use Rattle.std.proofs.Common.{◌≡◌, ℕ, ◌+◌, ◌-◌, ◌*◌, ◌/◌, ◌%◌, ◌^◌, ◌<◌, ◌≤◌, ◌≢◌, ⊎_elim, List, [], ◌∷◌, ◌++◌, length, take, drop}
-use Rattle.std.proofs.Common.{replicate, get_or, arith, ap, ◌∙◌, sym, refl, length-take-le, zero, suc, subst}
-use Rattle.std.specs.List.{All}
-use Rattle.std.proofs.Math.Nat.{mul-lt-mul_of_pos_right, one-le-pow, pow-le-pow_right, pow-zero, mod-eq_of_lt, eq-zero-or-pos}
-use Rattle.std.proofs.Math.Seq.{take-add}
+use Rattle.std.proofs.Common.{◌≡◌, ℕ, ◌+◌, ◌-◌, ◌*◌, ◌/◌, ◌%◌, ◌^◌, ◌<◌, ◌≤◌, ◌≢◌, ⊎_elim, List, [], ◌∷◌, ◌++◌, length}
+use Rattle.std.proofs.Common.{take, drop, replicate, get_or, arith, ap, ◌∙◌, sym, refl, length-take-le, zero, suc}
+use Rattle.std.proofs.Common.{subst, All, mul-lt-mul_of_pos_right, mod-eq_of_lt, eq-zero-or-pos, take-add}
+use Rattle.std.proofs.Math.Nat.{one-le-pow, pow-le-pow_right, pow-zero}
 use Rattle.std.proofs.lemmas.Bool.{cases_lt}
 use Rattle.std.proofs.lemmas.Nat.{div_below, mod_below, mul-le, same_from_place}
 use Rattle.std.proofs.lemmas.List.{drop-take, drop-drop, drop-replicate, take-replicate, length-replicate, length-drop}
@@ -35,15 +34,11 @@ module _ (rest left count next : ℕ) (split : left ≡ next + count) (below : r
 
   -- The bits before the last `next` ones have at most `count` decimal digits.
   pub group_below : rest * 5 ^ count / 2 ^ next < 10 ^ count
-  group_below =
-      div_below (rest * 5 ^ count) (2 ^ next) (10 ^ count) (omega (arith, one-le-pow next 2 (omega arith)))
-      (omega (arith, product_below))
+  group_below = grind (arith, div_below, one-le-pow, product_below)
 
   -- A group of at most 16 digits is below 10^16.
   pub group_small : count ≤ 16 → rest * 5 ^ count / 2 ^ next < 10 ^ 16
-  group_small few =
-      let power = pow-le-pow_right {n = 10} (omega arith) {i = count} {j = 16} few in
-      omega (arith, group_below, power)
+  group_small few = grind (arith, group_below, pow-le-pow_right)
 
   -- The remainder times 5^left is the group, before `next` more digits, plus the next remainder times 5^next.
   pub group_exact :
@@ -54,10 +49,7 @@ module _ (rest left count next : ℕ) (split : left ≡ next + count) (below : r
 
   -- The product is below 2^a * 10^b for each greater a and b, so that numerals bound it.
   product_within : (a b : ℕ) → next ≤ a → count ≤ b → rest * 5 ^ count < 2 ^ a * 10 ^ b
-  product_within a b few few' =
-      let powers = mul-le (2 ^ next) (10 ^ count) (2 ^ a) (10 ^ b) (pow-le-pow_right {n = 2} (omega arith) few)
-      (pow-le-pow_right {n = 10} (omega arith) few') in
-      omega (arith, product_below, powers)
+  product_within a b few few' = grind (arith, mul-le, pow-le-pow_right, product_below)
 
   -- The product fits 128 bits.
   pub product_fits : left ≤ expansion_places → count ≡ (left - 1) % 16 + 1 → rest * 5 ^ count < 2 ^ 128
@@ -139,12 +131,7 @@ module _ (numerator places rest left end : ℕ) (groups : List ℕ)
 
     -- Before the first group there is no digit; each other one has 16.
     same_power : value_of_digits (take end groups) * 10 ^ 16 ≡ value_of_digits (take end groups) * 10 ^ count
-    same_power =
-        ⊎_elim (λ none.
-        rw none (omega arith))
-        (λ more.
-        let sixteen : count ≡ 16 = omega (arith, h.whole more, some, count_is) in
-        rw sixteen refl) (eq-zero-or-pos end)
+    same_power = grind (arith, eq-zero-or-pos)
 
     -- The array with the group stored is grouped, with the next remainder.
     pub IsGrouped-more : IsGrouped numerator places (rest * 5 ^ count % 2 ^ next) next (end + 16)
@@ -209,9 +196,7 @@ module _ (numerator places rest end : ℕ) (groups : List ℕ) (h : IsGrouped nu
 
   -- The fraction times 10^places is below 10^places.
   number_below : numerator * 5 ^ places < 10 ^ places
-  number_below =
-      let times = mul-lt-mul_of_pos_right {k = 5 ^ places} below (omega (arith, one-le-pow places 5 (omega arith))) in
-      omega (arith, times, ten_power places)
+  number_below = grind (arith, below, mul-lt-mul_of_pos_right, one-le-pow, ten_power)
 
   -- The value of the first `places` digits of the copy is below 10^places.
   front_below : value_of_digits (take places copied) < 10 ^ places
@@ -294,11 +279,7 @@ pub group_stored : (end : ℕ) (groups values : List ℕ) → length groups ≡ 
     → put_mid end (end + 16 - end) groups (put_chunk 0 (mid_of end (end + 16 - end) groups) values)
     ≡ put_mid end 16 groups values
 group_stored end groups values size room long =
-    let sixteen : end + 16 - end ≡ 16 = omega arith in
-    let middle : length (mid_of end 16 groups) ≡ 16 =
-    length-take-le 16 (drop end groups) (omega (arith, length-drop end groups, room, size)) in
-    ap (λ k. put_mid end k groups (put_chunk 0 (mid_of end k groups) values)) sixteen
-    ∙ ap (λ ys. put_mid end 16 groups ys) (put_chunk_whole (mid_of end 16 groups) values (middle ∙ sym long))
+    grind (arith, length-drop, length-take-le, mid_of, put_chunk, put_chunk_whole, put_mid)
 
 -- Digits as characters, less the character 0.
 abbrev lessened : List ℕ → List ℕ

@@ -2,12 +2,11 @@
 -- the trailing zeros or nines.
 use Rattle.std.proofs.Common.{◌≢◌, ◌≡◌, ◌+◌, ◌-◌, ◌*◌, ◌^◌, ◌%◌, ◌<◌, ◌≤◌, ℕ, List, length, take, drop, get_or, arith}
 use Rattle.std.proofs.Common.{ap, sym, ◌∙◌, add-one, length-take-le, take-append-drop, length-drop, drop-cons, Bool}
-use Rattle.std.proofs.Common.{true, false, ltb, nat_eq, zero, suc, [], ◌++◌, set, replicate}
-use Rattle.std.specs.List.{All, fold}
-use Rattle.std.proofs.lemmas.List.{get_or-take, get_or-drop, length-take, take_more, take_more_set, length-set}
-use Rattle.std.proofs.lemmas.List.{length-append, length-replicate, get_or-set_same, take-take, take_at, drop_at, drop-set-lt}
+use Rattle.std.proofs.Common.{true, false, ltb, nat_eq, zero, suc, [], ◌++◌, set, replicate, All, fold, get_or-take}
+use Rattle.std.proofs.Common.{get_or-drop, length-take, length-set, length-append, get_or-set_same, take-take, take_at}
+use Rattle.std.proofs.Common.{drop_at, drop-set-lt, pow-add, MatchBool}
+use Rattle.std.proofs.lemmas.List.{take_more, take_more_set, length-replicate}
 use Rattle.std.proofs.lemmas.List.Elements.{All-take, All-get_or, All-drop, All-nil, All-replicate, All-set, All-append}
-use Rattle.std.proofs.lemmas.Nat.{pow-add}
 use Rattle.std.proofs.Math.Nat.{pow-succ', mul-le-mul_right, mul-lt-mul_of_pos_right}
 use Rattle.byte_unit_math.specs.Bounds.{expansion_places, whole_limit}
 use Rattle.byte_unit_math.specs.Finite.{Finite, value_of_digits, ulps_of, cut_after, IsExpansion}
@@ -18,7 +17,6 @@ use Rattle.byte_unit_math.specs.declared.expansion.Expansion.TheInside.{Inside}
 use Rattle.byte_unit_math.specs.ExpansionFields.{expansion_view, IsNormalizedExpansion}
 use Rattle.byte_unit_math.proofs.Digits.{one_le_pow10, value_append, value_more, value_cons, value_below_power}
 use Rattle.byte_unit_math.proofs.Digits.{value_append_zeros}
-use Rattle.std.specs.Bool.{MatchBool}
 use Rattle.std.proofs.lemmas.Bool.Decides.{nat_tests}
 use Rattle.byte_unit_math.proofs.Nearest.{LiesAbove, nearest_down, nearest_up, tie_up_next, tie_even_next}
 use Rattle.byte_unit_math.proofs.Nearest.{tie_even_this}
@@ -215,8 +213,7 @@ cleared i e kept ds h v few is =
 -- The decimal cut off after p digits, times 10^p, is its whole part times 10^p plus the p digits.
 scaled_cut : (e : Finite) (p : ℕ) → p ≤ length e.digits
     → ulps_of (cut_after p e) ≡ e.whole * 10 ^ p + value_of_digits (take p e.digits)
-scaled_cut e p within =
-    ap (λ n. e.whole * 10 ^ n + value_of_digits (take p e.digits)) (length-take-le p e.digits within)
+scaled_cut e p within = grind (arith, length-take-le)
 
 -- If the last of them are zeros, the decimal cut off after p digits is that of the digits kept, times a power of ten.
 scaled_zeros :
@@ -284,11 +281,7 @@ next_whole_is_expansion e p kept h none =
 pub last_kept_less :
     (e : Finite) (p kept : ℕ) (ds : List ℕ) → EndsInRunOf e p kept 9 → BeginsWith e kept ds → 0 < kept
     → get_or ds (kept - 1) 0 + 1 < 10
-last_kept_less e p kept ds h array some =
-    let fits : kept - 1 < length ds = omega (arith, some, kept_fits e p kept 9 ds h array) in
-    let small = All-get_or (λ d. d < 10) ds (kept - 1) 0 fits array.small in
-    let other = h.stops some in
-    omega (arith, small, same_last_digit e kept ds array some, other)
+last_kept_less e p kept ds h array some = grind (arith, All-get_or, kept_fits, same_last_digit)
 
 -- The fields with one more in the last digit that is kept satisfy the invariant.
 pub next_digit_normalized :

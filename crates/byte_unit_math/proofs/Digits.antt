@@ -1,7 +1,6 @@
 -- The number that decimal digits represent, the last digits of a number, and digits without trailing zeros.
 use Rattle.std.proofs.Common.{◌≡◌, ℕ, zero, suc, ◌+◌, ◌-◌, ◌*◌, ◌/◌, ◌%◌, ◌^◌, ◌<◌, ◌≤◌, List, [], ◌∷◌, ◌++◌, length}
-use Rattle.std.proofs.Common.{replicate, take, set, get_or, refl, sym, ap, ◌∙◌, arith, length-append}
-use Rattle.std.specs.List.{fold, All}
+use Rattle.std.proofs.Common.{replicate, take, set, get_or, refl, sym, ap, ◌∙◌, arith, length-append, fold, All}
 use Rattle.std.proofs.Math.Nat.{pow-succ', one-le-pow, mul-le-mul_right}
 use Rattle.std.proofs.Math.Arith.{mod-mul}
 use Rattle.std.proofs.lemmas.Nat.{pow-add, same_from_place}

@@ -73,8 +73,7 @@ division_is n divisor quotient rest parts below =
 -- An estimate whose product with the divisor is at most n, and by less than the divisor, is the quotient.
 pub quotient_from_bounds : (n divisor quotient : ℕ) → quotient * divisor ≤ n → n - quotient * divisor < divisor
     → quotient ≡ n / divisor
-quotient_from_bounds n divisor quotient enough close =
-    (division_is n divisor quotient _ (omega (arith, enough)) close).0
+quotient_from_bounds n divisor quotient enough close = grind (arith, division_is)
 
 -- What such a product leaves of n is the remainder.
 pub rest_from_bounds :
@@ -85,16 +84,12 @@ rest_from_bounds n divisor quotient enough close = (division_is n divisor quotie
 -- If the estimate is one less than the quotient, it is corrected by one.
 pub quotient_after : (n divisor estimate : ℕ) → estimate * divisor + divisor ≤ n → n < estimate * divisor + 2 * divisor
     → estimate + 1 ≡ n / divisor
-quotient_after n divisor estimate enough close =
-    (division_is n divisor (estimate + 1) (n - estimate * divisor - divisor) (omega (arith, enough))
-    (omega (arith, enough, close))).0
+quotient_after n divisor estimate enough close = grind (arith, division_is)
 
 -- If the estimate is one less than the quotient, the divisor is subtracted once more for the remainder.
 pub rest_after : (n divisor estimate : ℕ) → estimate * divisor + divisor ≤ n → n < estimate * divisor + 2 * divisor
     → n - estimate * divisor - divisor ≡ n % divisor
-rest_after n divisor estimate enough close =
-    (division_is n divisor (estimate + 1) (n - estimate * divisor - divisor) (omega (arith, enough))
-    (omega (arith, enough, close))).1
+rest_after n divisor estimate enough close = grind (arith, division_is)
 
 -- Long division in base 2^40, of a number of three digits: the digits of the quotient and the last remainder are those
 -- of the whole division.

@@ -2,7 +2,7 @@
 --
 -- That a fraction is `exact` at some places is a count, `exact.0`, and an equation, `exact.1`.
 use Rattle.std.proofs.Common.{◌≡◌, ℕ, ◌+◌, ◌-◌, ◌*◌, ◌/◌, ◌%◌, ◌^◌, ◌<◌, ◌≤◌, ⊎_elim, arith, ap, ◌∙◌, subst, ◌≢◌, List}
-use Rattle.std.proofs.Common.{length, take, drop, set, get_or, replicate, sym, refl, length-take-le}
+use Rattle.std.proofs.Common.{length, take, drop, set, get_or, replicate, sym, refl, length-take-le, All}
 use Rattle.std.proofs.Math.Nat.{div-add-mod', mul-lt-mul_of_pos_right, eq_of_mul-eq-mul_right, pow-succ', one-le-pow}
 use Rattle.std.proofs.Math.Nat.{mul-le-mul_right}
 use Rattle.std.proofs.lemmas.Nat.{div_below, mod_below, same_from_place, mul-le}
@@ -10,7 +10,6 @@ use Rattle.std.proofs.lemmas.Bool.{cases_lt}
 use Rattle.byte_unit_math.specs.Bounds.{scale, places_of_decimal, expansion_places, unit_limit}
 use Rattle.byte_unit_math.specs.Exact.{IsExactAt, IsLeastPlaces, IsQuotient}
 use Rattle.byte_unit_math.proofs.Scales.{pow10_bounds, pow10_times_rest, pow10_split, power_of_sum, exponent_at_most}
-use Rattle.std.specs.List.{All}
 use Rattle.std.proofs.lemmas.List.{drop-set-lt, drop-drop, drop-replicate, length-set, length-replicate}
 use Rattle.std.proofs.lemmas.List.{get_or-set_same, get_or-take, take_all}
 use Rattle.std.proofs.lemmas.List.Elements.{All-set, All-replicate, All-take, All-get_or}

@@ -68,5 +68,4 @@ rounds_up_even num den p some h =
 -- A quotient is rounded down if twice its rest, plus one if the quotient is odd, is at most the divisor.
 pub rounds_down_even : (num den p : ℕ) → 0 < den → 2 * (num * 10 ^ p % den) + num * 10 ^ p / den % 2 ≤ den
     → IsNearest num den p Even (num * 10 ^ p / den)
-rounds_down_even num den p some h =
-    nearest_even_this num den p _ _ (lies_above_quotient num den p _ _ _ refl some refl refl) h
+rounds_down_even num den p some h = grind (arith, lies_above_quotient, nearest_even_this)

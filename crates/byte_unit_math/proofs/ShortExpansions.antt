@@ -4,7 +4,7 @@ use Rattle.std.proofs.Common.{⊎_elim}
 use Rattle.std.proofs.lemmas.Bool.{cases_lt}
 use Rattle.std.specs.Int.{trailing_zeros, w128}
 use Rattle.std.specs.Int.Count.{trailing_of_zero}
-use Rattle.std.proofs.Math.Nat.{mul-lt-mul_of_pos_right, one-le-pow, div-add-mod', pow-zero, pow-succ', mod-eq_of_lt}
+use Rattle.std.proofs.Math.Nat.{mul-lt-mul_of_pos_right, one-le-pow, div-add-mod', pow-zero, mod-eq_of_lt}
 use Rattle.std.proofs.Math.Nat.{pow-le-pow_right, mul-le-mul_left, le_of_mul-le-mul_right}
 use Rattle.std.proofs.lemmas.Nat.{mul-pow, mul-le, mod_below, and_mask}
 use Rattle.std.proofs.lemmas.Nat.Bits.{bit_at-trailing_zeros}
@@ -148,9 +148,7 @@ reduced_decimal number reduced shared left twos fives sum number_is =
 -- A short expansion is exactly the fraction.
 pub short_is_exact : {num den : ℕ} {e : ShortExpansion} → IsShortExpansion num den e
     → num * 10 ^ e.places ≡ (e.whole * 10 ^ e.places + e.digits) * den
-short_is_exact {num} {den} {e} h =
-    let value = value_of_last_digits e.places e.digits ∙ mod-eq_of_lt h.below in
-    rw (length_last_digits e.places e.digits, value) at h.is_expansion.exact
+short_is_exact {num} {den} {e} h = grind (arith, length_last_digits, mod-eq_of_lt, value_of_last_digits)
 
 -- A short expansion has no more places than the fraction is exact with.
 pub short_places : {num den : ℕ} {e : ShortExpansion} (places : ℕ) → IsShortExpansion num den e → IsExactAt num den places
@@ -175,10 +173,7 @@ short_trimmed {num} {den} {e} h some = ⊎_elim (λ last. last)
 
 -- The whole part of a short expansion is at most the numerator, so for a size it is below the limit of a `Decimal`.
 pub short_whole : {num den : ℕ} {e : ShortExpansion} → 1 ≤ den → IsShortExpansion num den e → e.whole ≤ num
-short_whole {num} {den} {e} some h =
-    let once = mul-le-mul_left (e.whole * 10 ^ e.places + e.digits) some in
-    let power : 0 < 10 ^ e.places = omega (arith, one-le-pow e.places 10 (omega arith)) in
-    le_of_mul-le-mul_right {m = e.whole} {n = num} {k = 10 ^ e.places} (omega (arith, short_is_exact h, once)) power
+short_whole {num} {den} {e} some h = grind (arith, le_of_mul-le-mul_right, mul-le-mul_left, one-le-pow, short_is_exact)
 
 -- A short expansion scaled by 10^28, times the denominator, is the numerator scaled by 10^28.
 pub short_scaled : {num den : ℕ} {e : ShortExpansion} → e.places ≤ places_of_decimal → IsShortExpansion num den e

@@ -2,9 +2,8 @@
 --
 -- That a fraction is exact at some places, as `h`, is a count, `h.0`, and an equation, `h.1`.
 use Rattle.std.proofs.Common.{◌≡◌, ◌+◌, ◌-◌, ◌*◌, ◌^◌, ◌/◌, ◌<◌, ◌≤◌, ⊎_elim, ℕ, zero, suc, List, [], ◌∷◌, ◌++◌, length}
-use Rattle.std.proofs.Common.{get_or, replicate, arith, ap, sym, refl, subst, ◌∙◌, length-append, append-nil}
+use Rattle.std.proofs.Common.{get_or, replicate, arith, ap, sym, refl, subst, ◌∙◌, length-append, append-nil, All}
 use Rattle.std.specs.Prelude.{⊤}
-use Rattle.std.specs.List.{All}
 use Rattle.std.proofs.lemmas.List.{length-replicate, take_all}
 use Rattle.std.proofs.lemmas.List.Elements.{All-append, All-replicate}
 use Rattle.std.proofs.lemmas.Nat.{same_from_place}

@@ -3,13 +3,10 @@
 -- The highest bit `top` of a number is its index, the leading zeros before it, and the two powers of two that bound the
 -- number. That a fraction `fits` is that it has digits, that they are below its power of ten, and that they are at most
 -- 38.
-use Rattle.std.specs.Fmt.{decimal}
-use Rattle.std.specs.Str.{IsAscii}
 use Rattle.std.proofs.Common.{set, ◌≡◌, ℕ, zero, suc, ◌+◌, ◌*◌, ◌^◌, ◌/◌, ◌%◌, ◌<◌, ◌-◌, ◌≤◌, ⊎_elim, List, [], ◌∷◌}
 use Rattle.std.proofs.Common.{◌++◌, length, drop, arith, ap, sym, refl, ◌∙◌, length-append, append_assoc, append-nil}
-use Rattle.std.proofs.Common.{get_or, subst, Bool, true, ◌&&◌, leb}
-use Rattle.std.proofs.Math.Nat.{pow-succ', mod-mod, div-le_self, div-div-eq-div-mul, le-div_iff_mul-le}
-use Rattle.std.proofs.Math.Nat.{pow-le-pow_right}
+use Rattle.std.proofs.Common.{get_or, subst, Bool, true, ◌&&◌, leb, decimal, IsAscii, div-le_self, le-div_iff_mul-le}
+use Rattle.std.proofs.Math.Nat.{pow-succ', mod-mod, div-div-eq-div-mul, pow-le-pow_right}
 use Rattle.std.proofs.lemmas.Bool.{cases_lt, and_parts, leb-true}
 use Rattle.std.proofs.lemmas.Fmt.{decimal_digit, decimal_step_wide, length-decimal-le_wide, IsAscii-decimal_wide}
 use Rattle.std.proofs.lemmas.List.{drop-set, drop-drop, length-set, length-map}

@@ -17,9 +17,7 @@ use Rattle.byte_unit_choice.proofs.choice.choose_unit.Goals.{then-places-gt-FEW_
 
 -- every unit is above the size 0
 pub returns-then-size-eq0-clause-none : goal.returns-then-size-eq0-clause-none
-returns-then-size-eq0-clause-none c = λ unit s.
-    let zero = ap (λ n. n * c.args.own_bits) c.if-size-eq0.true in
-    omega (arith, some_bits unit, s.not_above, zero)
+returns-then-size-eq0-clause-none c = grind (arith, some_bits)
 
 -- before the first row, each unit with small enough exponents is among the rows, since its prefix is among those that
 -- are listed
@@ -155,5 +153,4 @@ returns-clause-steps_of_none c =
 
 -- without a choice, the steps of `factors_of` are as few
 pub returns-clause-few_steps : goal.returns-clause-few_steps
-returns-clause-few_steps c =
-    λ kind same. few_of_none kind c.args.size _ _ c.requires.small (returns-clause-steps_of_none c)
+returns-clause-few_steps c = grind (arith, few_of_none, returns-clause-steps_of_none)

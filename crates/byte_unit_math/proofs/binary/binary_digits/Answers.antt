@@ -65,18 +65,12 @@ loop-left-preserved c =
 -- After the loop no digit is missing.
 all_groups : (c : After-copy_from_slice)
     → IsGrouped c.args.numerator c.args.places c.loop-left.rest 0 c.loop-left.end c.loop-left.groups
-all_groups c =
-    let none : c.loop-left.left ≡ 0 = omega (arith, c.loop-left-test.false) in
-    subst (λ left. IsGrouped c.args.numerator c.args.places c.loop-left.rest left c.loop-left.end c.loop-left.groups) none
-    c.loop-left.invariant
+all_groups c = grind arith
 
 -- 93 bytes are copied, from `places` before the end of the groups.
 copied_are : (c : After-copy_from_slice)
     → c.copy_from_slice.new.self ≡ take 93 (drop (c.loop-left.end - c.args.places) c.loop-left.groups)
-copied_are c =
-    let start = c.loop-left.end - c.args.places in
-    let same : start + 93 - start ≡ 93 = omega arith in
-    c.copy_from_slice.ensures.after ∙ ap (λ k. take k (drop start c.loop-left.groups)) same
+copied_are c = grind arith
 
 -- The first `places` bytes of the copy are the digits.
 pub returns-clause-digits : goal.returns-clause-digits

@@ -1,6 +1,5 @@
 -- Each iteration writes the last 18 digits.
-use Rattle.std.proofs.Common.{ap, arith, drop, length, sym, ◌∙◌}
-use Rattle.std.specs.Fmt.{decimal}
+use Rattle.std.proofs.Common.{ap, arith, drop, length, sym, ◌∙◌, decimal}
 use Rattle.byte_unit_math.proofs.WrittenDigits.{decimal_length_split, digits_before}
 use Rattle.byte_unit_math.proofs.decimal_digits.put_u128_wide.Goals as goal
 

@@ -1,6 +1,5 @@
 -- The first i bytes are the first i digits in ASCII.
-use Rattle.std.proofs.Common.{◌≡◌, take, length}
-use Rattle.std.specs.Str.{IsAscii}
+use Rattle.std.proofs.Common.{◌≡◌, take, length, IsAscii}
 use Rattle.byte_unit_math.specs.Numeral.{glyphs}
 use Rattle.byte_unit_math.proofs.expansion.glyphs_of.Given as goal
 

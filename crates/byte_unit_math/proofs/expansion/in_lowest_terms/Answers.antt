@@ -1,6 +1,5 @@
 -- The digits are those of the remainder, which is odd.
-use Rattle.std.proofs.Common.{◌≡◌, ◌-◌, ◌*◌, ◌/◌, ◌%◌, ◌^◌, ◌<◌, bit_and, arith, ap, sym, ◌∙◌, subst}
-use Rattle.std.proofs.Math.Nat.{div-le_self}
+use Rattle.std.proofs.Common.{◌≡◌, ◌-◌, ◌*◌, ◌/◌, ◌%◌, ◌^◌, ◌<◌, bit_and, arith, ap, sym, ◌∙◌, subst, div-le_self}
 use Rattle.byte_unit_math.specs.Bounds.{whole_limit}
 use Rattle.byte_unit_math.specs.Digits.{last_digits}
 use Rattle.byte_unit_math.specs.Finite.{IsExpansion}

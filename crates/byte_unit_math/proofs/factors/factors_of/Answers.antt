@@ -52,10 +52,7 @@ returns-clause-product c = sym (all_off (goal.at.returns-clause-product c).Joine
 
 -- Neither 2 nor 5 divides what is left.
 pub returns-clause-powers : goal.returns-clause-powers
-returns-clause-powers c =
-    let off = all_off (goal.at.returns-clause-powers c).Joined-left in
-    let none = no_five (goal.at.returns-clause-powers c).Joined-left in
-    record { left = c.if-left.left; product = off.product; odd = off.odd; no_five = none }
+returns-clause-powers c = grind (arith, all_off)
 
 -- The exponents together are at most 99.
 pub returns-clause-bound : goal.returns-clause-bound

@@ -1,7 +1,6 @@
 -- The digits of a number are those of its quotient by 10^16 and then those of the remainder, with leading zeros.
 use Rattle.std.proofs.Common.{◌≡◌, ◌-◌, ◌/◌, ◌^◌, ◌≤◌, ◌++◌, ℕ, List, length, drop, replicate, arith, ap, sym, refl}
-use Rattle.std.proofs.Common.{◌∙◌}
-use Rattle.std.specs.Fmt.{decimal}
+use Rattle.std.proofs.Common.{◌∙◌, decimal}
 use Rattle.std.proofs.lemmas.Simd.{put_chunk_whole}
 use lib.Lanes.{put_chunk}
 use borrow.Rule.Slice.PartMut.{put_mid, mid_of}

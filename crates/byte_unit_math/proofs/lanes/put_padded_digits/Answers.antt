@@ -1,6 +1,5 @@
 -- At most 30 digits, and the digit 0 after them.
-use Rattle.std.proofs.Common.{ℕ, ◌≡◌, ◌+◌, ◌-◌, ◌++◌, length, take, replicate, arith, ap, refl, ◌∙◌}
-use Rattle.std.specs.Fmt.{decimal}
+use Rattle.std.proofs.Common.{ℕ, ◌≡◌, ◌+◌, ◌-◌, ◌++◌, length, take, replicate, arith, ap, refl, ◌∙◌, decimal}
 use Rattle.std.proofs.Math.Seq.{take-append-add}
 use Rattle.std.proofs.lemmas.List.{drop-replicate, take-replicate}
 use Rattle.byte_unit_math.proofs.WrittenDigits.{few_30}

@@ -6,10 +6,8 @@ use Rattle.byte_unit_math.specs.Least.{IsLeastSize}
 use Rattle.byte_unit_math.proofs.RoundedUp.{IsRoundedUp-groups, IsLeastSize-halves, IsLeastSize-parts, in_first_group}
 use Rattle.byte_unit_math.proofs.RoundedUp.{IsLeastSize-group, IfNone-always, IfNone-below}
 use Rattle.byte_unit_math.proofs.Scales.{ten_power_at}
-use Rattle.byte_unit_math.proofs.least.least_size.Goals.{Joined-places-le-GROUP_PLACES, then-places-le-GROUP_PLACES}
-use Rattle.byte_unit_math.proofs.least.least_size.Goals.{else-places-le-GROUP_PLACES}
-use Rattle.byte_unit_math.proofs.least.least_size.Goals.{Joined-whole, then-whole+then-unit_size}
-use Rattle.byte_unit_math.proofs.least.least_size.Goals.{else-whole+in_ok-checked_mul+in_ok-size}
+use Rattle.byte_unit_math.proofs.least.least_size.Goals.{Joined-whole, Joined-places-le-GROUP_PLACES}
+use Rattle.byte_unit_math.proofs.least.least_size.Goals.{then-places-le-GROUP_PLACES, else-places-le-GROUP_PLACES}
 use Rattle.byte_unit_math.proofs.least.least_size.Goals as goal
 
 -- The part that the code computes is the least size of the fraction. `parts-whole.result` is the whole part, the
@@ -67,14 +65,7 @@ returns-in_err-size-clause-none c = IfNone-always _ _
 -- The sum is taken in both branches.
 size_is : (c : Joined-whole)
     → c.if-whole.size ≡ c.parts-whole.result.0 * c.args.unit_size + c.if-places-le-GROUP_PLACES.part
-size_is c = elim c.if-whole.branch [
-  | then-whole+then-unit_size w ↦
-      let whole : w.from.result ≡ c.parts-whole.result.0 = omega (arith, w.from.ensures) in
-      let unit : w.from-then-unit_size.result ≡ c.args.unit_size = omega (arith, w.from-then-unit_size.ensures) in
-      rw (whole, unit) at w.size-is
-  | else-whole+in_ok-checked_mul+in_ok-size w ↦
-      omega (arith, w.size-is, w.in_ok-checked_mul.ensures, w.in_ok-size.ensures)
-]
+size_is c = grind arith
 
 -- A size below the limit is the least one. `at` has the states before the end of the call.
 pub returns-clause-least : goal.returns-clause-least

@@ -1,5 +1,5 @@
 -- The digits of the remainder are it times a power of five.
-use Rattle.std.proofs.Common.{◌≡◌, ℕ, ◌-◌, ◌*◌, ◌%◌, ◌^◌, ◌<◌, bit_and, arith, refl}
+use Rattle.std.proofs.Common.{◌≡◌, ℕ, ◌-◌, ◌*◌, ◌%◌, ◌^◌, ◌<◌, bit_and, arith}
 use Rattle.byte_unit_math.proofs.Scales.{pow10_fits}
 use Rattle.byte_unit_math.proofs.ShortExpansions.{masked_rest, rest_below_ten_power, binary_is_expansion}
 use Rattle.byte_unit_math.proofs.short.binary_expansion.Goals.{After-power_of_five}
@@ -12,9 +12,7 @@ digits_of c =
 
 -- The mask takes the remainder by the denominator 2^places.
 digits_are : (c : After-power_of_five) → digits_of c ≡ c.args.numerator % 2 ^ c.args.places * 5 ^ c.args.places
-digits_are c =
-    rw (masked_rest c.args.numerator c.args.places (omega (arith, c.if-places-gt-MOST_PLACES.false)), c.power_of_five.ensures)
-    refl
+digits_are c = grind (arith, masked_rest)
 
 -- The remainder times 5^places has at most `places` digits.
 digits_below : (c : After-power_of_five) → digits_of c < 10 ^ c.args.places
@@ -22,12 +20,7 @@ digits_below c = rw (digits_are c) (rest_below_ten_power c.args.numerator c.args
 
 -- The digits fit 128 bits.
 pub overflow_mul-result : goal.overflow_mul-result
-overflow_mul-result c =
-    omega (
-      arith,
-      digits_below (goal.at.overflow_mul-result c).After-power_of_five,
-      pow10_fits c.args.places c.if-places-gt-MOST_PLACES.false,
-    )
+overflow_mul-result c = grind (arith, digits_below, pow10_fits)
 
 -- The digits are those of the remainder, so the parts are the expansion.
 pub returns : goal.returns

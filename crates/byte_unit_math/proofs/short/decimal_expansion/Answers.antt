@@ -14,15 +14,11 @@ scaled_of c = c.args.numerator * c.power_of_five.result
 
 -- The power of five that the table has is 5^twos.
 scaled_is : (c : After-power_of_five) → scaled_of c ≡ c.args.numerator * 5 ^ c.args.twos
-scaled_is c =
-    ap (λ power. c.args.numerator * power) c.power_of_five.ensures
+scaled_is c = grind arith
 
 -- The scaled number is below 125 times the limit of a numerator, since at most 5^3 is multiplied.
 scaled_small : (c : After-power_of_five) → scaled_of c < 125 * bits_limit
-scaled_small c =
-    let power : 5 ^ c.args.twos ≤ 125 =
-    pow-le-pow_right {n = 5} (omega arith) {i = c.args.twos} {j = 3} c.if-twos-gt-BYTE_TWOS.false in
-    omega (arith, scaled_is c, mul-le-mul_left c.args.numerator power, c.requires)
+scaled_small c = grind (arith, mul-le-mul_left, pow-le-pow_right, scaled_is)
 
 -- The scaled number fits 128 bits.
 pub overflow_mul-scaled : goal.overflow_mul-scaled
@@ -30,8 +26,7 @@ overflow_mul-scaled c = omega (arith, scaled_small (goal.at.overflow_mul-scaled 
 
 -- The power of ten is not zero.
 pub div_rem-whole-requires : goal.div_rem-whole-requires
-div_rem-whole-requires c =
-    omega (arith, c.power_of_ten.ensures, one-le-pow (c.args.tens + c.args.twos) 10 (omega arith))
+div_rem-whole-requires c = grind (arith, one-le-pow)
 
 -- The state before the division, from the one after it.
 abbrev start_of : After-div_rem-whole → After-power_of_five
@@ -39,17 +34,11 @@ start_of c = (goal.at.from_digits-requires-clause-whole c).After-power_of_five
 
 -- The whole part is no larger than the scaled number.
 pub from_digits-requires-clause-whole : goal.from_digits-requires-clause-whole
-from_digits-requires-clause-whole c =
-    let below = div-le_self (scaled_of (start_of c)) c.power_of_ten.result in
-    omega (arith, c.div_rem-whole.ensures.quotient, below, scaled_small (start_of c))
+from_digits-requires-clause-whole c = grind (arith, div-le_self, scaled_small)
 
 -- The digits are a remainder by the power of ten.
 pub from_digits-requires-clause-digits : goal.from_digits-requires-clause-digits
-from_digits-requires-clause-digits c =
-    let power = 10 ^ (c.args.tens + c.args.twos) in
-    rw (c.div_rem-whole.ensures.rest, c.power_of_ten.ensures)
-    (mod_below (scaled_of (start_of c)) power
-    (omega (arith, one-le-pow (c.args.tens + c.args.twos) 10 (omega arith))))
+from_digits-requires-clause-digits c = grind (arith, mod_below, one-le-pow)
 
 -- The number times the unit, which is not zero (`some`), is the numerator, and its digits have no trailing zero.
 pub returns : goal.returns

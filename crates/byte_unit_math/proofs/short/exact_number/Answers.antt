@@ -7,8 +7,7 @@ use Rattle.byte_unit_math.proofs.short.exact_number.Goals as goal
 
 -- The whole part is no larger than the numerator.
 pub from_trimmed_digits-number-requires-clause-whole : goal.from_trimmed_digits-number-requires-clause-whole
-from_trimmed_digits-number-requires-clause-whole c =
-    omega (arith, short_whole (product_positive c.args.twos c.args.fives) c.in-Some.ensures, c.requires.small)
+from_trimmed_digits-number-requires-clause-whole c = grind (arith, product_positive, short_whole)
 
 -- There are at most 28 digits.
 pub from_trimmed_digits-number-requires-clause-places : goal.from_trimmed_digits-number-requires-clause-places

@@ -13,24 +13,15 @@ shared_few c = omega (arith, c.min-shared.ensures)
 -- The numerator is the reduced one times the power of two that was shared.
 number_is : (c : After-min-shared)
     → c.args.numerator ≡ c.args.numerator / 2 ^ c.min-shared.result * 2 ^ c.min-shared.result
-number_is c =
-    shared_twos c.args.numerator c.min-shared.result (omega (arith, c.requires.small))
-    (omega (arith, c.min-shared.ensures))
+number_is c = grind (arith, shared_twos)
 
 -- The shift is at most the exponent of 2, and so below 128.
 pub overflow_shr-reduced : goal.overflow_shr-reduced
-overflow_shr-reduced c =
-    let start = (goal.at.overflow_shr-reduced c).After-min-shared in
-    omega (arith, shared_few start, (exponents_within_places c.args.twos c.args.fives c.requires.den).0)
+overflow_shr-reduced c = grind (arith, exponents_within_places, shared_few)
 
 -- If twos are left below, the reduced numerator is odd.
 pub binary_expansion-requires : goal.binary_expansion-requires
-binary_expansion-requires c = record {
-  odd = λ left.
-      odd_if_shared c.args.numerator (c.args.twos - c.args.fives) c.min-shared.result (omega (arith, c.requires.small))
-      (omega (arith, (exponents_within_places c.args.twos c.args.fives c.requires.den).0)) c.min-shared.ensures
-      (omega (arith, left));
-}
+binary_expansion-requires c = grind (arith, exponents_within_places, odd_if_shared)
 
 -- The denominator is a power of two; `same` says that the reduced fraction is equal.
 pub returns-then-fives-eq0 : goal.returns-then-fives-eq0

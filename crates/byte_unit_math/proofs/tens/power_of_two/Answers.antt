@@ -1,10 +1,7 @@
 -- The power is at most 2^93, so it fits 128 bits.
-use Rattle.std.proofs.Common.{◌*◌, ◌^◌, ◌<◌, arith}
+use Rattle.std.proofs.Common.{arith}
 use Rattle.std.proofs.Math.Nat.{mod-eq_of_lt, pow-le-pow_right}
 use Rattle.byte_unit_math.proofs.tens.power_of_two.Goals as goal
 
 pub returns : goal.returns
-returns c =
-    let power = pow-le-pow_right {n = 2} (omega arith) {i = c.args.exponent} {j = 93} (omega (arith, c.requires)) in
-    let small : 1 * 2 ^ c.args.exponent < 2 ^ 128 = omega (arith, power) in
-    omega (arith, mod-eq_of_lt small)
+returns c = grind (arith, mod-eq_of_lt, pow-le-pow_right)

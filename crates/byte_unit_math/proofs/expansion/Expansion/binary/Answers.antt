@@ -10,19 +10,15 @@ use Rattle.byte_unit_math.proofs.expansion.Expansion.binary.Goals as goal
 
 -- At most the exponent of the denominator is shared.
 shared_few : (c : After-min-shared) → c.min-shared.result ≤ c.args.twos
-shared_few c =
-    omega (arith, c.min-shared.ensures, min-le_right (trailing_zeros w128 c.args.numerator) c.args.twos)
+shared_few c = grind (arith, min-le_right)
 
 -- The numerator that is left is not larger.
 pub in_lowest_terms-requires-clause-small : goal.in_lowest_terms-requires-clause-small
-in_lowest_terms-requires-clause-small c =
-    omega (arith, c.requires.small, div-le_self c.args.numerator (2 ^ c.min-shared.result))
+in_lowest_terms-requires-clause-small c = grind (arith, div-le_self)
 
 -- If a power of two is left below, the numerator that is left is odd.
 pub in_lowest_terms-requires-clause-odd : goal.in_lowest_terms-requires-clause-odd
-in_lowest_terms-requires-clause-odd c = λ some.
-    odd_if_shared c.args.numerator c.args.twos c.min-shared.result (omega (arith, c.requires.small))
-    (omega (arith, c.requires.few)) c.min-shared.ensures (omega (arith, some))
+in_lowest_terms-requires-clause-odd c = grind (arith, odd_if_shared)
 
 -- The fraction in lowest terms is equal, as `same` says, and so is its expansion.
 pub returns : goal.returns

@@ -5,8 +5,4 @@ use Rattle.byte_unit_math.proofs.expansion.Expansion.round.Goals as goal
 
 -- No digit is cut off.
 pub returns-then-self-places : goal.returns-then-self-places
-returns-then-self-places c =
-    let e = c.args.self.now in
-    let count = length_of_view c.self.inside e c.self.invariant c.self.view_is in
-    rounded_to_itself e c.args.places c.args.ties (IsTrimmed-view c.self.inside e c.self.invariant c.self.view_is)
-    (omega (arith, count, c.if-self-places.true))
+returns-then-self-places c = grind (arith, IsTrimmed-view, length_of_view, rounded_to_itself)

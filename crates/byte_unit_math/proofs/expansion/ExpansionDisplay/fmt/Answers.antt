@@ -1,7 +1,6 @@
 -- The whole part is written, and then the point with the digits.
-use Rattle.std.proofs.Common.{◌++◌, refl, ap}
+use Rattle.std.proofs.Common.{◌++◌, refl, ap, decimal}
 use Rattle.std.proofs.Output.{has_written_styled_append, has_written_styled_of_eq}
-use Rattle.std.specs.Fmt.{decimal}
 use Rattle.byte_unit_math.specs.Numeral.{fraction_text}
 use Rattle.byte_unit_math.proofs.expansion.ExpansionDisplay.fmt.Goals as goal
 
