@@ -1,8 +1,7 @@
 -- The list of expected characters in the message of an error is written character by character.
-use Rattle.std.proofs.Common.{◌≡◌, ℕ, ◌-◌, ◌≤◌, List, [], ◌∷◌, length, take, drop, get_or, take_all}
-use Rattle.std.proofs.Common.{Some, arith, ap, ◌∙◌}
+use Rattle.std.proofs.Common.{◌≡◌, ℕ, ◌-◌, ◌≤◌, List, [], ◌∷◌, length, take, drop, get_or, take_all, Some, arith, ap}
+use Rattle.std.proofs.Common.{◌∙◌, if◌then◌else◌, ◌==◌, codes}
 use Rattle.std.proofs.Output.{then_text_assoc}
-use Rattle.std.specs.Prelude.{if◌then◌else◌, ◌==◌, codes}
 use Rattle.std.specs.Fmt.{debug_char, ◌++?◌}
 use Rattle.byte_unit_base.specs.FaultText.{others_text}
 

@@ -1,11 +1,9 @@
 -- A line at the beginning of bytes: what follows it, eight of its bytes as a number, and its digits.
 use Rattle.std.proofs.Common.{◌≡◌, ℕ, suc, zero, ◌<◌, ◌≤◌, List, [], ◌∷◌, ◌++◌, length, take, drop, sym, ap, ◌∙◌, arith}
-use Rattle.std.proofs.Common.{◌+◌, ◌-◌, ◌*◌, ◌^◌, ◌%◌, replicate, get_or, length-drop, Fits, w8, cond, refl}
-use Rattle.std.proofs.Common.{◌/◌, slice_range}
-use Rattle.std.proofs.lemmas.List.{take-append-drop, drop-append-le, take_all, take-replicate}
-use Rattle.std.proofs.lemmas.List.{take-append-le, drop-drop, take-take}
-use Rattle.std.specs.Prelude.{slice_index}
-use Rattle.std.proofs.Math.Nat.{pow-suc, mod-eq_of_lt}
+use Rattle.std.proofs.Common.{◌+◌, ◌-◌, ◌*◌, ◌^◌, ◌%◌, replicate, get_or, length-drop, Fits, w8, cond, refl, ◌/◌}
+use Rattle.std.proofs.Common.{slice_range, slice_index, pow-suc, mod-eq_of_lt}
+use Rattle.std.proofs.lemmas.List.{take-append-drop, drop-append-le, take_all, take-replicate, take-append-le}
+use Rattle.std.proofs.lemmas.List.{drop-drop, take-take}
 use Rattle.std.proofs.Math.Seq.{take-append-add}
 use Rattle.std.proofs.lemmas.List.Sums.{prefix_len-le-length}
 use Rattle.std.specs.Char.{is_ascii_digit}

@@ -1,6 +1,5 @@
 -- A number with more than 28 digits after the point is rejected at the 29th.
-use Rattle.std.proofs.Common.{◌≡◌, ℕ, ◌+◌, ◌<◌, List, ◌∷◌, ◌++◌, length, ap, subst, ◌∙◌, arith, append_assoc}
-use Rattle.std.specs.Fmt.{decimal}
+use Rattle.std.proofs.Common.{◌≡◌, ℕ, ◌+◌, ◌<◌, List, ◌∷◌, ◌++◌, length, ap, subst, ◌∙◌, arith, append_assoc, decimal}
 use Rattle.std.proofs.lemmas.List.{length-map}
 use Rattle.byte_unit_math.specs.Bounds.{places_of_decimal}
 use Rattle.byte_unit_math.specs.Finite.{Finite}

@@ -1,7 +1,6 @@
 -- The name of a unit spells it: its prefix letter, an `i` or nothing, and the letter of its kind.
 use Rattle.std.proofs.Common.{◌≡◌, ℕ, ◌+◌, ◌-◌, ◌<◌, ◌≤◌, Bool, true, false, not, ◌&&◌, eqb, ltb, List, [], ◌∷◌, ◌++◌}
-use Rattle.std.proofs.Common.{length, ⊎_elim, inl, inr, arith, refl, sym, ap}
-use Rattle.std.specs.Prelude.{codes, slice_index, if◌then◌else◌, nat_lt}
+use Rattle.std.proofs.Common.{length, ⊎_elim, inl, inr, arith, refl, sym, ap, codes, slice_index, if◌then◌else◌, nat_lt}
 use Rattle.std.specs.Char.{is_whitespace, to_ascii_uppercase}
 use Rattle.std.specs.Str.{IsAscii, chars}
 use Rattle.std.proofs.lemmas.Bool.{agree_below, agree_below_at, cases_lt, and_parts, eqb-true, ltb-true}

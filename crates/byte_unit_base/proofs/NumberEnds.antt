@@ -5,13 +5,11 @@
 -- `stop.1.1` that no unit ends there. Of a whole part, `whole_is.0` is its numeral. Of a run, `holds.0` is that its
 -- state is at the number, and `holds.1` its parser state; of digits, `digits.0` is that the first one is a digit, and
 -- `digits.1` that the rest are.
-use Rattle.std.proofs.Common.{◌≡◌, ◌≢◌, ℕ, zero, suc, ◌+◌, ◌-◌, ◌*◌, ◌^◌, ◌<◌, ◌≤◌, false, nat_eq, eqb, inl, inr, List, [], ◌∷◌}
-use Rattle.std.proofs.Common.{◌++◌, None, Err, length, take, drop, get_or, replicate, refl, sym, ap, subst, ◌∙◌, arith}
-use Rattle.std.proofs.Common.{append_assoc}
-use Rattle.std.proofs.Math.Seq.{take-add}
+use Rattle.std.proofs.Common.{◌≡◌, ◌≢◌, ℕ, zero, suc, ◌+◌, ◌-◌, ◌*◌, ◌^◌, ◌<◌, ◌≤◌, false, nat_eq, eqb, inl, inr, List}
+use Rattle.std.proofs.Common.{[], ◌∷◌, ◌++◌, None, Err, length, take, drop, get_or, replicate, refl, sym, ap, subst}
+use Rattle.std.proofs.Common.{◌∙◌, arith, append_assoc, take-add, chars, IsAscii}
 use Rattle.std.specs.Char.{digit_value}
 use Rattle.std.specs.Float.Numeral.{digits_len}
-use Rattle.std.specs.Str.{chars, IsAscii}
 use Rattle.std.specs.Str.Parse.{AllDigits, digits_value, digits_value_after}
 use Rattle.core.proofs.dec2flt.DigitsLemmas.{ends_digits}
 use Rattle.std.proofs.lemmas.Bool.Decides.{nat_tests}

@@ -1,11 +1,8 @@
 -- A decimal, as it is printed, is a number of the grammar with the same value.
 use Rattle.std.proofs.Common.{◌≡◌, ℕ, ◌+◌, ◌-◌, ◌*◌, ◌^◌, ◌<◌, ◌≤◌, inl, inr, List, [], ◌∷◌, ◌++◌, length, refl, sym}
-use Rattle.std.proofs.Common.{ap, ◌∙◌, arith, false, append-nil}
+use Rattle.std.proofs.Common.{ap, ◌∙◌, arith, false, append-nil, fold, All, decimal, IsAscii}
 use Rattle.std.proofs.lemmas.List.{length-map}
-use Rattle.std.specs.List.{fold, All}
 use Rattle.std.specs.Char.{digit_value, is_whitespace}
-use Rattle.std.specs.Fmt.{decimal}
-use Rattle.std.specs.Str.{IsAscii}
 use Rattle.std.specs.Str.Parse.{AllDigits, IsNumeral, digits_value_after}
 use Rattle.std.proofs.lemmas.Bool.Decides.{nat_tests}
 use Rattle.std.proofs.lemmas.Fmt.{decimal_is_IsNumeral_wide, IsAscii-from_digits}

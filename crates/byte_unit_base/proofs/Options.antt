@@ -1,7 +1,6 @@
 -- Which of its two forms an option has, and what it was before a function was applied to its value, if the result is
 -- known.
-use Rattle.std.proofs.Common.{◌≡◌, Option, Some, None, option_and_then, refl, ◌⊎◌, inl, inr}
-use Rattle.std.specs.Option.{option_map}
+use Rattle.std.proofs.Common.{◌≡◌, Option, Some, None, option_and_then, refl, ◌⊎◌, inl, inr, option_map}
 
 -- an option is `None`, or `Some` of a value
 pub none_or_some : {A : Type 0} (o : Option A) → (o ≡ None) ⊎ ((a : A) × (o ≡ Some a))

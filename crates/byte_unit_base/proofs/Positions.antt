@@ -4,10 +4,9 @@
 -- kind, and that the suffix spells it; `stop` is a state, that the text leads to it, and what the code keeps of it. Of
 -- a `fault`, the first part is the error, and the second that it is the one there; `wrong` is the state of a unit, that
 -- its beginning leads, and its error at the end.
-use Rattle.std.proofs.Common.{◌≡◌, ℕ, ◌+◌, ◌≤◌, Bool, not, inl, inr, List, [], ◌∷◌, Option, Some, None}
-use Rattle.std.proofs.Common.{length, take, drop, refl, sym, ap, subst, ◌∙◌, arith}
-use Rattle.std.specs.Str.{chars, encode_utf8_all, IsUtf8, IsAscii}
-use Rattle.std.proofs.lemmas.List.{length-take-le, length-drop}
+use Rattle.std.proofs.Common.{◌≡◌, ℕ, ◌+◌, ◌≤◌, Bool, not, inl, inr, List, [], ◌∷◌, Option, Some, None, length, take}
+use Rattle.std.proofs.Common.{drop, refl, sym, ap, subst, ◌∙◌, arith, chars, encode_utf8_all, IsUtf8, IsAscii}
+use Rattle.std.proofs.Common.{length-take-le, length-drop}
 use Rattle.std.proofs.lemmas.Str.{encodes-chars}
 use Rattle.byte_unit_base.specs.Shape.{Shape, shape}
 use Rattle.byte_unit_base.specs.Version.{current}

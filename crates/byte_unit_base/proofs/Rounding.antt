@@ -1,8 +1,7 @@
 -- Rounding up to whole bytes or bits, by way of the least number of bits.
 --
 -- Of a `least` size, `least.0` is the size, and `least.1` that it is the least one.
-use Rattle.std.proofs.Common.{◌≡◌, ℕ, ◌+◌, ◌-◌, ◌*◌, ◌/◌, ◌<◌, ◌≤◌, arith}
-use Rattle.std.proofs.Math.Nat.{mul-le-mul_right, lt_of_mul-lt-mul_right}
+use Rattle.std.proofs.Common.{◌≡◌, ℕ, ◌+◌, ◌-◌, ◌*◌, ◌/◌, ◌<◌, ◌≤◌, arith, mul-le-mul_right, lt_of_mul-lt-mul_right}
 use Rattle.byte_unit_math.specs.Bounds.{scale}
 use Rattle.byte_unit_math.specs.Least.{IsLeastSize}
 use Rattle.byte_unit_base.specs.Shape.{Shape, bits}

@@ -3,9 +3,8 @@
 --
 -- Here `found` is a number, `found.0`, and its unit, `found.1`. Of a size, `size.0` is that it is the least one of
 -- them, and `size.1` that it is below the limit.
-use Rattle.std.proofs.Common.{◌≡◌, ℕ, Bool, List, Some, None, Ok, Err, sym, ap, arith, inl, inr, refl, ◌∙◌}
-use Rattle.std.proofs.Common.{take, drop, nat_eq, subst, take-append-drop}
-use Rattle.std.specs.Str.{IsUtf8, IsAscii, chars}
+use Rattle.std.proofs.Common.{◌≡◌, ℕ, Bool, List, Some, None, Ok, Err, sym, ap, arith, inl, inr, refl, ◌∙◌, take, drop}
+use Rattle.std.proofs.Common.{nat_eq, subst, take-append-drop, IsUtf8, IsAscii, chars}
 use Rattle.std.proofs.lemmas.Str.{IsAscii-append, IsUtf8-from_ascii}
 use Rattle.byte_unit_base.specs.Shape.{Shape}
 use Rattle.byte_unit_base.specs.Spelling.{Flags}

@@ -5,9 +5,8 @@
 -- it, and `r.1` that a unit has begun. Of the end of an input, `e.0` is the unit, `e.1` that it is spelled, and `e.2`
 -- an equation of the result.
 use Rattle.std.proofs.Common.{◌≡◌, ◌≢◌, ℕ, ◌<◌, ◌*◌, inl, inr, List, [], ◌∷◌, ◌++◌, Option, Some, None, Result, Ok, Err}
-use Rattle.std.proofs.Common.{IfErr, length, nat_eq, drop, replicate, sym, refl, ap, ◌∙◌, arith, append-nil}
-use Rattle.std.specs.Prelude.{IsOkAnd}
-use Rattle.std.specs.Str.{chars, IsUtf8}
+use Rattle.std.proofs.Common.{IfErr, length, nat_eq, drop, replicate, sym, refl, ap, ◌∙◌, arith, append-nil, IsOkAnd}
+use Rattle.std.proofs.Common.{chars, IsUtf8}
 use Rattle.byte_unit_math.specs.Bounds.{scale}
 use Rattle.byte_unit_base.specs.Shape.{Shape}
 use Rattle.byte_unit_base.specs.Version.{current}
@@ -16,25 +15,21 @@ use Rattle.byte_unit_base.specs.Spelling.{Flags, Spells}
 use Rattle.byte_unit_base.specs.Number.{IsNumberText}
 use Rattle.byte_unit_base.specs.SizeText.{trim_of, IsSizeText}
 use Rattle.byte_unit_base.specs.Readings.{IsNumberReading}
-use Rattle.byte_unit_base.specs.ViablePrefix.{ParserState, beginning, in_whole}
-use Rattle.byte_unit_base.specs.ViablePrefix.{IsViableUnitPrefix, IsNumberAndUnitPrefix, IsViableSizePrefix, after_bi}
+use Rattle.byte_unit_base.specs.ViablePrefix.{ParserState, beginning, in_whole, IsViableUnitPrefix}
+use Rattle.byte_unit_base.specs.ViablePrefix.{IsNumberAndUnitPrefix, IsViableSizePrefix, after_bi}
 use Rattle.byte_unit_base.specs.Fault.{Fault, IsFaultAfter, fault_at_end, exceeded}
 use Rattle.byte_unit_base.specs.Errors.{size_fault}
 use Rattle.byte_unit_base.specs.ReaderLaws.{Represents}
 use Rattle.byte_unit_base.specs.Scan.{read}
-use Rattle.byte_unit_base.specs.UnitScan.{unit_step, unit_of, unit_at_end, word_parser_state, scan_of, start as unit_start}
-use Rattle.byte_unit_base.specs.SizeScan.{size_step, size_scan, size_result, with_shape, size_at_end}
-use Rattle.byte_unit_base.specs.SizeScan.{size_parser_state, size_or_fault, fixed_point, SizeScan, Beginning, Whole}
-use Rattle.byte_unit_base.specs.SizeScan.{Point, Fraction, Gap, UnitAt}
+use Rattle.byte_unit_base.specs.UnitScan.{unit_step, unit_of, unit_at_end, word_parser_state, scan_of}
+use Rattle.byte_unit_base.specs.UnitScan.{start as unit_start, UnitScan, Multiple, One, Word, Empty, Bi}
+use Rattle.byte_unit_base.specs.SizeScan.{size_step, size_scan, size_result, with_shape, size_at_end, size_parser_state}
+use Rattle.byte_unit_base.specs.SizeScan.{size_or_fault, fixed_point, SizeScan, Beginning, Whole, Point, Fraction, Gap}
+use Rattle.byte_unit_base.specs.SizeScan.{UnitAt}
 use Rattle.byte_unit_base.specs.ParserEnds.{IsStopAt, next_char, stop_fault}
 use Rattle.byte_unit_base.specs.declared.read.stop.Reason.{Reason}
 use Rattle.byte_unit_base.specs.declared.unit.Unit.{Unit as UnitName}
 use Rattle.byte_unit_base.specs.declared.errors.ParseError.{ParseError}
-use Rattle.byte_unit_base.specs.UnitScan.{UnitScan}
-use Rattle.byte_unit_base.specs.UnitScan.{Multiple}
-use Rattle.byte_unit_base.specs.UnitScan.{One}
-use Rattle.byte_unit_base.specs.UnitScan.{Word}
-use Rattle.byte_unit_base.specs.UnitScan.{Empty, Bi}
 use Rattle.byte_unit_base.proofs.Computed.{number_computed}
 use Rattle.byte_unit_base.proofs.Scans.{EndsIn, IsScanOf, read_found, read_meant, read_refused, reads_meaning}
 use Rattle.byte_unit_base.proofs.UnitReached.{Reached-start, Spells-reached}

@@ -2,12 +2,11 @@
 -- error.
 --
 -- Of digits, `digits.0` is that the first one is a digit, and `digits.1` that the rest are.
-use Rattle.std.proofs.Common.{◌≡◌, ℕ, zero, suc, ◌+◌, ◌*◌, ◌<◌, true, false, eqb, ⊎_elim}
-use Rattle.std.proofs.Common.{List, [], ◌∷◌, ◌++◌, Option, Some, None, Result, Ok, Err, length, replicate, refl, sym, ap, subst, ◌∙◌}
-use Rattle.std.proofs.Common.{arith, take, drop, ◌≤◌, take-append-drop}
-use Rattle.std.specs.Option.{option_map}
+use Rattle.std.proofs.Common.{◌≡◌, ℕ, zero, suc, ◌+◌, ◌*◌, ◌<◌, true, false, eqb, ⊎_elim, List, [], ◌∷◌, ◌++◌, Option}
+use Rattle.std.proofs.Common.{Some, None, Result, Ok, Err, length, replicate, refl, sym, ap, subst, ◌∙◌, arith, take}
+use Rattle.std.proofs.Common.{drop, ◌≤◌, take-append-drop, option_map, chars, encode_utf8_all, IsUtf8, IsAscii}
+use Rattle.std.proofs.Common.{IsCharBoundary}
 use Rattle.std.specs.Char.{digit_value}
-use Rattle.std.specs.Str.{chars, encode_utf8_all, IsUtf8, IsAscii, IsCharBoundary}
 use Rattle.std.specs.Str.Parse.{AllDigits, digits_value_after}
 use Rattle.std.specs.Float.Numeral.{digits_len}
 use Rattle.std.proofs.lemmas.Bool.{cases_lt}
@@ -24,10 +23,10 @@ use Rattle.byte_unit_base.specs.SizeText.{space}
 use Rattle.byte_unit_base.specs.Fault.{Fault, fault_at, too_long}
 use Rattle.byte_unit_base.specs.Scan.{read}
 use Rattle.byte_unit_base.specs.UnitScan.{unit_step, unit_scan, unit_of, unit_at_end, unit_parser_state, start}
+use Rattle.byte_unit_base.specs.UnitScan.{UnitScan}
 use Rattle.byte_unit_base.specs.SizeScan.{SizeScan, Beginning, Whole, Point, Fraction, Gap, UnitAt, is_digit, size_step}
 use Rattle.byte_unit_base.specs.SizeScan.{size_scan, size_at_end, size_or_fault, size_parser_state, after_number}
 use Rattle.byte_unit_base.specs.ParserEnds.{IsFirst, IsNoSpace, EndsNumber, missing_digit, next_char}
-use Rattle.byte_unit_base.specs.UnitScan.{UnitScan}
 use Rattle.byte_unit_base.proofs.Scans.{read_some, read_none, read_through}
 use Rattle.byte_unit_base.proofs.SizeRuns.{step_point, step_whole, step_pointed, step_fraction, run_whole, AtNumber}
 

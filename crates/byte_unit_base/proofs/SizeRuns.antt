@@ -4,8 +4,7 @@
 -- whole part `h`, `h.0` is its numeral, `h.1` its value and `h.2` the limit. A step or run that is known to succeed is
 -- a pair: the state after it, and that it is this state.
 use Rattle.std.proofs.Common.{◌≡◌, ◌≢◌, ℕ, zero, suc, ◌+◌, ◌*◌, ◌<◌, ◌≤◌, inl, inr, ⊎_elim, List, [], ◌∷◌, ◌++◌, Some}
-use Rattle.std.proofs.Common.{None, Ok, length, replicate, sym, refl, ap, ◌∙◌, arith, append-nil}
-use Rattle.std.specs.Option.{option_map}
+use Rattle.std.proofs.Common.{None, Ok, length, replicate, sym, refl, ap, ◌∙◌, arith, append-nil, option_map}
 use Rattle.std.specs.Char.{digit_value, to_ascii_uppercase}
 use Rattle.std.specs.Str.Parse.{IsNumeral, AllDigits, digits_value, digits_value_after}
 use Rattle.std.proofs.lemmas.Bool.{cases_lt}
@@ -19,10 +18,9 @@ use Rattle.byte_unit_base.specs.SizeText.{space, IsSizeText}
 use Rattle.byte_unit_base.specs.ViablePrefix.{ParserState, beginning, in_whole, after_point, in_fraction, before_unit}
 use Rattle.byte_unit_base.specs.ViablePrefix.{IsNumberAndUnitPrefix, IsViableSizePrefix}
 use Rattle.byte_unit_base.specs.Scan.{run}
-use Rattle.byte_unit_base.specs.UnitScan.{unit_step, scan_of, unit_parser_state, unit_of, start as unit_start}
+use Rattle.byte_unit_base.specs.UnitScan.{unit_step, scan_of, unit_parser_state, unit_of, start as unit_start, UnitScan}
 use Rattle.byte_unit_base.specs.SizeScan.{size_step, size_scan, size_at_end, size_parser_state, size_or_fault}
 use Rattle.byte_unit_base.specs.SizeScan.{fixed_point, SizeScan, Beginning, Whole, Point, Fraction, Gap, UnitAt}
-use Rattle.byte_unit_base.specs.UnitScan.{UnitScan}
 use Rattle.byte_unit_base.proofs.Options.{some_passed}
 use Rattle.byte_unit_base.proofs.Scans.{run_through, run_step, IsScanned}
 use Rattle.byte_unit_base.proofs.UnitRuns.{spelling_runs, unit_front_runs}

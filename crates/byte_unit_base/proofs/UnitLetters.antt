@@ -1,8 +1,8 @@
 -- The letters of a unit, as the first bytes of a number, are those that the state machine reads.
 use Rattle.std.proofs.Common.{◌≡◌, ℕ, zero, suc, ◌+◌, ◌*◌, ◌/◌, ◌%◌, ◌^◌, ◌≤◌, List, [], ◌∷◌, ◌++◌, Bool, true, false}
 use Rattle.std.proofs.Common.{not, eqb, ◌&&◌, ◌||◌, length, take, drop, Option, Some, None, zero-add, refl, sym, ap}
-use Rattle.std.proofs.Common.{◌∙◌, arith, get_or, replicate, append_assoc, length-append, Fits, w8}
-use Rattle.std.proofs.Common.{◌<◌, eqb→eq, slice_index_or}
+use Rattle.std.proofs.Common.{◌∙◌, arith, get_or, replicate, append_assoc, length-append, Fits, w8, ◌<◌, eqb→eq}
+use Rattle.std.proofs.Common.{slice_index_or}
 use Rattle.std.specs.Char.{to_ascii_lowercase}
 use Rattle.std.proofs.lemmas.Bool.Decides.{nat_tests}
 use Rattle.core.specs.Int.Digits.{AllBelowBase}
@@ -12,12 +12,9 @@ use lib.Lanes.{digits_l, number_l}
 use mir.Val.{bool_byte}
 use Rattle.byte_unit_base.specs.Shape.{shape}
 use Rattle.byte_unit_base.specs.ParserEnds.{first_eight, IsLineOf, IsLeadingUnit}
-use Rattle.byte_unit_base.specs.UnitScan.{unit_step, multiple_step, multiple_shape, prefix_at, is_i, scan_of}
-use Rattle.byte_unit_base.specs.UnitScan.{start}
+use Rattle.byte_unit_base.specs.UnitScan.{unit_step, multiple_step, multiple_shape, prefix_at, is_i, scan_of, start}
+use Rattle.byte_unit_base.specs.UnitScan.{Multiple, One, Decimal, Binary, Empty}
 use Rattle.byte_unit_base.specs.UnitWord.{letter_power, multiple_of, word_of, bits_len, has_prefix}
-use Rattle.byte_unit_base.specs.UnitScan.{Multiple}
-use Rattle.byte_unit_base.specs.UnitScan.{One, Decimal, Binary}
-use Rattle.byte_unit_base.specs.UnitScan.{Empty}
 use Rattle.byte_unit_base.specs.declared.unit.tables.TheConstants.{LETTER_POWERS}
 use Rattle.byte_unit_base.proofs.Lines.{rest_of_line}
 use Rattle.byte_unit_base.proofs.UnitReached.{prefix_found}

@@ -3,10 +3,9 @@
 --
 -- Of a position `h`, `h.0` and `h.1` are its bounds, and `h.2` is that the letter is there. Of a step `v` or of the
 -- kind `bit` of a unit, the first part is the next state or the kind, and the next ones that it is this.
-use Rattle.std.proofs.Common.{◌≡◌, ℕ, suc, ◌+◌, ◌-◌, ◌<◌, ◌≤◌, inl, inr, List, [], ◌∷◌, ◌++◌, length, Option, Some, None, sym}
-use Rattle.std.proofs.Common.{refl, ap, subst, ◌∙◌, arith, Bool, true, false, cond, eqb, eqb→eq, T, append-nil}
-use Rattle.std.specs.Prelude.{slice_index}
-use Rattle.std.specs.Option.{option_map}
+use Rattle.std.proofs.Common.{◌≡◌, ℕ, suc, ◌+◌, ◌-◌, ◌<◌, ◌≤◌, inl, inr, List, [], ◌∷◌, ◌++◌, length, Option, Some}
+use Rattle.std.proofs.Common.{None, sym, refl, ap, subst, ◌∙◌, arith, Bool, true, false, cond, eqb, eqb→eq, T}
+use Rattle.std.proofs.Common.{append-nil, slice_index, option_map}
 use Rattle.std.specs.Char.{to_ascii_lowercase, to_ascii_uppercase}
 use Rattle.std.specs.Str.{str_to_ascii_lowercase}
 use Rattle.std.proofs.lemmas.Bool.Decides.{nat_tests}
@@ -15,10 +14,7 @@ use Rattle.byte_unit_base.specs.Version.{current}
 use Rattle.byte_unit_base.specs.Spelling.{Flags, IsPrefixLetter, SpellsBinary, SpellsCount, Spells}
 use Rattle.byte_unit_base.specs.UnitScan.{unit_step, unit_of, start, scan_of, position_in, prefix_at, multiple_step}
 use Rattle.byte_unit_base.specs.UnitScan.{word_step, or_word, count_of, multiple_shape, IsMultipleText, IsWordText}
-use Rattle.byte_unit_base.specs.UnitScan.{Word}
-use Rattle.byte_unit_base.specs.UnitScan.{Empty, UpperB, LowerB, Bi, Bit, Bits}
-use Rattle.byte_unit_base.specs.UnitScan.{Multiple}
-use Rattle.byte_unit_base.specs.UnitScan.{One, Decimal, Binary}
+use Rattle.byte_unit_base.specs.UnitScan.{Word, Empty, UpperB, LowerB, Bi, Bit, Bits, Multiple, One, Decimal, Binary}
 use Rattle.byte_unit_base.specs.UnitScan.{UnitScan}
 use Rattle.byte_unit_base.proofs.Lists.{push_last}
 use Rattle.byte_unit_base.proofs.Options.{some_mapped}

@@ -1,7 +1,7 @@
 -- The parser of a unit: its state machine accepts exactly the spellings of units, so it returns the unit of an input,
 -- or its error.
-use Rattle.std.proofs.Common.{◌≡◌, ℕ, ◌⊎◌, inl, inr, List, [], ◌∷◌, ◌++◌, Result, Ok, ap, subst, sym, ◌∙◌}
-use Rattle.std.proofs.Common.{refl, append-nil, false, true}
+use Rattle.std.proofs.Common.{◌≡◌, ℕ, ◌⊎◌, inl, inr, List, [], ◌∷◌, ◌++◌, Result, Ok, ap, subst, sym, ◌∙◌, refl}
+use Rattle.std.proofs.Common.{append-nil, false, true}
 use Rattle.std.specs.Str.{str_to_ascii_lowercase}
 use Rattle.byte_unit_base.specs.Shape.{Shape}
 use Rattle.byte_unit_base.specs.Version.{current}
@@ -9,19 +9,16 @@ use Rattle.byte_unit_base.specs.Units.{shape_of}
 use Rattle.byte_unit_base.specs.Errors.{unit_fault}
 use Rattle.byte_unit_base.specs.Spelling.{Flags, Spells}
 use Rattle.byte_unit_base.specs.SizeText.{trim_of}
-use Rattle.byte_unit_base.specs.ViablePrefix.{ParserState, after_b, after_bi, after_bit, after_bits, IsWord, IsPrefix, IsViableWordPrefix}
-use Rattle.byte_unit_base.specs.ViablePrefix.{IsViableUnitPrefix}
+use Rattle.byte_unit_base.specs.ViablePrefix.{ParserState, after_b, after_bi, after_bit, after_bits, IsWord, IsPrefix}
+use Rattle.byte_unit_base.specs.ViablePrefix.{IsViableWordPrefix, IsViableUnitPrefix}
 use Rattle.byte_unit_base.specs.Fault.{fault_at_end}
 use Rattle.byte_unit_base.specs.Readings.{IsUnitReading}
 use Rattle.byte_unit_base.specs.Scan.{read}
 use Rattle.byte_unit_base.specs.UnitScan.{unit_step, unit_scan, unit_of, unit_at_end, unit_result, start, scan_of}
-use Rattle.byte_unit_base.specs.UnitScan.{word_parser_state, multiple_parser_state, IsMultipleText}
+use Rattle.byte_unit_base.specs.UnitScan.{word_parser_state, multiple_parser_state, IsMultipleText, Word, Empty, UpperB}
+use Rattle.byte_unit_base.specs.UnitScan.{LowerB, Bi, Bit, Bits, Multiple, One, Decimal, Binary}
 use Rattle.byte_unit_base.specs.declared.unit.Unit.{Unit as UnitName}
 use Rattle.byte_unit_base.specs.declared.errors.UnitParseError.{UnitParseError}
-use Rattle.byte_unit_base.specs.UnitScan.{Word}
-use Rattle.byte_unit_base.specs.UnitScan.{Empty, UpperB, LowerB, Bi, Bit, Bits}
-use Rattle.byte_unit_base.specs.UnitScan.{Multiple}
-use Rattle.byte_unit_base.specs.UnitScan.{One, Decimal, Binary}
 use Rattle.byte_unit_base.proofs.Scans.{EndsIn, IsScanOf, read_found, read_meant, read_refused}
 use Rattle.byte_unit_base.proofs.Computed.{unit_computed}
 use Rattle.byte_unit_base.proofs.UnitReached.{Reached, Reached-step, Reached-start, Spells-reached}

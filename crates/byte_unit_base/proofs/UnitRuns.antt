@@ -3,9 +3,8 @@
 -- Of a spelling `h` of a suffix, an infix or a prefix letter, `h.0` is its text, or that the position is at least 1,
 -- and `h.1` what it means, or that the position is known. Of a run that is known, as `front`, `word` or `c`, the first
 -- part is the prefix or the suffix of the state, and the next ones that the text leads to it and what it means.
-use Rattle.std.proofs.Common.{◌≡◌, ℕ, zero, suc, inl, inr, ⊎_elim, List, [], ◌∷◌, Some, sym, refl, ap, subst}
-use Rattle.std.proofs.Common.{◌∙◌, arith, Bool, not}
-use Rattle.std.specs.Option.{option_map}
+use Rattle.std.proofs.Common.{◌≡◌, ℕ, zero, suc, inl, inr, ⊎_elim, List, [], ◌∷◌, Some, sym, refl, ap, subst, ◌∙◌}
+use Rattle.std.proofs.Common.{arith, Bool, not, option_map}
 use Rattle.std.specs.Char.{to_ascii_lowercase}
 use Rattle.byte_unit_base.specs.Shape.{Shape, shape}
 use Rattle.byte_unit_base.specs.Version.{current}
@@ -14,11 +13,8 @@ use Rattle.byte_unit_base.specs.ViablePrefix.{ParserState, before_unit, after_pr
 use Rattle.byte_unit_base.specs.ViablePrefix.{after_bits, IsWord, IsViableWordPrefix, IsViableUnitPrefix}
 use Rattle.byte_unit_base.specs.Scan.{run}
 use Rattle.byte_unit_base.specs.UnitScan.{unit_step, unit_of, unit_scan, start, scan_of, prefix_at, count_of}
-use Rattle.byte_unit_base.specs.UnitScan.{multiple_shape, IsWordText, word_parser_state, multiple_parser_state}
-use Rattle.byte_unit_base.specs.UnitScan.{Word}
-use Rattle.byte_unit_base.specs.UnitScan.{Empty, UpperB, LowerB, Bi, Bit, Bits}
-use Rattle.byte_unit_base.specs.UnitScan.{Multiple}
-use Rattle.byte_unit_base.specs.UnitScan.{One, Decimal, Binary}
+use Rattle.byte_unit_base.specs.UnitScan.{multiple_shape, IsWordText, word_parser_state, multiple_parser_state, Word}
+use Rattle.byte_unit_base.specs.UnitScan.{Empty, UpperB, LowerB, Bi, Bit, Bits, Multiple, One, Decimal, Binary}
 use Rattle.byte_unit_base.proofs.Lists.{from_lowercase}
 use Rattle.byte_unit_base.proofs.Scans.{run_through, run_step, IsScanned}
 

@@ -3,10 +3,9 @@
 -- Of a walk `w`, `w.0` is the state where it ends, and `w.1` its length. Of a step `u`, `u.0` is the state after it.
 -- What is known of a walk, as `h`, is that its length is within the text, its run, and that no step follows.
 use Rattle.std.proofs.Common.{◌≡◌, ℕ, ◌+◌, ◌<◌, ◌≤◌, List, [], ◌∷◌, ◌++◌, Some, None, Err, length, take, drop, refl}
-use Rattle.std.proofs.Common.{sym, ap, ◌∙◌, arith, ◌⊎◌, inl, inr, ⊎_elim, length-drop, replicate, one-add}
-use Rattle.std.specs.Str.{chars, encode_utf8_all, IsUtf8, IsAscii}
+use Rattle.std.proofs.Common.{sym, ap, ◌∙◌, arith, ◌⊎◌, inl, inr, ⊎_elim, length-drop, replicate, one-add, chars}
+use Rattle.std.proofs.Common.{encode_utf8_all, IsUtf8, IsAscii, take_all}
 use Rattle.std.proofs.lemmas.Bool.{cases_lt}
-use Rattle.std.proofs.lemmas.List.{take_all}
 use Rattle.std.proofs.lemmas.Bool.Decides.{nat_tests}
 use Rattle.std.proofs.lemmas.Str.{encodes-chars, chars-IsAscii}
 use Rattle.std.proofs.lemmas.Str.Ascii.{IsAscii-nil, IsAscii-cons}
@@ -14,18 +13,12 @@ use Rattle.byte_unit_base.specs.Shape.{Shape}
 use Rattle.byte_unit_base.specs.Version.{current}
 use Rattle.byte_unit_base.specs.Spelling.{Flags, Spells}
 use Rattle.byte_unit_base.specs.Scan.{run, read}
-use Rattle.byte_unit_base.specs.UnitScan.{unit_step, prefix_at, unit_of, unit_at_end, unit_scan, unit_parser_state, scan_of}
-use Rattle.byte_unit_base.specs.UnitScan.{start}
+use Rattle.byte_unit_base.specs.UnitScan.{unit_step, prefix_at, unit_of, unit_at_end, unit_scan, unit_parser_state}
+use Rattle.byte_unit_base.specs.UnitScan.{scan_of, start, UnitScan, Multiple, One, Word, Empty, Bits}
 use Rattle.byte_unit_base.specs.UnitWord.{unit_stop, stop_parser_state}
 use Rattle.byte_unit_base.specs.Fault.{fault_at}
 use Rattle.byte_unit_base.specs.declared.unit.scan.UnitStop.{UnitStop}
-use Rattle.byte_unit_base.specs.ParserEnds.{IsAfterLine, IsFirst, IsLeadingUnit, IsUnitStop, next_char}
-use Rattle.byte_unit_base.specs.ParserEnds.{unit_stop_fault}
-use Rattle.byte_unit_base.specs.UnitScan.{UnitScan}
-use Rattle.byte_unit_base.specs.UnitScan.{Multiple}
-use Rattle.byte_unit_base.specs.UnitScan.{One}
-use Rattle.byte_unit_base.specs.UnitScan.{Word}
-use Rattle.byte_unit_base.specs.UnitScan.{Empty, Bits}
+use Rattle.byte_unit_base.specs.ParserEnds.{IsAfterLine, IsFirst, IsLeadingUnit, IsUnitStop, next_char, unit_stop_fault}
 use Rattle.byte_unit_base.proofs.Options.{none_or_some, some_passed}
 use Rattle.byte_unit_base.proofs.Scans.{read_none, read_through, reached}
 use Rattle.byte_unit_base.proofs.UnitReached.{Spells-reached}

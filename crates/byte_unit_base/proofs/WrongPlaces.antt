@@ -1,11 +1,9 @@
 -- Where the bytes of a string are wrong: the state machine of sizes has a state after those before, and no step there.
-use Rattle.std.proofs.Common.{◌≡◌, ◌≢◌, ℕ, zero, suc, ◌+◌, ◌*◌, ◌<◌, ◌≤◌, eqb, true, false, inl, inr, List, [], ◌∷◌, ◌++◌, Some, None}
-use Rattle.std.proofs.Common.{length, take, drop, get_or, replicate, refl, sym, ap, subst, ◌∙◌, arith, append_assoc}
-use Rattle.std.proofs.Common.{◌-◌, ◌^◌, ⊎_elim, get_or-drop, take-append-drop}
-use Rattle.std.proofs.Math.Seq.{take-add}
-use Rattle.std.specs.Option.{option_map}
+use Rattle.std.proofs.Common.{◌≡◌, ◌≢◌, ℕ, zero, suc, ◌+◌, ◌*◌, ◌<◌, ◌≤◌, eqb, true, false, inl, inr, List, [], ◌∷◌}
+use Rattle.std.proofs.Common.{◌++◌, Some, None, length, take, drop, get_or, replicate, refl, sym, ap, subst, ◌∙◌, arith}
+use Rattle.std.proofs.Common.{append_assoc, ◌-◌, ◌^◌, ⊎_elim, get_or-drop, take-append-drop, take-add, option_map}
+use Rattle.std.proofs.Common.{chars, IsUtf8, IsAscii}
 use Rattle.std.specs.Char.{digit_value, is_ascii_digit}
-use Rattle.std.specs.Str.{chars, IsUtf8, IsAscii}
 use Rattle.std.specs.Str.Parse.{digits_value}
 use Rattle.std.proofs.lemmas.Bool.{cases_lt}
 use Rattle.std.proofs.lemmas.Bool.Decides.{nat_tests}

@@ -1,6 +1,5 @@
-use Rattle.std.proofs.Common.{◌≡◌, ℕ, ◌-◌, Bool, List, Ok, length, take, drop, refl, sym, ap, ◌∙◌}
+use Rattle.std.proofs.Common.{◌≡◌, ℕ, ◌-◌, Bool, List, Ok, length, take, drop, refl, sym, ap, ◌∙◌, if◌then◌else◌, codes}
 use Rattle.std.proofs.Output.{displays_on_IsOk_append, displays_on_ok_of_eq}
-use Rattle.std.specs.Prelude.{if◌then◌else◌, codes}
 use Rattle.byte_unit_base.proofs.ErrorTexts.{left_text, separator}
 use Rattle.byte_unit_base.proofs.errors.write_others.Goals as goal
 use Rattle.byte_unit_base.proofs.errors.write_others.Goals.{then-is_empty, else-is_empty}

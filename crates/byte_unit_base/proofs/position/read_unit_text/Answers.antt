@@ -1,6 +1,5 @@
 -- The unit that the trimmed string spells, or where the parser stops in it: the error by what follows is the string's.
-use Rattle.std.proofs.Common.{Ok, Err, ap, sym, subst, ◌∙◌}
-use Rattle.std.specs.Str.{chars, IsUtf8}
+use Rattle.std.proofs.Common.{Ok, Err, ap, sym, subst, ◌∙◌, chars, IsUtf8}
 use Rattle.byte_unit_base.specs.Version.{current}
 use Rattle.byte_unit_base.specs.Spelling.{Spells}
 use Rattle.byte_unit_base.specs.Units.{shape_of}

@@ -1,8 +1,7 @@
 -- The bytes spell a unit under any flags, or the parser of a unit stops in them.
-use Rattle.std.proofs.Common.{drop}
+use Rattle.std.proofs.Common.{drop, true, false}
 use Rattle.byte_unit_base.specs.Spelling.{flags_of}
 use Rattle.byte_unit_base.specs.Units.{shape_of}
-use Rattle.std.proofs.Common.{true, false}
 use Rattle.byte_unit_base.proofs.Positions.{spells_any, stop_place}
 use Rattle.byte_unit_base.proofs.position.unit_place.Goals as goal
 

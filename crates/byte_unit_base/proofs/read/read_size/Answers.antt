@@ -1,6 +1,5 @@
 -- The number and unit of the trimmed string, or the error of the rest of it, where the parser stops.
-use Rattle.std.proofs.Common.{nat_eq, ap, subst, ◌∙◌}
-use Rattle.std.specs.Str.{chars, IsUtf8}
+use Rattle.std.proofs.Common.{nat_eq, ap, subst, ◌∙◌, chars, IsUtf8}
 use Rattle.byte_unit_base.specs.Spelling.{flags_of}
 use Rattle.byte_unit_base.specs.Units.{shape_of}
 use Rattle.byte_unit_base.specs.ParserEnds.{IsStop, next_char, stop_fault}

@@ -1,7 +1,6 @@
 -- The first bytes are a line with which the bytes begin, and its number and unit are those of the string. If it is
 -- visible ASCII, its error by the character where the parser stops is that of the string too.
-use Rattle.std.proofs.Common.{take, nat_eq, ap, ◌∙◌, eqb, not}
-use Rattle.std.specs.Str.{chars}
+use Rattle.std.proofs.Common.{take, nat_eq, ap, ◌∙◌, eqb, not, chars}
 use Rattle.std.proofs.lemmas.List.{take_rest}
 use Rattle.byte_unit_base.specs.BinaryReading.{unit_meant}
 use Rattle.byte_unit_base.specs.Kinds.{flags_for}

@@ -1,6 +1,5 @@
 -- An error in the number and the unit of a string is that of the size, in each reading.
-use Rattle.std.proofs.Common.{ℕ, Bool, List, Option, Result, Ok, Err, rules}
-use Rattle.std.specs.Str.{IsUtf8}
+use Rattle.std.proofs.Common.{ℕ, Bool, List, Option, Result, Ok, Err, rules, IsUtf8}
 use Rattle.byte_unit_base.specs.Kinds.{flags_for}
 use Rattle.byte_unit_base.specs.Outcome.{IsNumberOrStop, IsSizeOrStop}
 use Rattle.byte_unit_base.specs.declared.kind.Kind.{Kind}

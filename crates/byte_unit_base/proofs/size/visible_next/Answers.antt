@@ -1,7 +1,6 @@
 -- ASCII with visible ends is trimmed, so the error where the parser stops is that of the string, and the place is its
 -- position.
-use Rattle.std.proofs.Common.{nat_eq, ap, ◌∙◌}
-use Rattle.std.specs.Str.{chars}
+use Rattle.std.proofs.Common.{nat_eq, ap, ◌∙◌, chars}
 use Rattle.std.proofs.lemmas.List.{take_rest}
 use Rattle.byte_unit_base.specs.Kinds.{flags_for}
 use Rattle.byte_unit_base.specs.ParserEnds.{next_char, stop_fault}

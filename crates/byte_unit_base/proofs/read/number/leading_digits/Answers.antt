@@ -1,7 +1,6 @@
 -- The digits among the first eight bytes, and, if all of these are digits or there are fewer bytes, those after them.
 -- The bytes before the first that is no digit, moved to the end, are eight digits.
-use Rattle.std.proofs.Common.{◌≡◌, ℕ, ◌<◌, ◌≤◌, ◌-◌, ◌*◌, ◌%◌, ◌^◌, length, ap, subst, sym, ◌∙◌, arith}
-use Rattle.std.proofs.Common.{bit_xor}
+use Rattle.std.proofs.Common.{◌≡◌, ℕ, ◌<◌, ◌≤◌, ◌-◌, ◌*◌, ◌%◌, ◌^◌, length, ap, subst, sym, ◌∙◌, arith, bit_xor}
 use Rattle.core.proofs.dec2flt.Eight.{lanes_are, all_digits, first_other, shifted_is, bytes_up}
 use Rattle.core.proofs.slice.Flagged.{flags_from_ten}
 use lib.Bits.{xor_lt}
