@@ -2,12 +2,11 @@
 -- where the machine has an error.
 --
 -- Of the place where the parser of a unit stops, `stop.0` is the state there, `stop.1.0` that the text leads to it, and
--- `stop.1.1` that no unit ends there. Of a whole part, `whole_is.0` is its numeral. Of a run, `holds.0` is that its
--- state is at the number, and `holds.1` its parser state; of digits, `digits.0` is that the first one is a digit, and
--- `digits.1` that the rest are.
-use Rattle.std.proofs.Common.{◌≡◌, ◌≢◌, ℕ, zero, suc, ◌+◌, ◌-◌, ◌*◌, ◌^◌, ◌<◌, ◌≤◌, false, nat_eq, eqb, inl, inr, List}
-use Rattle.std.proofs.Common.{[], ◌∷◌, ◌++◌, None, Err, length, take, drop, get_or, replicate, refl, sym, ap, subst}
-use Rattle.std.proofs.Common.{◌∙◌, arith, append_assoc, take-add, chars, IsAscii}
+-- `stop.1.1` that no unit ends there. Of digits, `digits.0` is that the first one is a digit, and `digits.1` that the
+-- rest are.
+use Rattle.std.proofs.Common.{◌≡◌, ◌≢◌, ℕ, ◌+◌, ◌-◌, ◌*◌, ◌^◌, ◌<◌, ◌≤◌, false, nat_eq, List, [], ◌∷◌, ◌++◌, Err}
+use Rattle.std.proofs.Common.{length, take, drop, get_or, replicate, refl, sym, ap, subst, ◌∙◌, arith, append_assoc}
+use Rattle.std.proofs.Common.{take-add, chars, IsAscii, get_or-drop}
 use Rattle.std.specs.Char.{digit_value}
 use Rattle.std.specs.Float.Numeral.{digits_len}
 use Rattle.std.specs.Str.Parse.{AllDigits, digits_value, digits_value_after}
@@ -15,69 +14,66 @@ use Rattle.core.proofs.dec2flt.DigitsLemmas.{ends_digits}
 use Rattle.std.proofs.lemmas.Bool.Decides.{nat_tests}
 use Rattle.std.proofs.lemmas.Fmt.{IsAscii-from_digits}
 use Rattle.std.proofs.lemmas.Int.Digits.{digits_value-lt}
-use Rattle.std.proofs.lemmas.List.{length-take-le, length-drop, take_more, drop-drop}
+use Rattle.std.proofs.lemmas.List.{length-take-le, length-drop, drop_more, drop-drop}
 use Rattle.std.proofs.lemmas.Str.{IsAscii-append}
-use Rattle.std.proofs.lemmas.Str.Ascii.{IsAscii-nil, IsAscii-cons, IsAscii-from_all}
+use Rattle.std.proofs.lemmas.Str.Ascii.{IsAscii-nil, IsAscii-from_all}
 use Rattle.std.proofs.lemmas.List.Elements.{All-replicate}
 use Rattle.byte_unit_math.specs.Bounds.{scale, places_of_decimal, whole_limit}
-use Rattle.byte_unit_base.specs.Version.{current}
 use Rattle.byte_unit_base.specs.Spelling.{Flags}
-use Rattle.byte_unit_base.specs.Number.{point, IsWholePart, IsPointed, IsPrecise}
+use Rattle.byte_unit_base.specs.Number.{point}
 use Rattle.byte_unit_base.specs.SizeText.{space}
-use Rattle.byte_unit_base.specs.Fault.{no_value, not_number, too_long}
+use Rattle.byte_unit_base.specs.Fault.{too_long}
 use Rattle.byte_unit_base.specs.Scan.{read}
-use Rattle.byte_unit_base.specs.SizeScan.{Beginning, Whole, Point, size_scan, size_step, fixed_point}
+use Rattle.byte_unit_base.specs.SizeScan.{Beginning, Whole, Point, size_scan, fixed_point}
 use Rattle.byte_unit_base.specs.ParserEnds.{IsFirst, IsNoSpace, IsStopAt, EndsNumber, IsLeadingNumber, IsUnitStop}
 use Rattle.byte_unit_base.specs.ParserEnds.{missing_digit, next_char, unit_stop_fault}
 use Rattle.byte_unit_base.specs.declared.read.stop.Reason.TheVariants.{NoDigit, TooLong, InUnit}
 use Rattle.byte_unit_base.specs.declared.unit.scan.UnitStop.{UnitStop}
 use Rattle.byte_unit_base.proofs.Scans.{read_through, read_some}
-use Rattle.byte_unit_base.proofs.SizeRuns.{step_first, run_whole, run_pointed, run_precise, number_end}
+use Rattle.byte_unit_base.proofs.SizeRuns.{step_first}
 use Rattle.byte_unit_base.proofs.SizeAscii.{number_ascii}
 use Rattle.byte_unit_base.proofs.SizeRest.{first_char, IsNoDigit, wide_no_digit, no_digit_first, missing_at_start}
-use Rattle.byte_unit_base.proofs.SizeRest.{missing_after_point, too_large, too_many_places, read_point, ends_whole}
-use Rattle.byte_unit_base.proofs.SizeRest.{ends_fraction, read_after_number, with_number, text_from, utf8_from}
+use Rattle.byte_unit_base.proofs.SizeRest.{missing_after_point, too_large, too_many_places, read_point}
+use Rattle.byte_unit_base.proofs.SizeRest.{read_after_number, with_number, text_from, utf8_from}
 use Rattle.byte_unit_base.proofs.UnitStops.{run_ascii, stop_read}
-use Rattle.byte_unit_base.proofs.WrongPlaces.{wrong_in_unit}
+use Rattle.byte_unit_base.proofs.WrongPlaces.{wrong_at_start, wrong_after_point, wrong_in_unit, pointed, pointed_ascii}
+use Rattle.byte_unit_base.proofs.WrongPlaces.{number_of_whole, number_of_fraction}
+use Rattle.byte_unit_base.specs.PlaceReading.{IsWholeLen, IsPlacesLen}
 use Rattle.byte_unit_base.proofs.Positions.{stop_place}
 use Rattle.byte_unit_base.proofs.NumberBytes.{digits_of_run}
 use Rattle.byte_unit_base.specs.UnitScan.{start}
 
 -- what follows a number
 
--- a property of the first character, if there is one, gives each weaker property of it
-first_map : (Has Both : ℕ → Type 0) → ((c : ℕ) → Has c → Both c) → (text : List ℕ) → IsFirst Has text → IsFirst Both text
-first_map Has Both both [] has = tt
-first_map Has Both both (c ∷ cs) has = both c has
-
--- the character is no digit and no point
-abbrev EndsWhole : ℕ → Type 0
-EndsWhole c = IsNoDigit c × (eqb c 46 ≡ false)
-
--- if neither a digit nor a point is at an index, the bytes from there on start with neither
-no_point_first : (bytes : List ℕ) (end : ℕ) → (end < length bytes → get_or bytes end 0 ≢ point)
-    → IsFirst IsNoDigit (drop end bytes) → IsFirst EndsWhole (drop end bytes)
-no_point_first [] zero other none = tt
-no_point_first [] (suc end) other none = tt
-no_point_first (b ∷ bs) zero other none =
-    let differs : b ≢ point = other (omega arith) in (none, grind (arith, nat_tests))
-no_point_first (b ∷ bs) (suc end) other none = no_point_first bs end (λ inside. other (omega (arith, inside))) none
-
 -- no digit follows a run of digits that std finds
-none_after : (bytes : List ℕ) (end : ℕ) → end ≡ 0 + digits_len (drop 0 bytes) → IsFirst IsNoDigit (drop end bytes)
-none_after bytes end is =
+none_after : (bytes : List ℕ) (end : ℕ) → end ≡ 0 + digits_len (drop 0 bytes) → end < length bytes
+    → IsNoDigit (get_or bytes end 0)
+none_after bytes end is inside =
     let all : end ≡ digits_len bytes = omega (arith, is) in
-    no_digit_first (drop end bytes) (ap (λ n. digits_len (drop n bytes)) all ∙ ends_digits bytes)
+    subst (IsFirst IsNoDigit) (drop_more bytes end 0 inside)
+    (no_digit_first (drop end bytes) (ap (λ n. digits_len (drop n bytes)) all ∙ ends_digits bytes))
 
--- at the beginning there is no step for a character that is no digit
-no_first_step : (c : ℕ) → IsNoDigit c → size_step Beginning c ≡ None
-unfolding size_step
-no_first_step c none = rw none refl
+-- a run of digits that std finds is a whole part, if its value is below the limit
+abbrev whole_len : (bytes : List ℕ) (end whole : ℕ) → end ≡ 0 + digits_len (drop 0 bytes) → end ≤ length bytes
+    → whole < whole_limit → whole ≡ digits_value 10 (take end bytes) → IsWholeLen bytes end
+whole_len bytes end whole is within small value_is = record {
+  within = within;
+  value = whole;
+  digits = digits_of_run bytes end is;
+  value_is = value_is;
+  small = small;
+  next = λ inside digit. let none = none_after bytes end is inside in grind (arith, nat_tests, none, digit);
+}
 
--- after the point there is no step for a character that is no digit
-no_point_step : (w c : ℕ) → IsNoDigit c → size_step (Point w) c ≡ None
-unfolding size_step
-no_point_step w c none = rw none refl
+-- a run of at most 28 digits that std finds is a fraction
+places_len : (bytes : List ℕ) (end : ℕ) → end ≡ 0 + digits_len (drop 0 bytes) → end ≤ length bytes
+    → end ≤ places_of_decimal → IsPlacesLen bytes end
+places_len bytes end is within few = record {
+  within = within;
+  digits = digits_of_run bytes end is;
+  few = few;
+  next = λ inside _. let none = none_after bytes end is inside in grind (arith, nat_tests, none);
+}
 
 -- a digit is missing at the start
 pub stops_at_start : (bytes : List ℕ) → digits_len bytes ≡ 0 → (flags : Flags) → IsStopAt flags bytes 0 NoDigit
@@ -86,15 +82,8 @@ stops_at_start bytes none flags = record {
   ascii = IsAscii-nil;
   result_is = λ utf8. missing_at_start flags (chars bytes)
       (first_char IsNoDigit wide_no_digit bytes utf8 (no_digit_first bytes none));
-  wrong = λ utf8. record {
-    within = omega arith;
-    ascii = IsAscii-nil;
-    state = Beginning;
-    run_is = refl;
-    next = first_map IsNoDigit (λ c. size_step Beginning c ≡ None) no_first_step (chars bytes)
-        (first_char IsNoDigit wide_no_digit bytes utf8 (no_digit_first bytes none));
-    at_end = λ all. (no_value, refl);
-  };
+  wrong = λ utf8.
+      wrong_at_start bytes utf8 (whole_len bytes 0 0 (omega (arith, none)) (omega arith) (omega arith) refl);
 }
 
 -- the bytes begin with the digits of a whole part, and `whole` is what the code reads them as: their value only if that
@@ -103,86 +92,50 @@ module _ (bytes : List ℕ) (end whole : ℕ) (run_is : end ≡ 0 + digits_len (
     (some : end ≡ 0 → ⊥)
     (small : whole < whole_limit) (exact : whole < whole_limit → whole ≡ digits_value 10 (take end bytes)) where
   -- these digits are a whole part
-  whole_is : IsWholePart current (take end bytes) whole
-  whole_is = (
-    (omega (arith, length-take-le end bytes within, some), digits_of_run bytes end run_is),
-    exact small,
-    small,
-  )
+  abbrev len : IsWholeLen bytes end
+  len = whole_len bytes end whole run_is within small (exact small)
 
   -- a whole part that no point follows is the leading number
   pub leading_whole : (n : ℕ) → (end < length bytes → get_or bytes end 0 ≢ point) → whole * scale ≡ n
       → IsLeadingNumber bytes n end
-  leading_whole n other value =
-      let ends = EndsNumber (Whole whole) n in
-      let ascii = IsAscii-from_digits (take end bytes) whole_is.0.1 in
-      let next = no_point_first bytes end other (none_after bytes end run_is) in
-      record {
-        within = within;
-        number_is = inl (whole, whole_is, sym value);
-        state = Whole whole;
-        run_is = run_whole (take end bytes) whole whole_is;
-        at_end = λ flags. number_end flags n (Whole whole) value;
-        next = λ utf8.
-            first_char ends (λ c wide. ends_whole whole n c value (wide_no_digit c wide) (grind (arith, nat_tests)))
-            (drop end bytes) (utf8_from bytes end utf8 within ascii)
-            (first_map EndsWhole ends (λ c has. ends_whole whole n c value has.0 has.1) (drop end bytes) next);
-      }
+  leading_whole n other value = number_of_whole bytes end len some n value (none_after bytes end run_is) other
 
   -- a point follows
-  module _ (inside : end ≡ length bytes → ⊥) (point_is : get_or bytes end 0 ≡ point) where
+  module _ (not_all : end ≡ length bytes → ⊥) (point_is : get_or bytes end 0 ≡ point) where
     -- the bytes after the point
     abbrev rest : List ℕ
     rest = drop (end + 1) bytes
 
     -- the point is within the bytes
-    pointed_within : end + 1 ≤ length bytes
-    pointed_within = omega (arith, inside, within)
-
-    -- the bytes up to the point are the whole part and the point
-    pointed_text : take (end + 1) bytes ≡ take end bytes ++ point ∷ []
-    pointed_text = take_more bytes end 0 (omega (arith, inside, within)) ∙ ap (λ c. take end bytes ++ c ∷ []) point_is
-
-    -- the bytes up to the point are a whole part with a point, as the grammar has it
-    abbrev pointed : IsPointed current (take (end + 1) bytes) whole
-    pointed = record { whole = take end bytes; text_is = pointed_text; whole_is = whole_is }
+    inside : end < length bytes
+    inside = omega (arith, not_all, within)
 
     -- the bytes up to the point are ASCII
-    pointed_ascii : IsAscii (take (end + 1) bytes)
-    pointed_ascii =
-        subst IsAscii (sym pointed_text)
-        (IsAscii-append (take end bytes) (point ∷ []) (IsAscii-from_digits (take end bytes) whole_is.0.1)
-        (IsAscii-cons point [] (omega arith) IsAscii-nil))
+    ascii : IsAscii (take (end + 1) bytes)
+    ascii = pointed_ascii bytes end len some inside point_is
 
     -- the result for the bytes is that for the bytes after the point, from the state after the point
     read_rest : (flags : Flags)
         → read (size_scan flags) Beginning (chars bytes) ≡ read (size_scan flags) (Point whole) (chars rest)
     read_rest flags =
-        ap (read (size_scan flags) Beginning) (text_from bytes (end + 1) pointed_ascii
-        ∙ (ap (λ front. front ++ chars rest) pointed_text ∙ append_assoc (take end bytes) (point ∷ []) (chars rest)))
-        ∙ read_point flags (take end bytes) (chars rest) whole whole_is
+        let front = pointed bytes end len some inside point_is in
+        ap (read (size_scan flags) Beginning) (text_from bytes (end + 1) ascii
+        ∙ (ap (λ front. front ++ chars rest) front.text_is ∙ append_assoc front.whole (point ∷ []) (chars rest)))
+        ∙ read_point flags front.whole (chars rest) whole front.whole_is
 
     -- a digit is missing after the point
     pub stops_after_point : digits_len rest ≡ 0 → (flags : Flags) → IsStopAt flags bytes (end + 1) NoDigit
     stops_after_point none flags = record {
-      within = pointed_within;
-      ascii = pointed_ascii;
+      within = omega (arith, inside);
+      ascii = ascii;
       result_is = λ utf8. read_rest flags
           ∙ (missing_after_point flags whole (chars rest)
-          (first_char IsNoDigit wide_no_digit rest (utf8_from bytes (end + 1) utf8 pointed_within pointed_ascii)
+          (first_char IsNoDigit wide_no_digit rest (utf8_from bytes (end + 1) utf8 (omega (arith, inside)) ascii)
           (no_digit_first rest none))
           ∙ ap (λ at_start. Err (missing_digit at_start (next_char (chars rest))))
           (let at_point : false ≡ nat_eq (end + 1) 0 = grind (arith, nat_tests) in at_point));
-      wrong = λ utf8. record {
-        within = pointed_within;
-        ascii = pointed_ascii;
-        state = Point whole;
-        run_is = run_pointed (take (end + 1) bytes) whole pointed;
-        next = first_map IsNoDigit (λ c. size_step (Point whole) c ≡ None) (no_point_step whole) (chars rest)
-            (first_char IsNoDigit wide_no_digit rest (utf8_from bytes (end + 1) utf8 pointed_within pointed_ascii)
-            (no_digit_first rest none));
-        at_end = λ all. (not_number point, refl);
-      };
+      wrong = λ utf8. wrong_after_point bytes end len some inside point_is utf8
+          (places_len rest 0 (omega (arith, none)) (omega arith) (omega arith));
     }
 
     -- digits of a fraction follow the point, up to `stop`
@@ -199,13 +152,17 @@ module _ (bytes : List ℕ) (end whole : ℕ) (run_is : end ≡ 0 + digits_len (
       places_are : places ≡ 0 + digits_len (drop 0 rest)
       places_are = omega (arith, stop_is)
 
+      -- they are within the bytes after the point
+      places_within : places ≤ length rest
+      places_within = omega (arith, stop_within, length-drop {A = ℕ} (end + 1) bytes)
+
       -- the digits of the fraction are decimal digits
       digits_are : AllDigits 10 digits
       digits_are = digits_of_run rest places places_are
 
       -- the bytes have as many digits as the fraction
       count_is : length digits ≡ places
-      count_is = length-take-le places rest (omega (arith, stop_within, length-drop {A = ℕ} (end + 1) bytes))
+      count_is = length-take-le places rest places_within
 
       -- the value of the digits has no more digits
       pub fraction_below : (fraction : ℕ) → fraction ≡ digits_value 10 digits → fraction < 10 ^ places
@@ -223,45 +180,18 @@ module _ (bytes : List ℕ) (end whole : ℕ) (run_is : end ≡ 0 + digits_len (
         wrong = λ utf8. tt;
       }
 
-      -- the fraction ends where its digits do
-      to_stop : end + 1 + places ≡ stop
-      to_stop = omega (arith, stop_is)
-
       -- a whole part, a point and a fraction are the leading number
       pub leading_precise : (fraction n : ℕ) → (places ≡ 0 → ⊥)
           → places ≤ places_of_decimal → fraction ≡ digits_value 10 digits
           → n ≡ fixed_point whole fraction places → IsLeadingNumber bytes n stop
       leading_precise fraction n some_places few value value_of_n =
-          let number : IsPrecise current (take stop bytes) n = record {
-            whole = take end bytes;
-            fraction = digits;
-            value = whole;
-            part = digits_value 10 digits * 10 ^ (places_of_decimal - length digits);
-            text_is = ap (λ n. take n bytes) (sym to_stop) ∙ (take-add (end + 1) places bytes
-                ∙ (ap (λ front. front ++ digits) pointed_text ∙ append_assoc (take end bytes) (point ∷ []) digits));
-            whole_is = whole_is;
-            fraction_is = ((omega (arith, count_is, some_places), digits_are), omega (arith, few, count_is), refl);
-            number_is = value_of_n
-                ∙ (ap (λ f. whole * scale + f * 10 ^ (places_of_decimal - places)) value
-                ∙ ap (λ k. whole * scale + digits_value 10 digits * 10 ^ (places_of_decimal - k)) (sym count_is));
-          } in
-          let run = run_precise (take stop bytes) n number in
-          let ends = EndsNumber run.state n in
-          let ends_number : (c : ℕ) → IsNoDigit c → ends c = λ c none.
-          ends_fraction run.state n c run.holds.0 run.holds.1 none in
-          let rest_is = drop-drop places (end + 1) bytes ∙ ap (λ n. drop n bytes) to_stop in
-          record {
-            within = stop_within;
-            number_is = inr number;
-            state = run.state;
-            run_is = run.run;
-            at_end = λ flags. number_end flags n run.state run.holds.0;
-            next = λ utf8.
-                first_char ends (λ c wide. ends_number c (wide_no_digit c wide)) (drop stop bytes)
-                (utf8_from bytes stop utf8 stop_within (number_ascii (take stop bytes) n (inr number)))
-                (first_map IsNoDigit ends ends_number (drop stop bytes)
-                (subst (IsFirst IsNoDigit) rest_is (none_after rest places places_are)));
-          }
+          let value_is = value_of_n ∙ (ap (λ f. fixed_point whole f places) value
+          ∙ ap (fixed_point whole (digits_value 10 digits)) (sym count_is)) in
+          subst (IsLeadingNumber bytes n) (omega (arith, stop_is))
+          (number_of_fraction bytes end len some inside point_is places refl
+          (places_len rest places places_are places_within few) some_places n (sym value_is)
+          (λ more. subst IsNoDigit (get_or-drop (end + 1) bytes places 0)
+          (none_after rest places places_are (omega (arith, more, length-drop {A = ℕ} (end + 1) bytes)))))
 
 -- digits whose value reaches the limit of a whole part have the error of a number that is too long
 too_large_read : (flags : Flags) (ds rest : List ℕ) → AllDigits 10 ds → whole_limit ≤ digits_value 10 ds

@@ -14,13 +14,13 @@ use Rattle.std.proofs.lemmas.Str.{IsAscii-append}
 use Rattle.std.proofs.lemmas.Str.Ascii.{IsAscii-nil, IsAscii-cons, IsAscii-from_all}
 use Rattle.byte_unit_math.specs.Bounds.{scale, places_of_decimal, whole_limit}
 use Rattle.byte_unit_base.specs.Version.{current}
-use Rattle.byte_unit_base.specs.Number.{point, IsWholePart, IsPointed, IsPrecise}
+use Rattle.byte_unit_base.specs.Number.{point, IsWholePart, IsPointed}
 use Rattle.byte_unit_base.specs.SizeText.{space}
 use Rattle.byte_unit_base.specs.Fault.{fault_at_end, no_value, not_number, stops_at_bi}
 use Rattle.byte_unit_base.specs.Scan.{run}
 use Rattle.byte_unit_base.specs.UnitScan.{UnitScan, One, Empty, unit_step, unit_parser_state, start as unit_start}
 use Rattle.byte_unit_base.specs.SizeScan.{SizeScan, Beginning, Whole, Point, Fraction, Gap, UnitAt, size_step}
-use Rattle.byte_unit_base.specs.SizeScan.{size_parser_state, after_number, fixed_point}
+use Rattle.byte_unit_base.specs.SizeScan.{size_parser_state, fixed_point}
 use Rattle.byte_unit_base.specs.ParserEnds.{IsFirst, IsNoSpace, EndsNumber, IsLeadingNumber, IsLeadingUnit, IsWrongAt}
 use Rattle.byte_unit_base.specs.PlaceReading.{IsWholeLen, IsPlacesLen, IsUnitPlace, IsSizePlace}
 use Rattle.byte_unit_base.proofs.Options.{some_passed}
@@ -39,22 +39,12 @@ dropped_first Has [] (suc end) has = tt
 dropped_first Has (b ∷ bs) zero has = has (omega arith)
 dropped_first Has (b ∷ bs) (suc end) has = dropped_first Has bs end (λ inside. has (omega (arith, inside)))
 
--- no step is for a character past ASCII: after a number, and so from any state
-no_number_step : (n c : ℕ) → 128 ≤ c → after_number n c ≡ None
-no_number_step n c wide =
-    let no_space : eqb c 32 ≡ false = grind (arith, nat_tests) in
-    rw (no_space, no_other_step One Empty c (inr wide)) refl
-
+-- no step is for a character past ASCII
 wide_no_step : (s : SizeScan) (c : ℕ) → 128 ≤ c → size_step s c ≡ None
 unfolding size_step
-wide_no_step Beginning c wide = rw (wide_no_digit c wide) refl
-wide_no_step (Whole w) c wide =
-    let no_point : eqb c 46 ≡ false = grind (arith, nat_tests) in
-    rw (wide_no_digit c wide, no_point) (no_number_step (w * scale) c wide)
-wide_no_step (Point w) c wide = rw (wide_no_digit c wide) refl
-wide_no_step (Fraction w f j) c wide = rw (wide_no_digit c wide) (no_number_step (fixed_point w f j) c wide)
-wide_no_step (Gap n) c wide = no_number_step n c wide
 wide_no_step (UnitAt n u) c wide = ap (option_map (UnitAt n)) (no_other_step u.multiple u.word c (inr wide))
+wide_no_step (Whole w) c wide = grind (arith, nat_tests, no_other_step One Empty c (inr wide))
+wide_no_step _ c wide = grind (arith, nat_tests, no_other_step One Empty c (inr wide))
 
 -- no step at the first byte is none at the first character
 no_step_first : (s : SizeScan) (bytes : List ℕ) (end : ℕ) → IsUtf8 bytes → end ≤ length bytes → IsAscii (take end bytes)
@@ -86,21 +76,21 @@ no_fraction_step w f j c digit full = grind (arith, nat_tests)
 no_digit : (c : ℕ) → 10 ≤ digit_value c → IsNoDigit c
 no_digit c other = grind (arith, nat_tests)
 
--- the value of a character is below ten if the test takes it for a digit, and is else not below ten
+-- the value of a character is below ten if the test takes it for a digit, which is else no digit
 pub digit_small : (c : ℕ) → is_ascii_digit c ≡ true → digit_value c < 10
 digit_small c digit = grind (arith, nat_tests, digit)
 
-pub digit_large : (c : ℕ) → is_ascii_digit c ≡ false → 10 ≤ digit_value c
+pub digit_large : (c : ℕ) → is_ascii_digit c ≡ false → IsNoDigit c
 digit_large c other = grind (arith, nat_tests, other)
 
 -- the byte of a digit is its value plus 48, the code of `0`
 pub digit_byte : (c : ℕ) → is_ascii_digit c ≡ true → digit_value c + 48 ≡ c
 digit_byte c digit = grind (arith, nat_tests, digit)
 
-module _ (bytes : List ℕ) (utf8 : IsUtf8 bytes) where
+module _ (bytes : List ℕ) where
   -- no digit is at the start
-  pub wrong_at_start : IsWholeLen bytes 0 → IsWrongAt bytes 0
-  wrong_at_start whole = record {
+  pub wrong_at_start : IsUtf8 bytes → IsWholeLen bytes 0 → IsWrongAt bytes 0
+  wrong_at_start utf8 whole = record {
     within = omega arith;
     ascii = IsAscii-nil;
     state = Beginning;
@@ -119,15 +109,16 @@ module _ (bytes : List ℕ) (utf8 : IsUtf8 bytes) where
     abbrev value : ℕ
     value = len.value
 
-    whole_is : IsWholePart current (take end bytes) value
+    -- they are a whole part, as the grammar has it
+    pub whole_is : IsWholePart current (take end bytes) value
     whole_is = ((omega (arith, length-take-le end bytes len.within, some), len.digits), len.value_is, len.small)
 
     whole_ascii : IsAscii (take end bytes)
     whole_ascii = IsAscii-from_digits (take end bytes) len.digits
 
     -- one more digit reaches the limit
-    pub wrong_in_whole : end < length bytes → digit_value (get_or bytes end 0) < 10 → IsWrongAt bytes end
-    wrong_in_whole inside digit = record {
+    pub wrong_in_whole : IsUtf8 bytes → end < length bytes → digit_value (get_or bytes end 0) < 10 → IsWrongAt bytes end
+    wrong_in_whole utf8 inside digit = record {
       within = len.within;
       ascii = whole_ascii;
       state = Whole value;
@@ -138,49 +129,42 @@ module _ (bytes : List ℕ) (utf8 : IsUtf8 bytes) where
     }
 
     -- no digit and no point follows
-    pub number_of_whole : (end < length bytes → 10 ≤ digit_value (get_or bytes end 0))
-        → (end < length bytes → get_or bytes end 0 ≢ point) → (n : ℕ) × IsLeadingNumber bytes n end
-    number_of_whole other no_point =
-        let n = value * scale in
+    pub number_of_whole : (n : ℕ) → value * scale ≡ n → (end < length bytes → IsNoDigit (get_or bytes end 0))
+        → (end < length bytes → get_or bytes end 0 ≢ point) → IsLeadingNumber bytes n end
+    number_of_whole n at other no_point =
         let ends = EndsNumber (Whole value) n in
-        let next : end < length bytes → ends (get_or bytes end 0) = λ inside.
-        let differs = no_point inside in
-        let no : eqb (get_or bytes end 0) 46 ≡ false = grind (arith, nat_tests, differs) in
-        ends_whole value n (get_or bytes end 0) refl (no_digit (get_or bytes end 0) (other inside)) no in (
-          n,
-          record {
-            within = len.within;
-            number_is = inl (value, whole_is, refl);
-            state = Whole value;
-            run_is = run_whole (take end bytes) value whole_is;
-            at_end = λ flags. number_end flags n (Whole value) refl;
-            next = λ utf8.
-                first_char ends
-                (λ c wide. ends_whole value n c refl (wide_no_digit c wide) (grind (arith, nat_tests)))
-                (drop end bytes) (utf8_from bytes end utf8 len.within whole_ascii) (dropped_first ends bytes end next);
-          },
-        )
+        record {
+          within = len.within;
+          number_is = inl (value, whole_is, sym at);
+          state = Whole value;
+          run_is = run_whole (take end bytes) value whole_is;
+          at_end = λ flags. number_end flags n (Whole value) at;
+          next = λ utf8.
+              first_char ends (λ c wide. ends_whole value n c at (wide_no_digit c wide) (grind (arith, nat_tests)))
+              (drop end bytes) (utf8_from bytes end utf8 len.within whole_ascii)
+              (dropped_first ends bytes end (λ inside. ends_whole value n (get_or bytes end 0) at (other inside)
+              (let differs = no_point inside in grind (arith, nat_tests, differs))));
+        }
 
     -- a point follows: the bytes up to it are `pointed`, and those after it are `rest`
     module _ (inside : end < length bytes) (point_is : get_or bytes end 0 ≡ point) where
       abbrev rest : List ℕ
       rest = drop (end + 1) bytes
 
-      abbrev pointed : IsPointed current (take (end + 1) bytes) value
+      abbrev pub pointed : IsPointed current (take (end + 1) bytes) value
       pointed = record {
         whole = take end bytes;
         text_is = take_more bytes end 0 inside ∙ ap (λ c. take end bytes ++ c ∷ []) point_is;
         whole_is = whole_is;
       }
 
-      pointed_ascii : IsAscii (take (end + 1) bytes)
+      pub pointed_ascii : IsAscii (take (end + 1) bytes)
       pointed_ascii = subst IsAscii (sym pointed.text_is)
           (IsAscii-append (take end bytes) (point ∷ []) whole_ascii (IsAscii-cons point [] (omega arith) IsAscii-nil))
 
       -- no digit follows the point
-      pub wrong_after_point : IsPlacesLen rest 0 → IsWrongAt bytes (end + 1)
-      wrong_after_point none =
-          let count = length-drop (end + 1) bytes in
+      pub wrong_after_point : IsUtf8 bytes → IsPlacesLen rest 0 → IsWrongAt bytes (end + 1)
+      wrong_after_point utf8 none =
           record {
             within = omega (arith, inside);
             ascii = pointed_ascii;
@@ -232,8 +216,9 @@ module _ (bytes : List ℕ) (utf8 : IsUtf8 bytes) where
         first_is = get_or-drop (end + 1) bytes places 0
 
         -- the 29th digit follows
-        pub wrong_in_fraction : stop < length bytes → digit_value (get_or bytes stop 0) < 10 → IsWrongAt bytes stop
-        wrong_in_fraction more digit =
+        pub wrong_in_fraction : IsUtf8 bytes → stop < length bytes → digit_value (get_or bytes stop 0) < 10
+            → IsWrongAt bytes stop
+        wrong_in_fraction utf8 more digit =
             let left = length-drop {A = ℕ} (end + 1) bytes in
             let inside_rest : places < length rest = omega (arith, left, more) in
             let all : places_of_decimal ≤ length digits = ⊎_elim
@@ -250,42 +235,37 @@ module _ (bytes : List ℕ) (utf8 : IsUtf8 bytes) where
             }
 
         -- no digit follows
-        pub number_of_fraction : (stop < length bytes → 10 ≤ digit_value (get_or bytes stop 0))
-            → (n : ℕ) × IsLeadingNumber bytes n stop
-        number_of_fraction other =
-            let n = fixed_point value fraction (length digits) in
+        pub number_of_fraction : (n : ℕ) → fixed_point value fraction (length digits) ≡ n
+            → (stop < length bytes → IsNoDigit (get_or bytes stop 0)) → IsLeadingNumber bytes n stop
+        number_of_fraction n at other =
             let state = Fraction value fraction (length digits) in
             let ends = EndsNumber state n in
-            let ends_number : (c : ℕ) → IsNoDigit c → ends c = λ c none. ends_fraction state n c refl refl none in
-            let number : IsPrecise current (take stop bytes) n = record {
-              whole = take end bytes;
-              fraction = digits;
-              value = value;
-              part = fraction * 10 ^ (places_of_decimal - length digits);
-              text_is = text_is ∙ (ap (λ front. front ++ digits) pointed.text_is
-                  ∙ append_assoc (take end bytes) (point ∷ []) digits);
-              whole_is = whole_is;
-              fraction_is = (
-                (omega (arith, count_is, some_places), count.digits),
-                omega (arith, count_is, count.few),
-                refl,
-              );
-              number_is = refl;
-            } in (
-              n,
-              record {
-                within = stop_within;
-                number_is = inr number;
-                state = state;
-                run_is = run_is;
-                at_end = λ flags. number_end flags n state refl;
-                next = λ utf8.
-                    first_char ends (λ c wide. ends_number c (wide_no_digit c wide)) (drop stop bytes)
-                    (utf8_from bytes stop utf8 stop_within ascii)
-                    (dropped_first ends bytes stop
-                    (λ more. ends_number (get_or bytes stop 0) (no_digit (get_or bytes stop 0) (other more))));
-              },
-            )
+            let ends_number : (c : ℕ) → IsNoDigit c → ends c = λ c none. ends_fraction state n c at refl none in
+            record {
+              within = stop_within;
+              number_is = inr record {
+                whole = take end bytes;
+                fraction = digits;
+                value = value;
+                part = fraction * 10 ^ (places_of_decimal - length digits);
+                text_is = text_is ∙ (ap (λ front. front ++ digits) pointed.text_is
+                    ∙ append_assoc (take end bytes) (point ∷ []) digits);
+                whole_is = whole_is;
+                fraction_is = (
+                  (omega (arith, count_is, some_places), count.digits),
+                  omega (arith, count_is, count.few),
+                  refl,
+                );
+                number_is = sym at;
+              };
+              state = state;
+              run_is = run_is;
+              at_end = λ flags. number_end flags n state at;
+              next = λ utf8.
+                  first_char ends (λ c wide. ends_number c (wide_no_digit c wide)) (drop stop bytes)
+                  (utf8_from bytes stop utf8 stop_within ascii)
+                  (dropped_first ends bytes stop (λ more. ends_number (get_or bytes stop 0) (other more)));
+            }
 
 -- the state after the spaces, in which the next character ends the number
 record AfterSpaces (n : ℕ) (s : SizeScan) (spaces : ℕ) (text : List ℕ) : Type 0 where
@@ -319,6 +299,12 @@ unit_first : (n c : ℕ) (s : SizeScan) → EndsNumber s n c → IsNoSpace c
 unit_first n c s ends other = let no_space : eqb c 32 ≡ false = grind (arith, nat_tests, other) in
     ends.step_is ∙ rw no_space refl
 
+-- if no unit begins at what follows a number, there is no step there
+no_first_letter : (n : ℕ) (s : SizeScan) (rest : List ℕ) → IsFirst (EndsNumber s n) rest → IsFirst IsNoSpace rest
+    → IsFirst (λ c. unit_step unit_start c ≡ None) rest → IsFirst (λ c. size_step s c ≡ None) rest
+no_first_letter n s [] ends other next = tt
+no_first_letter n s (c ∷ cs) ends other next = unit_first n c s ends other ∙ ap (option_map (UnitAt n)) next
+
 -- within a unit after a number there is no step where the unit alone has none
 in_unit_next : (n : ℕ) (u : UnitScan) (rest : List ℕ) → IsFirst (λ c. unit_step u c ≡ None) rest
     → IsFirst (λ c. size_step (UnitAt n u) c ≡ None) rest
@@ -330,20 +316,12 @@ in_unit_next n u (c ∷ cs) next = ap (option_map (UnitAt n)) next
 after_unit : (n : ℕ) (s : SizeScan) (unit rest : List ℕ) (u : UnitScan) → IsFirst (EndsNumber s n) (unit ++ rest)
     → IsFirst IsNoSpace (unit ++ rest) → run unit_step unit_start unit ≡ Some u
     → IsFirst (λ c. unit_step u c ≡ None) rest → AfterUnit u s unit rest
-after_unit n s [] [] u ends other run_is next =
+after_unit n s [] rest u ends other run_is next =
     let same : unit_start ≡ u = cc in
     record {
       state = s;
       run_is = refl;
-      next = tt;
-      at_end = λ e. absurd (let none = ap (λ x. fault_at_end (unit_parser_state x)) same ∙ e in let z : ⊥ = cc in z);
-    }
-after_unit n s [] (c ∷ cs) u ends other run_is next =
-    let same : unit_start ≡ u = cc in
-    record {
-      state = s;
-      run_is = refl;
-      next = unit_first n c s ends other ∙ ap (option_map (UnitAt n)) (ap (λ x. unit_step x c) same ∙ next);
+      next = no_first_letter n s rest ends other (subst (λ x. IsFirst (λ c. unit_step x c ≡ None) rest) (sym same) next);
       at_end = λ e. absurd (let none = ap (λ x. fault_at_end (unit_parser_state x)) same ∙ e in let z : ⊥ = cc in z);
     }
 after_unit n s (c ∷ cs) rest u ends other run_is next =
