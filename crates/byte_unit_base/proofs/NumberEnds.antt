@@ -54,7 +54,7 @@ none_after bytes end is inside =
     (no_digit_first (drop end bytes) (ap (λ n. digits_len (drop n bytes)) all ∙ ends_digits bytes))
 
 -- a run of digits that std finds is a whole part, if its value is below the limit
-abbrev whole_len : (bytes : List ℕ) (end whole : ℕ) → end ≡ 0 + digits_len (drop 0 bytes) → end ≤ length bytes
+whole_len : (bytes : List ℕ) (end whole : ℕ) → end ≡ 0 + digits_len (drop 0 bytes) → end ≤ length bytes
     → whole < whole_limit → whole ≡ digits_value 10 (take end bytes) → IsWholeLen bytes end
 whole_len bytes end whole is within small value_is = record {
   within = within;
@@ -98,6 +98,7 @@ module _ (bytes : List ℕ) (end whole : ℕ) (run_is : end ≡ 0 + digits_len (
   -- a whole part that no point follows is the leading number
   pub leading_whole : (n : ℕ) → (end < length bytes → get_or bytes end 0 ≢ point) → whole * scale ≡ n
       → IsLeadingNumber bytes n end
+  unfolding whole_len
   leading_whole n other value = number_of_whole bytes end len some n value (none_after bytes end run_is) other
 
   -- a point follows
@@ -117,6 +118,7 @@ module _ (bytes : List ℕ) (end whole : ℕ) (run_is : end ≡ 0 + digits_len (
     -- the result for the bytes is that for the bytes after the point, from the state after the point
     read_rest : (flags : Flags)
         → read (size_scan flags) Beginning (chars bytes) ≡ read (size_scan flags) (Point whole) (chars rest)
+    unfolding whole_len
     read_rest flags =
         let front = pointed bytes end len some inside point_is in
         ap (read (size_scan flags) Beginning) (text_from bytes (end + 1) ascii
@@ -184,6 +186,7 @@ module _ (bytes : List ℕ) (end whole : ℕ) (run_is : end ≡ 0 + digits_len (
       pub leading_precise : (fraction n : ℕ) → (places ≡ 0 → ⊥)
           → places ≤ places_of_decimal → fraction ≡ digits_value 10 digits
           → n ≡ fixed_point whole fraction places → IsLeadingNumber bytes n stop
+      unfolding whole_len
       leading_precise fraction n some_places few value value_of_n =
           let value_is = value_of_n ∙ (ap (λ f. fixed_point whole f places) value
           ∙ ap (fixed_point whole (digits_value 10 digits)) (sym count_is)) in

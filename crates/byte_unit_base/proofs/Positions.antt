@@ -4,10 +4,8 @@
 -- kind, and that the suffix spells it; `stop` is a state, that the text leads to it, and what the code keeps of it. Of
 -- a `fault`, the first part is the error, and the second that it is the one there; `wrong` is the state of a unit, that
 -- its beginning leads, and its error at the end.
-use Rattle.std.proofs.Common.{◌≡◌, ℕ, ◌+◌, ◌≤◌, Bool, not, inl, inr, List, [], ◌∷◌, Option, Some, None, length, take}
-use Rattle.std.proofs.Common.{drop, refl, sym, ap, subst, ◌∙◌, arith, chars, encode_utf8_all, IsUtf8, IsAscii}
-use Rattle.std.proofs.Common.{length-take-le, length-drop}
-use Rattle.std.proofs.lemmas.Str.{encodes-chars}
+use Rattle.std.proofs.Common.{◌≡◌, ℕ, ◌+◌, Bool, not, inl, inr, List, [], ◌∷◌, Option, Some, None, length, take, drop}
+use Rattle.std.proofs.Common.{refl, sym, ap, subst, ◌∙◌, arith, chars, IsUtf8, length-take-le}
 use Rattle.byte_unit_base.specs.Shape.{Shape, shape}
 use Rattle.byte_unit_base.specs.Version.{current}
 use Rattle.byte_unit_base.specs.Spelling.{Flags, SpellsCount, Spells}
@@ -26,7 +24,8 @@ use Rattle.byte_unit_base.specs.declared.read.stop.Reason.TheVariants.{NoDigit, 
 use Rattle.byte_unit_base.specs.declared.unit.scan.UnitStop.{UnitStop}
 use Rattle.byte_unit_base.proofs.Scans.{CannotStep, no_longer_front, reached, one_answer}
 use Rattle.byte_unit_base.proofs.UnitReads.{unit_scan_is}
-use Rattle.byte_unit_base.proofs.UnitStops.{run_ascii, no_other_step, spelled_chars}
+use Rattle.byte_unit_base.proofs.UnitStops.{run_ascii, spelled_chars, none_left}
+use Rattle.byte_unit_base.proofs.UnitRuns.{no_other_step}
 use Rattle.byte_unit_base.proofs.SizeReads.{size_scan_is}
 use Rattle.byte_unit_base.proofs.SizeAscii.{size_of_chars}
 use Rattle.byte_unit_base.proofs.SizeRest.{first_char, text_from, utf8_from}
@@ -89,15 +88,6 @@ fault_after : (flags : Flags) (place : ParserState) (rest : List ℕ)
     → (fault : Fault) × IsFaultAfter current flags place rest fault
 fault_after flags place [] at_end = at_end refl
 fault_after flags place (c ∷ cs) at_end = (fault_at current flags place c, refl)
-
--- nothing is left only at the end of the bytes
-none_left : (bytes : List ℕ) (place : ℕ) → IsUtf8 bytes → place ≤ length bytes → IsAscii (take place bytes)
-    → chars (drop place bytes) ≡ [] → place ≡ length bytes
-none_left bytes place utf8 within ascii none =
-    let rest = drop place bytes in
-    let empty : rest ≡ [] =
-    sym (encodes-chars rest (utf8_from bytes place utf8 within ascii)) ∙ ap encode_utf8_all none in
-    omega (arith, within, length-drop place bytes, ap length empty)
 
 -- `s` is a string, and `text` it without the white space at its ends
 module _ (s text : List ℕ) (trimmed : chars text ≡ trim_of s) (utf8 : IsUtf8 text) where

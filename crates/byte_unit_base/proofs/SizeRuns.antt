@@ -4,8 +4,8 @@
 -- whole part `h`, `h.0` is its numeral, `h.1` its value and `h.2` the limit. A step or run that is known to succeed is
 -- a pair: the state after it, and that it is this state.
 use Rattle.std.proofs.Common.{◌≡◌, ◌≢◌, ℕ, zero, suc, ◌+◌, ◌*◌, ◌<◌, ◌≤◌, inl, inr, ⊎_elim, List, [], ◌∷◌, ◌++◌, Some}
-use Rattle.std.proofs.Common.{None, Ok, length, replicate, sym, refl, ap, ◌∙◌, arith, append-nil, option_map}
-use Rattle.std.specs.Char.{digit_value, to_ascii_uppercase}
+use Rattle.std.proofs.Common.{Ok, length, replicate, sym, refl, ap, ◌∙◌, arith, append-nil, option_map}
+use Rattle.std.specs.Char.{digit_value}
 use Rattle.std.specs.Str.Parse.{IsNumeral, AllDigits, digits_value, digits_value_after}
 use Rattle.std.proofs.lemmas.Bool.{cases_lt}
 use Rattle.std.proofs.lemmas.Bool.Decides.{nat_tests}
@@ -19,11 +19,12 @@ use Rattle.byte_unit_base.specs.ViablePrefix.{ParserState, beginning, in_whole, 
 use Rattle.byte_unit_base.specs.ViablePrefix.{IsNumberAndUnitPrefix, IsViableSizePrefix}
 use Rattle.byte_unit_base.specs.Scan.{run}
 use Rattle.byte_unit_base.specs.UnitScan.{unit_step, scan_of, unit_parser_state, unit_of, start as unit_start, UnitScan}
+use Rattle.byte_unit_base.specs.UnitScan.{One, Empty}
 use Rattle.byte_unit_base.specs.SizeScan.{size_step, size_scan, size_at_end, size_parser_state, size_or_fault}
 use Rattle.byte_unit_base.specs.SizeScan.{fixed_point, SizeScan, Beginning, Whole, Point, Fraction, Gap, UnitAt}
 use Rattle.byte_unit_base.proofs.Options.{some_passed}
 use Rattle.byte_unit_base.proofs.Scans.{run_through, run_step, IsScanned}
-use Rattle.byte_unit_base.proofs.UnitRuns.{spelling_runs, unit_front_runs}
+use Rattle.byte_unit_base.proofs.UnitRuns.{spelling_runs, unit_front_runs, no_other_step}
 
 -- digits
 
@@ -137,17 +138,10 @@ run_number : (text : List ℕ) (n : ℕ) → IsNumberText current text n → Run
 run_number text n (inl h) = record { state = Whole h.0; run = run_whole text h.0 h.1; holds = sym h.2 }
 run_number text n (inr h) = let r = run_precise text n h in record { state = r.state; run = r.run; holds = r.holds.0 }
 
--- no digit, point or space begins a unit: their codes are below that of `A`
-no_unit_below : (c : ℕ) → c < 65 → unit_step unit_start c ≡ None
-unfolding unit_step
-no_unit_below c small =
-    let same : to_ascii_uppercase c ≡ c = grind (arith, nat_tests) in
-    rw same (grind (arith, nat_tests))
-
 -- the first letter of a unit has at least the code of `A`, 65
 first_letter : (c : ℕ) (u : UnitScan) → unit_step unit_start c ≡ Some u → 65 ≤ c
 first_letter c u e =
-    ⊎_elim (λ small. let none = no_unit_below c small in absurd (let k : ⊥ = cc in k)) (λ large. large) (cases_lt c 65)
+    ⊎_elim (λ small. let none = no_other_step One Empty c (inl small) in absurd (let k : ⊥ = cc in k)) (λ large. large) (cases_lt c 65)
 
 -- the steps after a number
 

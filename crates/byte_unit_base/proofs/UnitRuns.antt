@@ -4,7 +4,8 @@
 -- and `h.1` what it means, or that the position is known. Of a run that is known, as `front`, `word` or `c`, the first
 -- part is the prefix or the suffix of the state, and the next ones that the text leads to it and what it means.
 use Rattle.std.proofs.Common.{◌≡◌, ℕ, zero, suc, inl, inr, ⊎_elim, List, [], ◌∷◌, Some, sym, refl, ap, subst, ◌∙◌}
-use Rattle.std.proofs.Common.{arith, Bool, not, option_map}
+use Rattle.std.proofs.Common.{arith, Bool, not, option_map, None, ◌⊎◌, ◌<◌, ◌≤◌}
+use Rattle.std.proofs.lemmas.Bool.Decides.{nat_tests}
 use Rattle.std.specs.Char.{to_ascii_lowercase}
 use Rattle.byte_unit_base.specs.Shape.{Shape, shape}
 use Rattle.byte_unit_base.specs.Version.{current}
@@ -17,6 +18,14 @@ use Rattle.byte_unit_base.specs.UnitScan.{multiple_shape, IsWordText, word_parse
 use Rattle.byte_unit_base.specs.UnitScan.{Empty, UpperB, LowerB, Bi, Bit, Bits, Multiple, One, Decimal, Binary}
 use Rattle.byte_unit_base.proofs.Lists.{from_lowercase}
 use Rattle.byte_unit_base.proofs.Scans.{run_through, run_step, IsScanned}
+
+-- no character before the letters, and none past ASCII, continues a unit
+pub no_other_step : (m : Multiple) (w : Word) (c : ℕ) → (c < 65) ⊎ (128 ≤ c) → unit_step (scan_of m w) c ≡ None
+unfolding unit_step
+no_other_step m Bits c other = refl
+no_other_step One Empty c other =
+    let none : prefix_at c ≡ None = grind (arith, nat_tests) in rw none (grind (arith, nat_tests))
+no_other_step m w c other = grind (arith, nat_tests)
 
 -- `B` and `b` begin a suffix
 step_letter_b : (m : Multiple) → (unit_step (scan_of m Empty) 66 ≡ Some (scan_of m UpperB))

@@ -6,15 +6,14 @@ use Rattle.std.proofs.Common.{◌≡◌, ℕ, ◌+◌, ◌<◌, ◌≤◌, List,
 use Rattle.std.proofs.Common.{sym, ap, ◌∙◌, arith, ◌⊎◌, inl, inr, ⊎_elim, length-drop, replicate, one-add, chars}
 use Rattle.std.proofs.Common.{encode_utf8_all, IsUtf8, IsAscii, take_all}
 use Rattle.std.proofs.lemmas.Bool.{cases_lt}
-use Rattle.std.proofs.lemmas.Bool.Decides.{nat_tests}
 use Rattle.std.proofs.lemmas.Str.{encodes-chars, chars-IsAscii}
 use Rattle.std.proofs.lemmas.Str.Ascii.{IsAscii-nil, IsAscii-cons}
 use Rattle.byte_unit_base.specs.Shape.{Shape}
 use Rattle.byte_unit_base.specs.Version.{current}
 use Rattle.byte_unit_base.specs.Spelling.{Flags, Spells}
 use Rattle.byte_unit_base.specs.Scan.{run, read}
-use Rattle.byte_unit_base.specs.UnitScan.{unit_step, prefix_at, unit_of, unit_at_end, unit_scan, unit_parser_state}
-use Rattle.byte_unit_base.specs.UnitScan.{scan_of, start, UnitScan, Multiple, One, Word, Empty, Bits}
+use Rattle.byte_unit_base.specs.UnitScan.{unit_step, unit_of, unit_at_end, unit_scan, unit_parser_state, scan_of, start}
+use Rattle.byte_unit_base.specs.UnitScan.{UnitScan, Multiple, One, Word, Empty}
 use Rattle.byte_unit_base.specs.UnitWord.{unit_stop, stop_parser_state}
 use Rattle.byte_unit_base.specs.Fault.{fault_at}
 use Rattle.byte_unit_base.specs.declared.unit.scan.UnitStop.{UnitStop}
@@ -22,19 +21,11 @@ use Rattle.byte_unit_base.specs.ParserEnds.{IsAfterLine, IsFirst, IsLeadingUnit,
 use Rattle.byte_unit_base.proofs.Options.{none_or_some, some_passed}
 use Rattle.byte_unit_base.proofs.Scans.{read_none, read_through, reached}
 use Rattle.byte_unit_base.proofs.UnitReached.{Spells-reached}
-use Rattle.byte_unit_base.proofs.UnitRuns.{spelling_runs}
+use Rattle.byte_unit_base.proofs.UnitRuns.{spelling_runs, no_other_step}
 use Rattle.byte_unit_base.proofs.UnitReads.{unit_scan_is}
 use Rattle.byte_unit_base.proofs.SizeRest.{first_char, text_from, utf8_from}
 
 -- beginnings of units are ASCII
-
--- no character before the letters, and none past ASCII, continues a unit
-pub no_other_step : (m : Multiple) (w : Word) (c : ℕ) → (c < 65) ⊎ (128 ≤ c) → unit_step (scan_of m w) c ≡ None
-unfolding unit_step
-no_other_step m Bits c other = refl
-no_other_step One Empty c other =
-    let none : prefix_at c ≡ None = grind (arith, nat_tests) in rw none (grind (arith, nat_tests))
-no_other_step m w c other = grind (arith, nat_tests)
 
 -- what the state machine reads is ASCII
 pub run_ascii : (text : List ℕ) (s t : UnitScan) → run unit_step s text ≡ Some t → IsAscii text
@@ -75,6 +66,15 @@ stopped flags scan [] ends next = ap unit_at_end (ends refl)
 stopped flags scan (c ∷ cs) ends next = read_none (unit_scan flags) scan c cs next
     ∙ ap (λ state. Err (fault_at current flags state c)) (kept_state scan.multiple scan.word)
 
+-- nothing is left only at the end of the bytes
+pub none_left : (bytes : List ℕ) (place : ℕ) → IsUtf8 bytes → place ≤ length bytes → IsAscii (take place bytes)
+    → chars (drop place bytes) ≡ [] → place ≡ length bytes
+none_left bytes place utf8 within ascii none =
+    let rest = drop place bytes in
+    let empty : rest ≡ [] =
+    sym (encodes-chars rest (utf8_from bytes place utf8 within ascii)) ∙ ap encode_utf8_all none in
+    omega (arith, within, length-drop place bytes, ap length empty)
+
 -- the error where the parser of a unit stops is that of the input
 pub stop_read : (flags : Flags) (bytes : List ℕ) (place : ℕ) (kept : UnitStop) → IsUnitStop flags bytes kept place
     → IsUtf8 bytes → read (unit_scan flags) start (chars bytes)
@@ -85,12 +85,9 @@ stop_read flags bytes place kept stop utf8 =
     let ascii = run_ascii (take place bytes) start scan leads.run_is in
     let rest = drop place bytes in
     let utf8_rest = utf8_from bytes place utf8 leads.within ascii in
-    let at_end : chars rest ≡ [] → place ≡ length bytes =
-    λ none. let empty : rest ≡ [] = sym (encodes-chars rest utf8_rest) ∙ ap encode_utf8_all none in
-    omega (arith, leads.within, length-drop place bytes, ap length empty) in
     ap (read (unit_scan flags) start) (text_from bytes place ascii)
     ∙ (read_through (unit_scan flags) start scan (take place bytes) (chars rest) leads.run_is
-    ∙ (stopped flags scan (chars rest) (λ none. stop.1.1 (at_end none))
+    ∙ (stopped flags scan (chars rest) (λ none. stop.1.1 (none_left bytes place utf8 leads.within ascii none))
     (first_char (λ c. unit_step scan c ≡ None) (λ c wide. no_other_step scan.multiple scan.word c (inr wide)) rest
     utf8_rest leads.next)
     ∙ ap (λ kept. Err (unit_stop_fault flags kept (next_char (chars rest)))) stop.2))

@@ -12,7 +12,7 @@ use Rattle.std.proofs.lemmas.List.{length-take-le, length-drop, take_more, drop-
 use Rattle.std.proofs.lemmas.List.Elements.{All-replicate}
 use Rattle.std.proofs.lemmas.Str.{IsAscii-append}
 use Rattle.std.proofs.lemmas.Str.Ascii.{IsAscii-nil, IsAscii-cons, IsAscii-from_all}
-use Rattle.byte_unit_math.specs.Bounds.{scale, places_of_decimal, whole_limit}
+use Rattle.byte_unit_math.specs.Bounds.{scale, places_of_decimal}
 use Rattle.byte_unit_base.specs.Version.{current}
 use Rattle.byte_unit_base.specs.Number.{point, IsWholePart, IsPointed}
 use Rattle.byte_unit_base.specs.SizeText.{space}
@@ -29,7 +29,8 @@ use Rattle.byte_unit_base.proofs.SizeRuns.{run_whole, run_pointed, run_places, r
 use Rattle.byte_unit_base.proofs.SizeAscii.{number_ascii}
 use Rattle.byte_unit_base.proofs.SizeRest.{first_char, IsNoDigit, wide_no_digit, ends_whole, ends_fraction, ends_gap}
 use Rattle.byte_unit_base.proofs.SizeRest.{text_from, utf8_from}
-use Rattle.byte_unit_base.proofs.UnitStops.{run_ascii, no_other_step}
+use Rattle.byte_unit_base.proofs.UnitStops.{run_ascii}
+use Rattle.byte_unit_base.proofs.UnitRuns.{no_other_step}
 
 -- what holds of the byte at an index, if there is one, holds of the first byte from there on
 dropped_first : (Has : ℕ → Type 0) (bytes : List ℕ) (end : ℕ) → (end < length bytes → Has (get_or bytes end 0))
@@ -43,7 +44,6 @@ dropped_first Has (b ∷ bs) (suc end) has = dropped_first Has bs end (λ inside
 wide_no_step : (s : SizeScan) (c : ℕ) → 128 ≤ c → size_step s c ≡ None
 unfolding size_step
 wide_no_step (UnitAt n u) c wide = ap (option_map (UnitAt n)) (no_other_step u.multiple u.word c (inr wide))
-wide_no_step (Whole w) c wide = grind (arith, nat_tests, no_other_step One Empty c (inr wide))
 wide_no_step _ c wide = grind (arith, nat_tests, no_other_step One Empty c (inr wide))
 
 -- no step at the first byte is none at the first character
@@ -53,25 +53,6 @@ no_step_first : (s : SizeScan) (bytes : List ℕ) (end : ℕ) → IsUtf8 bytes �
 no_step_first s bytes end utf8 within ascii none =
     first_char (λ c. size_step s c ≡ None) (wide_no_step s) (drop end bytes) (utf8_from bytes end utf8 within ascii)
     (dropped_first (λ c. size_step s c ≡ None) bytes end none)
-
--- at the beginning, and after the point, there is no step for a character that is no digit
-no_first_step : (c : ℕ) → 10 ≤ digit_value c → size_step Beginning c ≡ None
-unfolding size_step
-no_first_step c other = grind (arith, nat_tests)
-
--- in a whole part there is none for a digit that reaches the limit
-no_whole_step : (w c : ℕ) → digit_value c < 10 → whole_limit ≤ w * 10 + digit_value c → size_step (Whole w) c ≡ None
-unfolding size_step
-no_whole_step w c digit above = grind (arith, nat_tests)
-
-no_point_step : (w c : ℕ) → 10 ≤ digit_value c → size_step (Point w) c ≡ None
-unfolding size_step
-no_point_step w c other = grind (arith, nat_tests)
-
--- in a fraction there is none for a digit after 28 of them
-no_fraction_step : (w f j c : ℕ) → digit_value c < 10 → places_of_decimal ≤ j → size_step (Fraction w f j) c ≡ None
-unfolding size_step
-no_fraction_step w f j c digit full = grind (arith, nat_tests)
 
 no_digit : (c : ℕ) → 10 ≤ digit_value c → IsNoDigit c
 no_digit c other = grind (arith, nat_tests)
@@ -90,17 +71,14 @@ digit_byte c digit = grind (arith, nat_tests, digit)
 module _ (bytes : List ℕ) where
   -- no digit is at the start
   pub wrong_at_start : IsUtf8 bytes → IsWholeLen bytes 0 → IsWrongAt bytes 0
+  unfolding size_step
   wrong_at_start utf8 whole = record {
     within = omega arith;
     ascii = IsAscii-nil;
     state = Beginning;
     run_is = refl;
     next = no_step_first Beginning bytes 0 utf8 (omega arith) IsAscii-nil
-        (λ inside. no_first_step (get_or bytes 0 0)
-        (⊎_elim
-        (λ digit. let none : whole.value ≡ 0 = whole.value_is in
-        absurd (omega (arith, whole.next inside digit, none, digit)))
-        (λ other. other) (cases_lt (digit_value (get_or bytes 0 0)) 10)));
+        (λ inside. let next = whole.next inside in let is = whole.value_is in grind (arith, nat_tests, next, is));
     at_end = λ all. (no_value, refl);
   }
 
@@ -118,13 +96,14 @@ module _ (bytes : List ℕ) where
 
     -- one more digit reaches the limit
     pub wrong_in_whole : IsUtf8 bytes → end < length bytes → digit_value (get_or bytes end 0) < 10 → IsWrongAt bytes end
+    unfolding size_step
     wrong_in_whole utf8 inside digit = record {
       within = len.within;
       ascii = whole_ascii;
       state = Whole value;
       run_is = run_whole (take end bytes) value whole_is;
       next = no_step_first (Whole value) bytes end utf8 len.within whole_ascii
-          (λ _. no_whole_step value (get_or bytes end 0) digit (len.next inside digit));
+          (λ _. let above = len.next inside digit in grind (arith, nat_tests, above, digit));
       at_end = λ all. absurd (omega (arith, all, inside));
     }
 
@@ -164,6 +143,7 @@ module _ (bytes : List ℕ) where
 
       -- no digit follows the point
       pub wrong_after_point : IsUtf8 bytes → IsPlacesLen rest 0 → IsWrongAt bytes (end + 1)
+      unfolding size_step
       wrong_after_point utf8 none =
           record {
             within = omega (arith, inside);
@@ -173,7 +153,7 @@ module _ (bytes : List ℕ) where
             next = first_char (λ c. size_step (Point value) c ≡ None) (wide_no_step (Point value)) rest
                 (utf8_from bytes (end + 1) utf8 (omega (arith, inside)) pointed_ascii)
                 (dropped_first (λ c. size_step (Point value) c ≡ None) rest 0
-                (λ more. no_point_step value (get_or rest 0 0) (none.next more (omega arith))));
+                (λ more. let other = none.next more (omega arith) in grind (arith, nat_tests, other)));
             at_end = λ all. (not_number point, refl);
           }
 
@@ -218,6 +198,7 @@ module _ (bytes : List ℕ) where
         -- the 29th digit follows
         pub wrong_in_fraction : IsUtf8 bytes → stop < length bytes → digit_value (get_or bytes stop 0) < 10
             → IsWrongAt bytes stop
+        unfolding size_step
         wrong_in_fraction utf8 more digit =
             let left = length-drop {A = ℕ} (end + 1) bytes in
             let inside_rest : places < length rest = omega (arith, left, more) in
@@ -230,7 +211,7 @@ module _ (bytes : List ℕ) where
               state = Fraction value fraction (length digits);
               run_is = run_is;
               next = no_step_first (Fraction value fraction (length digits)) bytes stop utf8 stop_within ascii
-                  (λ _. no_fraction_step value fraction (length digits) (get_or bytes stop 0) digit all);
+                  (λ _. grind (arith, nat_tests, digit, all));
               at_end = λ end. absurd (omega (arith, end, more));
             }
 
