@@ -4,25 +4,25 @@
 -- kind, and that the suffix spells it; `stop` is a state, that the text leads to it, and what the code keeps of it. Of
 -- a `fault`, the first part is the error, and the second that it is the one there; `wrong` is the state of a unit, that
 -- its beginning leads, and its error at the end.
-use Rattle.std.proofs.Common.{◌≡◌, ℕ, ◌+◌, Bool, not, inl, inr, List, [], ◌∷◌, Option, Some, None, length, take, drop}
-use Rattle.std.proofs.Common.{refl, sym, ap, subst, ◌∙◌, arith, chars, IsUtf8, length-take-le}
+use Rattle.std.proofs.Common.{◌≡◌, ℕ, ◌+◌, Bool, not, inl, inr, List, [], ◌∷◌, Some, None, length, take, drop, refl}
+use Rattle.std.proofs.Common.{sym, ap, subst, ◌∙◌, arith, chars, IsUtf8, length-take-le, ◌≤◌, IsAscii}
 use Rattle.byte_unit_base.specs.Shape.{Shape, shape}
 use Rattle.byte_unit_base.specs.Version.{current}
 use Rattle.byte_unit_base.specs.Spelling.{Flags, SpellsCount, Spells}
 use Rattle.byte_unit_base.specs.SizeText.{trim_of, IsSizeText}
-use Rattle.byte_unit_base.specs.ViablePrefix.{ParserState, IsViableUnitPrefix, IsViableSizePrefix}
+use Rattle.byte_unit_base.specs.ViablePrefix.{ParserState}
 use Rattle.byte_unit_base.specs.Fault.{Fault, fault_at, fault_at_end, stops_at_bi, IsFaultAfter}
-use Rattle.byte_unit_base.specs.UnitScan.{UnitScan, unit_step, unit_parser_state, unit_of, start, scan_of}
-use Rattle.byte_unit_base.specs.UnitScan.{word_parser_state, Multiple, Word, Bi}
-use Rattle.byte_unit_base.specs.SizeScan.{size_step, size_parser_state}
+use Rattle.byte_unit_base.specs.UnitScan.{unit_step, unit_of, start as unit_start, scan_of, word_parser_state, Multiple}
+use Rattle.byte_unit_base.specs.UnitScan.{Word, Bi}
 use Rattle.byte_unit_base.specs.Outcome.{IsPositionOfStop}
-use Rattle.byte_unit_base.specs.ParserEnds.{HasVisibleEnds, IsFirst, IsLeadingUnit, IsUnitStop, IsWrongAt, IsWrongPlace}
+use Rattle.byte_unit_base.specs.ParserEnds.{HasVisibleEnds, IsFirst, IsUnitStop, IsWrongAt, IsWrongPlace}
 use Rattle.byte_unit_base.specs.PlaceReading.{IsUnitPlace, IsSizePlace}
 use Rattle.byte_unit_base.specs.ErrorPosition.{leading_white, IsErrorAt, IsSizePosition, IsUnitPosition}
 use Rattle.byte_unit_base.specs.declared.read.stop.Reason.{Reason}
 use Rattle.byte_unit_base.specs.declared.read.stop.Reason.TheVariants.{NoDigit, TooLong, InUnit}
 use Rattle.byte_unit_base.specs.declared.unit.scan.UnitStop.{UnitStop}
-use Rattle.byte_unit_base.proofs.Scans.{CannotStep, no_longer_front, reached, one_answer}
+use Rattle.byte_unit_base.proofs.Scans.{IsScanOf, first_fault, one_answer}
+use Rattle.byte_unit_base.specs.Scan.{Scan, run}
 use Rattle.byte_unit_base.proofs.UnitReads.{unit_scan_is}
 use Rattle.byte_unit_base.proofs.UnitStops.{run_ascii, spelled_chars, none_left}
 use Rattle.byte_unit_base.proofs.UnitRuns.{no_other_step}
@@ -76,12 +76,6 @@ stop_place flags bytes kept place stop =
 
 -- the first error after a beginning of ASCII
 
--- if the first character has no step, the machine cannot step
-cannot_step : {S : Type 0} (step : S → ℕ → Option S) (s : S) (rest : List ℕ) → IsFirst (λ c. step s c ≡ None) rest
-    → CannotStep step s rest
-cannot_step step s [] none = tt
-cannot_step step s (c ∷ cs) none = none
-
 -- the error at the next character, or at the end
 fault_after : (flags : Flags) (place : ParserState) (rest : List ℕ)
     → (rest ≡ [] → (fault : Fault) × (fault_at_end place ≡ Some fault))
@@ -91,64 +85,30 @@ fault_after flags place (c ∷ cs) at_end = (fault_at current flags place c, ref
 
 -- `s` is a string, and `text` it without the white space at its ends
 module _ (s text : List ℕ) (trimmed : chars text ≡ trim_of s) (utf8 : IsUtf8 text) where
-  -- if the text is wrong at a place, the error of a size in the string is there, after the leading white space
-  size_error : (flags : Flags) (place : ℕ) → IsWrongAt text place
-      → IsErrorAt (IsViableSizePrefix current) flags s (leading_white s + place)
-  size_error flags place wrong =
-      let is = size_scan_is flags in
+  -- where a state machine has no step in the text, the string has its error, after the leading white space
+  error_at : {S Meaning : Type 0} {scan : Scan S Meaning} {Reached : S → List ℕ → Type 0}
+      {IsViable : ParserState → List ℕ → Type 0} {Means : List ℕ → Meaning → Type 0}
+      → IsScanOf scan Reached IsViable Means → (place : ℕ) (state : S) → place ≤ length text → IsAscii (take place text)
+      → run scan.step scan.start (take place text) ≡ Some state
+      → IsFirst (λ c. scan.step state c ≡ None) (chars (drop place text))
+      → (place ≡ length text → (fault : Fault) × (fault_at_end (scan.place state) ≡ Some fault))
+      → IsErrorAt IsViable scan.flags s (leading_white s + place)
+  error_at {scan} is place state within ascii run_is next at_end =
       let rest = chars (drop place text) in
-      let fault = fault_after flags (size_parser_state wrong.state) rest
-      (λ none. wrong.at_end (none_left text place utf8 wrong.within wrong.ascii none)) in
+      let fault = fault_after scan.flags (scan.place state) rest
+      (λ none. at_end (none_left text place utf8 within ascii none)) in
       record {
         fault = fault.0;
-        first = record {
-          place = size_parser_state wrong.state;
-          front = take place text;
-          rest = rest;
-          longest = record {
-            text_is = sym trimmed ∙ text_from text place wrong.ascii;
-            is_front = is.front wrong.state (take place text) (reached is (take place text) wrong.state wrong.run_is);
-            longest = no_longer_front is wrong.state (take place text) rest wrong.run_is
-                (cannot_step size_step wrong.state rest wrong.next);
-          };
-          fault_is = fault.1;
-        };
-        position_is = ap (λ n. leading_white s + n) (sym (length-take-le place text wrong.within));
-      }
-
-  -- the error of a unit in the string is where its longest beginning ends, after the leading white space
-  unit_error : (flags : Flags) (place : ℕ) (scan : UnitScan) → IsLeadingUnit text scan place
-      → (place ≡ length text → fault_at_end (unit_parser_state scan) ≡ Some stops_at_bi)
-      → IsErrorAt (IsViableUnitPrefix current) flags s (leading_white s + place)
-  unit_error flags place scan leads at_end =
-      let is = unit_scan_is flags in
-      let rest = chars (drop place text) in
-      let ascii = run_ascii (take place text) start scan leads.run_is in
-      let fault = fault_after flags (unit_parser_state scan) rest
-      (λ none. (stops_at_bi, at_end (none_left text place utf8 leads.within ascii none))) in
-      let next = first_char (λ c. unit_step scan c ≡ None)
-      (λ c wide. no_other_step scan.multiple scan.word c (inr wide)) (drop place text)
-      (utf8_from text place utf8 leads.within ascii) leads.next in
-      record {
-        fault = fault.0;
-        first = record {
-          place = unit_parser_state scan;
-          front = take place text;
-          rest = rest;
-          longest = record {
-            text_is = sym trimmed ∙ text_from text place ascii;
-            is_front = is.front scan (take place text) (reached is (take place text) scan leads.run_is);
-            longest = no_longer_front is scan (take place text) rest leads.run_is (cannot_step unit_step scan rest next);
-          };
-          fault_is = fault.1;
-        };
-        position_is = ap (λ n. leading_white s + n) (sym (length-take-le place text leads.within));
+        first = first_fault is state (trim_of s) (take place text) rest fault.0
+            (sym trimmed ∙ text_from text place ascii) run_is next fault.1;
+        position_is = ap (λ n. leading_white s + n) (sym (length-take-le place text within));
       }
 
   -- the position of the error in the string is that of the place in the text
   pub size_position : (start place : ℕ) → start ≡ leading_white s → IsSizePlace text (Some place)
       → IsSizePosition s (Some (start + place))
-  size_position start place start_is wrong flags = rw start_is (size_error flags place wrong)
+  size_position start place start_is wrong flags = rw start_is (error_at (size_scan_is flags) place wrong.state
+      wrong.within wrong.ascii wrong.run_is wrong.next wrong.at_end)
 
   -- if the text is a size, the string has no position of an error
   pub no_size_position : IsSizePlace text None → IsSizePosition s None
@@ -162,7 +122,14 @@ module _ (s text : List ℕ) (trimmed : chars text ≡ trim_of s) (utf8 : IsUtf8
   -- the position of the error of a unit in the string is that of the place in the text
   pub unit_position : (start place : ℕ) → start ≡ leading_white s → IsUnitPlace text (Some place)
       → IsUnitPosition s (Some (start + place))
-  unit_position start place start_is wrong flags = rw start_is (unit_error flags place wrong.0 wrong.1 wrong.2)
+  unit_position start place start_is wrong flags =
+      let leads = wrong.1 in
+      let ascii = run_ascii (take place text) unit_start wrong.0 leads.run_is in
+      let next = first_char (λ c. unit_step wrong.0 c ≡ None)
+      (λ c wide. no_other_step wrong.0.multiple wrong.0.word c (inr wide)) (drop place text)
+      (utf8_from text place utf8 leads.within ascii) leads.next in
+      rw start_is (error_at (unit_scan_is flags) place wrong.0 leads.within ascii leads.run_is next
+      (λ all. (stops_at_bi, wrong.2 all)))
 
   -- if the text is a unit, the string has no position of an error
   pub no_unit_position : IsUnitPlace text None → IsUnitPosition s None

@@ -5,11 +5,12 @@
 -- field of the record of a state machine gives, as `r` or `g`, is a state or a rest of the input, and then what is
 -- known of it.
 use Rattle.std.proofs.Common.{◌≡◌, ℕ, ◌⊎◌, inl, inr, List, [], ◌∷◌, ◌++◌, Option, Some, None, Result, Ok, Err}
-use Rattle.std.proofs.Common.{option_and_then, sym, refl, ap, subst, ◌∙◌, append-nil, ⊎_elim, append_assoc}
-use Rattle.std.specs.Prelude.{◌↔◌, ⊤, IfOk, IfErr, IsOkAnd}
+use Rattle.std.proofs.Common.{option_and_then, sym, refl, ap, subst, ◌∙◌, append-nil, ⊎_elim, append_assoc, ◌↔◌, IfOk}
+use Rattle.std.proofs.Common.{IfErr, IsOkAnd}
 use Rattle.byte_unit_base.specs.Version.{current}
 use Rattle.byte_unit_base.specs.ViablePrefix.{ParserState}
 use Rattle.byte_unit_base.specs.Fault.{Fault, fault_at, fault_at_end, IsFaultAfter, IsFirstFault}
+use Rattle.byte_unit_base.specs.ParserEnds.{IsFirst}
 use Rattle.byte_unit_base.specs.ReaderLaws.{IsOneAnswer, CanBecome}
 use Rattle.byte_unit_base.specs.Scan.{Scan, run, read, map_result}
 use Rattle.byte_unit_base.proofs.Options.{none_or_some, some_passed}
@@ -39,8 +40,7 @@ module _ {S : Type 0} (step : S → ℕ → Option S) where
 
   -- no further character is read: the rest is empty, or its first character has no step
   abbrev pub CannotStep : S → List ℕ → Type 0
-  CannotStep s [] = ⊤
-  CannotStep s (c ∷ rest) = step s c ≡ None
+  CannotStep s rest = IsFirst (λ c. step s c ≡ None) rest
 
 -- a property of the state and of the text that led to it, which each step keeps
 module _ {S : Type 0} (step : S → ℕ → Option S) (Holds : S → List ℕ → Type 0)
@@ -138,7 +138,7 @@ module _ {S Meaning : Type 0} {scan : Scan S Meaning} {Reached : S → List ℕ 
       absurd (let k : ⊥ = cc (g.run_is, through) in k)
 
   -- the error where the state machine stops is the error of the input
-  first_fault : (s : S) (text front rest : List ℕ) (fault : Fault) → text ≡ front ++ rest
+  abbrev pub first_fault : (s : S) (text front rest : List ℕ) (fault : Fault) → text ≡ front ++ rest
       → run scan.step scan.start front ≡ Some s
       → CannotStep scan.step s rest → IsFaultAfter current scan.flags (scan.place s) rest fault
       → IsFirstFault IsViable current scan.flags text fault
