@@ -138,10 +138,6 @@ module _ (flags : Flags) (text : List ℕ) (number : ℕ) (unit : Shape) (h : Is
   unit_cases (inl plain) = inr (plain_same unit plain.power_is)
   unit_cases (inr m) = multiple_cases m m.prefix_is.infix_is
 
-  -- the text has a decimal prefix, or its unit is its own binary unit
-  prefix_or_same : SomePrefix flags text ⊎ (binary_of unit ≡ unit)
-  prefix_or_same = unit_cases h.unit_is
-
 -- `other` is a number of the binary unit exactly where the text is this number of the unit, and has its errors
 record IsBinaryText (flags : Flags) (text other : List ℕ) : Type 0 where
   pub to : (number : ℕ) (unit : Shape) → IsSizeText current flags text number unit
@@ -150,18 +146,6 @@ record IsBinaryText (flags : Flags) (text other : List ℕ) : Type 0 where
       → (of : Shape) × IsSizeText current flags text number of × (binary_of of ≡ unit)
   pub fault_to : (fault : Fault) → IsSizeFault current flags text fault → IsSizeFault current flags other fault
   pub fault_from : (fault : Fault) → IsSizeFault current flags other fault → IsSizeFault current flags text fault
-
--- a text is no two numbers, and no number of two units
-same_meaning : (flags : Flags) (text : List ℕ) (number other : ℕ) (unit another : Shape)
-    → IsSizeText current flags text number unit → IsSizeText current flags text other another
-    → ◌≡◌ {A = ℕ × Shape} (number, unit) (other, another)
-same_meaning flags text number other unit another h k =
-    (one_answer flags text).one_meaning (number, unit) (other, another) h k
-
--- a text that is a number of a unit has no error
-no_fault : (flags : Flags) (text : List ℕ) (number : ℕ) (unit : Shape) (fault : Fault)
-    → IsSizeText current flags text number unit → ¬ (IsSizeFault current flags text fault)
-no_fault flags text number unit fault h k = (one_answer flags text).not_both (number, unit) fault h k
 
 -- `other` is the text with an `i` after its decimal prefix, or the text itself if it has none
 module _ (flags : Flags) (text other : List ℕ) where
@@ -177,17 +161,17 @@ module _ (flags : Flags) (text other : List ℕ) where
       subst (λ t. IsSizeText current flags t h.number binary) (sym e) (binary_size flags text front suffix h) in
       record {
         to = λ number unit k.
-            let same = same_meaning flags text h.number number decimal unit as_decimal k in
+            let same = (one_answer flags text).one_meaning (h.number, decimal) (number, unit) as_decimal k in
             subst (λ r. IsSizeText current flags other r.0 (binary_of r.1)) same
             (subst (λ u. IsSizeText current flags other h.number u) (sym same_unit) as_binary);
         from = λ number unit k.
-            let same = same_meaning flags other h.number number binary unit as_binary k in (
+            let same = (one_answer flags other).one_meaning (h.number, binary) (number, unit) as_binary k in (
               decimal,
               subst (λ r. IsSizeText current flags text r.0 decimal) same as_decimal,
               same_unit ∙ ap (λ r. r.1) same,
             );
-        fault_to = λ fault k. absurd (no_fault flags text h.number decimal fault as_decimal k);
-        fault_from = λ fault k. absurd (no_fault flags other h.number binary fault as_binary k);
+        fault_to = λ fault k. absurd ((one_answer flags text).not_both (h.number, decimal) fault as_decimal k);
+        fault_from = λ fault k. absurd ((one_answer flags other).not_both (h.number, binary) fault as_binary k);
       }
 
   -- a text without a decimal prefix corresponds to itself
@@ -196,7 +180,7 @@ module _ (flags : Flags) (text other : List ℕ) where
   without_prefix none e =
       let same : (number : ℕ) (unit : Shape) → IsSizeText current flags text number unit → binary_of unit ≡ unit =
       λ number unit k. ⊎_elim (λ some. absurd (none some.0 some.1 some.2)) (λ is. is)
-      (prefix_or_same flags text number unit k) in
+      (unit_cases flags text number unit k k.unit_is) in
       record {
         to = λ number unit k. subst (λ t. IsSizeText current flags t number (binary_of unit)) (sym e)
             (subst (λ u. IsSizeText current flags text number u) (sym (same number unit k)) k);
@@ -367,23 +351,19 @@ module _ (flags : Flags) (bytes : List ℕ) where
   no_prefix meaning is same front suffix h =
       let text = trim_of bytes in
       let decimal = shape h.power false h.bit in
-      let one = same_meaning flags text meaning.0 h.number meaning.1 decimal is (decimal_size flags text front suffix h) in
+      let one = (one_answer flags text).one_meaning meaning (h.number, decimal) is
+      (decimal_size flags text front suffix h) in
       let unit : binary_of decimal ≡ decimal = subst (λ r. binary_of r.1 ≡ r.1) one same in
       let binary : true ≡ false = ap (λ u. u.binary) (sym (binary_unit flags text front suffix h) ∙ unit) in
       let z : ⊥ = cc in z
 
-  -- an input without a decimal prefix is its own text with an `i`
-  itself : ((front suffix : List ℕ) → ¬ (HasDecimalPrefix flags (trim_of bytes) front suffix))
-      → (other : List ℕ) × IsWithI flags (trim_of bytes) (trim_of other)
-  itself none = (bytes, inr (none, refl))
-
   -- each input has such a text, whether it is a size or has an error
   some_with_i : (other : List ℕ) × IsWithI flags (trim_of bytes) (trim_of other)
   some_with_i = ⊎_elim
-      (λ m. ⊎_elim (λ some. text_with_i some.0 some.1 some.2) (λ same. itself (no_prefix m.0 m.1 same))
-      (prefix_or_same flags (trim_of bytes) m.0.0 m.0.1 m.1))
-      (λ f. itself (λ front suffix h. no_fault flags (trim_of bytes) h.number (shape h.power false h.bit) f.0
-      (decimal_size flags (trim_of bytes) front suffix h) f.1))
+      (λ m. ⊎_elim (λ some. text_with_i some.0 some.1 some.2) (λ same. (bytes, inr (no_prefix m.0 m.1 same, refl)))
+      (unit_cases flags (trim_of bytes) m.0.0 m.0.1 m.1 m.1.unit_is))
+      (λ f. (bytes, inr (λ front suffix h. (one_answer flags (trim_of bytes)).not_both
+      (h.number, shape h.power false h.bit) f.0 (decimal_size flags (trim_of bytes) front suffix h) f.1, refl)))
       (one_answer flags (trim_of bytes)).some
 
 -- for each input there is one with an `i` after its decimal prefix

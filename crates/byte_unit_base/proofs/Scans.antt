@@ -227,25 +227,19 @@ module _ {S Meaning : Type 0} {scan : Scan S Meaning} {Reached : S → List ℕ 
     not_both = λ m f h k. let e = sym (reads_meaning text m h) ∙ reads_fault text f k in absurd (let z : ⊥ = cc in z);
   }
 
-  -- each viable prefix can be completed to an input that has a meaning
-  front_begins : (text : List ℕ) (place : ParserState) → IsViable place text → CanBecome Meaning Means text
-  front_begins text place h =
-      let r = is.front_read place text h in
-      let g = is.goes_on r.state in
-      let e = read_through scan scan.start r.state text g.0 r.run_is ∙ g.2 in
-      (g.0, g.1, subst (Answers (text ++ g.0)) e (reads_meaning_or_fault (text ++ g.0)))
-
-  -- each beginning of an input that has a meaning is a viable prefix
-  beginning_is_front : (text rest : List ℕ) (meaning : Meaning) → Means (text ++ rest) meaning
-      → (place : ParserState) × IsViable place text
-  beginning_is_front text rest meaning h =
-      let r = is.meaning_read (text ++ rest) meaning h in
-      let t = run_before scan.step scan.start r.0 text rest r.1 in
-      (scan.place t.0, is.front t.0 text (reached text t.0 t.1))
-
   -- the viable prefixes are exactly the beginnings of the inputs that have a meaning
   pub fronts_are_beginnings : (text : List ℕ) → ((place : ParserState) × IsViable place text) ↔ CanBecome Meaning Means text
-  fronts_are_beginnings text = (λ f. front_begins text f.0 f.1, λ b. beginning_is_front text b.0 b.1 b.2)
+  fronts_are_beginnings text = (
+    λ f.
+        let r = is.front_read f.0 text f.1 in
+        let g = is.goes_on r.state in
+        let e = read_through scan scan.start r.state text g.0 r.run_is ∙ g.2 in
+        (g.0, g.1, subst (Answers (text ++ g.0)) e (reads_meaning_or_fault (text ++ g.0))),
+    λ b.
+        let r = is.meaning_read (text ++ b.0) b.1 b.2 in
+        let t = run_before scan.step scan.start r.0 text b.0 r.1 in
+        (scan.place t.0, is.front t.0 text (reached text t.0 t.1)),
+  )
 
   -- what the contract of a parser says
   module _ {R E : Type 0} (meaning : R → Meaning) (fault : E → Fault) (text : List ℕ) where
