@@ -10,7 +10,7 @@ use Rattle.byte_unit_base.specs.Shape.{Shape}
 use Rattle.byte_unit_base.specs.Spelling.{Flags}
 use Rattle.byte_unit_base.specs.Version.{current}
 use Rattle.byte_unit_base.specs.Units.{shape_of}
-use Rattle.byte_unit_base.specs.Fault.{exceeded, IsSizeFault}
+use Rattle.byte_unit_base.specs.Fault.{exceeded}
 use Rattle.byte_unit_base.specs.declared.unit.Unit.{Unit as UnitName}
 use Rattle.byte_unit_base.specs.declared.errors.ParseError.{ParseError}
 use Rattle.byte_unit_base.specs.declared.errors.ParseError.TheVariants.{Value}
@@ -57,15 +57,6 @@ module _ (meant : Shape → Shape) (kind : Kind) (ignore_case : Bool) (bytes : L
   parsed_found found h =
       ap (size_of_parsed meant kind)
       (reads_meaning (size_scan_is (flags_for kind ignore_case)) (trim_of bytes) (with_shape found) h)
-
-  -- for an input with an error, the result is this error
-  parsed_fault : (error : ParseError)
-      → IsSizeFault current (flags_for kind ignore_case) (trim_of bytes) (size_fault error)
-      → parsed_size_as meant kind ignore_case bytes ≡ Err (size_fault error)
-  unfolding parsed_size_as parsed_number
-  parsed_fault error h =
-      ap (size_of_parsed meant kind)
-      (reads_fault (size_scan_is (flags_for kind ignore_case)) (trim_of bytes) (size_fault error) h)
 
   -- if the size of the number and unit is below the limit, it is the result
   pub reading_of_size : (found : ℕ × UnitName) (n : ℕ)
@@ -118,12 +109,14 @@ module _ (meant : Shape → Shape) (kind : Kind) (ignore_case : Bool) (bytes : L
   -- the result if the input is not a number and a unit: its error
   pub reading_of_fault : (error : ParseError) → IsNumberReading (flags_for kind ignore_case) bytes (Err error)
       → IsReadingAs meant kind ignore_case bytes (Err error)
+  unfolding parsed_size_as parsed_number
   reading_of_fault error reading = record {
     found = tt;
     reads = λ m a. absurd (reading.reads a.number a.is_read.unit a.is_read.is_size);
     exceeds = λ number e. absurd (reading.reads number e.is_read.unit e.is_read.is_size);
     fault = inr reading.fault;
-    computed = sym (parsed_fault error reading.fault);
+    computed = sym (ap (size_of_parsed meant kind)
+        (reads_fault (size_scan_is (flags_for kind ignore_case)) (trim_of bytes) (size_fault error) reading.fault));
   }
 
 -- bytes that are a number and a unit are UTF-8, and the same number and unit when trimmed

@@ -36,44 +36,28 @@ module _ (meant : Shape → Shape) (kind : Kind) (ignore_case : Bool) (text : Li
       let is_least = subst (λ r. IsLeastOf kind r.0 (meant r.1) n) same a.is_least in
       (ap (λ r. r.0) same, least_is_unique kind other (meant b.unit) n m is_least b.is_least)
 
-  -- an input in the grammar has no error of an input that is not
-  no_fault : (number n : ℕ) (fault : Fault) → IsReadAs meant current kind ignore_case text number n
-      → ¬ (HasFault kind ignore_case text fault)
-  no_fault number n fault a f = one_answer.not_both (number, a.unit) fault a.is_size f
-
-  -- an input that is accepted has no number whose size is too large
-  no_excess : (n number : ℕ) → IsAcceptedAs meant current kind ignore_case text n
-      → ¬ (ExceedsAs meant current kind ignore_case text number)
-  no_excess n number a e =
-      let same = same_read a.number number n e.size a.is_read e.is_read in
-      omega (arith, same.1, a.below, e.above)
-
-  -- an input is accepted, or its size is too large, or it is not in the grammar
-  some_of_three : ((n : ℕ) × IsAcceptedAs meant current kind ignore_case text n)
-      ⊎ (((number : ℕ) × ExceedsAs meant current kind ignore_case text number)
-      ⊎ ((fault : Fault) × HasFault kind ignore_case text fault))
-  some_of_three =
-      ⊎_elim (λ read. let least = least_exists kind read.0.0 (meant read.0.1) in
-      let is_read : IsReadAs meant current kind ignore_case text read.0.0 least.0 =
-      record { unit = read.0.1; is_size = read.1; is_least = least.1 } in
-      ⊎_elim (λ below. inl (least.0, record { number = read.0.0; is_read = is_read; below = below }))
-      (λ above. inr (inl (read.0.0, record { size = least.0; is_read = is_read; above = above })))
-      (cases_lt least.0 current.size_limit))
-      (λ fault. inr (inr fault))
-      one_answer.some
-
   -- an input is accepted as one size, or its size is too large, or it is not in the grammar and has one error
   pub one_of_three : IsOneOfThree (IsAcceptedAs meant current kind ignore_case text)
       (ExceedsAs meant current kind ignore_case text)
       (HasFault kind ignore_case text)
   one_of_three = record {
-    some = some_of_three;
+    some = ⊎_elim
+        (λ read. let least = least_exists kind read.0.0 (meant read.0.1) in
+        let is_read : IsReadAs meant current kind ignore_case text read.0.0 least.0 =
+        record { unit = read.0.1; is_size = read.1; is_least = least.1 } in
+        ⊎_elim (λ below. inl (least.0, record { number = read.0.0; is_read = is_read; below = below }))
+        (λ above. inr (inl (read.0.0, record { size = least.0; is_read = is_read; above = above })))
+        (cases_lt least.0 current.size_limit))
+        (λ fault. inr (inr fault))
+        one_answer.some;
     one_size = λ n other a b. (same_read a.number b.number n other a.is_read b.is_read).1;
     one_number = λ number other a b. (same_read number other a.size b.size a.is_read b.is_read).0;
     one_fault = one_answer.one_fault;
-    no_excess = no_excess;
-    no_fault = λ n fault a f. no_fault a.number n fault a.is_read f;
-    no_fault_of_excess = λ number fault e f. no_fault number e.size fault e.is_read f;
+    no_excess = λ n number a e.
+        let same = same_read a.number number n e.size a.is_read e.is_read in
+        omega (arith, same.1, a.below, e.above);
+    no_fault = λ n fault a f. one_answer.not_both (a.number, a.is_read.unit) fault a.is_read.is_size f;
+    no_fault_of_excess = λ number fault e f. one_answer.not_both (number, e.is_read.unit) fault e.is_read.is_size f;
   }
 
   -- an input whose size is too large, or that is not in the grammar and has an error, is rejected
