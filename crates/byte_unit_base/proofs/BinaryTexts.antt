@@ -362,8 +362,14 @@ module _ (flags : Flags) (bytes : List ℕ) where
   some_with_i = ⊎_elim
       (λ m. ⊎_elim (λ some. text_with_i some.0 some.1 some.2) (λ same. (bytes, inr (no_prefix m.0 m.1 same, refl)))
       (unit_cases flags (trim_of bytes) m.0.0 m.0.1 m.1 m.1.unit_is))
-      (λ f. (bytes, inr (λ front suffix h. (one_answer flags (trim_of bytes)).not_both
-      (h.number, shape h.power false h.bit) f.0 (decimal_size flags (trim_of bytes) front suffix h) f.1, refl)))
+      (λ f. (
+        bytes,
+        inr (
+          λ front suffix h. (one_answer flags (trim_of bytes)).not_both
+              (h.number, shape h.power false h.bit) f.0 (decimal_size flags (trim_of bytes) front suffix h) f.1,
+          refl,
+        ),
+      ))
       (one_answer flags (trim_of bytes)).some
 
 -- for each input there is one with an `i` after its decimal prefix

@@ -140,8 +140,9 @@ run_number text n (inr h) = let r = run_precise text n h in record { state = r.s
 
 -- the first letter of a unit has at least the code of `A`, 65
 first_letter : (c : ℕ) (u : UnitScan) → unit_step unit_start c ≡ Some u → 65 ≤ c
-first_letter c u e =
-    ⊎_elim (λ small. let none = no_other_step One Empty c (inl small) in absurd (let k : ⊥ = cc in k)) (λ large. large) (cases_lt c 65)
+first_letter c u e = ⊎_elim
+    (λ small. let none = no_other_step One Empty c (inl small) in absurd (let k : ⊥ = cc in k))
+    (λ large. large) (cases_lt c 65)
 
 -- the steps after a number
 

@@ -302,7 +302,8 @@ after_unit n s [] rest u ends other run_is next =
     record {
       state = s;
       run_is = refl;
-      next = no_first_letter n s rest ends other (subst (λ x. IsFirst (λ c. unit_step x c ≡ None) rest) (sym same) next);
+      next = no_first_letter n s rest ends other
+          (subst (λ x. IsFirst (λ c. unit_step x c ≡ None) rest) (sym same) next);
       at_end = λ e. absurd (let none = ap (λ x. fault_at_end (unit_parser_state x)) same ∙ e in let z : ⊥ = cc in z);
     }
 after_unit n s (c ∷ cs) rest u ends other run_is next =

@@ -18,10 +18,12 @@ returns-then-whole-eq0 c =
 
 -- the bytes end with the whole part
 pub returns-then-whole-bytes : goal.returns-then-whole-bytes
-returns-then-whole-bytes c =
-    (_, number_of_whole c.args.bytes.now c.whole_len-whole.result c.whole_len-whole.ensures c.if-whole-eq0.false _ refl
-    (λ inside. absurd (omega (arith, inside, c.if-whole-bytes.true)))
-    (λ inside. absurd (omega (arith, inside, c.if-whole-bytes.true))))
+returns-then-whole-bytes c = (
+  _,
+  number_of_whole c.args.bytes.now c.whole_len-whole.result c.whole_len-whole.ensures c.if-whole-eq0.false _ refl
+      (λ inside. absurd (omega (arith, inside, c.if-whole-bytes.true)))
+      (λ inside. absurd (omega (arith, inside, c.if-whole-bytes.true))),
+)
 
 -- one more digit reaches the limit of a whole part
 pub returns-then-is_ascii_digit : goal.returns-then-is_ascii_digit
@@ -36,10 +38,12 @@ returns-then-is_ascii_digit c =
 pub returns-then-bytes-whole-ne46 : goal.returns-then-bytes-whole-ne46
 returns-then-bytes-whole-ne46 c =
     let bytes = c.args.bytes.now in
-    let whole = c.whole_len-whole in
-    (_, number_of_whole bytes whole.result whole.ensures c.if-whole-eq0.false _ refl
-    (λ inside. digit_large (get_or bytes whole.result 0) (sym c.if-is_ascii_digit.ensures.value))
-    (λ inside. c.if-bytes-whole-ne46.true))
+    let whole = c.whole_len-whole in (
+      _,
+      number_of_whole bytes whole.result whole.ensures c.if-whole-eq0.false _ refl
+          (λ inside. digit_large (get_or bytes whole.result 0) (sym c.if-is_ascii_digit.ensures.value))
+          (λ inside. c.if-bytes-whole-ne46.true),
+    )
 
 -- no digit follows the point
 pub returns-then-places-eq0 : goal.returns-then-places-eq0
@@ -75,8 +79,10 @@ returns c =
       | else-end-bytes-via-then-end-bytes+else-is_ascii_digit-2 w ↦ λ inside.
           digit_large (get_or bytes stop 0) (sym w.if-is_ascii_digit-2.ensures.value)
       | else-end-bytes-via-else-end-bytes w ↦ λ inside. absurd (omega (arith, inside, w.if-end-bytes.false))
-    ] in
-    (_, number_of_fraction bytes whole.result whole.ensures c.if-whole-eq0.false
-    (omega (arith, whole.ensures.within, c.if-whole-bytes.false)) c.if-bytes-whole-ne46.false
-    c.places_len-places.result (take_rest bytes (whole.result + 1)) c.places_len-places.ensures
-    c.if-places-eq0.false _ refl other)
+    ] in (
+      _,
+      number_of_fraction bytes whole.result whole.ensures c.if-whole-eq0.false
+          (omega (arith, whole.ensures.within, c.if-whole-bytes.false)) c.if-bytes-whole-ne46.false
+          c.places_len-places.result (take_rest bytes (whole.result + 1)) c.places_len-places.ensures
+          c.if-places-eq0.false _ refl other,
+    )
