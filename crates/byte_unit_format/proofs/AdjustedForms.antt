@@ -106,9 +106,8 @@ numeral_exists (short_to places) num twos fives some =
 -- A size has exactly one text in a unit by a spec.
 pub has_one_adjusted_form : SizeHasOneAdjustedForm
 has_one_adjusted_form version kind size unit spec =
-    let some : 0 < bits unit = omega (arith, some_bits unit) in
     let found = numeral_exists (rule_of spec.precision spec.alternate unit) (size * bits_in kind) (twos unit)
-    (fives unit) some in
+    (fives unit) (omega (arith, some_bits unit)) in
     let form = layout found.0 (unit_name_in version unit) spec in
     let is_form : IsAdjustedFormIn version kind size unit spec form =
     record { number = found.0; number_is = found.1; text_is = refl } in

@@ -52,12 +52,10 @@ nearest_at_most num den places q ties some near =
     (cases_lt scaled q)
 
 -- The whole part of a quotient is at most the dividend.
-whole_at_most : (num den : ℕ) (e : Finite) → 0 < den → IsExpansion num den e → e.whole ≤ num
+pub whole_at_most : (num den : ℕ) (e : Finite) → 0 < den → IsExpansion num den e → e.whole ≤ num
 whole_at_most num den e some expansion =
-    let power = 10 ^ length e.digits in
-    le_of_mul-le-mul_right {k = power}
-    (omega (arith, expansion.exact, mul-le-mul_right (ulps_of e) some))
-    (one_le_pow10 (length e.digits))
+    le_of_mul-le-mul_right {k = 10 ^ length e.digits}
+    (omega (arith, expansion.exact, mul-le-mul_right (ulps_of e) some)) (one_le_pow10 (length e.digits))
 
 -- A decimal with a whole part below 10^31 takes at most 31 digits, the point, and its digits after it.
 text_length : (e : Finite) (places : ℕ) → e.whole < 10 ^ 31 → length e.digits ≤ places
@@ -124,16 +122,9 @@ numeral_length (Some precision) false kind size unit number small found =
 pub adjusted_narrow : (kind : Kind) (size : ℕ) (unit : UnitName) (spec : FormatSpec) (text : List ℕ)
     → size < size_limit → IsAdjustedForm kind size unit spec text → length text ≤ most_adjusted_text spec
 adjusted_narrow kind size unit spec text below form =
-    let name = unit_name unit in
     let small : size * bits_in kind < 10 ^ 31 = grind (arith, below) in
     let number = numeral_length spec.precision spec.alternate kind size unit form.number small form.number_is in
-    grind (
-      arith,
-      ap length form.text_is,
-      layout_fills_width form.number name spec,
-      name_short (shape_of unit),
-      number,
-    )
+    grind (arith, layout_fills_width form.number (unit_name unit) spec, name_short (shape_of unit), number)
 
 -- What is written of a size in a unit has at most that length.
 pub written_narrow : (kind : Kind) (size : ℕ) (unit : UnitName) (spec : FormatSpec) {old new : List ℕ} {needed : ℕ}

@@ -1,16 +1,15 @@
 -- The string that a size is stored as for the binary reading is read as the size.
 --
 -- A `string` is the exact unit of the size, that it is this, and that the text is by it.
-use Rattle.std.proofs.Common.{◌≡◌, ◌≢◌, ◌<◌, ℕ, nat_lt, List, Bool, true, false, if◌then◌else◌, refl, sym, ◌∙◌, ap}
+use Rattle.std.proofs.Common.{◌≡◌, ◌<◌, ℕ, nat_lt, List, Bool, true, false, if◌then◌else◌, refl, sym, ◌∙◌, ap}
 use Rattle.std.proofs.Common.{arith}
 use Rattle.byte_unit_base.specs.Shape.{Shape, shape}
 use Rattle.byte_unit_base.specs.Version.{current}
-use Rattle.byte_unit_base.specs.BinaryReading.{binary_of, IsBinaryAccepted}
+use Rattle.byte_unit_base.specs.BinaryReading.{binary_of}
 use Rattle.byte_unit_choice.specs.Choice.{IsRecoveredIn}
 use Rattle.byte_unit_base.specs.declared.kind.Kind.{Kind}
-use Rattle.byte_unit_format.specs.Forms.{IsText, IsSizeForm, default_precision}
+use Rattle.byte_unit_format.specs.Forms.{IsText, default_precision}
 use Rattle.byte_unit_format.specs.NamedSpecs.{plain_spec, alternate_spec}
-use Rattle.byte_unit_format.specs.declared.spec.Sign.TheVariants.{Unset, Plus}
 use Rattle.byte_unit_format.specs.BinaryString.{has_binary_prefix, BothReadingsAccept, BinaryStringReadsBack}
 use Rattle.byte_unit_format.proofs.WrittenForms.{recovered_unit_unique}
 use Rattle.byte_unit_format.proofs.ReadBack.{accepted_as, digits_accepted, form_is_size, size_form_reads_back}
@@ -23,23 +22,6 @@ by_power : (some : Bool) (unit : Shape) → (if some then unit.binary else false
 by_power true unit prefix = ap (λ binary. shape unit.power binary unit.bit) (sym prefix)
 by_power false unit prefix = refl
 
--- A unit with a binary prefix is its own binary unit.
-itself : (unit : Shape) → has_binary_prefix unit ≡ true → binary_of unit ≡ unit
-itself unit prefix = by_power (nat_lt 0 unit.power) unit prefix
-
--- Specs that set no sign ask for no plus sign.
-not_plus : Unset ≢ Plus
-not_plus = grind arith
-
--- With a unit that has a binary prefix, the text of a size is read as the size.
-binary_form_accepted :
-    (kind : Kind) (ignore_case : Bool) (size : ℕ) (text : List ℕ) → size < current.size_limit
-    → (form : IsSizeForm kind size alternate_spec text) → has_binary_prefix form.unit ≡ true
-    → IsBinaryAccepted kind ignore_case text size
-binary_form_accepted kind ignore_case size text below form prefix =
-    accepted_as binary_of kind ignore_case text form.number size form.unit (itself form.unit prefix)
-    (form_is_size kind size alternate_spec ignore_case text below form) form.number_is below
-
 -- Both readings accept the string of a size, which has a unit if its exact unit has a binary prefix, and is else digits
 -- only.
 by_prefix :
@@ -51,12 +33,14 @@ by_prefix kind ignore_case size text below unit recovered true prefix form =
     let same =
     recovered_unit_unique current kind size default_precision form.unit unit form.is_recovered recovered in
     record {
-      binary = binary_form_accepted kind ignore_case size text below form (ap has_binary_prefix same ∙ prefix);
+      binary = accepted_as binary_of kind ignore_case text form.number size form.unit
+          (by_power (nat_lt 0 form.unit.power) form.unit (ap has_binary_prefix same ∙ prefix))
+          (form_is_size kind size alternate_spec ignore_case text below form) form.number_is below;
       usual = size_form_reads_back kind size alternate_spec ignore_case text below form;
     }
 by_prefix kind ignore_case size text below unit recovered false prefix digits = rw digits (record {
-  binary = digits_accepted binary_of kind ignore_case size plain_spec refl below not_plus;
-  usual = plain_form_reads_back kind size plain_spec ignore_case below not_plus;
+  binary = digits_accepted binary_of kind ignore_case size plain_spec refl below (grind arith);
+  usual = plain_form_reads_back kind size plain_spec ignore_case below (grind arith);
 })
 
 -- The string that a size is stored as for the binary reading is read as the size by both readings.

@@ -154,8 +154,7 @@ pub value_before : {size power : ℕ} (whole thousandths : ℕ) → 1 ≤ power
     → (whole * 1000 + thousandths) * 10 ^ (3 * power) ≡ size * 1000
     → (whole * 1000 + thousandths) * 10 ^ (3 * (power - 1)) ≡ size
 value_before {size} {power} whole thousandths some value =
-    let before = 10 ^ (3 * (power - 1)) in
-    let prefix_is : 10 ^ (3 * power) ≡ before * 1000 = grind (arith, pow10_next (power - 1)) in
+    let prefix_is : 10 ^ (3 * power) ≡ 10 ^ (3 * (power - 1)) * 1000 = grind (arith, pow10_next (power - 1)) in
     omega (arith, value, ap (λ n. (whole * 1000 + thousandths) * n) prefix_is)
 
 -- With the digits after the point that are allowed, thousandths that do not end in enough zeros are no thousands.
@@ -235,10 +234,9 @@ pub eighths_value : (size power : ℕ) → 1 ≤ power → size % 2 ^ (10 * powe
 eighths_value size power some whole_eighths =
     let eighth = 10 * power - 3 in
     let count = size / 2 ^ eighth in
-    let counted : count * 2 ^ eighth ≡ size = omega (arith, div-add-mod' size (2 ^ eighth), whole_eighths) in
     let parts : count / 8 * 1000 + 125 * (count % 8) ≡ 125 * count = omega arith in
     let power_is : 2 ^ (10 * power) ≡ 2 ^ eighth * 8 = grind (arith, pow-add 2 eighth 3) in
-    rw (parts, power_is) (omega (arith, counted))
+    rw (parts, power_is) (omega (arith, div-add-mod' size (2 ^ eighth), whole_eighths))
 
 -- What is true of each binary prefix that fits a size, and of each decimal one, is true of each prefix that does.
 by_prefix : {places size : ℕ} (At : ℕ → Bool → Type 0)

@@ -2,8 +2,7 @@
 --
 -- Of a prefix letter, `letter_is` is the two bounds of its position, and an equation.
 use Rattle.std.proofs.Common.{◌≡◌, ℕ, ◌-◌, ◌*◌, ◌<◌, ◌≤◌, inl, inr, Bool, false, List, length, rules, arith, sym, ap}
-use Rattle.std.proofs.Common.{◌∙◌}
-use Rattle.std.specs.Prelude.{◌↔◌, slice_index}
+use Rattle.std.proofs.Common.{◌∙◌, ◌↔◌, slice_index}
 use Rattle.std.proofs.Math.Nat.{le_of_mul-le-mul_right}
 use Rattle.std.proofs.lemmas.Bool.Decides.{nat_tests}
 use Rattle.byte_unit_math.specs.Bounds.{places_of_decimal}
@@ -41,8 +40,7 @@ prefix_stays : (text : List ℕ) (power : ℕ) (binary : Bool) → SpellsPrefix 
     → SpellsPrefix current text power binary
 prefix_stays text power binary h =
     let known : power ≤ length current.letters = omega (arith, h.letter_is.1) in
-    let same = h.letter_is.2 ∙ letter_stays power h.letter_is.0 h.letter_is.1 in
-    search (rules, known, same)
+    search (rules, known, h.letter_is.2 ∙ letter_stays power h.letter_is.0 h.letter_is.1)
 
 -- A unit of the first version has the same spellings.
 spelling_stays : (flags : Flags) (text : List ℕ) (unit : Shape) → Spells first_version flags text unit
@@ -60,9 +58,8 @@ number_stays text number (inr h) = inr (search rules)
 pub accepted_stays : AcceptedTextsStay
 accepted_stays kind ignore_case text size h =
     let is_size = h.is_read.is_size in
-    let number = number_stays is_size.number_part h.number is_size.number_is in
     let spelled = spelling_stays (flags_for kind ignore_case) is_size.unit_part h.is_read.unit is_size.unit_is in
-    search (rules, number, spelled)
+    search (rules, number_stays is_size.number_part h.number is_size.number_is, spelled)
 
 -- A unit that is at most a size of the first version is a unit of the first version.
 member_is_old : (kind : Kind) (size : ℕ) (unit : Shape) → size < first_version.size_limit

@@ -1,14 +1,13 @@
 -- The text of a size has at most 37 bytes if no width is set.
-use Rattle.std.specs.Prelude.{MatchBool}
-use Rattle.std.proofs.Common.{◌≡◌, ℕ, ◌+◌, ◌-◌, ◌*◌, ◌/◌, ◌^◌, ◌<◌, ◌≤◌, ⊎_elim, inl, inr, zero, suc, Bool, true, false}
-use Rattle.std.proofs.Common.{None, List, length, arith, sym, ap, refl, ◌∙◌}
+use Rattle.std.proofs.Common.{MatchBool, ◌≡◌, ℕ, ◌+◌, ◌-◌, ◌*◌, ◌/◌, ◌^◌, ◌<◌, ◌≤◌, ⊎_elim, inl, inr, zero, suc, Bool}
+use Rattle.std.proofs.Common.{true, false, None, List, length, arith, sym, ap, refl, ◌∙◌}
 use Rattle.std.specs.Fmt.{decimal}
 use Rattle.std.proofs.Math.Nat.{eq_of_mul-eq-mul_right, mul-le-mul_right, mul-le-mul_left, le_of_mul-le-mul_right}
 use Rattle.std.proofs.Math.Nat.{lt_of_mul-lt-mul_right, pow-le-pow_right, one-le-pow}
 use Rattle.std.proofs.lemmas.Bool.{cases_lt}
 use Rattle.std.proofs.lemmas.Fmt.{length-decimal-le_wide}
 use Rattle.std.proofs.lemmas.List.{length-append}
-use Rattle.std.proofs.lemmas.Nat.{mul-pow, pow-add, mul-le}
+use Rattle.std.proofs.lemmas.Nat.{mul-pow, pow-add}
 use Rattle.byte_unit_math.specs.Bounds.{scale, places_of_decimal}
 use Rattle.byte_unit_math.specs.Digits.{at_places, trim_expansion}
 use Rattle.byte_unit_math.specs.Numeral.{fraction_text, short_numeral}
@@ -63,13 +62,7 @@ pow10_le_pow2 (suc power) = grind (arith, pow10_le_pow2 power, pow-add 10 (3 * p
 pub pow2_lt_pow10_next : (power : ℕ) → power ≤ 8 → 2 ^ (10 * power) < 10 ^ (3 * (power + 1))
 pow2_lt_pow10_next power few =
     let rest = 8 - power in
-    grind (
-      arith,
-      pow10_le_pow2 rest,
-      mul-le (10 ^ (3 * (power + 1))) (10 ^ (3 * rest)) (2 ^ (10 * power)) (2 ^ (10 * rest)),
-      pow-add 10 (3 * (power + 1)) (3 * rest),
-      pow-add 2 (10 * power) (10 * rest),
-    )
+    grind (arith, pow10_le_pow2 rest, pow-add 10 (3 * (power + 1)) (3 * rest), pow-add 2 (10 * power) (10 * rest))
 
 -- The base unit of a kind has at least one bit.
 pub bits_in_positive : (kind : Kind) → 1 ≤ bits_in kind
@@ -125,8 +118,7 @@ size_lt_next kind size precision unit largest few places =
 pub decimal_length : (whole digits : ℕ) → 0 < digits → digits ≤ 30 → whole < 10 ^ digits
     → length (decimal whole) ≤ digits
 decimal_length whole digits some few small =
-    let most = pow-le-pow_right {n = 10} (omega arith) few in
-    length-decimal-le_wide digits whole some small (omega (arith, small, most))
+    length-decimal-le_wide digits whole some small (omega (arith, small, pow-le-pow_right {n = 10} (omega arith) few))
 
 -- A numeral without trailing zeros is as long as its whole part, at most a point, and the digits after it.
 short_length :

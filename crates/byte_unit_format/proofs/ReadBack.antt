@@ -6,8 +6,6 @@ use Rattle.std.proofs.Common.{◌≤◌, ⊎_elim, inl, inr, length, rules, sym,
 use Rattle.std.proofs.Common.{◌^◌, subst}
 use Rattle.std.specs.Str.{skip_leading_whitespace, drop_trailing_whitespace, IsAscii}
 use Rattle.std.proofs.lemmas.Str.{chars-IsAscii, IsAscii-append}
-use Rattle.std.proofs.lemmas.Str.Ascii.{IsAscii-from_all}
-use Rattle.std.proofs.lemmas.List.Elements.{All-replicate}
 use Rattle.byte_unit_base.specs.SizeText.{trim_of, IsSizeText}
 use Rattle.byte_unit_base.proofs.Trim.{StartsWithoutSpace, EndsWithoutSpace, keep_last}
 use Rattle.byte_unit_format.specs.Plain.{spaces, plus_of, plain, plain_padding, plain_left_padding}
@@ -21,7 +19,7 @@ use Rattle.byte_unit_base.specs.Spelling.{Spells}
 use Rattle.byte_unit_math.specs.Finite.{Finite, IsExpansion, ulps_of}
 use Rattle.byte_unit_math.specs.Digits.{at_places, trim_expansion}
 use Rattle.byte_unit_math.specs.Numeral.{fraction_text, text_of}
-use Rattle.byte_unit_math.proofs.Digits.{ShortOf-shortened, one_le_pow10}
+use Rattle.byte_unit_math.proofs.Digits.{ShortOf-shortened}
 use Rattle.byte_unit_math.proofs.Scales.{pow10_times_rest}
 use Rattle.byte_unit_math.proofs.WrittenDigits.{decimal_one_digit, decimal_next_digit}
 use Rattle.std.proofs.lemmas.Bool.{cases_lt}
@@ -44,7 +42,8 @@ use Rattle.byte_unit_format.specs.FormLaws.{SizeFormReadsBack, PlainFormReadsBac
 use Rattle.byte_unit_base.proofs.NumberTexts.{fixed_point_of, number_text, number_start, number_ascii, decimal_ascii}
 use Rattle.byte_unit_base.proofs.NumberTexts.{whole_text, IsBounded, starts_with_digit}
 use Rattle.byte_unit_format.proofs.NarrowTexts.{own_kind}
-use Rattle.std.proofs.Math.Nat.{le_of_mul-le-mul_right, mul-le-mul_left}
+use Rattle.byte_unit_format.proofs.AdjustedLengths.{whole_at_most}
+use Rattle.byte_unit_format.proofs.TextParts.{run_ascii}
 use Rattle.byte_unit_math.specs.Exact.{IsExactAt}
 use Rattle.byte_unit_base.specs.Units.{shape_of}
 use Rattle.byte_unit_base.specs.Fault.{too_long, IsSizeFault}
@@ -71,27 +70,22 @@ drop_end : (text : List ℕ) (count : ℕ) → drop_trailing_whitespace (text ++
 drop_end [] count = drop_spaces count
 drop_end (next ∷ text) count = rw (drop_end text count) refl
 
--- A run of spaces is ASCII.
-pub spaces_ascii : (count : ℕ) → IsAscii (spaces count)
-spaces_ascii count = IsAscii-from_all (spaces count) (All-replicate (λ byte. byte < 128) count 32 (omega arith))
-
 -- Trimming a text between spaces gives the text, if it begins and ends with no white space.
 pub trim_between :
     (before behind : ℕ) (text : List ℕ) → StartsWithoutSpace text → EndsWithoutSpace text → IsAscii text
     → trim_of (spaces before ++ (text ++ spaces behind)) ≡ text
 trim_between before behind text start end ascii =
     let all : IsAscii (spaces before ++ (text ++ spaces behind)) =
-    IsAscii-append (spaces before) (text ++ spaces behind) (spaces_ascii before)
-    (IsAscii-append text (spaces behind) ascii (spaces_ascii behind)) in
+    IsAscii-append (spaces before) (text ++ spaces behind) (run_ascii before 32 (omega arith))
+    (IsAscii-append text (spaces behind) ascii (run_ascii behind 32 (omega arith))) in
     let skipped : skip_leading_whitespace (text ++ spaces behind) ≡ text ++ spaces behind =
     rw (start.text_is, start.head_is) refl in
-    let kept : drop_trailing_whitespace text ≡ text = rw end.text_is (keep_last end.front end.last end.last_is) in
     rw (
       chars-IsAscii (spaces before ++ (text ++ spaces behind)) all,
       skip_spaces before (text ++ spaces behind),
       skipped,
       drop_end text behind,
-    ) kept
+    ) (rw end.text_is (keep_last end.front end.last end.last_is))
 
 -- Units of the kind's own unit set are read in their kind: where bits are read, case is significant.
 own_says : (kind : Kind) (ignore_case bit : Bool) → HasKind (own_family kind) bit
@@ -151,7 +145,7 @@ trimmed_layout spec e unit bounded known =
     let end = name_end unit in
     let ascii : IsAscii (number ++ behind) =
     IsAscii-append number behind (number_ascii e.whole e.digits bounded.small bounded.bound)
-    (IsAscii-append (spaces between) name (spaces_ascii between) (name_ascii unit known)) in
+    (IsAscii-append (spaces between) name (run_ascii between 32 (omega arith)) (name_ascii unit known)) in
     let starts : StartsWithoutSpace (number ++ behind) =
     rw (append_assoc (decimal e.whole) fraction behind) (number_start e.whole (fraction ++ behind) bounded.bound) in
     let ends : EndsWithoutSpace (number ++ behind) = record {
@@ -173,9 +167,8 @@ pub layout_is_size :
     (fixed_point_of e.whole e.digits) unit
 layout_is_size kind ignore_case spec e unit bounded few known says =
     let text = (trimmed_layout spec e unit bounded known.known).1 in
-    let number = number_text e.whole e.digits bounded.small few bounded.bound in
     let spelled = name_spells (flags_for kind ignore_case) unit known says in
-    search (rules, text, number, spelled)
+    search (rules, text, number_text e.whole e.digits bounded.small few bounded.bound, spelled)
 
 -- If a decimal of at most 28 digits, of a unit, is the size, its text with the unit is accepted as the size.
 pub layout_accepted :
@@ -297,16 +290,11 @@ pub plain_form_reads_back : PlainFormReadsBack
 plain_form_reads_back kind size spec ignore_case below sign =
     digits_accepted as_written kind ignore_case size spec refl below sign
 
--- The whole part of a quotient is at most the number that is divided.
-whole_not_above : (num den : ℕ) (e : Finite) → 1 ≤ den → IsExpansion num den e → e.whole ≤ num
-whole_not_above num den e some expansion = le_of_mul-le-mul_right {k = 10 ^ length e.digits}
-    (omega (arith, expansion.exact, mul-le-mul_left (ulps_of e) some)) (one_le_pow10 (length e.digits))
-
 -- The digits of the expansion of a size are below ten, and its whole part is within the bound of the grammar.
 expansion_bounded : (kind : Kind) (size : ℕ) (unit : Shape) (e : Finite) → size < current.size_limit
     → IsExpansion (size * bits_in kind) (bits unit) e → IsBounded e
 expansion_bounded kind size unit e below expansion =
-    let not_above = whole_not_above (size * bits_in kind) (bits unit) e (some_bits unit) expansion in
+    let not_above = whole_at_most (size * bits_in kind) (bits unit) e (some_bits unit) expansion in
     record { small = expansion.small; bound = omega (arith, not_above, bits_of_size_bound kind size below) }
 
 -- The expansion scaled by 10^28, times the unit, is the size scaled by 10^28.
@@ -328,11 +316,10 @@ form_accepted : (kind : Kind) (size : ℕ) (unit : UnitName) (text : List ℕ) �
 form_accepted kind size unit text below form exact =
     let shape = shape_of unit in
     let e = form.number_is.0 in
-    let expansion = form.number_is.1 in
-    let few = expansion.least places_of_decimal exact in
+    let few = form.number_is.1.least places_of_decimal exact in
     rw (form.text_is, form.number_is.2) (layout_accepted kind false size ALTERNATE e shape
-    (expansion_bounded kind size shape e below expansion) few (unit_known unit) (λ bit. case_counts kind)
-    (expansion_product (size * bits_in kind) (bits shape) e expansion few) below)
+    (expansion_bounded kind size shape e below form.number_is.1) few (unit_known unit) (λ bit. case_counts kind)
+    (expansion_product (size * bits_in kind) (bits shape) e form.number_is.1 few) below)
 
 -- Otherwise it is rejected as too long.
 form_rejected : (kind : Kind) (size : ℕ) (unit : UnitName) (text : List ℕ) → size < current.size_limit

@@ -1,6 +1,5 @@
 -- What `Display` writes of a size, and of a size in a unit, is its text by the plain spec.
-use Rattle.std.proofs.Common.{◌≡◌, ◌*◌, ◌++◌, ℕ, List, true, leb, append-nil, ap, sym, refl}
-use Rattle.std.specs.Prelude.{codes}
+use Rattle.std.proofs.Common.{◌≡◌, ◌*◌, ◌++◌, ℕ, List, true, leb, append-nil, ap, sym, refl, codes}
 use Rattle.std.specs.Fmt.{decimal}
 use Rattle.std.proofs.lemmas.Bool.{leb-true}
 use Rattle.byte_unit_math.specs.Bounds.{expansion_places, unit_limit}

@@ -71,10 +71,9 @@ greatest_of_zeros size front zeros len power product odd at_least below power_is
         not_above = omega (arith, at_least, short);
       };
       greatest = λ other fits.
-          let high = exponent_below 10 (3 * other) len size (omega arith) fits.not_above below in
           let low = power_divides 10 1 front fits.exact.0 (zeros + 3) (3 * other) (omega arith) odd
           (grind (arith, product, next, fits.exact.1)) in
-          omega (arith, high, low, power_is);
+          omega (arith, exponent_below 10 (3 * other) len size (omega arith) fits.not_above below, low, power_is);
     }
 
 -- What a list has before an index and from there on is its text up to the end.
@@ -172,8 +171,6 @@ shown_digits : (digits : List ℕ) (cut used a b c : ℕ) → IsUsed digits used
     → get_or digits (cut + 2) 0 ≡ 48 + c → cut_digits cut used digits ≡ fraction_text (trim_zeros (a ∷ b ∷ c ∷ []))
 shown_digits digits cut used a b c is_used few room long first second third = grind (
   arith,
-  cut_some cut used digits,
-  cut_none cut used digits,
   three_elements digits cut,
   is_used.zeros (cut + 2),
   is_used.last (cut + 2),

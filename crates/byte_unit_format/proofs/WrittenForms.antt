@@ -2,7 +2,7 @@
 --
 -- A choice `found` is a unit, a number, and that these are chosen; a form `found` is a text, and that it is the form.
 use Rattle.std.proofs.Common.{rules, ◌≡◌, ℕ, ◌*◌, inl, inr, false, List, refl, sym, ◌∙◌, ⊎_elim, ◌+◌, ◌-◌, ◌<◌, min}
-use Rattle.std.proofs.Common.{zero, suc, Bool, true, ◌∷◌, ◌++◌, length, take, replicate, arith, ap, subst}
+use Rattle.std.proofs.Common.{zero, suc, Bool, true, ◌∷◌, ◌++◌, length, take, replicate, arith, ap, subst, MatchBool}
 use Rattle.std.proofs.Math.Nat.{eq_of_mul-eq-mul_right}
 use Rattle.byte_unit_base.specs.Shape.{Shape, bits}
 use Rattle.byte_unit_base.specs.Version.{Version, unit_name_in, current}
@@ -20,7 +20,6 @@ use Rattle.byte_unit_choice.proofs.LaterChoices.{number_times_chosen}
 use Rattle.byte_unit_choice.proofs.SomeChoice.{choice_or_none}
 use Rattle.byte_unit_format.specs.Layout.{layout}
 use Rattle.byte_unit_format.specs.FormLaws.{SizeHasOneForm}
-use Rattle.std.specs.Prelude.{MatchBool}
 use Rattle.std.specs.Fmt.{decimal}
 use Rattle.std.proofs.lemmas.List.{length-map, map-append}
 use Rattle.std.proofs.lemmas.Grind.{common_steps}
@@ -70,13 +69,11 @@ form_exists version kind size spec =
     let form : IsSizeFormIn version kind size spec (of found.0 found.1) = search (rules, product, found.2.unit_is) in
     (of found.0 found.1, form))
     (λ none.
-    let product = own_number kind size (size * scale) (own_unit kind) refl refl in
-    let recovered : IsRecoveredIn version kind false size precision (own_unit kind) = inr (none, refl) in
     let form : IsSizeFormIn version kind size spec (of (own_unit kind) (size * scale)) = record {
       unit = own_unit kind;
       number = size * scale;
-      is_recovered = recovered;
-      number_is = product;
+      is_recovered = inr (none, refl);
+      number_is = own_number kind size (size * scale) (own_unit kind) refl refl;
       text_is = refl;
     } in
     (of (own_unit kind) (size * scale), form))
@@ -120,8 +117,7 @@ pub fraction_length :
     (places : ℕ) (digits : List ℕ)
     → length (fraction_text (take places digits ++ replicate (places - length digits) 0)) ≡ places + min 1 places
 fraction_length places digits =
-    let all = take places digits ++ replicate (places - length digits) 0 in
-    grind (arith, common_steps, length_of_fraction_text all)
+    grind (arith, common_steps, length_of_fraction_text (take places digits ++ replicate (places - length digits) 0))
 
 -- Padded to its own number of digits after the point, a decimal has the same text.
 pub all_places : (e : Finite) (places : ℕ) → places ≡ length e.digits → text_of (pad_of places e) ≡ text_of e

@@ -1,7 +1,6 @@
 -- Lemmas: the loop over the lines that end in a chunk.
-use Rattle.std.proofs.Common.{◌≡◌, ◌+◌, ◌*◌, ◌≤◌, ℕ, List, [], ◌∷◌, ◌++◌, take, drop, length}
-use Rattle.std.proofs.Common.{vec_len, refl, sym, ap, subst, ◌∙◌, append_assoc}
-use Rattle.std.specs.Prelude.{vec_capacity}
+use Rattle.std.proofs.Common.{◌≡◌, ◌+◌, ◌*◌, ◌≤◌, ℕ, List, [], ◌∷◌, ◌++◌, take, drop, length, vec_len, refl, sym, ap}
+use Rattle.std.proofs.Common.{subst, ◌∙◌, append_assoc, vec_capacity}
 use Rattle.std.specs.declared.vec.Vec.{Vec}
 use Rattle.byte_unit_lines.specs.Answer.{Kind, IsAnswer}
 use Rattle.byte_unit_lines.specs.Capacity.{answer_max}

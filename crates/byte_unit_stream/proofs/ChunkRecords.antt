@@ -62,13 +62,12 @@ module _ (end : ℕ) where
   split_by-onto part [] = ap (λ own. own ∷ []) (append-nil part)
   split_by-onto part (byte ∷ bytes) =
       let split = split_by_IsSplit bytes in
-      let joined = append_assoc part (byte ∷ []) split.0 in
       grind (
         arith,
         nat_tests,
         append-nil part,
         split.2,
-        joined,
+        append_assoc part (byte ∷ []) split.0,
         split_by-onto [] bytes,
         split_by-onto (part ++ byte ∷ []) bytes,
       )

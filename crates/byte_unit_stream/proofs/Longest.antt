@@ -1,7 +1,6 @@
 -- Lemmas: the longest record of an input that comes in chunks.
-use Rattle.std.proofs.Common.{◌≡◌, ◌+◌, ◌<◌, ◌≤◌, ℕ, List, [], ◌∷◌, ◌++◌, length, max}
-use Rattle.std.proofs.Common.{arith, ap, ◌∙◌, length-append, vec_len}
-use Rattle.std.specs.Prelude.{vec_capacity}
+use Rattle.std.proofs.Common.{◌≡◌, ◌+◌, ◌<◌, ◌≤◌, ℕ, List, [], ◌∷◌, ◌++◌, length, max, arith, ap, ◌∙◌, length-append}
+use Rattle.std.proofs.Common.{vec_len, vec_capacity}
 use Rattle.std.specs.declared.vec.Vec.{Vec}
 use Rattle.std.proofs.lemmas.Bool.Decides.{nat_tests}
 use Rattle.byte_unit_stream.specs.Records.{longest_of, longest_record}
@@ -34,9 +33,8 @@ module _ (end : ℕ) where
       → longest_of (ended_records end part bytes) < bound
   longest_of-ended_records part [] bound some fits = some
   longest_of-ended_records part (byte ∷ bytes) bound some fits =
-      let others = longest_of-ended_records [] bytes bound some (omega arith) in
       let on = longest_of-ended_records (part ++ byte ∷ []) bytes bound some (omega (arith, length-append part (byte ∷ []))) in
-      grind (arith, nat_tests, others, on)
+      grind (arith, nat_tests, longest_of-ended_records [] bytes bound some (omega arith), on)
 
   -- the records that end in a next chunk stay below a bound that the unfinished record and the chunk do not exceed
   pub longest_of-ended_records-append : (front back : List ℕ) (bound : ℕ) → longest_of (ended_records end [] front) < bound

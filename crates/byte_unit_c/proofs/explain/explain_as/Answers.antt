@@ -1,6 +1,5 @@
 -- The message is that of the number and the unit, or of the error where the parser stops.
-use Rattle.std.specs.Prelude.{Err, Some}
-use Rattle.std.proofs.Common.{eqb, not}
+use Rattle.std.proofs.Common.{Err, Some, eqb, not}
 use Rattle.byte_unit_base.specs.BinaryReading.{unit_meant}
 use Rattle.byte_unit_c.proofs.explain.explain_as.Goals as goal
 

@@ -1,6 +1,5 @@
 -- The result is that of the number and the unit, or the error where the parser stops.
-use Rattle.std.specs.Prelude.{Some}
-use Rattle.std.proofs.Common.{eqb, not}
+use Rattle.std.proofs.Common.{Some, eqb, not}
 use Rattle.byte_unit_base.specs.BinaryReading.{unit_meant}
 use Rattle.byte_unit_c.proofs.parse.parse_as.Goals as goal
 

@@ -1,6 +1,5 @@
 -- The details of the error, and its position in the string, are what is written.
-use Rattle.std.specs.Prelude.{Option, Result, Err, Some}
-use Rattle.std.proofs.Common.{◌≡◌, ℕ, refl, sym, ap, subst, ◌∙◌}
+use Rattle.std.proofs.Common.{Option, Result, Err, Some, ◌≡◌, ℕ, refl, sym, ap, subst, ◌∙◌}
 use Rattle.byte_unit_base.specs.SizeReading.{IsBytesReadingAs}
 use Rattle.byte_unit_base.specs.declared.errors.ParseError.{ParseError}
 use Rattle.byte_unit_c.specs.Parse.{IsReturned}

@@ -9,8 +9,7 @@ use Rattle.byte_unit_format.proofs.adjusted.round.Goals as goal
 -- All digits are shown.
 pub returns-in-Exact-clause-text : goal.returns-in-Exact-clause-text
 returns-in-Exact-clause-text c = λ num den some is.
-    let e = c.args.number.now in
-    rw c.in-Exact.is (e, is, all_places e c.places.result c.places.ensures.exact)
+    rw c.in-Exact.is (c.args.number.now, is, all_places c.args.number.now c.places.result c.places.ensures.exact)
 
 -- `near` is the rounded number, that it is nearest to the expansion, and that the padded decimal is this number.
 pub returns-in-To-clause-text : goal.returns-in-To-clause-text

@@ -9,18 +9,16 @@ use Rattle.byte_unit_format.proofs.adjusted.short_parts.Goals as goal
 -- All digits of a short expansion are shown.
 pub returns-in_ok-number-in-Exact-clause-text : goal.returns-in_ok-number-in-Exact-clause-text
 returns-in_ok-number-in-Exact-clause-text c =
-    let number = c.in_ok-number-in-Exact in
-    let e = finite_of number.number in
+    let e = finite_of c.in_ok-number-in-Exact.number in
     rw c.layout_parts.ensures.text
     (adjusted_by_rounding (text_of e) c.requires.rounding
-    (rw c.in-Exact.is (e, number.ensures.is_expansion, refl)))
+    (rw c.in-Exact.is (e, c.in_ok-number-in-Exact.ensures.is_expansion, refl)))
 
 -- The number of 10^-places nearest to the quotient is shown.
 pub returns-in_ok-scaled-in-To-clause-text : goal.returns-in_ok-scaled-in-To-clause-text
 returns-in_ok-scaled-in-To-clause-text c =
-    let number = c.rounded_quotient-number.result in
     let nearest = c.rounded_quotient-number.ensures (c.args.size * bits_in c.args.of.kind) c.in-To.places
     c.in_ok-scaled-in-To.ensures.scaled in
     rw c.scaled_parts.ensures.text
-    (adjusted_by_rounding (numeral number c.in-To.places) c.requires.rounding
-    (rw c.in-To.is (number, rw (← c.as_bits_u128.ensures.bits) nearest, refl)))
+    (adjusted_by_rounding (numeral c.rounded_quotient-number.result c.in-To.places) c.requires.rounding
+    (rw c.in-To.is (c.rounded_quotient-number.result, rw (← c.as_bits_u128.ensures.bits) nearest, refl)))

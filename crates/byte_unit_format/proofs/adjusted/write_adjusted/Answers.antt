@@ -12,14 +12,12 @@ use Rattle.byte_unit_format.proofs.adjusted.write_adjusted.Goals as goal
 -- The number of 10^-places nearest to the quotient is written with its unit.
 pub returns-in-To-clause-written : goal.returns-in-To-clause-written
 returns-in-To-clause-written c =
-    let number = c.rounded_quotient-number.result in
     let nearest = c.rounded_quotient-number.ensures (c.args.size * bits_in c.args.kind) c.in-To.places
     (rw (c.bits.ensures.bits, c.power_of_ten.ensures) refl) in
-    let by = c.rounding_of-rounding.ensures in
     let form : IsAdjustedForm c.args.kind c.args.size c.args.unit c.args.spec (parts_text c.scaled_parts.result) =
     rw c.scaled_parts.ensures.text
-    (adjusted_by_rounding (numeral number c.in-To.places) by
-    (rw c.in-To.is (number, rw (← c.as_bits_u128.ensures.bits) nearest, refl))) in
+    (adjusted_by_rounding (numeral c.rounded_quotient-number.result c.in-To.places) c.rounding_of-rounding.ensures
+    (rw c.in-To.is (c.rounded_quotient-number.result, rw (← c.as_bits_u128.ensures.bits) nearest, refl))) in
     writes_form (parts_text c.scaled_parts.result) form c.write.ensures.written
 
 -- Without a width, what was written is as short as every adjusted text.

@@ -24,6 +24,5 @@ returns-clause-greatest c =
 pub returns-clause-value : goal.returns-clause-value
 returns-clause-value c =
     let found = c.in_three_places-whole in
-    let parts = value_before found.result.0 found.result.1 found.ensures.some found.ensures.value in
     ap (λ n. ((found.result.0 * 1000 + n) * 1000 + 0) * 10 ^ (3 * (found.result.2 - 1))) c.from.ensures
-    ∙ omega (arith, parts)
+    ∙ omega (arith, value_before found.result.0 found.result.1 found.ensures.some found.ensures.value)

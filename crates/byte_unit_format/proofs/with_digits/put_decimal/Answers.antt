@@ -13,7 +13,6 @@ returns-clause-text c =
     let digits = c.args.digits.now in
     let cut = c.args.cut in
     let used = c.args.used in
-    let old = c.args.out.now in
     let copied = c.put.new.out in
     let new = c.put-2.new.out in
     let end = c.if-used-cut.end in
@@ -21,7 +20,7 @@ returns-clause-text c =
     let name = c.put-2.ensures in
     let letters = c.args.unit in
     let front : take cut copied ≡ take cut digits =
-    front_at copied digits (drop 32 old) cut (omega (arith, c.put.ensures.begins, long)) c.put.ensures.bytes
+    front_at copied digits (drop 32 c.args.out.now) cut (omega (arith, c.put.ensures.begins, long)) c.put.ensures.bytes
     (omega (arith, long, c.requires.cut)) in
     let take_len : length (take cut digits) ≡ cut =
     omega (arith, length-take {A = ℕ} cut digits, long, c.requires.cut) in
@@ -31,7 +30,6 @@ returns-clause-text c =
           let fraction = w.put-then-used-cut.ensures in
           let shown = 46 ∷ take (used - cut) (drop cut digits) in
           let behind = drop end copied in
-          let size_of = length-append {A = ℕ} shown letters in
           let count_len : length (take (used - cut) (drop cut digits)) ≡ used - cut =
           omega (arith, length-take {A = ℕ}, length-drop {A = ℕ}, long, c.requires.cut, c.requires.used) in
           let here : drop cut new ≡ (shown ++ letters) ++ behind =
@@ -45,7 +43,7 @@ returns-clause-text c =
           take_kept _ _ (omega (arith, name.begins, w.end-is, more)) name.before
           ∙ rw w.out-is (take_kept _ _ (omega (arith, fraction.begins)) fraction.before ∙ front) in
           text_at (shown ++ letters) new behind cut end kept here
-          (omega (arith, size_of, take_len, count_len, w.end-is, more))
+          (omega (arith, length-append {A = ℕ} shown letters, take_len, count_len, w.end-is, more))
           ∙ ap (λ text. take cut digits ++ (text ++ letters)) (sym (cut_some cut used digits more)))
       | else-used-cut w ↦
           (let few : used ≤ cut = omega (arith, w.if-used-cut) in

@@ -18,17 +18,15 @@ returns-then-most-eq0-clause-form c =
     let kind = c.args.kind in
     let size = c.args.size in
     let below = (few_digits size c.requires.small).2 (omega (arith, c.requires.len, c.if-most-eq0.true)) in
-    let number = own_number kind size (size * scale) (own_unit kind) refl refl in
     rw (front_is _ _ c.put_split.ensures.bytes c.put_split.ensures.ends)
     (form_of_thousandths kind size size 0 (own_unit kind) (omega arith) (recovered_own kind 3 size (omega arith) below)
-    (omega (arith, number)))
+    (omega (arith, own_number kind size (size * scale) (own_unit kind) refl refl)))
 
 -- `found`, here and below, is what the digits tell of the largest decimal prefix: no more are used than there are.
 pub overflow_sub-len : goal.overflow_sub-len
 overflow_sub-len c =
-    let used = c.significant-used.ensures in
     let found = found_power c.requires.digits c.requires.len c.requires.small (omega (arith, c.if-most-eq0.false))
-    (assumption used) used.bound refl in
+    (assumption c.significant-used.ensures) c.significant-used.ensures.bound refl in
     omega (arith, found.within, c.requires.len)
 
 -- The binary prefix is at least the decimal one, which is one.
@@ -45,9 +43,8 @@ in_eighths-whole-requires-clause-some c = elim c.if-binary-most.branch [
 -- The position of the decimal prefix is at most 9.
 pub prefix_letter-requires-clause-known : goal.prefix_letter-requires-clause-known
 prefix_letter-requires-clause-known c =
-    let used = c.significant-used.ensures in
     let found = found_power c.requires.digits c.requires.len c.requires.small (omega (arith, c.if-most-eq0.false))
-    (assumption used) used.bound (omega (arith, c.min-power.ensures)) in
+    (assumption c.significant-used.ensures) c.significant-used.ensures.bound (omega (arith, c.min-power.ensures)) in
     found.known
 
 -- The decimal prefix is the larger one: the digits are cut at it.
@@ -72,7 +69,6 @@ returns-then-binary-power-clause-form c =
 -- The binary prefix is the larger one: `split.result` is the whole part, and the eighths in its unit.
 pub returns-clause-form : goal.returns-clause-form
 returns-clause-form c =
-    let kind = c.args.kind in
     let size = c.args.size in
     let twos = c.binary_power-binary.ensures in
     let binary = c.binary_power-binary.result in
@@ -99,6 +95,6 @@ returns-clause-form c =
     ] in
     let split = c.in_eighths-whole in
     rw (front_is _ _ c.put_split-2.ensures.bytes c.put_split-2.ensures.ends)
-    (form_of_split kind size split.result.0 split.result.1 split.ensures.prefix
-    (split.ensures.split kind 3
-    (recovered_binary kind 3 size (omega arith) not_less.0 twos.bound twos.greatest not_less.1)))
+    (form_of_split c.args.kind size split.result.0 split.result.1 split.ensures.prefix
+    (split.ensures.split c.args.kind 3
+    (recovered_binary c.args.kind 3 size (omega arith) not_less.0 twos.bound twos.greatest not_less.1)))

@@ -62,9 +62,8 @@ last_is_used : {vector : List ℕ} {used : ℕ} → Bits vector used → (i : �
     → get_or vector i 0 ≢ 48
 last_is_used {vector} {used} bits i last long =
     let within : i < length vector = omega (arith, last, long, bits.few) in
-    let mask = mask_l (map is_used vector) in
     let next : 2 ^ used ≡ 2 ^ i * 2 = ap (λ n. 2 ^ n) (sym last) ∙ pow-add 2 i 1 in
-    let one : mask / 2 ^ i ≡ 1 =
+    let one : (mask_l (map is_used vector)) / 2 ^ i ≡ 1 =
     div-eq_of_lt-le {k = 1} (2 ^ i) (omega (arith, bits.above, next)) (omega (arith, bits.below, next)) in
     λ same. grind (arith, nat_tests, bit_of vector i within, one, same)
 
