@@ -4,12 +4,12 @@ Copies the crates, without tests and mutants, into FOLDER/crates, adds their lin
 `out/` to FOLDER/.gitignore, and records in crates/byte_unit/VERSION what was copied: version, commit, toolchain, and
 the checksum of each file, as `sha256sum` writes it. Fails if one of the crates is already there, as a folder or as a
 line. With --update, replaces that copy by the current one, but for each crate's out/. Fails, and names the files, if
-any was edited, added or removed. Either form changes everything or nothing.
+any was edited, added or removed. Either form replaces all texts or none.
 
 With --with serde, copies byte_unit_serde too, which uses the crates serde and toml; a later --update updates it too.
 With --with proofs, proves the crates here by `rt lib`, unless they are proved, and copies what it built, out/rlib, some
-750 MB, so that the first `rt run` there need not prove them; `rt ci` there proves them all the same. Both: --with
-serde,proofs.
+750 MB, so that the first `rt run` there need not prove them; `rt ci` there proves them all the same. It comes after the
+texts: if it fails, they stay, and the message says so. Both: --with serde,proofs.
 """
 
 import contextlib
@@ -17,11 +17,12 @@ import hashlib
 import os
 import re
 import shutil
+import signal
 import subprocess
 import tempfile
 from pathlib import Path
 
-from .common import ROOT, Failure, call, reason, shown
+from .common import ROOT, Failure, call, on_signals, reason, shown
 from .replace import remove_folders, replace
 from .source import library
 
@@ -33,12 +34,18 @@ BUILT = "out/rlib"
 RECORD = "crates/byte_unit/VERSION"
 
 
+class Unproved(Failure):
+    """What goes wrong after all texts were replaced."""
+
+
 def run(folder, *, update=False, with_=""):
     words = with_.split(",") if with_ else []
     if not {*words} <= {*MORE, "proofs"}:
         raise Failure(f"--with {with_} is none of: {' '.join(MORE)} proofs; nothing was changed")
     try:
         lines = take(folder, update, [MORE[word] for word in words if word in MORE], "proofs" in words)
+    except Unproved as error:
+        raise Failure(f"{folder}: {error}") from error
     except (Failure, OSError, KeyboardInterrupt) as error:
         raise Failure(f"{folder}: {reason(error)}; nothing was changed") from error
     print("\n".join(f"take: {folder}{line}" for line in lines))
@@ -87,12 +94,18 @@ def copied_proofs(room, crates):
 
 
 def put_proofs(there, built):
-    """Moves the copies of what was built to their places, and returns what to print."""
-    for crate, copy in built.items():
-        place = there / "crates" / crate / BUILT
-        shutil.rmtree(place, ignore_errors=True)
-        place.parent.mkdir(exist_ok=True)
-        copy.rename(place)
+    """Moves the copies of what was built to their places, where no signal stops it, and returns what to print."""
+    if built:
+        on_signals(signal.SIG_IGN)
+    try:
+        for crate, copy in built.items():
+            place = there / "crates" / crate / BUILT
+            place.parent.mkdir(exist_ok=True)
+            if place.exists():
+                shutil.rmtree(place)
+            copy.rename(place)
+    except OSError as error:
+        raise Unproved(f"{reason(error)}; the crates are there, but not all that was built of them") from error
     size = sum(file.stat().st_size for crate in built for file in (there / "crates" / crate / BUILT).rglob("*"))
     return [f": copied {BUILT} of {len(built)} crates, {size // 10**6} MB"] if built else []
 

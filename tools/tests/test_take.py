@@ -160,7 +160,7 @@ def test_serde(here, there, copied):
 
 
 def test_proofs(here, there, copied, monkeypatch):
-    """--with proofs copies what `rt lib` built, at first or by an update; if it fails, nothing changes."""
+    """--with proofs copies what `rt lib` built, at first or by an update; if `rt lib` fails, nothing changes."""
     rt = here.with_name("rt")
     rt.write_text('#!/bin/sh\nif [ "$1" = lib ]; then [ -n "$PROVES" ] && basename "$PWD" >> ../../proved; fi\n')
     rt.chmod(0o755)
@@ -170,6 +170,10 @@ def test_proofs(here, there, copied, monkeypatch):
     monkeypatch.setenv("PROVES", "yes")
     assert "copied out/rlib of 7 crates" in run(here, "--update", "--with", "proofs", copied)
     assert contents(copied / MATH / "out") == contents(here / MATH / "out")
+    shutil.rmtree(copied / MATH / "out")
+    (copied / MATH / "out").write_text("A file.")
+    said = run(here, "--update", "--with", "proofs", copied, status=1)
+    assert f"{MATH}/out: File exists; the crates are there, but not all that was built of them" in said
     assert "byte_unit_serde" not in (here / "proved").read_text()
     anew = here.with_name("anew")
     anew.mkdir()

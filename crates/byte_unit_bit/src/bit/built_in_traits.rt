@@ -37,7 +37,7 @@ impl fmt::Display for Bit {
     }
 }
 
-/// Parses a size as [`Bit::parse_str`] does, with `b` for bytes and `b` for bits.
+/// Parses a size as [`Bit::parse_str`] does, with `b` for bits and `B` for bytes.
 impl FromStr for Bit {
     type Err = ParseError;
 
