@@ -17,7 +17,7 @@ enum { TEXTS = sizeof texts / sizeof *texts };
 static char *end; /* the end of the memory */
 static unsigned long calls, wrong;
 
-/* Maps memory of `pages` pages before a page that may not be touched, and returns its end. */
+/* Maps memory of `pages` pages before a page that may not be touched, and returns its end, or NULL if that fails. */
 static char *map_memory(size_t pages)
 {
     char *memory = mmap(NULL, PAGE * (pages + 1), PROT_READ | PROT_WRITE, MAP_PRIVATE | MAP_ANONYMOUS, -1, 0);

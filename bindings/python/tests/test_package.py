@@ -1,4 +1,4 @@
-"""The package: its names, version, documentation and behaviour in threads."""
+"""The package: its names, version, documentation, memory and behaviour in threads."""
 
 import ast
 import doctest

@@ -1,7 +1,8 @@
 //! Makes calls of the crate `byte-unit`: the original, or the Rust package in its place.
 //!
-//! Reads a request in each line, and writes a line with its results, separated by tabs; `-` is none. TEXT is in
-//! hexadecimal digits, and SPEC is `:FLAGS width precision`, where a width of 0 and a precision of `-` are none:
+//! Reads a request of `tools/dev compare-original` in each line, and writes a line with its results, separated by tabs;
+//! `-` is none. TEXT is in hexadecimal digits, and SPEC is `:FLAGS width precision`, where a width of 0 and a precision
+//! of `-` are none:
 //!
 //!     t TEXT                          parse as bytes, as bytes with `b` ignored, as bits
 //!     u TEXT                          parse a unit in each of four ways

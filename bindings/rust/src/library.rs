@@ -32,6 +32,7 @@ impl Kind {
         }
     }
 
+    /// Returns the library's flag for sizes of this kind.
     pub(crate) fn flag(self) -> u32 {
         match self {
             Kind::Byte => sys::BYTE_UNIT_BYTES,
@@ -39,6 +40,7 @@ impl Kind {
         }
     }
 
+    /// Returns that flag, and if `either` is set the one for units of either kind.
     fn flag_with_either(self, either: bool) -> u32 {
         self.flag() | if either { sys::BYTE_UNIT_EITHER_KIND } else { 0 }
     }

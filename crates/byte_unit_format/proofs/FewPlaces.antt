@@ -51,7 +51,7 @@ power_divides base step left count low high some odd same = ⊎_elim
     (λ few. few)
     (cases_lt low high)
 
--- The position of a prefix that is at most a size is at most 9.
+-- The position of a decimal prefix that is at most a size is at most 9, since a size is below 10^30.
 pub few_thousands : (power size : ℕ) → size < size_limit → 10 ^ (3 * power) ≤ size → power ≤ 9
 few_thousands power size small at_most = grind (arith, pow-le-pow_right {n = 10} (omega arith) {i = 30} {j = 3 * power})
 

@@ -235,6 +235,7 @@ pub record FoundPower (size used power : ℕ) : Type 0 where
   pub is_used : IsUsed (padded_digits size) used
   pub greatest : IsGreatest 3 10 3 size power
   pub some : 1 ≤ power
+  -- there is a prefix letter of this position: there are nine letters
   pub known : power ≤ 9
   pub within : used ≤ length (decimal size)
 
