@@ -1,9 +1,9 @@
 -- The binary reading of an input is the reading of the input with an `i` after its decimal prefix.
 --
--- A meaning `m` of a text is a number and a unit, `m.0`, and that the text represents them, `m.1`; an error `f` is the
--- error, and that the text has it; `some` is the text up to a decimal prefix, the suffix after it, and that this is the
--- prefix. Of a meaning `r`, `r.0` is the number and `r.1` the unit. That a text is one with an `i`, as `h`, is the text
--- before the `i`, that after it, the prefix, and an equation.
+-- In the branches of `⊎_elim`, `m` is a number and a unit, `m.0`, and that the text represents them, `m.1`; `f` is an
+-- error, `f.0`, and that the text has it, `f.1`; `some` is the text up to the end of its decimal prefix, its suffix,
+-- and that they are such. Of a number and its unit `r`, `r.0` is the number, and `r.1` the unit. In `binary_text` the
+-- first `h` is the text before the `i`, that after it, the decimal prefix, and an equation.
 use Rattle.std.proofs.Common.{◌≡◌, ◌↔◌, ℕ, ◌<◌, Bool, true, false, ◌⊎◌, inl, inr, ⊎_elim, List, [], ◌∷◌, ◌++◌, length}
 use Rattle.std.proofs.Common.{replicate, Result, Ok, Err, refl, sym, ap, subst, ◌∙◌, arith, append_assoc, nat_lt}
 use Rattle.std.specs.Str.{skip_leading_whitespace, drop_trailing_whitespace}
@@ -93,14 +93,14 @@ SomePrefix flags text = (front suffix : List ℕ) × HasDecimalPrefix flags text
 plain_same : (unit : Shape) → unit.power ≡ 0 → binary_of unit ≡ unit
 plain_same unit e = let none : nat_lt 0 unit.power ≡ false = grind (arith, nat_tests, e) in rw none refl
 
--- a unit with a binary prefix is its own binary unit
+-- a unit that counts as binary, as `KiB` and `B` do, is its own binary unit
 binary_same : (unit : Shape) → unit.binary ≡ true → binary_of unit ≡ unit
 binary_same unit e = cond_both (nat_lt 0 unit.power) _ _ (λ s. s ≡ unit)
     (λ _. ap (λ binary. shape unit.power binary unit.bit) (sym e)) (λ _. refl)
 
 -- the text is a number of the unit: its prefix is decimal, or the unit is its own binary unit
 module _ (flags : Flags) (text : List ℕ) (number : ℕ) (unit : Shape) (h : IsSizeText current flags text number unit) where
-  -- if nothing follows the prefix letter, the text has a decimal prefix
+  -- if no `i` follows the prefix letter, the text has a decimal prefix
   decimal_prefix : (m : SpellsMultiple current flags h.unit_part unit) → m.prefix_is.infix_part ≡ []
       → SomePrefix flags text
   decimal_prefix m none =
@@ -209,7 +209,7 @@ module _ (meant other_meant : Shape → Shape) (kind : Kind) (ignore_case : Bool
       → IsAcceptedAs meant current kind ignore_case bytes n
   accepted_from n a = record { number = a.number; is_read = read_from a.number n a.is_read; below = a.below }
 
-  -- a number whose size is too large in the other reading is too large
+  -- a number whose size is too large in the other reading has too large a size in this one
   exceeds_from : (number : ℕ) → ExceedsAs other_meant current kind ignore_case other number
       → ExceedsAs meant current kind ignore_case bytes number
   exceeds_from number e = record { size = e.size; is_read = read_from number e.size e.is_read; above = e.above }
@@ -246,7 +246,7 @@ module _ (meant other_meant : Shape → Shape) (kind : Kind) (ignore_case : Bool
 -- the binary reading of the input is the reading of the other
 module _ (kind : Kind) (ignore_case : Bool) (bytes other : List ℕ)
     (is : IsBinaryText (flags_for kind ignore_case) (trim_of bytes) (trim_of other)) where
-  -- what the binary reading reads is read of the other input as written
+  -- a number and a size that the binary reading gives are those of the other input, read as written
   binary_to : (number n : ℕ) → IsBinaryRead kind ignore_case bytes number n
       → IsReadAs as_written current kind ignore_case other number n
   binary_to number n r = record {
@@ -255,7 +255,7 @@ module _ (kind : Kind) (ignore_case : Bool) (bytes other : List ℕ)
     is_least = r.is_least;
   }
 
-  -- what is read of the other input as written is what the binary reading reads
+  -- a number and a size of the other input, read as written, are those that the binary reading gives
   binary_from : (number n : ℕ) → IsReadAs as_written current kind ignore_case other number n
       → IsBinaryRead kind ignore_case bytes number n
   binary_from number n r =
@@ -357,7 +357,7 @@ module _ (flags : Flags) (bytes : List ℕ) where
       let binary : true ≡ false = ap (λ u. u.binary) (sym (binary_unit flags text front suffix h) ∙ unit) in
       let z : ⊥ = cc in z
 
-  -- each input has such a text, whether it is a size or has an error
+  -- each input has a text with an `i` after its decimal prefix, or itself, whether it is a size or has an error
   some_with_i : (other : List ℕ) × IsWithI flags (trim_of bytes) (trim_of other)
   some_with_i = ⊎_elim
       (λ m. ⊎_elim (λ some. text_with_i some.0 some.1 some.2) (λ same. (bytes, inr (no_prefix m.0 m.1 same, refl)))

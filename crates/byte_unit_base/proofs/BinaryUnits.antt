@@ -7,7 +7,7 @@ use Rattle.byte_unit_base.specs.BinaryReading.{binary_of}
 use Rattle.byte_unit_base.specs.declared.unit.Unit.{Unit as UnitName}
 use Rattle.byte_unit_base.specs.declared.unit.Unit.TheVariants.{Bit}
 
--- the prefix that the parser finds, taken as a binary one, gives the binary unit of the unit
+-- the binary prefix at the position of the prefix of a unit, or none, gives the binary unit of this unit
 pub binary_shape : (unit : UnitName)
     → multiple_shape (multiple_of (shape_of unit).power true) (shape_of unit).bit ≡ binary_of (shape_of unit)
 binary_shape Bit = refl

@@ -18,7 +18,7 @@ use lib.Lanes.{number_l}
 use Rattle.byte_unit_base.specs.Line.{IsLine}
 use Rattle.byte_unit_base.specs.ParserEnds.{IsAfterLine, IsLineOf, first_eight}
 
--- if a line feed (10) or nothing is at the end of a line, the bytes after the line start so
+-- if the byte at an index is a line feed (10), or there is none, the bytes from there on can follow a line
 after_line : (bytes : List ℕ) (len : ℕ) → (len < length bytes → slice_index bytes len ≡ 10)
     → IsAfterLine (drop len bytes)
 after_line [] zero after = tt

@@ -91,7 +91,7 @@ with_prefix s h = let some : nat_lt 0 s.power ≡ true = grind (arith, nat_tests
 without_prefix : (s : Shape) → s.power ≤ 0 → unit_name_in current s ≡ count_of s.bit
 without_prefix s h = let none : nat_lt 0 s.power ≡ false = grind (arith, nat_tests) in rw none refl
 
--- a known unit, whose last letter tells the kind under these flags
+-- a known unit, the last letter of whose name tells its kind under these flags
 module _ (flags : Flags) (s : Shape) (h : IsKnown s) (says : SaysKind flags s.bit) where
   -- the name of a unit with a prefix spells it
   spells_multiple : 0 < s.power → Spells current flags (unit_name_in current s) s

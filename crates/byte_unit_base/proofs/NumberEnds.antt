@@ -1,9 +1,9 @@
 -- The parser reads the digits of a number at once. It gets to the state that the state machine has after them, or stops
 -- where the machine has an error.
 --
--- Of the place where the parser of a unit stops, `stop.0` is the state there, `stop.1.0` that the text leads to it, and
--- `stop.1.1` that no unit ends there. Of digits, `digits.0` is that the first one is a digit, and `digits.1` that the
--- rest are.
+-- Of the place where the parser of a unit stops, `stop.0` is the state there, and `stop.1.0` that the bytes lead to it
+-- and no further. Of the digits in `too_large_read`, `digits.0` is that the first one is a digit, and `digits.1` that
+-- the rest are.
 use Rattle.std.proofs.Common.{◌≡◌, ◌≢◌, ℕ, ◌+◌, ◌-◌, ◌*◌, ◌^◌, ◌<◌, ◌≤◌, false, nat_eq, List, [], ◌∷◌, ◌++◌, Err}
 use Rattle.std.proofs.Common.{length, take, drop, get_or, replicate, refl, sym, ap, subst, ◌∙◌, arith, append_assoc}
 use Rattle.std.proofs.Common.{take-add, chars, IsAscii, get_or-drop}
@@ -86,8 +86,8 @@ stops_at_start bytes none flags = record {
       wrong_at_start bytes utf8 (whole_len bytes 0 0 (omega (arith, none)) (omega arith) (omega arith) refl);
 }
 
--- the bytes begin with the digits of a whole part, and `whole` is what the code reads them as: their value only if that
--- is below 2^112
+-- the bytes begin with digits that no digit follows, and `whole` is what the code reads them as; it is below 2^112, so
+-- it is their value
 module _ (bytes : List ℕ) (end whole : ℕ) (run_is : end ≡ 0 + digits_len (drop 0 bytes)) (within : end ≤ length bytes)
     (some : end ≡ 0 → ⊥)
     (small : whole < whole_limit) (exact : whole < whole_limit → whole ≡ digits_value 10 (take end bytes)) where
@@ -150,11 +150,11 @@ module _ (bytes : List ℕ) (end whole : ℕ) (run_is : end ≡ 0 + digits_len (
       abbrev digits : List ℕ
       digits = take places rest
 
-      -- their number is that of the digits which std finds after the point
+      -- the number of digits is that of the run which std finds after the point
       places_are : places ≡ 0 + digits_len (drop 0 rest)
       places_are = omega (arith, stop_is)
 
-      -- they are within the bytes after the point
+      -- the digits are within the bytes after the point
       places_within : places ≤ length rest
       places_within = omega (arith, stop_within, length-drop {A = ℕ} (end + 1) bytes)
 
@@ -162,7 +162,7 @@ module _ (bytes : List ℕ) (end whole : ℕ) (run_is : end ≡ 0 + digits_len (
       digits_are : AllDigits 10 digits
       digits_are = digits_of_run rest places places_are
 
-      -- the bytes have as many digits as the fraction
+      -- there are `places` digits of the fraction
       count_is : length digits ≡ places
       count_is = length-take-le places rest places_within
 

@@ -1,6 +1,6 @@
 -- The laws of the parsers as functions: for each input they give its meaning or its error.
 --
--- What is `found` is a number, `found.0`, and its unit, `found.1`.
+-- Here `found` is a number, `found.0`, and its unit, `found.1`.
 use Rattle.std.proofs.Common.{◌≡◌, ℕ, Bool, true, false, List, Result, Ok, Err, refl, ap, subst, arith, cond, inl, inr}
 use Rattle.std.specs.Prelude.{nat_lt}
 use Rattle.byte_unit_math.specs.Bounds.{size_limit}
@@ -38,13 +38,13 @@ gives_answer Meaning Means Fails (Err fault) one h = record {
 
 -- the unit, and the number and unit, that the state machines give
 
--- the unit that the parser as a function gives is the one that the input spells
+-- the parser as a function gives exactly the unit that the input spells, or exactly its error
 pub parsed_units_are_spelled : ParsedUnitsAreSpelled
 unfolding parsed_unit
 parsed_units_are_spelled flags bytes = gives_answer _ _ _ _ (one_answer (unit_scan_is flags) (trim_of bytes))
     (reads_meaning_or_fault (unit_scan_is flags) (trim_of bytes))
 
--- the number and unit that it gives are those that the input represents
+-- the parser as a function gives exactly the number and unit that the input represents, or exactly its error
 pub parsed_numbers_are_represented : ParsedNumbersAreRepresented
 unfolding parsed_number
 parsed_numbers_are_represented flags bytes = gives_answer _ _ _ _ (one_answer (size_scan_is flags) (trim_of bytes))
@@ -54,7 +54,7 @@ parsed_numbers_are_represented flags bytes = gives_answer _ _ _ _ (one_answer (s
 
 -- an input, `bytes`, as a size of this kind
 module _ (kind : Kind) (ignore_case : Bool) (bytes : List ℕ) where
-  -- a size that was read is accepted below the limit, and is else the error that it exceeds the limit
+  -- a size that was read is accepted if it is below the limit, and else rejected, with its number in the error
   by_size : (below : Bool) (number size : ℕ) → nat_lt size size_limit ≡ below
       → IsReadAs as_written current kind ignore_case bytes number size
       → IsAnswer (IsAccepted kind ignore_case bytes) (IsRejected kind ignore_case bytes)

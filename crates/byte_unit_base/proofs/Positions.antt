@@ -1,9 +1,9 @@
 -- The position of an error: the end of the longest viable prefix, where the state machine has no further step.
 --
 -- Here `found` is a number, its unit, and that the text is both, or a unit and that the text spells it; `count` is a
--- kind, and that the suffix spells it; `stop` is a state, that the text leads to it, and what the code keeps of it. Of
--- a `fault`, the first part is the error, and the second that it is the one there; `wrong` is the state of a unit, that
--- its beginning leads, and its error at the end.
+-- kind, and that the suffix spells it. In `stop_place`, `stop` is a state, that the text leads to it and no unit ends
+-- there, and what the code keeps of it; in `error_at`, `fault` is the error, and that it is the one there; and in
+-- `unit_position`, `wrong` is the state of a unit, that the text leads to it, and its error if the text ends there.
 use Rattle.std.proofs.Common.{◌≡◌, ℕ, ◌+◌, Bool, not, inl, inr, List, [], ◌∷◌, Some, None, length, take, drop, refl}
 use Rattle.std.proofs.Common.{sym, ap, subst, ◌∙◌, arith, chars, IsUtf8, length-take-le, ◌≤◌, IsAscii}
 use Rattle.byte_unit_base.specs.Shape.{Shape, shape}
@@ -62,7 +62,7 @@ spells_any flags other text unit (inr multiple) =
 
 -- a unit that cannot end in its state ends in `bi`
 
--- a state of the parser of a unit without a unit is the one after `bi`
+-- if no unit ends in a state, an input that ends there has the error of one that ends in `bi`
 no_unit : (flags : Flags) (m : Multiple) (w : Word) → unit_of flags (scan_of m w) ≡ None
     → fault_at_end (word_parser_state m w) ≡ Some stops_at_bi
 no_unit flags m Bi none = refl
@@ -141,7 +141,7 @@ module _ (s text : List ℕ) (trimmed : chars text ≡ trim_of s) (utf8 : IsUtf8
 
 -- a string with nothing to trim
 module _ (bytes : List ℕ) (utf8 : IsUtf8 bytes) (ends : HasVisibleEnds bytes) (place : ℕ) where
-  -- the place where it is wrong is the position of its error, since no white space precedes it
+  -- the place where the string is wrong is the position of its error, since it has no white space at its start
   untrimmed : IsWrongAt bytes place → IsSizePosition bytes (Some place)
   untrimmed wrong =
       let at : leading_white bytes + place ≡ place = omega (arith, no_leading_white bytes utf8 ends) in

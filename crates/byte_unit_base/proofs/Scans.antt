@@ -1,9 +1,9 @@
 -- A state machine that reads an input character by character, over any set of states: what it returns, the longest
 -- viable prefix and the error after it.
 --
--- A step that is known to succeed, as `goes`, `t` or `u`, is the state after it, and that it is this state. What a
--- field of the record of a state machine gives, as `r` or `g`, is a state or a rest of the input, and then what is
--- known of it.
+-- A step or a run that is known to succeed, as `goes`, `t`, `u` or `next`, is the state after it, that it leads there,
+-- and, if there is a third part, that the rest of the text leads on from there. What a field of `IsScanOf` gives, as
+-- `r` or `g`, is a state or a rest of the input, and then what is known of it.
 use Rattle.std.proofs.Common.{◌≡◌, ℕ, ◌⊎◌, inl, inr, List, [], ◌∷◌, ◌++◌, Option, Some, None, Result, Ok, Err}
 use Rattle.std.proofs.Common.{option_and_then, sym, refl, ap, subst, ◌∙◌, append-nil, ⊎_elim, append_assoc, ◌↔◌, IfOk}
 use Rattle.std.proofs.Common.{IfErr, IsOkAnd}

@@ -1,9 +1,9 @@
 -- The inputs of the grammar of sizes are visible characters of ASCII, and spaces between a number and a unit. So only
 -- spaces after a number without a unit can be trimmed, and what is left is the same number and unit.
 --
--- Of a spelling `h` of a suffix or an infix, `h.0` is its text, and `h.1` what it means. Of the visible characters of a
--- text, `p.0` is that the first one is visible, and `p.1` that the rest are. That `is` a prefix letter has the two
--- bounds of its position, and an equation.
+-- Of a spelling `h` of a suffix or an infix, `h.0` says which text it is. Of digits `h` and of visible characters `p`,
+-- the first part is that the first one is such, and the second that the rest are. In `prefix_visible`, `is` has the two
+-- bounds of the position of the letter, and that the letter is there.
 use Rattle.std.proofs.Common.{◌≡◌, ℕ, zero, suc, ◌-◌, ◌<◌, Bool, true, false, cond, nat_eq, inl, inr, List, [], ◌∷◌}
 use Rattle.std.proofs.Common.{◌++◌, length, replicate, refl, ap, sym, subst, ◌∙◌, arith, append-nil, length-append}
 use Rattle.std.specs.List.{list_all}
@@ -41,7 +41,7 @@ visible_ascii (c ∷ cs) h =
     let p = and_parts (is_ascii_graphic c) (list_all is_ascii_graphic cs) h in
     IsAscii-cons c cs (grind (arith, nat_tests, p.0)) (visible_ascii cs p.1)
 
--- a text is of visible characters if it is in lowercase
+-- a text is of visible characters if the same text in lowercase is
 text_visible : (text : List ℕ) → IsVisible (str_to_ascii_lowercase text) → IsVisible text
 text_visible [] h = refl
 text_visible (c ∷ cs) h =
@@ -150,11 +150,11 @@ module _ (flags : Flags) (bytes : List ℕ) (number : ℕ) (unit : Shape) (h : I
         (number_ascii h.number_part number h.number_is)
         (IsAscii-append (replicate h.spaces space) h.unit_part gap spelling))
 
-    -- their characters are the same number and unit
+    -- the characters of the bytes are the same number and unit
     pub size_of_chars : IsSizeText current flags (chars bytes) number unit
     size_of_chars = subst (λ text. IsSizeText current flags text number unit) (sym (chars-IsAscii bytes size_ascii)) h
 
-    -- trimmed, they are the same number and unit
+    -- the characters of the bytes, trimmed, are the same number and unit
     pub trimmed_size : IsSizeText current flags (trim_of bytes) number unit
     trimmed_size =
         let digits = number_visible h.number_part number h.number_is in

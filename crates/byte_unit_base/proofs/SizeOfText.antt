@@ -1,8 +1,8 @@
 -- What the parser of a size returns, by the result of parsing its number and unit, in each reading: `meant` is the unit
 -- that it takes for the unit that is written.
 --
--- Here `found` is a number, `found.0`, and its unit, `found.1`. Of a size, `size.0` is that it is the least one of
--- them, and `size.1` that it is below the limit.
+-- Here `found` is a number, `found.0`, and its unit, `found.1`. Of a size, `size.0` is that it is this number of the
+-- unit that is meant, rounded up, and `size.1` that it is below the limit.
 use Rattle.std.proofs.Common.{◌≡◌, ℕ, Bool, List, Some, None, Ok, Err, sym, ap, arith, inl, inr, refl, ◌∙◌, take, drop}
 use Rattle.std.proofs.Common.{nat_eq, subst, take-append-drop, IsUtf8, IsAscii, chars}
 use Rattle.std.proofs.lemmas.Str.{IsAscii-append, IsUtf8-from_ascii}
@@ -48,7 +48,7 @@ found_as_read {number} reading read =
 
 -- an input, `bytes`, in one reading
 module _ (meant : Shape → Shape) (kind : Kind) (ignore_case : Bool) (bytes : List ℕ) where
-  -- for the number and unit of the input, the result is the size by its limit
+  -- if the input is this number and unit, the parser as a function gives their size, or the error if it is too large
   parsed_found : (found : ℕ × UnitName)
       → IsSizeText current (flags_for kind ignore_case) (trim_of bytes) found.0 (shape_of found.1)
       → parsed_size_as meant kind ignore_case bytes
@@ -128,7 +128,7 @@ bytes_number flags bytes number unit is = (
   stated_reading flags bytes (number, unit) (trimmed_size flags bytes number (shape_of unit) is),
 )
 
--- bytes in which a parser stops are ASCII if the rest is
+-- bytes in which a parser stops are UTF-8 if the rest of them is ASCII
 pub ascii_stop : {flags : Flags} {reason : Reason} (bytes : List ℕ) (place : ℕ) → IsStopAt flags bytes place reason
     → IsAscii (drop place bytes) → IsUtf8 bytes
 ascii_stop bytes place stop rest_ascii =

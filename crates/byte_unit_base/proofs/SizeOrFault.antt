@@ -1,8 +1,8 @@
 -- Each input is accepted as one size, or rejected with one error, in each reading: `meant` is the unit that it takes
 -- for the unit that is written.
 --
--- An error `e` of a size that is too large is the number, that the error is of this number, and that its size is too
--- large. What is `read` is a number and a unit, `read.0`, and that the input represents them.
+-- Of a size `e` that is too large, `e.0` is the number, the last part that its size is too large, and the second of
+-- three that the error has this number. `read` is a number and a unit, `read.0`, and that the input represents them.
 use Rattle.std.proofs.Common.{◌≡◌, ℕ, Bool, List, ◌⊎◌, inl, inr, ⊎_elim, sym, ap, subst, arith, ◌∙◌, refl}
 use Rattle.std.proofs.lemmas.Bool.{cases_lt}
 use Rattle.byte_unit_base.specs.Shape.{Shape}

@@ -1,7 +1,7 @@
 -- The parser of a number and a unit: its state machine accepts exactly the inputs of the grammar, so it returns the
 -- number and unit of an input, or its error.
 --
--- What is `found` is a number and its unit. Of a state within a unit, `r.0` is what is known of the text that led to
+-- Here `found` is a number and its unit. Of a state within a unit, `r.0` is what is known of the text that led to
 -- it, and `r.1` that a unit has begun. Of the end of an input, `e.0` is the unit, `e.1` that it is spelled, and `e.2`
 -- an equation of the result.
 use Rattle.std.proofs.Common.{◌≡◌, ◌≢◌, ℕ, ◌<◌, ◌*◌, inl, inr, List, [], ◌∷◌, ◌++◌, Option, Some, None, Result, Ok, Err}
@@ -179,9 +179,9 @@ read_no_bounds flags text (Err x) e = λ n.
     let f = read_refused (size_scan_is flags) with_shape size_fault text (Err x) e in
     no_bounds_after flags f.rest f.place (size_fault x) n f.fault_is
 
--- what the contracts of the parsers say, and the laws
+-- what the contracts of the parsers say
 
--- a result that has this number and this unit's shape has both
+-- a result that is this pair of a number and a unit has this number, and has this unit
 number_and_unit_meant : (r : Result (ℕ × UnitName) ParseError) (n : ℕ) (unit : Shape)
     → IsOkAnd r (λ found. with_shape found ≡ (n, unit)) → IsOkAnd r (λ found. (found.0 ≡ n) × (shape_of found.1 ≡ unit))
 number_and_unit_meant (Ok found) n unit e = (ap (λ x. x.0) e, ap (λ x. x.1) e)

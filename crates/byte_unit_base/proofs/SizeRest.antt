@@ -205,7 +205,7 @@ read_first_of_unit flags n s (c ∷ cs) at_end next other =
     first_of_unit flags n c s start cs (next.step_is ∙ rw no_space refl) (next.fault_is flags)
     (λ t. read_in_unit flags n t cs) (unit_step start c) refl
 
--- after spaces, each character and the end go on as after the number
+-- after spaces, the next character, if there is one, goes on as after the number
 pub ends_gap : (n : ℕ) (text : List ℕ) → IsFirst (EndsNumber (Gap n) n) text
 unfolding size_step
 ends_gap n [] = tt

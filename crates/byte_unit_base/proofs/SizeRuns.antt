@@ -1,8 +1,8 @@
 -- The state machine of sizes reads each number with its unit, and each viable prefix of one, to its end.
 --
 -- Of a numeral `h`, `h.0` is that it is not empty, and `h.1` that it has digits only: first one, then the rest. Of a
--- whole part `h`, `h.0` is its numeral, `h.1` its value and `h.2` the limit. A step or run that is known to succeed is
--- a pair: the state after it, and that it is this state.
+-- whole part `h`, `h.0` is its numeral, `h.1` its value and `h.2` the limit. Of a first step `t` of a run, the parts are
+-- the state after it, that the step leads there, and that the rest of the text leads on from there.
 use Rattle.std.proofs.Common.{◌≡◌, ◌≢◌, ℕ, zero, suc, ◌+◌, ◌*◌, ◌<◌, ◌≤◌, inl, inr, ⊎_elim, List, [], ◌∷◌, ◌++◌, Some}
 use Rattle.std.proofs.Common.{Ok, length, replicate, sym, refl, ap, ◌∙◌, arith, append-nil, option_map}
 use Rattle.std.specs.Char.{digit_value}
@@ -173,7 +173,7 @@ run_some_spaces n (suc (suc k)) s some h =
     run_step size_step s (Gap n) space (replicate (suc k) space) (step_space n s h)
     ∙ run_some_spaces n (suc k) (Gap n) (omega arith) refl
 
--- any number of spaces after a number, none too, leads to a state after the number
+-- any number of spaces after a number, even none, leads to a state after the number
 run_spaces : (n k : ℕ) (s : SizeScan) → AtNumber n s → RunsTo (AtNumber n) s (replicate k space)
 run_spaces n zero s h = record { state = s; run = refl; holds = h }
 run_spaces n (suc k) s h = record { state = Gap n; run = run_some_spaces n (suc k) s (omega arith) h; holds = refl }

@@ -1,8 +1,8 @@
 -- What is known of the text that led to a state of the state machine of units, and that the unit of a state is spelled
 -- by it.
 --
--- Of a position `h`, `h.0` and `h.1` are its bounds, and `h.2` is that the letter is there. Of a step `v` or of the
--- kind `bit` of a unit, the first part is the next state or the kind, and the next ones that it is this.
+-- Of a position `h` or `found`, the parts are its two bounds, and that the letter is there. Of `letter`, `v` and `bit`,
+-- they are a position, a suffix or a kind, that it is found, and that the prefix, state or unit is the one with it.
 use Rattle.std.proofs.Common.{◌≡◌, ℕ, suc, ◌+◌, ◌-◌, ◌<◌, ◌≤◌, inl, inr, List, [], ◌∷◌, ◌++◌, length, Option, Some}
 use Rattle.std.proofs.Common.{None, sym, refl, ap, subst, ◌∙◌, arith, Bool, true, false, cond, eqb, eqb→eq, T}
 use Rattle.std.proofs.Common.{append-nil, slice_index, option_map}

@@ -36,7 +36,7 @@ some_prefix One text h = inl h
 some_prefix (Decimal p) text h = inr (p, false, h)
 some_prefix (Binary p) text h = inr (p, true, h)
 
--- a prefix and a beginning of a suffix are a viable prefix of a unit
+-- a prefix, or none, and a beginning of a suffix are a viable prefix of a unit
 word_front : (place : ParserState) (m : Multiple) (w : Word) (text : List ℕ) (r : Reached (scan_of m w) text)
     → IsWord place r.word → IsViableWordPrefix current place text
 word_front place m w text r h = record {

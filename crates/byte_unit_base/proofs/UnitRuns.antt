@@ -1,8 +1,8 @@
 -- The state machine of units reads each spelling, and each of their viable prefixes, to its end.
 --
--- Of a spelling `h` of a suffix, an infix or a prefix letter, `h.0` is its text, or that the position is at least 1,
--- and `h.1` what it means, or that the position is known. Of a run that is known, as `front`, `word` or `c`, the first
--- part is the prefix or the suffix of the state, and the next ones that the text leads to it and what it means.
+-- Of a spelling `h` of a suffix or an infix, `h.0` says which text it is, and `h.1` what it means; of a prefix letter,
+-- `h.0` and `h.1` are the bounds of its position, and `h.2` is that it is there. Of `front`, `word` and `c`, the first
+-- part is the prefix or the suffix of a state, the second that the text leads to it, and the third what it means.
 use Rattle.std.proofs.Common.{◌≡◌, ℕ, zero, suc, inl, inr, ⊎_elim, List, [], ◌∷◌, Some, sym, refl, ap, subst, ◌∙◌}
 use Rattle.std.proofs.Common.{arith, Bool, not, option_map, None, ◌⊎◌, ◌<◌, ◌≤◌}
 use Rattle.std.proofs.lemmas.Bool.Decides.{nat_tests}
@@ -160,7 +160,7 @@ word_of after_bit m text h = (Bit, run_suffix m Bit text h, refl)
 word_of after_bits m text h = (Bits, run_suffix m Bits text h, refl)
 word_of _ m text h = absurd h
 
--- a prefix and a beginning of a suffix are read to their end, and have their parser state there
+-- a prefix, or none, and a beginning of a suffix are read to their end, and have their parser state there
 run_word_front : (flags : Flags) (place : ParserState) (text : List ℕ) → IsViableWordPrefix current place text
     → IsScanned (unit_scan flags) place text
 run_word_front flags place text h =

@@ -58,7 +58,7 @@ kept_state One Empty = refl
 kept_state m Empty = refl
 kept_state m _ = refl
 
--- if a state has no step for the next character, and no unit at the end, the result is the error that it keeps
+-- if a state has no step for the next character, and no unit at the end, the result is the error by what is kept of it
 stopped : (flags : Flags) (scan : UnitScan) (rest : List ℕ) → (rest ≡ [] → unit_of flags scan ≡ None)
     → IsFirst (λ c. unit_step scan c ≡ None) rest
     → read (unit_scan flags) scan rest ≡ Err (unit_stop_fault flags (unit_stop scan) (next_char rest))
@@ -66,7 +66,7 @@ stopped flags scan [] ends next = ap unit_at_end (ends refl)
 stopped flags scan (c ∷ cs) ends next = read_none (unit_scan flags) scan c cs next
     ∙ ap (λ state. Err (fault_at current flags state c)) (kept_state scan.multiple scan.word)
 
--- nothing is left only at the end of the bytes
+-- if no character is left after the first bytes, which are ASCII, these are all of the bytes
 pub none_left : (bytes : List ℕ) (place : ℕ) → IsUtf8 bytes → place ≤ length bytes → IsAscii (take place bytes)
     → chars (drop place bytes) ≡ [] → place ≡ length bytes
 none_left bytes place utf8 within ascii none =

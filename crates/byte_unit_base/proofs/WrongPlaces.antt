@@ -40,7 +40,7 @@ dropped_first Has [] (suc end) has = tt
 dropped_first Has (b ∷ bs) zero has = has (omega arith)
 dropped_first Has (b ∷ bs) (suc end) has = dropped_first Has bs end (λ inside. has (omega (arith, inside)))
 
--- no step is for a character past ASCII
+-- no state has a step for a character past ASCII
 wide_no_step : (s : SizeScan) (c : ℕ) → 128 ≤ c → size_step s c ≡ None
 unfolding size_step
 wide_no_step (UnitAt n u) c wide = ap (option_map (UnitAt n)) (no_other_step u.multiple u.word c (inr wide))
@@ -57,7 +57,7 @@ no_step_first s bytes end utf8 within ascii none =
 no_digit : (c : ℕ) → 10 ≤ digit_value c → IsNoDigit c
 no_digit c other = grind (arith, nat_tests)
 
--- the value of a character is below ten if the test takes it for a digit, which is else no digit
+-- the value of a character is below ten if the test takes it for a digit; else the character is no digit
 pub digit_small : (c : ℕ) → is_ascii_digit c ≡ true → digit_value c < 10
 digit_small c digit = grind (arith, nat_tests, digit)
 
@@ -87,7 +87,7 @@ module _ (bytes : List ℕ) where
     abbrev value : ℕ
     value = len.value
 
-    -- they are a whole part, as the grammar has it
+    -- the bytes up to `end` are a whole part, as the grammar has it
     pub whole_is : IsWholePart current (take end bytes) value
     whole_is = ((omega (arith, length-take-le end bytes len.within, some), len.digits), len.value_is, len.small)
 
@@ -125,7 +125,7 @@ module _ (bytes : List ℕ) where
               (let differs = no_point inside in grind (arith, nat_tests, differs))));
         }
 
-    -- a point follows: the bytes up to it are `pointed`, and those after it are `rest`
+    -- a point follows: by `pointed` the bytes up to it are a whole part and a point, and those after it are `rest`
     module _ (inside : end < length bytes) (point_is : get_or bytes end 0 ≡ point) where
       abbrev rest : List ℕ
       rest = drop (end + 1) bytes
@@ -254,7 +254,7 @@ record AfterSpaces (n : ℕ) (s : SizeScan) (spaces : ℕ) (text : List ℕ) : T
   pub run_is : run size_step s (replicate spaces space) ≡ Some state
   pub next : IsFirst (EndsNumber state n) text
 
--- after a number, spaces lead to such a state
+-- after a number, spaces lead to a state in which the next character ends the number
 after_spaces : (n spaces : ℕ) (s : SizeScan) (text : List ℕ) → IsFirst (EndsNumber s n) (replicate spaces space ++ text)
     → AfterSpaces n s spaces text
 after_spaces n zero s text next = record { state = s; run_is = refl; next = next }
@@ -293,7 +293,7 @@ unfolding size_step
 in_unit_next n u [] next = tt
 in_unit_next n u (c ∷ cs) next = ap (option_map (UnitAt n)) next
 
--- after a number, the beginning of a unit leads to such a state
+-- after a number, the beginning of a unit leads to a state that has no step where the unit has none
 after_unit : (n : ℕ) (s : SizeScan) (unit rest : List ℕ) (u : UnitScan) → IsFirst (EndsNumber s n) (unit ++ rest)
     → IsFirst IsNoSpace (unit ++ rest) → run unit_step unit_start unit ≡ Some u
     → IsFirst (λ c. unit_step u c ≡ None) rest → AfterUnit u s unit rest

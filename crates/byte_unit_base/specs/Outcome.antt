@@ -46,24 +46,24 @@ IsOutcome kind ignore_case bytes (Accepted unit number) =
     IsUtf8 bytes × IsNumberReading (flags_for kind ignore_case) bytes (Ok (number, unit))
 IsOutcome kind ignore_case bytes (Stopped reason place) = IsStopAt (flags_for kind ignore_case) bytes place reason
 
--- the number and the unit of the string; or the character before which the parser stops in it, or its end, and why: the
--- error by these is that of the string
+-- the number and the unit of the string; or where and why the parser stops in it, and the character there, or `None` at
+-- the end: the error by these is that of the string
 abbrev pub IsNumberOrStop : Flags → List ℕ → Result (UnitName × ℕ) (Stop × Option ℕ) → Type 0
 IsNumberOrStop flags bytes (Ok (unit, number)) = IsNumberReading flags bytes (Ok (number, unit))
 IsNumberOrStop flags bytes (Err (stop, next)) = (error : ParseError)
     → size_fault error ≡ stop_fault flags (nat_eq stop.place 0) stop.reason next
     → IsNumberReading flags bytes (Err error)
 
--- the number and the unit of a size of this kind, or where the parser stops in the string: the error by these is that
--- of the size, in each reading
+-- the number and the unit of the string as a size of this kind; or where and why the parser stops in it, and the
+-- character there, or `None` at the end: the error by these is that of the string, in each reading
 abbrev pub IsSizeOrStop : Kind → Bool → List ℕ → Result (UnitName × ℕ) (Stop × Option ℕ) → Type 0
 IsSizeOrStop kind ignore_case bytes (Ok (unit, number)) =
     IsNumberReading (flags_for kind ignore_case) bytes (Ok (number, unit))
 IsSizeOrStop kind ignore_case bytes (Err (stop, next)) =
     IsErrorOfString kind ignore_case bytes (nat_eq stop.place 0) stop.reason next
 
--- the unit of the string; or what was read before the parser stops in it, the character there, or its end, and the
--- position: the error by these is that of the string
+-- the unit of the string; or what was read before the parser stops in it, and the character there, or `None` at the
+-- end, by which the error is that of the string, and the position of this error
 abbrev pub IsUnitOrStop : Flags → List ℕ → Result UnitName (UnitStop × Option ℕ × ℕ) → Type 0
 IsUnitOrStop flags bytes (Ok unit) = IsUnitReading flags bytes (Ok unit)
 IsUnitOrStop flags bytes (Err (stop, next, position)) =

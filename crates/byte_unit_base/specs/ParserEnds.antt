@@ -71,12 +71,12 @@ pub record IsLeadingUnit (bytes : List ℕ) (scan : UnitScan) (end : ℕ) : Type
   pub run_is : run unit_step start (take end bytes) ≡ Some scan
   pub next : IsFirst (λ c. unit_step scan c ≡ None) (drop end bytes)
 
--- the parser of a unit stops in these bytes in this state and at this place, where no unit ends
+-- the parser of a unit stops in these bytes, which spell none, in this state and at this place
 abbrev pub IsScanStop : Flags → List ℕ → UnitScan → ℕ → Type 0
 IsScanStop flags bytes scan place = IsLeadingUnit bytes scan place × (place ≡ length bytes → unit_of flags scan ≡ None)
 
--- the parser of a unit stops in these bytes at this place, where no unit ends; its state is kept as whether it has a
--- prefix, and the suffix after it
+-- the parser of a unit stops in these bytes, which spell none, at this place; of its state is kept whether it has a
+-- prefix, and the letters of the suffix after it
 abbrev pub IsUnitStop : Flags → List ℕ → UnitStop → ℕ → Type 0
 IsUnitStop flags bytes stop place = (scan : UnitScan) × IsScanStop flags bytes scan place × (unit_stop scan ≡ stop)
 

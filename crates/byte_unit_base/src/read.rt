@@ -65,7 +65,7 @@ pub fn read_size(
 
 /// Parses a number and a unit as [`read_size`] does, and leaves the error to be made by [`error_at`].
 ///
-/// `read_size` does not call it: one result of both is in memory, and a string takes some 10 instructions more.
+/// `read_size` does not call it: a result for both cases would be in memory, for some 10 instructions more per string.
 ///
 /// # Errors
 /// Returns where the parser stops in the trimmed string (0 if the number is too long) and why, and the character there,

@@ -279,7 +279,7 @@ fn is_visible_ascii(bytes: &[u8], from: usize) -> bool
     has_visible_ends(bytes) && is_ascii_from(bytes, from)
 }
 
-/// Parses as [`parse_line`] does, from the string that bytes are, trimmed.
+/// Parses a size as [`parse_line`] does, but from the string that the bytes are, trimmed.
 ///
 /// # Errors
 /// As `parse_bytes`.
@@ -309,8 +309,8 @@ pub fn parse_text<const BINARY: bool>(
     })
 }
 
-/// Parses the number and the unit of a size from the string that bytes are, trimmed, and leaves the error to be made by
-/// [`error_at`](crate::error_at). Returns `None` if the bytes are not UTF-8.
+/// Parses the number and the unit of a size from the string that the bytes are, trimmed, and leaves the error to be
+/// made by [`error_at`](crate::error_at). Returns `None` if the bytes are not UTF-8.
 ///
 /// # Errors
 /// Returns where the parser stops in the trimmed string (0 if the number is too long) and why, and the character there,
@@ -335,8 +335,8 @@ pub fn read_text(
     Some(read_or_stop(string, flags_for(kind, ignore_case)))
 }
 
-/// Returns the result of parsing a string with this number and this unit, or with `BINARY` this number of its binary
-/// unit.
+/// Returns the result of parsing a string with this number and this unit: the size of the number in this unit, or with
+/// `BINARY` in its binary unit.
 ///
 /// `#[inline(always)]`: a call would return the result through memory.
 ///

@@ -1,6 +1,6 @@
 -- A size as an exact quotient: at more places, and times its unit.
 --
--- That a size is exact at some places, as `e`, is a count, `e.0`, and an equation, `e.1`. The same holds of `exact`.
+-- That a size is exact at some places (`exact`, or without one `e`) is a count, `.0`, and an equation, `.1`.
 use Rattle.std.proofs.Common.{◌≡◌, ℕ, ◌-◌, ◌*◌, ◌/◌, ◌^◌, ◌≤◌, arith, ap, ◌∙◌}
 use Rattle.std.proofs.Math.Nat.{eq_of_mul-eq-mul_right}
 use Rattle.byte_unit_math.specs.Bounds.{places_of_decimal, scale}

@@ -1,8 +1,8 @@
 -- A size has a chosen unit and number, or it is exact in no unit at the precision.
 --
 -- Of what is decided of a unit, `h.0` is that it is in the unit set, and `h.1` that it is not above the size and that
--- the size is exact in it. What is `found` is a unit, that it has the property, and that no other one with it is
--- larger; that a size is `exact` is a count and an equation.
+-- the size is exact in it. In `choice_or_none`, `found` is a unit, that it has the property, and that no other one with
+-- it is larger; `exact` is a count and an equation.
 use Rattle.std.proofs.Common.{ℕ, ◌*◌, ◌/◌, ◌%◌, ◌^◌, ◌-◌, ◌≤◌, ◌⊎◌, ⊎_elim, inl, inr, Bool, true, List, [], ◌∷◌, length}
 use Rattle.std.proofs.Common.{arith, refl, sym, ap, subst}
 use Rattle.std.proofs.Math.Nat.{div-add-mod', mul-mod_left}
@@ -48,7 +48,7 @@ exact_decided size unit places =
     (λ some. inr (λ e. omega (arith, ap (λ n. n % unit) e.1, mul-mod_left e.0 unit, some)))
     (cases_lt (scaled % unit) 1)
 
--- a size is exact in a unit of the set that is not above it, or the unit is not such
+-- a unit is one of the set, not above the size, in which the size is exact, or it is not
 states_decided : (version : Version) (family : Family) (in_bits precision : ℕ) (unit : Shape)
     → Decided (IsExactUnitIn version family in_bits precision unit)
 states_decided version family in_bits precision unit =
@@ -70,7 +70,7 @@ LargestOrNone Has units =
     ((unit : Shape) × Has unit × ((other : Shape) → IsIn other units → Has other → bits other ≤ bits unit))
     ⊎ ((unit : Shape) → IsIn unit units → ¬ (Has unit))
 
--- a unit `x`, before the units `xs`, of which the largest that has the property is known
+-- a property of units, and a unit `x` before the units `xs`
 module _ (Has : Shape → Type 0) (x : Shape) (xs : List Shape) where
   -- a bound for the units that have the property is one with a unit more that is no larger, or does not have it
   bounds_more : (bound : ℕ) → (Has x → bits x ≤ bound)

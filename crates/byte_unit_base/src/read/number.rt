@@ -149,7 +149,7 @@ fn value_of(digits: &[u8], last_bits: u64) -> u128
     }
 }
 
-/// Slow path: returns the value of any number of digits. If it or the result is 2^112 or more, so is the other.
+/// Slow path: returns the value of any number of digits. If it is 2^112 or more, the result may be another such number.
 #[inline(never)]
 fn longer_value(digits: &[u8]) -> u128
     requires { AllDigits 10 digits.now }
@@ -258,7 +258,7 @@ fn value_of_eight(digits: u64) -> u64
 ///
 /// # Errors
 /// Returns what was read and the index, counted from `from`, where it stops: at a character that cannot continue the
-/// unit, or at the end if the suffix is incomplete, which is `bi`, of length 2.
+/// unit, or at the end if the suffix is incomplete, as only `bi` is, of length 2.
 #[inline(always)]
 pub fn read_unit(
     line: &[u8],

@@ -14,8 +14,8 @@ use crate::unit::{Shape, Unit, UnitData};
 /// The number of prefixes.
 pub const PREFIXES: usize = 9;
 
-/// Calls a macro with each prefix: its letter, its units, its position, its value as a decimal (SI) prefix, a power of
-/// 1000, and its value as a binary (IEC) prefix, a power of 1024.
+/// Calls a macro with all prefixes: of each, its letter, its units, its position, its value as a decimal (SI) prefix, a
+/// power of 1000, and its value as a binary (IEC) prefix, a power of 1024.
 #[macro_export]
 macro_rules! with_prefixes {
     ($table:ident $kind:ident) => {

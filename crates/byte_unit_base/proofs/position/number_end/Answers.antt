@@ -57,7 +57,7 @@ returns-then-places-eq0 c =
     (omega (arith, whole.ensures.within, c.if-whole-bytes.false)) c.if-bytes-whole-ne46.false c.requires none in
     subst (IsWrongAt bytes) (omega (arith, c.if-places-eq0.true)) wrong
 
--- the 29th digit follows the point
+-- a 29th digit is after the point
 pub returns-then-is_ascii_digit-2 : goal.returns-then-is_ascii_digit-2
 returns-then-is_ascii_digit-2 c =
     let bytes = c.args.bytes.now in
@@ -69,7 +69,7 @@ returns-then-is_ascii_digit-2 c =
     c.requires (omega (arith, c.if-end-bytes.true))
     (digit_small (get_or bytes (whole.result + 1 + places.result) 0) (sym c.if-is_ascii_digit-2.ensures.value))
 
--- neither a digit nor anything that continues the number follows the fraction
+-- no digit follows the fraction, so the number ends with it
 pub returns : goal.returns
 returns c =
     let bytes = c.args.bytes.now in

@@ -4,7 +4,7 @@ use Rattle.std.specs.Str.Parse.{AllDigits}
 use Rattle.byte_unit_math.specs.Bounds.{places_of_decimal}
 use Rattle.byte_unit_base.proofs.position.places_len.Given as goal
 
--- the digits so far: they are within the bytes, at most 28, and digits
+-- `count` is within the bytes and at most 28, and the bytes before it are digits
 abbrev pub invariant-digits : goal.invariant-digits
 invariant-digits l =
     (l.count ≤ length l.bytes) × (l.count ≤ places_of_decimal) × AllDigits 10 (take l.count l.bytes)

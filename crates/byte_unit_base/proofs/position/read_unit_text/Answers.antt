@@ -37,7 +37,7 @@ returns-in-Ok c =
     unit_reading flags c.args.s.now (Ok c.in-Ok.unit)
     (sym (reads_meaning (unit_scan_is flags) text unit spells) ∙ ap (read (unit_scan flags) start) trimmed)
 
--- the error by the state and what follows is the string's, and its position is the place after the leading white space
+-- the error by the state and what follows is the string's, and its position is the place plus the leading white space
 pub returns-in-Err : goal.returns-in-Err
 returns-in-Err c =
     let flags = c.args.flags in

@@ -6,8 +6,8 @@ use Rattle.byte_unit_base.specs.ParserEnds.{IsFirst, IsNoSpace}
 use Rattle.byte_unit_base.proofs.WrongPlaces.{wrong_in_unit, size_of_number_and_unit}
 use Rattle.byte_unit_base.proofs.position.size_place.Goals as goal
 
--- `in-Ok.ensures` is the number and that it leads; `wrong` is the state of the unit, that its beginning leads, and its
--- error at the end
+-- `in-Ok.ensures` is the number, and that the bytes begin with it; `wrong` is the state of the unit, that the bytes
+-- after the spaces lead to it, and its error if they end there
 pub returns-in-Some : goal.returns-in-Some
 returns-in-Some c =
     let bytes = c.args.bytes.now in

@@ -4,7 +4,7 @@ use Rattle.std.specs.Str.Parse.{AllDigits, digits_value}
 use Rattle.byte_unit_math.specs.Bounds.{whole_limit}
 use Rattle.byte_unit_base.proofs.position.whole_len.Given as goal
 
--- the digits so far: they are within the bytes, their value is below the limit, they are digits, and this is their
+-- `count` is within the bytes, `whole` is below the limit, the bytes before `count` are digits, and `whole` is their
 -- value
 abbrev pub invariant-digits : goal.invariant-digits
 invariant-digits l =

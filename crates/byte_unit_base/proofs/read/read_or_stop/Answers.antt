@@ -1,4 +1,4 @@
--- The number and unit of the trimmed string, or where the parser stops in it: the error by these is that of the string.
+-- The number and unit of the trimmed string, or where the parser stops in it; the error there is that of the string.
 use Rattle.std.proofs.Common.{nat_eq, ap, subst, ◌∙◌, chars, IsUtf8}
 use Rattle.byte_unit_base.specs.Units.{shape_of}
 use Rattle.byte_unit_base.specs.ParserEnds.{IsStop, next_char, stop_fault}

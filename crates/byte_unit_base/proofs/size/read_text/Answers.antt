@@ -8,7 +8,7 @@ use Rattle.byte_unit_base.specs.declared.unit.Unit.{Unit as UnitName}
 use Rattle.byte_unit_base.proofs.SizeOfText.{reading_of_fault}
 use Rattle.byte_unit_base.proofs.size.read_text.Goals as goal
 
--- what is read of a number and a unit with the flags of the kind, or where the parser stops, is so of a size
+-- the number and unit read with the flags of the kind, or the error where the parser stops, are those of a size
 size_or_stop : (kind : Kind) (ignore_case : Bool) (bytes : List ℕ)
     (result : Result (UnitName × ℕ) (Stop × Option ℕ)) → IsUtf8 bytes
     → IsNumberOrStop (flags_for kind ignore_case) bytes result → IsSizeOrStop kind ignore_case bytes result
@@ -16,7 +16,7 @@ size_or_stop kind ignore_case bytes (Ok found) utf8 reading = reading
 size_or_stop kind ignore_case bytes (Err stopped) utf8 error_is = λ error fault_is.
     (utf8, λ meant. reading_of_fault meant kind ignore_case bytes error (error_is error fault_is))
 
--- the string has the bytes of the argument, and what is read of it is a size
+-- the string has the bytes of the argument, so its number and unit, or its error, are those of a size
 pub returns : goal.returns
 returns c =
     let bytes = c.args.bytes.now in

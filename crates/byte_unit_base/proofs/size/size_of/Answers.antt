@@ -1,5 +1,5 @@
--- A number of the unit that is meant whose size is below the limit is accepted as it; if the size is too large, the
--- error is `ExceededBounds`.
+-- The result is the size of the number of the unit that is meant if this size is below the limit, and else the error
+-- `ExceededBounds`.
 use Rattle.std.proofs.Common.{eqb, not}
 use Rattle.byte_unit_base.specs.BinaryReading.{unit_meant}
 use Rattle.byte_unit_base.proofs.SizeOfText.{reading_of_size, reading_of_excess}

@@ -34,7 +34,7 @@ loop-row-init c =
       steps = refl;
     }
 
--- the row failed the test, so its unit has no such exponents, and the others are in later rows
+-- the row failed the test, so its unit is above the size or has too great exponents, and the others are in later rows
 pub loop-row-preserved : goal.loop-row-preserved
 loop-row-preserved c =
     let in_bits = c.args.size * c.args.own_bits in
@@ -62,7 +62,7 @@ exact_number-number-requires c =
           (exact_by_row _ (omega (arith, c.min-most.ensures)) is_row.bits_are powers has);
     }
 
--- with few places, the whole part of the quotient is below its limit
+-- with few places, the quotient times 10^places is below the limit of a whole part
 pub factored_quotient-number-requires-clause-small : goal.factored_quotient-number-requires-clause-small
 factored_quotient-number-requires-clause-small c =
     let multiple = row_multiple (row_at_is_row no_row c.multiples_within-row-items.ensures c.loop-row-test.true) in
@@ -151,6 +151,6 @@ returns-clause-steps_of_none c =
     let still : c.loop-row.steps ≡ saturating_add trials.new.steps 0 = omega (arith, c.loop-row.invariant.steps) in
     counted_choice _ _ _ trials.ensures.powers (whole_takes_none 0) trials.ensures.steps still
 
--- without a choice, the steps of `factors_of` are as few
+-- without a choice, the steps of `factors_of` are within the same bound
 pub returns-clause-few_steps : goal.returns-clause-few_steps
 returns-clause-few_steps c = grind (arith, few_of_none, returns-clause-steps_of_none)

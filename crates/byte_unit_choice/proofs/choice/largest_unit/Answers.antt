@@ -46,7 +46,7 @@ loop-row-preserved c =
       | in-Both w ↦ cc
     ])
 
--- the unit of the row is not above the size and of the type, and the first such one is the largest
+-- the unit of the row is of the type and not above the size, and the first such one is the largest
 pub returns-then-is_of_type-clause-found : goal.returns-then-is_of_type-clause-found
 returns-then-is_of_type-clause-found c =
     let in_bits = c.args.size * c.args.own_bits in

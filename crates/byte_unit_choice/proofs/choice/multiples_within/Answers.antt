@@ -8,8 +8,8 @@ use Rattle.byte_unit_choice.proofs.Rows.{rows_behind, prefix_within}
 use Rattle.byte_unit_choice.proofs.choice.multiples_within.Goals as goal
 use Rattle.byte_unit_choice.proofs.choice.multiples_within.Goals.{in-All, in-Bytes, in-Bits}
 
--- `all` is the rows of all prefixes, `skipped` the number of rows left out, and `digits` that a unit not above the size
--- has a prefix that is not left out
+-- `all` says that the rows are those of all prefixes, `skipped` is the number of rows left out, and `digits` says that
+-- the size has ten binary digits for each prefix up to that of a unit not above it
 pub returns : goal.returns
 returns c =
     let all : map row_shape c.match-family.units.now ≡ map row_of (units_of_prefixes c.args.family prefix_count) =

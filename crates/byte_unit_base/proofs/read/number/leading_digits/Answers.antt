@@ -42,8 +42,8 @@ so_far g c =
           (subst (λ value. HasDigits line from from value) (sym w.value-is) (no_digits line from c.requires.from))
     ]
 
--- a byte among the first eight is no digit: `first` is how many are before it, `s` is as above, of the bytes before it
--- moved to the end, and `found` says that they are the digits
+-- a byte among the first eight is no digit: `first` says how many are before it, and that they are fewer than eight;
+-- `s` is as in `so_far`, of the bytes before it moved to the end, and `found` says that they are the digits
 pub returns-then-others-ne0 : goal.returns-then-others-ne0
 returns-then-others-ne0 g c =
     let word = c.load_eight-digits.result in
@@ -72,7 +72,7 @@ returns-clause-end g c =
     let digits = so_far g (goal.at.returns-clause-end g c).Joined-bytes-from-ge8 in
     omega (arith, c.read_digits.ensures.end, digits.more, digits.after)
 
--- the last 64 bits of the value are those of both
+-- the last 64 bits are those of the value of the digits so far and of those after them
 pub returns-clause-value : goal.returns-clause-value
 returns-clause-value g c =
     let digits = so_far g (goal.at.returns-clause-value g c).Joined-bytes-from-ge8 in

@@ -4,7 +4,7 @@ use Rattle.std.proofs.lemmas.Str.Parse.{digit_at, digits_value-take-le}
 use Rattle.byte_unit_base.proofs.NumberBytes.{one_digit_more}
 use Rattle.byte_unit_base.proofs.read.number.longer_value.Goals as goal
 
--- a digit has a code from 48, that of `0`, on
+-- the code of a digit is at least 48, that of `0`
 pub overflow_sub-digit : goal.overflow_sub-digit
 overflow_sub-digit c =
     omega (arith, digit_at c.args.digits.now c.loop-digit.digit-index c.requires c.loop-digit-test.true)

@@ -18,7 +18,7 @@ pub returns-then-whole-ge-WHOLE_LIMIT : goal.returns-then-whole-ge-WHOLE_LIMIT
 returns-then-whole-ge-WHOLE_LIMIT g c = stops_in_whole c.args.line.now _ c.leading_digits-end.ensures.end
     (c.value_of-whole.ensures.large (omega (arith, c.if-whole-ge-WHOLE_LIMIT.true)))
 
--- no point follows the whole part; `run` is the end of its digits and their last 64 bits
+-- no point follows the whole part; `run` is the end of its digits and the last 64 bits of their value
 pub returns-then-end-line : goal.returns-then-end-line
 returns-then-end-line g c =
     let run = c.leading_digits-end in
@@ -45,7 +45,7 @@ returns-then-places g c =
     c.if-whole-ge-WHOLE_LIMIT.false c.value_of-whole.ensures.exact c.if-end-line.false c.if-line-end-ne46.false
     _ c.leading_digits-stop.ensures.end c.leading_digits-stop.ensures.bound (omega (arith, c.if-places.true))
 
--- the value of the digits after the point has no more digits
+-- the value of the digits after the point has no more digits than these
 pub from_digits-number-requires-clause-digits : goal.from_digits-number-requires-clause-digits
 from_digits-number-requires-clause-digits g c =
     fraction_below _ _ _ c.leading_digits-end.ensures.end c.leading_digits-end.ensures.bound c.if-end-eq0.false

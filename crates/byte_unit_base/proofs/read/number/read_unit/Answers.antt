@@ -11,7 +11,7 @@ unit_of-requires-then-length-ne2 c =
     let power = c.from-power.ensures ∙ power_in_table (c.eight_at-text.result % 256) (omega arith) in
     omega (arith, power, power_few (c.eight_at-text.result % 256))
 
--- the beginning of a unit is the rest of the line, and it is not `bi`
+-- the beginning of a unit is the rest of the line, and its suffix is not `bi`
 pub returns-then-length-ne2 : goal.returns-then-length-ne2
 returns-then-length-ne2 c =
     let leads = letters_in_line c.type_inv.bytes c.requires.line c.requires.from c.eight_at-text.ensures
@@ -20,7 +20,7 @@ returns-then-length-ne2 c =
     spelled c.args.flags _ _ _ _ leads (c.if-end-line.true ∙ sym (length-drop c.args.from c.args.line.now))
     (rw (c.counts_bits.ensures, c.unit_of-then-length-ne2.ensures) refl)
 
--- the beginning of a unit ends before the line does, or is `bi`; 105 is `i`, 73 is `I` and 66 is `B`
+-- the beginning of a unit ends before the line does, or its suffix is `bi`; 105 is `i`, 73 is `I` and 66 is `B`
 pub returns : goal.returns
 returns c =
     let leads = letters_in_line c.type_inv.bytes c.requires.line c.requires.from c.eight_at-text.ensures

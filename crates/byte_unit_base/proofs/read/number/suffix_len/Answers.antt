@@ -33,7 +33,7 @@ zeros_are p q r s x y z =
     ∙ (trailing_mask_l (λ b. b) 64 lanes (omega arith) (omega arith)
     ∙ (λ i. cond (not_set p i) (1 + cond (not_set q i) (1 + cond (not_set r i) (1 + cond (not_set s i) 1 0) 0) 0) 0))
 
--- the letters are b (98), i (105), t (116) and s (115), and the fifth byte is no letter (0)
+-- the letters are b (98), i (105), t (116) and s (115), and the fifth byte is compared with 0, which is no letter
 pub returns-clause-letters : goal.returns-clause-letters
 returns-clause-letters c =
     let w = c.args.word in

@@ -4,12 +4,12 @@ use Rattle.std.proofs.lemmas.Str.{chars-IsAscii}
 use Rattle.byte_unit_base.specs.ParserEnds.{next_char}
 use Rattle.byte_unit_base.proofs.read.stop.first_ascii.Goals as goal
 
--- no bytes have no first character
+-- an empty list has no first character
 none : (bytes : List ℕ) → length bytes < 1 → None ≡ next_char bytes
 none [] short = refl
 none (b ∷ bs) short = absurd (omega (arith, short))
 
--- the first of the bytes is the first of them as characters
+-- the first element of a list is its first character
 first : (bytes : List ℕ) (c : ℕ) → 1 ≤ length bytes → c ≡ slice_index bytes 0 → Some c ≡ next_char bytes
 first [] c some is = absurd (omega (arith, some))
 first (b ∷ bs) c some is = ap Some is
