@@ -54,9 +54,6 @@ no_step_first s bytes end utf8 within ascii none =
     first_char (λ c. size_step s c ≡ None) (wide_no_step s) (drop end bytes) (utf8_from bytes end utf8 within ascii)
     (dropped_first (λ c. size_step s c ≡ None) bytes end none)
 
-no_digit : (c : ℕ) → 10 ≤ digit_value c → IsNoDigit c
-no_digit c other = grind (arith, nat_tests)
-
 -- the value of a character is below ten if the test takes it for a digit; else the character is no digit
 pub digit_small : (c : ℕ) → is_ascii_digit c ≡ true → digit_value c < 10
 digit_small c digit = grind (arith, nat_tests, digit)

@@ -18,7 +18,6 @@ pub mod Telling
 pub mod Texts
 pub mod Items
 pub mod Joining
-pub mod Paddings
 pub mod Rules
 pub mod Untold
 pub mod Rooms
