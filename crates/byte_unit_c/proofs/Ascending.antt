@@ -95,7 +95,7 @@ not_below a b e = grind (arith, ints)
 pub not_both : (a b : ℤ) → lt_z a b ≡ true → b ≤ℤ a → ⊥
 not_both a b e h = grind (arith, ints)
 
--- the test of the code that a number, 0 or more, is at most `n` says that
+-- a number that is 0 or more passes the test of the code for at most `n` if and only if it is at most `n`
 pub is_at_most : (z : ℤ) (n : ℕ) → pos 0 ≤ℤ z → IsTrue (leb (nat_abs z) n) ↔ (z ≤ℤ pos n)
 is_at_most (pos m) n h = ((λ t. grind (arith, nat_tests, ints)), (λ l. grind (arith, nat_tests, ints)))
 is_at_most (negsuc m) n h = absurd (omega (arith, ints))

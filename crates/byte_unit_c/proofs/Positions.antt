@@ -22,7 +22,7 @@ of_rejected meant kind ignore_case bytes fault position within (inr wrong) (inl 
     absurd (none (flags_for kind ignore_case) fault wrong)
 of_rejected meant kind ignore_case bytes fault position within (inr wrong) (inr some) = some
 
--- a position that was found is that of the error; a size that is too large has none
+-- the position that was found is that of the error, unless the error is a size that is too large
 pub position_of : (meant : Shape → Shape) (kind : Kind) (ignore_case : Bool) (bytes : List ℕ) (fault : Fault) (position : ℕ)
     → ((n : ℕ) → fault ≢ exceeded n) → IsRejectedAs meant current kind ignore_case bytes fault
     → IsSizePosition bytes None ⊎ IsSizePosition bytes (Some position)
@@ -45,7 +45,7 @@ not_exceeded (NotNumber c) other n same = let never : ⊥ = cc same in never
 not_exceeded NoValue other n same = let never : ⊥ = cc same in never
 not_exceeded NumberTooLong other n same = let never : ⊥ = cc same in never
 
--- a position of the string is that of the error of a missing digit
+-- the position of the string is that of its error if a digit is missing
 pub at_missing_digit : (IsPosition : Option ℕ → Type 0) (at_start : Bool) (next : Option ℕ) (position : ℕ)
     → IsPosition (Some position) → IsPositionOf IsPosition (missing_digit at_start next) position
 at_missing_digit IsPosition at_start (Some c) position is = is

@@ -52,7 +52,7 @@ formatted_is_read exact digits =
     subst (λ binary. IsAcceptedBy binary others.kind ignore_case text size) (sym no_binary)
     (subst (λ kind. IsAccepted kind ignore_case text size) (sym same_kind) (subst Accepts (sym is) at))
 
--- converting a text in the form `exact` once more gives the same text
+-- converting a text in the form `exact`, without a width, once more gives the same text
 pub exact_again : FormattedSizesAreRead → TextsAreSizesOrNot → SizeHasOneForm → ExactTwiceIsOnce
 exact_again formatted_read texts one_form =
     λ options size text below exact no_width no_binary formatted again text_again read (form_again, is_again, again_is).

@@ -45,7 +45,7 @@ IsAnswered options records old new (Err Write) written messages =
     × IsBeginningOf written whole.out) × (messages ≡ [])
 IsAnswered options records old new (Err error) written messages = EndsEarly options records old error written messages
 
--- what a call has appended is what is written if all of it was; `now` is the state after that
+-- if all that a call has appended was written and told, that is right for its result; `now` is the state after that
 pub IsAnswered-fed : {options : Options} {records : List (List ℕ)} {old new : State} (result : Result ⊤ RunError)
     → HasFed options records old new result → (now : State)
     → new ≡ record now { out = new.out; messages = new.messages }

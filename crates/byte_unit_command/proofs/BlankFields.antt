@@ -14,14 +14,14 @@ abbrev onto : List ℕ → List (List ℕ) → List (List ℕ)
 onto front [] = front ∷ []
 onto front (field ∷ fields) = (front ++ field) ∷ fields
 
--- a byte put before the first field, and then more bytes before it, are these bytes and the byte put before it at once
+-- putting a byte before the first field, and then `front` before that byte, is putting both there at once
 onto-onto_first : (front : List ℕ) (byte : ℕ) (fields : List (List ℕ)) → onto front (onto_first byte fields)
     ≡ onto (front ++ byte ∷ []) fields
 onto-onto_first front byte [] = refl
 onto-onto_first front byte (field ∷ fields) =
     ap (λ first. first ∷ fields) (sym (append_assoc front (byte ∷ []) field))
 
--- no bytes put before the first field leave the fields as they are; so there always is a first field
+-- putting no bytes before the first field changes nothing, since there always is a first field
 onto-nothing : (bytes : List ℕ) → onto [] (blank_fields bytes) ≡ blank_fields bytes
 onto-nothing [] = refl
 onto-nothing (byte ∷ bytes) =
@@ -50,7 +50,7 @@ module _ (bytes : List ℕ) (place : ℕ) (fits : place < length bytes) (so_far 
       let same : suc place ≡ place + 1 = omega arith in
       drop-cons bytes place 0 fits ∙ ap (λ next. get_or bytes place 0 ∷ drop next bytes) same
 
-  -- the fields from this place on: one of this byte alone if it ends there, and else the byte goes to the next field
+  -- the fields from this place on: the byte there is a field alone if one ends after it, and else begins the next one
   fields-there : (ends : Bool) → ends_there bytes place ≡ ends → blank_fields (drop place bytes)
       ≡ cond ends ((get_or bytes place 0 ∷ []) ∷ blank_fields (drop (place + 1) bytes))
       (onto_first (get_or bytes place 0) (blank_fields (drop (place + 1) bytes)))

@@ -153,7 +153,7 @@ module _ (options : Options) (bytes : List ℕ) (old : State) where
         new_is = adds.new_is;
       }
 
-  -- if its one field is rejected, the record is
+  -- if the one field of the record is rejected, so is the record
   pub Aborts-whole : (new_messages : List ℕ) → options.delimiter ≡ None
       → IsRejectedField options 1 bytes old new_messages → Aborts options bytes old new_messages
   Aborts-whole new_messages no_delimiter is = record {

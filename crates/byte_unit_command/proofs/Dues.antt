@@ -11,7 +11,7 @@ use Rattle.byte_unit_command.proofs.Untold.{next-untold}
 use Rattle.byte_unit_stream.specs.Chunks.{ended_records, nonempty_record}
 use Rattle.byte_unit_stream.proofs.Longest.{IsWithin}
 
--- if there is no message about what was read
+-- if there is no message about what was read and what comes next
 module _ {options : Options} {word read written messages part : List ℕ} {state : State}
     (served : IsServed options word read written messages part state) where
   -- there is no message about records that come next, if there is none about them and those that were read
@@ -38,7 +38,7 @@ module _ {options : Options} {word read written messages part : List ℕ} {state
 module _ {Z : Type 0} (options : Options) {longest chunk : ℕ} {part waiting part_now waiting_now : Vec ℕ Z}
     {read : List ℕ} (within : IsWithin options.record_end longest chunk part waiting read part_now waiting_now)
     (empty : vec_len waiting_now ≡ 0) (suffice : SufficeFor options longest chunk part waiting) where
-  -- they suffice for the next piece
+  -- the buffers suffice for the next piece
   pub SufficeFor-piece : (count : ℕ) → count ≤ chunk → SufficeFor options (vec_len part_now) count part_now waiting_now
   SufficeFor-piece count few =
       let room = read_room-more options (vec_len part_now) count longest chunk within.unfinished few in (
@@ -46,7 +46,7 @@ module _ {Z : Type 0} (options : Options) {longest chunk : ℕ} {part waiting pa
         omega (arith, suffice.1, within.waiting_capacity, empty, room),
       )
 
-  -- they suffice for what is written at the end of the input
+  -- the buffers suffice for what is written at the end of the input
   pub end-fits : 0 < chunk → vec_len waiting_now + end_room options (vec_len part_now) ≤ vec_capacity waiting_now
   end-fits some =
       omega (

@@ -18,7 +18,7 @@ pub record Feed : Type 0 where
   pub rest : List ℕ
   pub state : State
 
--- this state, of the buffers of a run
+-- the `Feed` of the buffers of a run, with these bytes left
 abbrev pub feed_of : {A : Type 0} → Buffers A → List ℕ → Feed
 feed_of buffers rest = record { part = buffers.part.items; rest = rest; state = state_of buffers.converter }
 

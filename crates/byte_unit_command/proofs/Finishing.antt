@@ -47,7 +47,7 @@ pub record ConvertsLast {A E : Type 0} (tells : E → Option (List ℕ)) (option
 
 module _ {A E : Type 0} (tells : E → Option (List ℕ)) (options : Options) (part : List ℕ) (old : Converter A)
     (old_errors : FusedWriter E) (empty : old.waiting.items ≡ []) where
-  -- without a last record nothing changes
+  -- there is no last record, and nothing has changed
   pub ConvertsLast-none : (now : Converter A) (errors : FusedWriter E) → part ≡ [] → now ≡ old → errors ≡ old_errors
       → ConvertsLast tells options part old now old_errors errors
   ConvertsLast-none now errors none now_is errors_is =
@@ -123,7 +123,7 @@ module _ {options : Options} (part : List ℕ) {old new : State}
       let For : Type 0 = IsTotalFor options new.tally.total line in
       (new, line, adds, refl, subst (λ total. MatchBool total For (line ≡ [])) (sym asked) is_for, is, refl)
 
-  -- the total is asked for, and the call that writes it has failed: out of memory, 10^30 or more, or a failed write
+  -- the total is asked for, and the call that writes it has failed: out of memory, too large a total, or a failed write
   pub IsFinished-total_error : options.total ≡ true → (error : RunError) (written : List ℕ)
       → IsTotalWritten options new.tally.total new.out (Err error) written
       → IsFinished options part old (Err error) written new.messages

@@ -72,7 +72,7 @@ without_last item r parts first split is is_first none range is_range =
     let same = one_first parts.0.now range.first first cut.0 is_first in
     none range.last (subst (λ first. IsLast parts.1.now first range.last) same cut.1)
 
--- an item without a hyphen that is no number is no range
+-- an item without a hyphen that is no positive number is no range
 pub without_number : (item : List ℕ) (r : Option (Bor (List ℕ) × Bor (List ℕ))) → IsSplitOnceResult 45 item r → r ≡ None
     → ((number : ℕ) → ¬ IsPositive item number) → (range : FieldRange) → ¬ IsRange item range
 without_number item r split is none range is_range =

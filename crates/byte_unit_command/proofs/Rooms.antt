@@ -9,7 +9,7 @@ use Rattle.byte_unit_command.specs.RunState.{FieldHasNoMessage, FieldsHaveNoMess
 use Rattle.byte_unit_command.specs.declared.options.Options.{Options}
 use Rattle.byte_unit_command.proofs.Untold.{first-untold}
 
--- the room of some fields and that of others are at most the room of as many fields as both
+-- the room of some fields and that of others are at most the room of all, if these are at least as many as both
 times-le : (room some others all : ℕ) → some + others ≤ all → room * some + room * others ≤ room * all
 times-le room some others all few =
     subst (λ bytes. bytes ≤ room * all) (mul-add room some others) (mul-le-mul_left room few)

@@ -38,7 +38,7 @@ with_hyphen old new rule is new_is = record {
   not_global = ap (λ (arg : Arg). arg.global) new_is ∙ is.not_global;
 }
 
--- an option that has this range is `Some` of it
+-- an `Option` that has this range is `Some` of it
 is_some_range : (found : Option ValueRange) (range : ValueRange) → IsSomeAnd found (λ other. other ≡ range)
     → found ≡ Some range
 is_some_range None range is = absurd is

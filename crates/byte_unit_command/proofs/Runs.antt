@@ -129,7 +129,7 @@ module _ {options : Options} {word read written messages part : List ℕ} {state
     begun = begun-piece piece next_part part_is;
   }
 
-  -- between two reads, all finished records are converted, and all messages about them are told: if a read failed
+  -- between two reads, all finished records are converted and all messages about them told, as is right for `Read`
   pub IsRunResult-read : (complete : Type 0) → IsRunResult options word read complete (Err Read) written messages
   IsRunResult-read complete =
       let adds = AddsRecords-finished in
@@ -296,7 +296,7 @@ module _ {options : Options} {word read written messages part : List ℕ} {state
         let Begun : Type 0 = IsBegun options records (written ++ more) in
         let Output : Type 0 = IsBegunOutput options records (written ++ more) in
         let either : Begun ⊎ Output = elim total_line [
-          -- the write failed before a line of the total was made
+          -- the write failed without a line of the total: none was made, or none is asked for
           | inl none ↦ inl (record {
             first = records;
             found = whole.found;

@@ -28,7 +28,7 @@ pub record HasServed {R W E A : Type 0} (remaining : R → Option (List ℕ)) (c
   pub none_waits : buffers.converter.waiting.items ≡ []
   pub none_untold : messages_of buffers.converter.notices ≡ []
 
--- the invariant holds before the first read, where all is empty
+-- the invariant holds before the first read if the buffers are empty and nothing is counted
 abbrev pub HasServed-start : {R W E A : Type 0} (remaining : R → Option (List ℕ)) (contents : W → Option (List ℕ))
     (tells : E → Option (List ℕ)) (options : Options) (streams : Streams R W E) (buffers : Buffers A)
     → buffers.part.items ≡ [] → buffers.converter.waiting.items ≡ [] → messages_of buffers.converter.notices ≡ []

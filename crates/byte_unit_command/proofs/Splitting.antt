@@ -34,7 +34,7 @@ module _ (options : Options) where
   between_of-split delimiter is none =
       ap (λ blanks. bytes_between blanks options.delimiter) none ∙ ap (bytes_between false) is
 
--- if a field and the fields after it are converted, all are, with a delimiter between it and them
+-- if a field and the fields after it are converted, all are, with the bytes of `between_of` between it and them
 AreFields-cons : (options : Options) (number : ℕ) (field : List ℕ) (others : List (List ℕ)) (own rest : List ℕ)
     (own_found rest_found : List Found) → IsSplit others → IsField options number field own own_found
     → AreFields options (number + 1) others rest rest_found

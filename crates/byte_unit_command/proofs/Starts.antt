@@ -37,7 +37,7 @@ module _ (options : Options) (word : List ℕ) {records : List (List ℕ)} {new 
   sum-from_start : new.tally.total < size_limit → new.tally.total ≡ sum_of adds.found
   sum-from_start small = omega (arith, small, ap (λ tally. tally.total) tally-from_start)
 
-  -- a counted total of 10^30 or more means that the sum of the sizes is
+  -- if the counted total is 10^30 or more, so is the sum of the sizes that were found
   pub large-from_start : size_limit ≤ new.tally.total → size_limit ≤ sum_of adds.found
   large-from_start large = omega (arith, large, ap (λ tally. tally.total) tally-from_start)
 

@@ -22,7 +22,7 @@ padded-none width true text none =
 padded-none width false text none =
     let missing : width - length text ≡ 0 = omega (arith, none) in ap (λ count. replicate count 32 ++ text) missing
 
--- 64 bytes were appended, and then all but the first of them were dropped, as `add_in_width` does
+-- if 64 bytes are appended and all but the first `len` of them dropped, as `add_in_width` does, those `len` are left
 pub first_bytes : (old bytes all : List ℕ) (len : ℕ) → all ≡ old ++ take 64 bytes → 64 ≤ length bytes → len ≤ 64
     → take (length all - (64 - len)) all ≡ old ++ take len bytes
 first_bytes old bytes all len all_is long short =

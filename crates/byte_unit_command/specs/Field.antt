@@ -51,8 +51,8 @@ IsNoSize options field = IsNoSizeText options (without_suffix options.suffix.now
 abbrev pub Found : Type 0
 Found = Option ℕ
 
--- the text that replaces the field with this number if it is this size: it is formatted in the columns that it has,
--- after the blank that separates it
+-- the text that replaces the field with this number if the field is this size: the size formatted in the columns of
+-- `width_of`, after the blank that separates the field from the one before it
 pub record IsPlaced (options : Options) (number : ℕ) (field : List ℕ) (size : ℕ) (text : List ℕ) : Type 0 where
   pub formatted : List ℕ
   pub is_formatted : IsFormatted (record options { width = width_of options number field }) size formatted

@@ -40,8 +40,8 @@ FormattedSizesAreRead =
     → options.width ≡ 0 → others.kind ≡ options.kind → others.suffix.now ≡ options.suffix.now → others.binary ≡ false
     → IsFormatted options size text → IsReadAs others text size
 
--- law: what is formatted in the exact form for the size that a text of the exact form is parsed as is that text. So a
--- second run of `--to=exact` changes nothing, if prefixes are read as they are
+-- law: if a size formatted in the exact form, without padding, is parsed and formatted so once more, the text is the
+-- same. So a second run of `--to=exact` changes nothing, if prefixes are read as they are
 abbrev pub ExactTwiceIsOnce : Type 0
 ExactTwiceIsOnce =
     (options : Options) (size : ℕ) (text : List ℕ) → size < size_limit → options.form ≡ Exact → options.width ≡ 0

@@ -123,7 +123,7 @@ impl<A: Allocator> Converter<A> {
     {
         match options.delimiter {
             None => {
-                // The record is its own field 1.
+                // The whole record is field 1.
                 let chosen = is_in_one(options.fields, 1);
                 self.add_field::<false>(options, 1, bytes, chosen, digits)
             }
@@ -223,7 +223,7 @@ impl<A: Allocator> Converter<A> {
             // The blank that separates the field stays, and without a width the size takes the columns of the field.
             (gap_of(number > 1, field), width_of(options, number, field))
         } else {
-            // Between delimiters there is no blank to keep, and a width of 0 is no width.
+            // Not between blanks: there is no blank to keep, and a width of 0 is no width.
             (&field[..0], options.width as usize)
         };
         self.waiting.extend_from_slice(gap)?;

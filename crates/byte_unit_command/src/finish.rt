@@ -30,7 +30,7 @@ impl<A: Allocator> Converter<A> {
     /// - `Memory` if allocation fails, and `Rejected` if a field is rejected in the mode `abort`. Nothing has been
     ///   written.
     /// - `Total` if the total is asked for and is 10^30 or more. The last record has been written.
-    /// - `Write` if a write fails. A beginning has been written.
+    /// - `Write` if a write fails. A beginning of the output has been written.
     pub(crate) fn finish<W: Write, E: Write>(
         &mut self,
         options: &Options,
@@ -75,7 +75,7 @@ impl<A: Allocator> Converter<A> {
 ///
 /// - `Memory` if allocation fails. Nothing has been written.
 /// - `Total` if the total is 10^30 or more. What waits has been written.
-/// - `Write` if a write fails. A beginning has been written.
+/// - `Write` if a write fails. A beginning of the output has been written.
 fn write_with_total<A: Allocator, W: Write>(
     options: &Options,
     total: u128,

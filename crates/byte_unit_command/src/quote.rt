@@ -41,7 +41,7 @@ fn quoted_len(field: &[u8]) -> usize
     if field.len() <= QUOTED {
         return field.len();
     }
-    // Of four bytes in a row of a UTF-8 text one begins a character, since no character has more than four.
+    // Of four bytes in a row of a UTF-8 text at least one begins a character: no character has more than four.
     if is_boundary(field[QUOTED]) {
         QUOTED
     } else if is_boundary(field[QUOTED - 1]) {

@@ -102,7 +102,7 @@ pub fn run<R: Read, W: Write>(
 /// `buffer`, and without an allocation after the start.
 ///
 /// At the start it allocates `longest` bytes and 79 times the length of `buffer`: once for a line, and 78 times for the
-/// answers, if each byte of a read ends a line.
+/// answers, since each byte of a read may end a line.
 ///
 /// Precondition (proved at every call): `buffer` is not empty.
 ///

@@ -21,7 +21,7 @@ const FRACTIONS: Rows = &rows! {
         "1536 = 1.5 KiB\nno value\nbad unit\nnot a number\n1000000000000000000000000 = 1 YB\n"),
 };
 
-/// Numbers at a bound: 10^30 and more (out of range), 2^112 (number too long), and 2^64 - 1 and 2^64.
+/// Numbers at a bound: 0, 2^64 - 1, 2^64, 10^27 - 1, 10^30 - 1, more (out of range), and 2^112 (number too long).
 const BOUNDS: Rows = &rows! {
     (b"999999999999999999999999999\n", "999999999999999999999999999 = 999999999999999999999999.999 KB\n"),
     (b"999999999999999999999999999999.0000000000000000000000000001\n1000 RB\n", "out of range\nout of range\n"),
@@ -42,8 +42,8 @@ const SIZES_PAST_THE_BOUNDS_OF_V1: Rows = &rows! {
     (b"1 RiB\n1rib\n", "1237940039285380274899124224 = 1 RiB\n154742504910672534362390528 = 128 YiB\n"),
 };
 
-/// One or more lines for each parse error, and bytes that are not UTF-8: a surrogate (ED A0 80), an overlong form (C0
-/// 80) and a character that is cut off (C3).
+/// Lines with no value, no number or a bad unit, and bytes that are not UTF-8: one that begins no character (FF), a
+/// surrogate (ED A0 80), an overlong form (C0 80) and a character that is cut off (C3).
 const PARSE_ERRORS: Rows = &rows! {
     (b"   \n1\tKB\nx\n-1\n", "no value\nbad unit\nnot a number\nnot a number\n"),
     (b"1000 YX\n1KB x\n1 5\n", "bad unit\nbad unit\nbad unit\n"),

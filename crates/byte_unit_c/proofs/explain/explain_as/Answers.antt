@@ -3,7 +3,7 @@ use Rattle.std.proofs.Common.{Err, Some, eqb, not}
 use Rattle.byte_unit_base.specs.BinaryReading.{unit_meant}
 use Rattle.byte_unit_c.proofs.explain.explain_as.Goals as goal
 
--- the parser has accepted a unit and a number, so nothing is written
+-- the parser has accepted a unit and a number: a message is written only if their size is too large
 pub returns-in-Accepted-clause-reading : goal.returns-in-Accepted-clause-reading
 returns-in-Accepted-clause-reading g c =
     -- a pair: the bytes are UTF-8, and the parser has read a number and a unit in them

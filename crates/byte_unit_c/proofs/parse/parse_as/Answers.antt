@@ -3,7 +3,7 @@ use Rattle.std.proofs.Common.{Some, eqb, not}
 use Rattle.byte_unit_base.specs.BinaryReading.{unit_meant}
 use Rattle.byte_unit_c.proofs.parse.parse_as.Goals as goal
 
--- the parser has accepted a unit and a number: the size that they are is written
+-- the parser has accepted a unit and a number: their size is written, or the error that it is too large
 pub returns-in-Accepted : goal.returns-in-Accepted
 returns-in-Accepted g c =
     -- a pair: the bytes are UTF-8, and the parser has read a number and a unit in them

@@ -5,7 +5,7 @@ use Rattle.byte_unit_base.specs.Expected.{named_in}
 use Rattle.byte_unit_c.specs.Error.{expected_bytes, IsErrorOf}
 use Rattle.byte_unit_c.proofs.parse.write_unit_stop.Goals as goal
 
--- the error by what was read of the unit and the character after it
+-- what is written is the error by what was read of the unit and by the character after it
 pub returns : goal.returns
 returns c =
     let error = c.error_before-error.result in

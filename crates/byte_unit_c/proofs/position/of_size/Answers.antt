@@ -3,7 +3,7 @@ use Rattle.std.proofs.Common.{◌⊎◌, ℕ, Bool, true, false, if◌then◌els
 use Rattle.byte_unit_base.specs.ErrorPosition.{IsSizePosition}
 use Rattle.byte_unit_c.proofs.position.of_size.Goals as goal
 
--- the position by whether one is found
+-- either there is no position, or it is the one that was found
 either : (bytes : List ℕ) (is_found : Bool) (position : ℕ) → IsSizePosition bytes (if is_found then Some position else None)
     → IsSizePosition bytes None ⊎ IsSizePosition bytes (Some position)
 either bytes true position found = inr found

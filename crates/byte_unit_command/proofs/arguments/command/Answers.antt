@@ -14,8 +14,8 @@ use Rattle.byte_unit_command.proofs.arguments.command.Goals as goal
 abbrev between : ℕ → ℕ → ValueRange
 between first last = record { start_inclusive = first; end_inclusive = max last first }
 
--- the command is `new_app` with each argument added in the order of the code; each `let` is the command up to the
--- argument it is named after, or one part of the next argument
+-- the command is `new_app` with a version, and then each argument, in the order of the code; each `let` is the command
+-- so far, or a part of the next argument
 pub returns : goal.returns
 returns c =
     let start = new_app (codes "byte-unit") in

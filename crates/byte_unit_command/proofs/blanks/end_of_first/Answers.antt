@@ -10,7 +10,7 @@ use Rattle.byte_unit_command.proofs.BlankFields.{between_of-blanks, fields_of-bl
 use Rattle.byte_unit_command.proofs.Splitting.{EndsFirst, between_of-split, fields_of-split}
 use Rattle.byte_unit_command.proofs.blanks.end_of_first.Goals as goal
 
--- what holds if a search finds nothing, by what its contract says then
+-- if `P` holds of a search that finds nothing, so does what follows from `P`
 IfNone-map : {P Q : Type 0} → (P → Q) → (result : Option ℕ) → IfNone result P → IfNone result Q
 IfNone-map to None is = to is
 IfNone-map to (Some n) is = tt

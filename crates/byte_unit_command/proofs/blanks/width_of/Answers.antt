@@ -4,7 +4,7 @@ use Rattle.byte_unit_command.specs.Fields.{width_by}
 use Rattle.byte_unit_command.proofs.BlankFields.{gap-columns, gap-short, width-given}
 use Rattle.byte_unit_command.proofs.blanks.width_of.Goals as goal
 
--- the options have no width, so the field is padded to its own columns
+-- the options have no width, so the size takes the columns of the field
 pub returns-then-options-eq0-clause-width : goal.returns-then-options-eq0-clause-width
 returns-then-options-eq0-clause-width c =
     c.columns_of.ensures ∙ ap (λ width. width_by true width c.args.number c.args.field.now) (sym c.if-options-eq0.true)

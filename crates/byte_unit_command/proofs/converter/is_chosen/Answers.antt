@@ -6,7 +6,7 @@ use Rattle.byte_unit_command.proofs.converter.is_chosen.Goals as goal
 -- the first range has begun and has not ended, so it chooses the field
 pub returns-in-len1-up-clause-yes : goal.returns-in-len1-up-clause-yes
 returns-in-len1-up-clause-yes c = λ begun.
-    -- `record { first = 0; last = None }` stands for the range at an index past the end, which is never used here
+    -- `record { first = 0; last = None }` is what an index past the end would give, which is never used here
     chosen-by_first c.args.ranges.now (record { first = 0; last = None }) c.args.number
     (omega (arith, c.in-len1-up.len_at_least)) (c.requires.goes c.if-not-in_order.false) (leb-true _ _ begun)
 

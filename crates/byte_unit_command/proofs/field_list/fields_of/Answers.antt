@@ -34,10 +34,10 @@ loop-item-preserved c =
     with_item c.loop-item.yielded c.in-Some-item.item c.loop-item.fields.items _ c.in-Some-range_of.range
     c.loop-item.invariant c.in-Some-range_of.ensures c.in_ok-push-in-Some-range_of.ensures.items
 
--- an item is no range, so neither is the list
+-- an item is no range, so the text is no list of ranges
 pub returns-in-None-range_of : goal.returns-in-None-range_of
 returns-in-None-range_of c =
-    -- 44 is the comma; what follows are tests that it is an ASCII character
+    -- 44 is the comma: an ASCII character (`lit< tt`), at which the iterator splits the list
     let parts = YieldsList-from_str_split 44 c.in-Some.list.now (lit< tt) (cc) (cc) (cc) in
     -- `turn` says that there is an item at this index and that it is this one
     let turn = YieldsList-turn parts c.loop-item.yielded _ c.loop-item.yielded_by _ _ c.in-Some-item.item

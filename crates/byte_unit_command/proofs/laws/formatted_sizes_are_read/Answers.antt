@@ -2,6 +2,6 @@
 use Rattle.byte_unit_command.proofs.Again.{formatted_is_read}
 use Rattle.byte_unit_command.proofs.laws.formatted_sizes_are_read.Goals as goal
 
--- a size formatted in a lossless form is parsed as that size
+-- a size formatted in a lossless form, without a width, is parsed as that size
 pub returns : goal.returns
 returns c = formatted_is_read c.size_form_reads_back.ensures c.plain_form_reads_back.ensures

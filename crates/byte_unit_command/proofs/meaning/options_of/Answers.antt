@@ -19,7 +19,7 @@ form_wrong : (values : Values) (wrong : Wrong) (binary : Bool) → IsFrom (text_
 form_wrong values wrong binary is_from (inl is) = wrong_to binary is_from is
 form_wrong values wrong binary is_from (inr (form, is_form, is)) = wrong_precision binary is_from form is_form is
 
--- the fields are right if the form, the separator and the list of fields are
+-- what comes before `--padding` is right if the form and the delimiter are, and fields that are named are separated
 fields_right : (values : Values) (given form : Form) (separator : Option ℕ)
     → IsFormOf values given × IsWithinExact given values.precision → IsOutputForm values.no_unit given form
     → IsSeparator values separator × AreFieldsSeparated values → FieldsAreRight values
@@ -43,11 +43,11 @@ returns-in_err-given-clause-err c =
 pub returns-in_err-form-clause-err : goal.returns-in_err-form-clause-err
 returns-in_err-form-clause-err c =
     IfErr-passed (IsFirstWrong c.args.values.now) _ _ c.from_residual-in_err-form.ensures.1
-    -- the two parts of `ok`: that the form is read from the values, and that it is within its precision
+    -- the two parts of `ok`: that the form is read from the values, and that the precision is within the form's limit
     (wrong_no_unit _ c.in_ok-binary.ensures.ok _ c.in_ok-given.ensures.ok.0 c.in_ok-given.ensures.ok.1
     c.in_err-form.ensures.err)
 
--- the delimiter or the list of fields is wrong; what comes before is right
+-- the delimiter is wrong, or nothing separates the fields that are named; what comes before is right
 pub returns-in_err-delimiter-clause-err : goal.returns-in_err-delimiter-clause-err
 returns-in_err-delimiter-clause-err c =
     let given = c.in_ok-given.ensures.ok in

@@ -19,7 +19,7 @@ without_hyphen : (text : List ℕ) → ((rest : List ℕ) → text ≢ 45 ∷ re
 without_hyphen text lacks none width align_left (inl is) = none width is.0
 without_hyphen text lacks none width align_left (inr (others, others_are, is, on_left)) = lacks others others_are
 
--- the text has no hyphen and is no width
+-- the text does not begin with a hyphen and is no width
 pub returns-in_err-width_of-in-None : goal.returns-in_err-width_of-in-None
 returns-in_err-width_of-in-None c =
     let text = c.args.text.now in

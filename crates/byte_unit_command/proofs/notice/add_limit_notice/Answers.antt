@@ -17,8 +17,7 @@ returns-clause-ok g c =
     let number = c.args.number in
     let field = c.args.field.now in
     let before = messages_of c.args.notices.now in
-    -- a triple: the text that was appended, that it is the message, if it is told, and the equation; `below` is the
-    -- same
+    -- a triple: the text that was appended, that it is the message, if it is told, and the equation; so is `below`
     let above = c.in_ok-add_message_if.ensures.ok in
     let above_is : c.is_some_and-above.result ≡ is_above options.max size = search rules in
     let below_is : c.is_some_and-below.result ≡ is_below options.min size = search rules in

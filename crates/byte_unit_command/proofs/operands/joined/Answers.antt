@@ -10,7 +10,7 @@ pub loop-operand-preserved : goal.loop-operand-preserved
 loop-operand-preserved c =
     let operands = c.args.operands.now in
     let at = c.loop-operand.operand-index in
-    -- the record is the operand at an index past the end, which is never used here
+    -- the record is what an index past the end would give, which is never used here
     let more = map_more (λ (operand : Bor (List ℕ)). operand.now) operands at (record { ref_ptr = (0, 0); now = [] })
     c.loop-operand-test.true in
     let begun = map (λ (operand : Bor (List ℕ)). operand.now) (take at operands) in

@@ -165,7 +165,7 @@ returns-then-len-longest-clause-memory g c = λ _ _.
       inl (omega (arith, long, c.if-len-longest.true, c.len.ensures, part.ok.0)),
     )
 
--- out of memory while the piece is converted: if the capacity suffices, there is a message about one of its records
+-- out of memory while the piece is converted: if the capacity suffices, there is a message about a finished record
 pub returns-in_err-fed-in-Some-clause-memory : goal.returns-in_err-fed-in-Some-clause-memory
 returns-in_err-fed-in-Some-clause-memory g c = λ fits _.
     let capacity = subst (λ most. SufficeFor c.args.options.now c.args.longest most c.args.buffers.now.part
@@ -183,7 +183,7 @@ returns-in_err-fed-in-Some-clause-memory g c = λ fits _.
           (piece-untold so_far.served piece none))))),
     )
 
--- out of memory at the end: if the capacity suffices, there is a message about the last record
+-- out of memory at the end: if the capacity suffices, there is a message about one of all records
 pub returns-clause-memory : goal.returns-clause-memory
 returns-clause-memory g c = λ fits is.
     let capacity = subst (λ most. SufficeFor c.args.options.now c.args.longest most c.args.buffers.now.part

@@ -55,7 +55,7 @@ returns-in_err-extend_from_slice-in-empty-clause-succeeds g c = λ room.
     let copied = length-take-le 64 c.write_size-len.new.out long in
     absurd (true≢false (sym (c.in_err-extend_from_slice-in-empty.ensures.succeeds (omega (arith, room, copied)))))
 
--- after 64 bytes are appended, the length is at least 64, so 64 can be taken off
+-- after 64 bytes are appended, the length is at least 64, so up to 64 can be taken off
 pub overflow_sub-len-in-empty : goal.overflow_sub-len-in-empty
 overflow_sub-len-in-empty g c =
     let long : 64 ≤ length c.write_size-len.new.out = omega (arith, c.requires.capacity, c.write_size-len.auto.out) in
@@ -85,12 +85,12 @@ returns-in_ok-extend_from_slice-in-empty-clause-ok g c =
           ∙ ap (λ formatted. text ++ formatted) (written.begins ∙ sym same),
     )
 
--- what was there before the 64 bytes is kept; `added` is the triple of the clause above
+-- what was there before the 64 bytes is kept; `added` is the triple of the clause `ok`
 pub returns-in_ok-extend_from_slice-in-empty-clause-kept : goal.returns-in_ok-extend_from_slice-in-empty-clause-kept
 returns-in_ok-extend_from_slice-in-empty-clause-kept g c =
     let added = returns-in_ok-extend_from_slice-in-empty-clause-ok g c in (added.0, added.2)
 
--- the length grows by that of the text
+-- the length grows by that of the text, which is at most 64 bytes
 pub returns-in_ok-extend_from_slice-in-empty-clause-len : goal.returns-in_ok-extend_from_slice-in-empty-clause-len
 returns-in_ok-extend_from_slice-in-empty-clause-len g c =
     let long : 64 ≤ length c.write_size-len.new.out = omega (arith, c.requires.capacity, c.write_size-len.auto.out) in

@@ -62,7 +62,7 @@ reads-preserved g c =
     -- the line that was unfinished before this read is at most `longest` too
     let begun : length (begun_record line_end [] so_far.read) ≤ c.args.longest =
     omega (arith, ap length so_far.served.begun, c.reads.buffers.line.ok.0, within.unfinished) in
-    -- and the bytes of this read are at most a `buffer`
+    -- the bytes of this read are no more than `buffer` holds
     let short : length piece ≤ length c.args.buffer.now =
     omega (arith, length-take c.in-Some.n c.read.new.buf, c.read.auto.buf, c.reads.auto.buffer) in (
       HasServed-piece so_far _ _ piece answers.0 line.items c.answer_piece.new.waiting.items c.in-Some.ensures.came
@@ -105,7 +105,7 @@ returns-then-len-longest-clause-memory g c = λ _ _.
       omega (arith, long, c.if-len-longest.true, c.len.ensures, line.ok.0),
     )
 
--- the input has ended after a line end: each line that was read is shorter than `longest` and a `buffer` together
+-- the input has ended, not in a line: each line that was read is shorter than `longest` and a `buffer` together
 pub returns-then-is_empty-clause-bound : goal.returns-then-is_empty-clause-bound
 returns-then-is_empty-clause-bound g c =
     let so_far = c.reads.invariant.0 in
@@ -142,7 +142,7 @@ returns-in-Err-clause-run g c =
       IsWritten-piece each c.args.kind (course_of so_far) so_far.served piece c.in-Err.error answers.0 answers.2,
     )
 
--- the input has ended after a line end: the report on what was read is written
+-- the input has ended, not in a line: the report on what was read is written
 pub returns-then-is_empty-clause-run : goal.returns-then-is_empty-clause-run
 returns-then-is_empty-clause-run g c =
     let so_far = c.reads.invariant.0 in
@@ -180,7 +180,7 @@ returns-in_ok-add_answer-clause-run g c =
     -- the last line, as the slice that is answered
     let line = c.deref.result.now in
     let part = c.reads.buffers.line in
-    -- it is not empty
+    -- the last line is not empty
     let begun = nonempty_from_length part.items (vec_len part) part.ok.0 c.if-is_empty.ensures in
     let some : line ≢ [] = λ empty. begun (sym c.deref.ensures.value ∙ empty) in
     let course : Course = record { read = so_far.read; written = so_far.written; line = line } in

@@ -18,19 +18,19 @@ returns-in-ExceededBounds-clause-details c =
     tells c.args.error _ _ c.in-ExceededBounds.is
     (record { character_is = refl; expected_is = refl; may_end_is = refl; number_is = c.new-number.ensures })
 
--- of a character that is not in a number, the details have the character
+-- of `NotNumber`, the details have its character
 pub returns-in-NotNumber-clause-details : goal.returns-in-NotNumber-clause-details
 returns-in-NotNumber-clause-details c =
     tells c.args.error _ _ c.in-NotNumber.is
     (record { character_is = refl; expected_is = refl; may_end_is = refl; number_is = zero_parts })
 
--- of an empty string, all details are zero
+-- of `NoValue`, all details but the position are zero
 pub returns-in-NoValue-clause-details : goal.returns-in-NoValue-clause-details
 returns-in-NoValue-clause-details c =
     tells c.args.error _ _ c.in-NoValue.is
     (record { character_is = refl; expected_is = refl; may_end_is = refl; number_is = zero_parts })
 
--- of a number that is too long, all details are zero
+-- of a number that is too long, all details but the position are zero
 pub returns-in-NumberTooLong-clause-details : goal.returns-in-NumberTooLong-clause-details
 returns-in-NumberTooLong-clause-details c =
     tells c.args.error _ _ c.in-NumberTooLong.is

@@ -8,7 +8,7 @@ use Rattle.byte_unit_command.proofs.Rooms.{fields_room-whole}
 use Rattle.byte_unit_command.proofs.Untold.{first-untold}
 use Rattle.byte_unit_command.proofs.converter.Converter.add_fields.Goals as goal
 
--- the record as its one field has been added
+-- if the one field of the record is added, its fields are
 pub returns-in-None-clause-ok : goal.returns-in-None-clause-ok
 returns-in-None-clause-ok g c =
     on_ok_weaker c.add_field.result (AddsFields-whole c.args.options.now c.args.bytes.now (state_of c.args.self.now)

@@ -132,7 +132,7 @@ returns-clause-rejected g c = λ is.
     Aborts-first c.loop-n.invariant.0 c.loop-n.rest.now [] c.in_default.ensures.none
     (messages_of c.add_field-2.new.self.notices) (c.add_field-2.ensures.rejected is)
 
--- a field before the last cannot fail if the room for the record is left and there is no message about it
+-- with room for the record and no message about it, adding a field before the last cannot fail
 pub returns-in_err-add_field-clause-early : goal.returns-in_err-add_field-clause-early
 returns-in_err-add_field-clause-early g c = record {
   error = IfErr-passed (λ (error : RunError). (error ≡ Memory) ⊎ (error ≡ Rejected)) _ _ c.from_residual.ensures.1
@@ -143,7 +143,7 @@ returns-in_err-add_field-clause-early g c = record {
       let place = c.in-Some.n in
       let gap = length (between_of options) in
       let field = take place rest in
-      -- a triple, `EndsFirst`: the end is not at the start, it is within the rest, and there the fields are cut
+      -- a triple, `EndsFirst`: the next field begins after the start, within the rest, and there the fields are cut
       let ends = c.in-Some.ensures.some in
       let within = c.loop-n.invariant.1 in
       let first = IsSplitWithin-first within field (fields_of options (drop (place + gap) rest)) ends.2 untold in

@@ -76,7 +76,7 @@ pub returns-in_err-write_whole-clause-written : goal.returns-in_err-write_whole-
 returns-in_err-write_whole-clause-written g c =
     let last = converts_last g (goal.at.returns-in_err-write_whole-clause-written g c).Joined-not-is_empty in
     let failed = c.in_err-write_whole in
-    -- a triple, as in the case before
+    -- a triple: the bytes that were written, that they were appended, and that they are a beginning of what waits
     let written = failed.ensures.err in
     let begins : IsBeginningOf written.0 c.if-not-is_empty.self.waiting.items =
     subst (IsBeginningOf written.0) c.deref.ensures.value written.2 in

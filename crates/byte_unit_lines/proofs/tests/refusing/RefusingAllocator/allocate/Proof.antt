@@ -87,7 +87,7 @@ module _ (Z : Al) where
   abbrev inner_at : ℕ × ℕ → ℕ × ℕ
   inner_at p = (p.0, p.1 + up (align (α Z)) 0)
 
-  -- the address of its counter
+  -- the address of the counter of a `Refusing` at p
   abbrev requests_at : ℕ × ℕ → ℕ × ℕ
   requests_at p = (p.0, p.1 + up 8 (up (align (α Z)) 0 + size (α Z)))
 
@@ -113,7 +113,7 @@ module _ {M : Type 1} (𝓤 : Ura M) (𝓛 : Logic 𝓤) (𝓜 : Model 𝓤 𝓛
     asked = qed 𝓛 (‵ (seen_requests κ p r) ∷ ‵ (flft κ q) ∷ []) ∵ feq_i ! (List Val) (vptr p.0 p.1 ∷ []) _ refl $ fjoin ! $
         nothing ! $ move ! (1 ∷ []) $ fjoin ! $ nothing ! $ move ! (2 ∷ 0 ∷ []) $ join ! $ join ! $ nothing ! $ move ! (1 ∷ []) $ done !
 
-    -- its result is a `bool`, and the token comes back
+    -- the call of `grants` returns a `bool`, and gives the token back
     told : (v : Val) → ent 𝓤 (Grants.post asking v) (H.⇛ (ex 𝓤 (λ (b : Bool). guard 𝓤 (v ≡ vbool b) (A.lft κ q))))
     told v = qed 𝓛 (raw (Grants.post asking v) ∷ []) ∵ updating ! $
         use1 𝓛 (later (some (λ (b : Bool). ((‵ (flft κ q) ⊛ ‵ ftrue) ⊛ ‵ (bool.own_val b (v ∷ []))) ⊛
@@ -140,8 +140,8 @@ module _ {M : Type 1} (𝓤 : Ura M) (𝓛 : Logic 𝓤) (𝓜 : Model 𝓤 𝓛
     fields κ p h = qed 𝓛 (‵ (hidden_shr (heap.the_row (param 0 Z.row)) κ h p.0 p.1) ∷ []) ∵
         unhide ! $ fsplit ! $ fsplit ! $ hide ! $ move ! (1 ∷ []) $ fsplit ! $ hide ! $ keep ! (2 ∷ 0 ∷ []) $ done !
 
-    -- an exit: if the result is the value that is returned, the postcondition holds of it, with a block or an error;
-    -- both tokens go back
+    -- an exit: if the value `v` is the result `r`, a block or an error, the postcondition holds of it, and both tokens
+    -- go back
     ends : (y : Walk.Ghost) (r : Answer.Denot) (v : Val) → ent 𝓤 (emp 𝓤) (sem 𝓛 (Answer.own_val r (v ∷ [])))
         → Sq 𝓛 (‵ (block_if_ok (token Z y.0.3.0.now.inner) y.1 r) ∷ ‵ (flft y.0.0.0 y.0.1.0) ∷ ‵ (flft y.0.0.1.0 y.0.1.1.0) ∷ [])
         (prop (Walk.post y v))
