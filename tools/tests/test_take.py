@@ -172,8 +172,9 @@ def test_proofs(here, there, copied, monkeypatch):
     assert contents(copied / MATH / "out") == contents(here / MATH / "out")
     shutil.rmtree(copied / MATH / "out")
     (copied / MATH / "out").write_text("A file.")
-    said = run(here, "--update", "--with", "proofs", copied, status=1)
-    assert f"{MATH}/out: File exists; the crates are there, but not all that was built of them" in said
+    ran = call(here / "tools/dev", "take", "--update", "--with", "proofs", copied, stderr=-1, cwd=here)
+    assert f"{MATH}/out: File exists; the crates are there, but not all that was built of them" in ran.stderr
+    assert ran.returncode == 1 and ran.stderr.count("\n") == 1 and not list(copied.glob(".take-*"))
     assert "byte_unit_serde" not in (here / "proved").read_text()
     anew = here.with_name("anew")
     anew.mkdir()
