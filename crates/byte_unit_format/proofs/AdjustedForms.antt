@@ -1,8 +1,8 @@
 -- A size has exactly one text in a given unit by each spec.
 --
--- Of a text by a rule, as `of_text`, the parts are the expansion or the nearest decimal, that it is this, and the text
--- of it. The same holds of `of_other`. A nearest decimal that is `found` is its number, and that it is nearest; a text
--- that is `found` is the text, and that it is by the rule.
+-- Of a text by a rule, as `of_text`, the parts are the expansion or the nearest decimal, that it is this, and that the
+-- text is its. The same holds of `of_other`. A nearest decimal that is `found` is its number, and that it is nearest; a
+-- text that is `found` is the text, and that it is by the rule.
 use Rattle.std.proofs.Common.{◌≡◌, ℕ, ◌+◌, ◌*◌, ◌/◌, ◌%◌, ◌^◌, ◌<◌, ◌≤◌, ◌++◌, ⊎_elim, List, arith, ap, sym, refl, ◌∙◌}
 use Rattle.std.specs.Fmt.{decimal}
 use Rattle.std.proofs.Math.Nat.{div-add-mod', mod-eq_of_lt, pow-le-pow_right}

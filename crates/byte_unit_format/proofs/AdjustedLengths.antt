@@ -2,7 +2,7 @@
 -- point, and four columns.
 --
 -- Of a number that is `found`, `found.0` is its expansion or nearest decimal, `found.1` that it is this, and `found.2`
--- its text.
+-- that the text is that of it.
 use Rattle.std.proofs.Common.{◌≡◌, ℕ, ◌+◌, ◌*◌, ◌/◌, ◌^◌, ◌<◌, ◌≤◌, ⊎_elim, min, Bool, true, false, Option, None, Some}
 use Rattle.std.proofs.Common.{List, length, arith, ap, refl}
 use Rattle.std.specs.Fmt.{decimal}
@@ -80,13 +80,13 @@ full_length num den places number some small exact found =
 rounded_whole : (num places q : ℕ) → num < 10 ^ 31 → q ≤ num * 10 ^ places → q / 10 ^ places < 10 ^ 31
 rounded_whole num places q small within = grind (arith, one_le_pow10 places)
 
--- With all `places` digits after the point, its text has at most 32 + places bytes: 31 digits and the point.
+-- With `places` digits after the point, the text of a number below 10^31 has at most 31 digits, the point and these.
 round_length : (num places q : ℕ) → num < 10 ^ 31 → q ≤ num * 10 ^ places → length (numeral q places) ≤ 32 + places
 round_length num places q small within =
     text_length (at_places places q) places (rounded_whole num places q small within)
     (omega (arith, length_last_digits places q))
 
--- Without trailing zeros, the text of a number of 10^-places is no longer than with them.
+-- Without trailing zeros, the text of a number below 10^31 has at most 32 + places bytes, as with them.
 short_length : (num places q : ℕ) → num < 10 ^ 31 → q ≤ num * 10 ^ places
     → length (short_numeral q places) ≤ 32 + places
 short_length num places q small within =

@@ -166,8 +166,8 @@ left_over whole thousandths (suc (suc zero)) few left = omega (arith, left)
 left_over whole thousandths (suc (suc (suc zero))) few left = absurd (left (omega arith))
 left_over whole thousandths (suc (suc (suc (suc more)))) few left = absurd (omega (arith, few))
 
--- If the thousandths lack the zeros for the places, the prefix before it is the largest one, in which the size is
--- whole.
+-- If the thousandths in a prefix lack the zeros for the places, the prefix before it is the largest one; in that the
+-- size is whole.
 pub greatest_before : {places size power : ℕ} (whole thousandths : ℕ) → places ≤ 3 → 1 ≤ power
     → 10 ^ (3 * power) ≤ size → (whole * 1000 + thousandths) * 10 ^ (3 * power) ≡ size * 1000
     → thousandths % 10 ^ (3 - places) ≢ 0 → IsGreatest places 10 3 size (power - 1)
@@ -246,7 +246,7 @@ by_prefix : {places size : ℕ} (At : ℕ → Bool → Type 0)
 by_prefix At twos tens other true fits = twos other fits
 by_prefix At twos tens other false fits = tens other fits
 
--- a size of a kind, with at most three digits after the point
+-- A size of a kind, if at most three digits after the point are allowed.
 module _ (kind : Kind) (places size : ℕ) (few : places ≤ 3) where
   -- Few places are not cut off.
   within : places_within places ≡ places

@@ -8,7 +8,7 @@ use Rattle.byte_unit_format.proofs.Widths.{plain_form_fills_width, layout_fills_
 use Rattle.byte_unit_format.proofs.ShortExpansions.{expansions_end}
 use Rattle.byte_unit_format.proofs.LaterVersion.{meanings_stay}
 
--- Each of these is the statement of one law, which `auto` then proves.
+-- Lemmas whose statements are laws: `auto` proves each of these laws by its lemma.
 pub ruleset law_lemmas = (
   plain_form_reads_back,
   adjusted_string_reads_back,

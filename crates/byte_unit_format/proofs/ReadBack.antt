@@ -170,7 +170,7 @@ layout_is_size kind ignore_case spec e unit bounded few known says =
     let spelled = name_spells (flags_for kind ignore_case) unit known says in
     search (rules, text, number_text e.whole e.digits bounded.small few bounded.bound, spelled)
 
--- If a decimal of at most 28 digits, of a unit, is the size, its text with the unit is accepted as the size.
+-- If a number of a unit, with at most 28 digits after the point, is the size, its text is accepted as the size.
 pub layout_accepted :
     (kind : Kind) (ignore_case : Bool) (size : ℕ) (spec : FormatSpec) (e : Finite) (unit : Shape) → IsBounded e
     → length e.digits ≤ places_of_decimal → IsKnown unit → SaysKind (flags_for kind ignore_case) unit.bit

@@ -14,7 +14,7 @@ use Rattle.byte_unit_format.proofs.ShownForms.{exact_in_unit}
 exact_by_factor : (size den factor : ℕ) → 8 * 10 ^ 90 ≡ factor * den → IsExactAt (size * 8) den 90
 exact_by_factor size den factor product = (size * factor, omega (arith, ap (λ number. size * number) product))
 
--- The bits of each unit divide 8 * 10^90: the factor is evaluated for each unit.
+-- A size in bytes is exact with 90 digits in each unit: the bits of each divide 8 * 10^90, which is evaluated.
 bytes_exact_in : (size : ℕ) (unit : UnitName) → IsExactAt (size * 8) (bits (shape_of unit)) 90
 bytes_exact_in size Bit = exact_by_factor size (bits (shape_of Bit)) (8 * 10 ^ 90 / bits (shape_of Bit)) refl
 bytes_exact_in size unit = exact_by_factor size (bits (shape_of unit)) (8 * 10 ^ 90 / bits (shape_of unit)) refl

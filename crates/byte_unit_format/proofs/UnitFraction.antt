@@ -32,7 +32,7 @@ use Rattle.byte_unit_format.specs.UnitFraction.{unit_fraction_text, HasPrefix, I
 use Rattle.byte_unit_format.specs.declared.thousandths.UnitFraction.{UnitFraction}
 use Rattle.byte_unit_format.specs.declared.thousandths.UnitFraction.TheVariants.{Own, Eighths, Thousandths}
 
--- The digits of whole units, and then those of thousandths, are the text of both as one decimal without trailing zeros.
+-- The text of whole units, and then that of thousandths, is the text of both as one decimal without trailing zeros.
 text_of_thousandths : (whole thousandths : ℕ) → thousandths < 1000
     → text_of (trim_expansion (at_places 3 (whole * 1000 + thousandths)))
     ≡ decimal whole ++ thousandths_text thousandths

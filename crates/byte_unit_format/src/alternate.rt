@@ -110,7 +110,7 @@ fn put_unit_fraction(fraction: UnitFraction, kind: Kind, out: &mut [u8], point: 
             put(&[b' ', own], out, point + 2);
             point + 2
         }
-        // A point and at most three digits, in four bytes; then a space and three letters.
+        // A point and at most three digits, or neither, in four bytes; then a space and three letters.
         UnitFraction::Eighths(eighths, power) => {
             let unit = [b' ', prefix_letter(power), b'i', own];
             let (digits, len) = digits_of_eighths(eighths);

@@ -29,7 +29,7 @@ pub(crate) fn push_ascii<A: Allocator>(text: &mut String<A>, ascii: &[u8])
     requires room { length ascii.now ≤ spare_capacity text.old }
     ensures { IsPushed ascii.now text.old text.new }
 {
-    // ASCII is UTF-8, and the capacity suffices, so neither call fails.
+    // ASCII is UTF-8, as the unchecked call requires, and the capacity suffices, so `push_str` does not fail.
     text.push_str(unsafe { str::from_utf8_unchecked(ascii) })
         .unwrap();
 }

@@ -47,7 +47,7 @@ module _ (rest left count next : ℕ) (split : left ≡ next + count) (below : r
       let power = ap (λ n. rest * n) (power_of_sum 5 left next count split) in
       omega (arith, binary_count (rest * 5 ^ count) next, power)
 
-  -- The product is below 2^a * 10^b for each greater a and b, so that numerals bound it.
+  -- The product is below 2^a * 10^b if a is at least `next` and b at least `count`, so that numerals bound it.
   product_within : (a b : ℕ) → next ≤ a → count ≤ b → rest * 5 ^ count < 2 ^ a * 10 ^ b
   product_within a b few few' = grind (arith, mul-le, pow-le-pow_right, product_below)
 
@@ -61,8 +61,8 @@ module _ (rest left count next : ℕ) (split : left ≡ next + count) (below : r
 -- The array begins with groups of 16 digits, zeros before the first ones, and then has zeros. `left` digits are
 -- missing, those of the remainder.
 pub record IsGrouped (numerator places rest left end : ℕ) (groups : List ℕ) : Type 0 where
-  -- the array has room for seven groups: 93 digits are copied of it, from within the first group
   pub few : left ≤ places
+  -- the array has room for seven groups: 93 digits are copied from it, from within the first group on
   pub size : length groups ≡ 112
   pub small : All (λ d. d < 10) groups
   pub zeros : drop end groups ≡ replicate (112 - end) 0
@@ -186,7 +186,7 @@ module _ (numerator places rest end : ℕ) (groups : List ℕ) (h : IsGrouped nu
   pub copied_small : All (λ d. d < 10) copied
   copied_small = All-take (λ d. d < 10) 93 _ (All-drop (λ d. d < 10) (end - places) groups h.small)
 
-  -- The first `places` bytes of the copy are those of the array.
+  -- The first `places` bytes of the copy are the last `places` digits of the groups.
   front_is : take places copied ≡ take places (drop (end - places) groups)
   front_is = take-take places 93 (drop (end - places) groups) (omega (arith, limit))
 
@@ -244,7 +244,7 @@ last_of_digits : (p q : ℕ) → get_or (last_digits (suc p) q) p 0 ≡ q % 10
 last_of_digits zero q = rw (pow-zero 10) (omega arith)
 last_of_digits (suc p) q = last_of_digits p q
 
--- If digits are the last ones of a number, the last of them is the number modulo 10.
+-- If the first `places` digits are the last ones of a number, the last of these is the number modulo 10.
 pub last_digit_is : (places number : ℕ) (digits : List ℕ) → 0 < places → take places digits ≡ last_digits places number
     → get_or digits (places - 1) 0 ≡ number % 10
 last_digit_is zero number digits some front = absurd (omega (arith, some))
@@ -258,7 +258,7 @@ rest_ends n p some odd =
     let power = ap (λ m. n / 2 ^ p * m) (power_of_sum 10 p 1 (p - 1) (omega (arith, some))) in
     omega (arith, binary_count n p, power, odd_times_fives n p odd)
 
--- A number times an entry of the table is the number times that power of five.
+-- A number times the entry `count` of the table of powers of five is the number times 5^count.
 pub product_is : (rest count : ℕ) → count ≤ 16 → rest * get_or (powers_from 5 49 1) count 0 ≡ rest * 5 ^ count
 product_is rest count few =
     let entry : get_or (powers_from 5 49 1) count 0 ≡ 5 ^ count =

@@ -68,7 +68,7 @@ module _ (e : Finite) (p : ℕ) (h : IsTrimmed e) (l : p < length e.digits) wher
   cut_value_is : cut_value ≡ get_or e.digits p 0 * rest_power + rest_value
   cut_value_is = grind (arith, common_steps, add-one, drop-cons, value_cons)
 
-  -- The others are below their power of ten.
+  -- The digits after the first one that is cut off are below their power of ten.
   rest_value_small : rest_value < rest_power
   rest_value_small = value_below_power (drop (p + 1) e.digits) (All-drop (λ d. d < 10) (p + 1) e.digits h.small)
 
@@ -92,7 +92,7 @@ module _ (e : Finite) (p : ℕ) (h : IsTrimmed e) (l : p < length e.digits) wher
   below_half_from : 2 * cut_value < 10 * rest_power → 2 * (cut_value * 10 ^ p) < 10 ^ length e.digits
   below_half_from below = omega (arith, scaled below, power_is)
 
-  -- If they are above half of their power of ten, they are above half of one in the last digit kept.
+  -- If the digits cut off are above half of their power of ten, they are above half of one in the last digit kept.
   above_half_from : 10 * rest_power < 2 * cut_value → 10 ^ length e.digits < 2 * (cut_value * 10 ^ p)
   above_half_from above = omega (arith, scaled above, power_is)
 
@@ -100,11 +100,11 @@ module _ (e : Finite) (p : ℕ) (h : IsTrimmed e) (l : p < length e.digits) wher
   below_half : get_or e.digits p 0 < 5 → 2 * (cut_value * 10 ^ p) < 10 ^ length e.digits
   below_half small = grind (arith, below_half_from, cut_value_is, mul-le-mul_right, rest_value_small)
 
-  -- If it is above 5, more than half is cut off.
+  -- If the first digit cut off is above 5, more than half is cut off.
   above_half : 5 < get_or e.digits p 0 → 10 ^ length e.digits < 2 * (cut_value * 10 ^ p)
   above_half great = grind (arith, above_half_from, cut_value_is, mul-le-mul_right, rest_value_small)
 
-  -- If more than one digit is cut off, the others are not zero, since the last one is not.
+  -- If more than one digit is cut off, those after the first are not all zero, since the last one is not.
   rest_value_positive : p + 1 < length e.digits → 0 < rest_value
   rest_value_positive k = grind (arith, get_or-drop, length-drop, value_by_last_digit)
 

@@ -65,12 +65,12 @@ value_append ds es = fold-append (λ n d. n * 10 + d) 0 ds es ∙ fold_digits_fr
 pub value_append_zeros : (ds : List ℕ) (k : ℕ) → value_of_digits (ds ++ replicate k 0) ≡ value_of_digits ds * 10 ^ k
 value_append_zeros ds k = grind (arith, value_append, length-replicate, value_zeros)
 
--- One digit more counts ten times the digits before it, and the digit.
+-- The first i + 1 digits represent ten times the number of the first i, plus digit i.
 pub value_more : (ds : List ℕ) (i : ℕ) → i < length ds
     → value_of_digits (take (i + 1) ds) ≡ value_of_digits (take i ds) * 10 + get_or ds i 0
 value_more ds i within = grind (arith, common_steps, fold-append, take_more)
 
--- One digit more that is set counts ten times the digits before it, and the digit.
+-- With digit i set to d, the first i + 1 digits represent ten times the number of the first i, plus d.
 pub value_more_set : (ds : List ℕ) (i d : ℕ) → i < length ds
     → value_of_digits (take (i + 1) (set ds i d)) ≡ value_of_digits (take i ds) * 10 + d
 value_more_set ds i d within = grind (arith, fold-append, take_more_set)
@@ -106,7 +106,7 @@ pub record HasTrailingZeros (ds front : List ℕ) : Type 0 where
   pub zeros : ℕ
   pub list_is : ds ≡ front ++ replicate zeros 0
 
--- One digit more in front: a zero before nothing but zeros is one of the trailing zeros.
+-- With a digit before both, digits are still those kept and trailing zeros: a zero before only zeros is one of these.
 HasTrailingZeros-prepend : (d : ℕ) (es ds : List ℕ) → HasTrailingZeros ds es
     → HasTrailingZeros (d ∷ ds) (prepend_digit d es)
 HasTrailingZeros-prepend zero [] ds h = record { zeros = suc h.zeros; list_is = ap (λ l. zero ∷ l) h.list_is }
@@ -118,7 +118,7 @@ pub HasTrailingZeros-trim : (ds : List ℕ) → HasTrailingZeros ds (trim_zeros 
 HasTrailingZeros-trim [] = record { zeros = 0; list_is = refl }
 HasTrailingZeros-trim (d ∷ ds) = HasTrailingZeros-prepend d (trim_zeros ds) ds (HasTrailingZeros-trim ds)
 
--- Digits below ten stay so with one more in front.
+-- Digits below ten stay so with one more before them.
 small_before_digit : (d : ℕ) (es : List ℕ) → d < 10 → All (λ d. d < 10) es → All (λ d. d < 10) (prepend_digit d es)
 small_before_digit zero [] h k = k
 small_before_digit (suc d) [] h k = All-cons (λ d. d < 10) (suc d) [] h k

@@ -17,7 +17,7 @@ pub lies_above_quotient :
     → LiesAbove num den p quotient rest
 lies_above_quotient num den p whole quotient rest same some quotient_is rest_is = grind (arith, div-add-mod', mod_below)
 
--- The number num * 10^p, `low` more than `count` multiples of den.
+-- The number num * 10^p is `count` multiples of den, and the rest, `low`.
 module _ (num den p count low : ℕ) (lies : LiesAbove num den p count low) where
   -- A multiple before `count` is at least one `den`, and the rest, below the number.
   lower_multiple : (other : ℕ) → other < count → other * den + den + low ≤ num * 10 ^ p
@@ -55,7 +55,7 @@ module _ (num den p count low : ℕ) (lies : LiesAbove num den p count low) wher
   pub nearest_even_next : den < 2 * low + count % 2 → IsNearest num den p Even (count + 1)
   nearest_even_next h = grind (arith, lower_multiple, mul-le-mul_right, nearest_up, tie_even_next, upper_multiple)
 
-  -- If ties go to even and this is at most den, the multiple below is nearest.
+  -- If ties go to even and twice the rest (plus 1 if `count` is odd) is at most den, the multiple below is nearest.
   pub nearest_even_this : 2 * low + count % 2 ≤ den → IsNearest num den p Even count
   nearest_even_this h = grind (arith, nearest_down, tie_even_this)
 

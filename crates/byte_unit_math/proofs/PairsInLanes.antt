@@ -1,7 +1,7 @@
 -- Digits as bytes of lanes: pairs of digits, each in one lane of 16 bits.
 --
 -- That pairs are `few` is that the first one is below 100, and that the others are; a `lane` has three parts: its tens,
--- its units, and the rest.
+-- its ones, and the lanes after it.
 use Rattle.std.proofs.Common.{◌≡◌, ℕ, zero, suc, ◌+◌, ◌*◌, ◌/◌, ◌%◌, ◌^◌, ◌<◌, List, [], ◌∷◌, arith, refl, ◌∙◌, ap}
 use Rattle.std.specs.Simd.Lanes.{Each1}
 use Rattle.byte_unit_math.specs.Digits.{last_digits}
@@ -27,7 +27,7 @@ abbrev twice : List ℕ → ℕ
 twice [] = 0
 twice (p ∷ ps) = suc (suc (twice ps))
 
--- Of a lane of 16 bits, the first byte is the tens of the pair, the second one the units, and what follows is the rest.
+-- Of a lane of 16 bits, the low byte is the tens of the pair, the high byte the ones; `rest` is the lanes after it.
 pair_in_lane :
     (p rest : ℕ) → p < 100 → (((p / 10 + p % 10 * 256 % 65536) % 65536 + 65536 * rest) % 256 ≡ p / 10)
     × ((((p / 10 + p % 10 * 256 % 65536) % 65536 + 65536 * rest) / 256 % 256 ≡ p % 10)

@@ -1,6 +1,6 @@
 -- How many digits after the point a fraction over powers of 2 and 5 takes.
 --
--- That a number is exact, as `e`, is a count, `e.0`, and an equation, `e.1`.
+-- That a fraction is exact at some places, as `e`, is a count, `e.0`, and an equation, `e.1`.
 use Rattle.std.proofs.Common.{◌≡◌, ◌≢◌, ◌+◌, ◌-◌, ◌*◌, ◌^◌, ◌/◌, ◌%◌, ◌<◌, ◌≤◌, ⊎_elim, ℕ, zero, suc, max, arith, ap}
 use Rattle.std.proofs.Common.{sym, ◌∙◌}
 use Rattle.std.proofs.lemmas.Bool.{cases_lt}

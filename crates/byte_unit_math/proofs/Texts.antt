@@ -145,7 +145,7 @@ pub record SameFraction (num den num' den' : ℕ) : Type 0 where
   pub positive' : 0 < den'
   pub same : num * den' ≡ num' * den
 
--- If a fraction is a number of 10^-p, each fraction that is equal to it is the same number of 10^-p.
+-- If a fraction is `count` times 10^-p, so is each fraction that is equal to it.
 same_places :
     (num den num' den' p count : ℕ) → SameFraction num den num' den' → num' * 10 ^ p ≡ count * den'
     → num * 10 ^ p ≡ count * den

@@ -203,21 +203,21 @@ pub digits_before :
 digits_before k n behind wide small = ap (λ l. l ++ behind) (sym (decimal_cut k n wide small))
     ∙ append_assoc (decimal (n / 10 ^ k)) (glyphs (last_digits k (n % 10 ^ k))) behind
 
--- A number from 100 on is written as its quotient by 100, and two more digits.
+-- A number of 100 or more is written as its quotient by 100, and two more digits.
 pub last_two : (n : ℕ) (behind : List ℕ) → 100 ≤ n → n < 2 ^ 128
     → decimal n ++ behind ≡ decimal (n / 100) ++ (glyphs (last_digits 2 (n % 100)) ++ behind)
 last_two = digits_before 2
 
--- A number from 10000 on is written as its quotient by 10000, and four more digits.
+-- A number of 10000 or more is written as its quotient by 10000, and four more digits.
 pub last_four : (n : ℕ) (behind : List ℕ) → 10000 ≤ n → n < 2 ^ 128
     → decimal n ++ behind ≡ decimal (n / 10000) ++ (glyphs (last_digits 4 (n % 10000)) ++ behind)
 last_four = digits_before 4
 
--- A number from 100 on has two digits more than its quotient by 100.
+-- A number of 100 or more has two digits more than its quotient by 100.
 pub two_more : (n : ℕ) → 100 ≤ n → n < 2 ^ 128 → length (decimal n) ≡ length (decimal (n / 100)) + 2
 two_more = decimal_length_split 2
 
--- A number from 10000 on has four digits more than its quotient by 10000.
+-- A number of 10000 or more has four digits more than its quotient by 10000.
 pub four_more : (n : ℕ) → 10000 ≤ n → n < 2 ^ 128 → length (decimal n) ≡ length (decimal (n / 10000)) + 4
 four_more = decimal_length_split 4
 
@@ -225,7 +225,7 @@ four_more = decimal_length_split 4
 pub ruleset groups_written =
     (decimal_one_digit, decimal_length_one, decimal_two_digits, last_two, last_four, two_more, four_more, drop-set)
 
--- A number from 10^18 on has 18 digits more than its quotient by 10^18.
+-- A number of 10^18 or more has 18 digits more than its quotient by 10^18.
 pub eighteen_more : (n : ℕ) → 10 ^ 18 ≤ n → n < 2 ^ 128 → length (decimal n) ≡ length (decimal (n / 10 ^ 18)) + 18
 eighteen_more = decimal_length_split 18
 
@@ -237,7 +237,7 @@ few_30 n small = length-decimal-le_wide 30 n (omega arith) small (omega (arith, 
 pub few_16 : (n : ℕ) → n < 10 ^ 16 → length (decimal n) ≤ 16
 few_16 n small = length-decimal-le_wide 16 n (omega arith) small (omega (arith, small))
 
--- Any other number below 10^30 has 16 digits more than its quotient by 10^16.
+-- A number of 10^16 or more, below 10^30, has 16 digits more than its quotient by 10^16.
 pub more_16 : (n : ℕ) → 10 ^ 16 ≤ n → n < 10 ^ 30 → length (decimal n) ≡ length (decimal (n / 10 ^ 16)) + 16
 more_16 n wide small = decimal_length_split 16 n wide (omega (arith, small))
 
@@ -245,7 +245,7 @@ more_16 n wide small = decimal_length_split 16 n wide (omega (arith, small))
 abbrev digits_estimate : ℕ → ℕ
 digits_estimate binary = binary * 1233 / 4096
 
--- The estimate is within one digit for each number of at most this many bits: a test that is evaluated.
+-- Whether numbers of at most this many bits have as many digits as estimated, or one more: a test that is evaluated.
 abbrev estimate_holds_below : ℕ → Bool
 estimate_holds_below zero = true
 estimate_holds_below (suc j) = leb (10 ^ digits_estimate (suc j)) (10 * 2 ^ j) &&
@@ -255,7 +255,7 @@ estimate_holds_below (suc j) = leb (10 ^ digits_estimate (suc j)) (10 * 2 ^ j) &
 IsBetween : ℕ → Type 0
 IsBetween j = (10 ^ digits_estimate (suc j) ≤ 10 * 2 ^ j) × (2 ^ suc j ≤ 10 ^ suc (digits_estimate (suc j)))
 
--- If the test holds below a count, this is so for each number of bits below it.
+-- If the test holds for `count` bits, numbers of at most that many have as many digits as estimated, or one more.
 is_between : (count j : ℕ) → estimate_holds_below count ≡ true → j < count → IsBetween j
 unfolding IsBetween
 is_between zero j h few = absurd (omega (arith, few))
@@ -277,7 +277,7 @@ digits_below_power : (few n : ℕ) → 10 ^ few ≤ 10 * n → 10 ≤ n → n < 
 digits_below_power zero n low wide small below = absurd (omega (arith, wide, below))
 digits_below_power (suc few) n low wide small below = grind (arith, decimal_length_between, pow-succ')
 
--- A number of at most 128 bits has as many digits as estimated if it is below that power of ten, or else one more.
+-- A number of at most 128 bits has as many digits as estimated if it is below ten to the estimate, or else one more.
 module _ (k n : ℕ) (few : k ≤ 128) (wide : 10 ≤ n) (small : n < 2 ^ k) where
   -- The number fits 128 bits.
   wide_enough : n < 2 ^ 128
@@ -294,12 +294,12 @@ module _ (k n : ℕ) (few : k ≤ 128) (wide : 10 ≤ n) (small : n < 2 ^ k) whe
       subst (λ b. (10 ^ digits_estimate b ≤ 10 * n) × (n < 10 ^ suc (digits_estimate b))) binary
       (omega (arith, between.0, top.2), omega (arith, between.1, top.3))
 
-  -- Below the power of ten of its estimate, it has as many digits as estimated.
+  -- Below the power of ten of its estimate, the number has as many digits as estimated.
   pub few_digits : n < 10 ^ digits_estimate (k - count_leading_zeros k n)
       → length (decimal n) ≡ digits_estimate (k - count_leading_zeros k n)
   few_digits below = digits_below_power _ n bounds.0 wide wide_enough below
 
-  -- At the power of ten of its estimate or above, it has one digit more than estimated.
+  -- At the power of ten of its estimate or above, the number has one digit more than estimated.
   pub more_digits : 10 ^ digits_estimate (k - count_leading_zeros k n) ≤ n
       → length (decimal n) ≡ suc (digits_estimate (k - count_leading_zeros k n))
   more_digits reached = decimal_length_between _ n reached bounds.1 wide_enough
@@ -307,7 +307,7 @@ module _ (k n : ℕ) (few : k ≤ 128) (wide : 10 ≤ n) (small : n < 2 ^ k) whe
 -- The length of a number, as the proofs of writing it in groups of 16 digits use it.
 pub ruleset lengths_by_16 = (few_30, few_16, more_16)
 
--- The same for groups of 18 digits.
+-- The length of a number, as the proof of writing it in groups of 18 digits uses it.
 pub ruleset lengths_by_18 = (eighteen_more, decimal_length_positive)
 
 -- The length of a number by its binary digits.

@@ -4,7 +4,7 @@ use Rattle.std.specs.Fmt.{decimal}
 use Rattle.byte_unit_math.specs.Digits.{at_places, trim_expansion}
 use Rattle.byte_unit_math.specs.Finite.{Finite}
 
--- The digits as ASCII characters, from 48, the character `0`, on.
+-- The digits as ASCII characters: 48 is the character `0`.
 abbrev pub glyphs : List ℕ → List ℕ
 glyphs digits = map (λ d. 48 + d) digits
 

@@ -261,7 +261,7 @@ pub(crate) fn put_u64(n: u64, bytes: &mut [u8], end: usize) -> usize
     requires within { end ≤ length bytes.old }
     ensures { IsPutBefore (decimal n) end bytes.old bytes.new result }
 {
-    // Four digits at a time, and then the last four as two, two or one.
+    // Four digits at a time from the end; of the first one to four, two if they are more than two, and then two or one.
     let mut start = end;
     let mut rest = n;
     while rest >= 10_000 {

@@ -61,7 +61,7 @@ pub fn rounded_quotient(numerator: u128, divisor: u128) -> u128
         → IsNearest number divisor places Even result }
 {
     let (quotient, rest) = div_rem(numerator, divisor);
-    // More than half of the divisor is left, or just half and the quotient is odd.
+    // Rounds up if more than half of the divisor is left, or just half and the quotient is odd.
     let odd = quotient % 2;
     if 2 * rest + odd > divisor {
         quotient + 1
@@ -145,7 +145,7 @@ pub(crate) fn split_last_18_digits(n: u128) -> (u128, u64)
     ensures rest { result.1 ≡ n % 10 ^ 18 }
 {
     if n < 1 << 122 {
-        // 58 + 65 is 123, the power of the reciprocal, and 64 bits of `n` are left after the cut by 58.
+        // 58 + 65 is 123, the power of the reciprocal, and at most 64 bits of `n` are left after the cut by 58.
         let (before, last) = div_rem_by_inverse(n, TEN_POW_18, TEN_POW_18_INVERSE, 58, 65);
         return (u128::from(before), last);
     }

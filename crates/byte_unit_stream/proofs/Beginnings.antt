@@ -11,7 +11,7 @@ module _ {X : Type 0} where
   IsBeginningOf-longer front whole more (rest, is) =
       (rest ++ more, ap (λ xs. xs ++ more) is ∙ append_assoc front rest more)
 
-  -- a beginning stays a beginning with the same list in front of both
+  -- a beginning stays a beginning with the same list before both
   pub IsBeginningOf-after : (before front whole : List X) → IsBeginningOf front whole
       → IsBeginningOf (before ++ front) (before ++ whole)
   IsBeginningOf-after before front whole (rest, is) =

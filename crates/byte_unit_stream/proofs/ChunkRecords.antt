@@ -8,7 +8,7 @@ use Rattle.std.specs.List.{onto_first}
 use Rattle.byte_unit_stream.specs.Records.{split_by, but_last, but_empty_last, records_of, finished_records}
 use Rattle.byte_unit_stream.specs.Chunks.{ended_records, begun_record, nonempty_record}
 
--- the function that puts these bytes before the first of the subslices
+-- the subslices, with these bytes put before the first of them; these bytes alone if there are none
 abbrev onto : List ℕ → List (List ℕ) → List (List ℕ)
 onto part [] = part ∷ []
 onto part (own ∷ others) = (part ++ own) ∷ others
@@ -47,7 +47,7 @@ module _ (end : ℕ) where
   begun_record-append part (byte ∷ front) back =
       grind (arith, nat_tests, begun_record-append [] front back, begun_record-append (part ++ byte ∷ []) front back)
 
-  -- an input has a first part, even if it has no bytes
+  -- an input has a first subslice, even if it has no bytes
   pub split_by_IsSplit : (bytes : List ℕ) → IsSplit (split_by end bytes)
   split_by_IsSplit [] = ([], [], refl)
   split_by_IsSplit (byte ∷ bytes) =
@@ -56,7 +56,7 @@ module _ (end : ℕ) where
       (onto_first byte (split_by end bytes))))
       [ true ↦ ([], split_by end bytes, refl) | false ↦ (byte ∷ split.0, split.1, ap (onto_first byte) split.2) ]
 
-  -- the subslices are the records that end, and the unfinished record
+  -- the subslices, with `part` put before the first, are the records that end, and the unfinished record
   split_by-onto : (part bytes : List ℕ)
       → onto part (split_by end bytes) ≡ ended_records end part bytes ++ begun_record end part bytes ∷ []
   split_by-onto part [] = ap (λ own. own ∷ []) (append-nil part)

@@ -36,7 +36,7 @@ module _ (end : ℕ) where
       let on = longest_of-ended_records (part ++ byte ∷ []) bytes bound some (omega (arith, length-append part (byte ∷ []))) in
       grind (arith, nat_tests, longest_of-ended_records [] bytes bound some (omega arith), on)
 
-  -- the records that end in a next chunk stay below a bound that the unfinished record and the chunk do not exceed
+  -- with a next chunk, the records that end stay below a bound of at least the unfinished one and the chunk together
   pub longest_of-ended_records-append : (front back : List ℕ) (bound : ℕ) → longest_of (ended_records end [] front) < bound
       → length (begun_record end [] front) + length back ≤ bound → longest_of (ended_records end [] (front ++ back)) < bound
   longest_of-ended_records-append front back bound below fits =

@@ -87,7 +87,7 @@ pub struct MemoryReader<'a> {
 
 impl<'a> Read for MemoryReader<'a> {
     fn read(&mut self, buf: &mut [u8]) -> io::Result<usize> {
-        // No call transfers more than is left, and than there is room for.
+        // No call transfers more than is left, nor more than there is room for.
         let asked = self.rest.len().min(buf.len());
         let n = self.pace.next(asked)?.min(asked);
         let (front, rest) = self.rest.split_at(n);

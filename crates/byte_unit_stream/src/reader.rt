@@ -89,7 +89,7 @@ impl<R: Read> FusedReader<R> {
             → reads_left self.new + 1 ≡ reads_left self.old }
     {
         if self.failed || self.count == u64::MAX {
-            // Not set before if the number of reads has reached its bound.
+            // `failed` is not set yet if the number of reads has just reached its bound.
             self.failed = true;
             return None;
         }

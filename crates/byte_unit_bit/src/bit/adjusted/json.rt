@@ -40,8 +40,8 @@ impl AdjustedBit {
             × (view value ≡ string text)) }
     {
         let size = self.get_bit();
-        // As in the Rust crate: in a unit such as `Gib` it has more than 28 digits after the point, and `from_json`
-        // would reject it.
+        // As in the Rust crate, the largest size is stored in its exact unit: in one such as `Gib` it has more than 28
+        // digits after the point, and `from_json` would reject it.
         let text = if size == Bit::MAX {
             size.to_text(alloc, FormatSpec::ALTERNATE)?
         } else {

@@ -39,8 +39,8 @@ impl AdjustedByte {
             × (view value ≡ string text)) }
     {
         let size = self.get_byte();
-        // As in the Rust crate: in a unit such as `GiB` it has more than 28 digits after the point, and `from_json`
-        // would reject it.
+        // As in the Rust crate, the largest size is stored in its exact unit: in one such as `GiB` it has more than 28
+        // digits after the point, and `from_json` would reject it.
         let text = if size == Byte::MAX {
             size.to_text(alloc, FormatSpec::ALTERNATE)?
         } else {

@@ -19,14 +19,14 @@ returns-in-None-clause-exact c = λ other is_other.
     c.number_in_unit-number.ensures in
     c.layout_len.ensures.exact ∙ sym (ap length (adjusted_form_unique is_other form))
 
--- Without a width, the parts are as short as every adjusted text.
+-- The parts are no longer than an adjusted text can be, `most_adjusted_text`.
 pub returns-in-Some-clause-narrow : goal.returns-in-Some-clause-narrow
 returns-in-Some-clause-narrow c =
     let narrow = adjusted_narrow c.args.kind c.args.size c.args.unit c.args.spec (parts_text c.in-Some.parts) c.requires
     c.in-Some.ensures.text in
     omega (arith, c.in-Some.ensures.len, narrow)
 
--- Without a width, the layout of the rounded expansion is as short as every adjusted text.
+-- The layout of the rounded expansion is no longer than an adjusted text can be, `most_adjusted_text`.
 pub returns-in-None-clause-narrow : goal.returns-in-None-clause-narrow
 returns-in-None-clause-narrow c =
     let places = c.round-places in

@@ -11,7 +11,7 @@ pub returns-in-Exact-clause-text : goal.returns-in-Exact-clause-text
 returns-in-Exact-clause-text c = λ num den some is.
     rw c.in-Exact.is (c.args.number.now, is, all_places c.args.number.now c.places.result c.places.ensures.exact)
 
--- `near` is the rounded number, that it is nearest to the expansion, and that the padded decimal is this number.
+-- `near` is the rounded number, that it is nearest to the expansion, and that the decimal, not padded, is this number.
 pub returns-in-To-clause-text : goal.returns-in-To-clause-text
 returns-in-To-clause-text c = λ num den some is.
     let near = c.round.ensures in

@@ -20,12 +20,12 @@ returns-in-To-clause-written c =
     (rw c.in-To.is (c.rounded_quotient-number.result, rw (← c.as_bits_u128.ensures.bits) nearest, refl))) in
     writes_form (parts_text c.scaled_parts.result) form c.write.ensures.written
 
--- Without a width, what was written is as short as every adjusted text.
+-- What was written is no longer than an adjusted text can be, `most_adjusted_text`.
 pub returns-in-To-clause-narrow : goal.returns-in-To-clause-narrow
 returns-in-To-clause-narrow c =
     written_narrow c.args.kind c.args.size c.args.unit c.args.spec c.requires (returns-in-To-clause-written c)
 
--- Without a width, what the slow path writes is as short as every adjusted text.
+-- What the slow path writes is no longer than an adjusted text can be, `most_adjusted_text`.
 pub returns-in_default-clause-narrow : goal.returns-in_default-clause-narrow
 returns-in_default-clause-narrow c =
     written_narrow c.args.kind c.args.size c.args.unit c.args.spec c.requires c.write_slow.ensures.written

@@ -4,7 +4,7 @@ use Rattle.std.specs.String.{string_bytes}
 use Rattle.byte_unit_format.specs.Room.{spare_capacity}
 use Rattle.byte_unit_format.proofs.capacity.push_run.Given as goal
 
--- `spare_capacity` falls by as many bytes as are appended.
+-- `spare_capacity` falls by at most as many bytes as are appended.
 abbrev pub invariant-loop-left : goal.invariant-loop-left
 invariant-loop-left g l = record {
   few : l.left ≤ l.count;

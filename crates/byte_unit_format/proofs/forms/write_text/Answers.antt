@@ -11,17 +11,17 @@ pub returns-then-eq-clause-written : goal.returns-then-eq-clause-written
 returns-then-eq-clause-written c =
     rw (is_alternate c.args.spec (sym c.eq.ensures ∙ c.if-eq.true)) c.write_alternate.ensures
 
--- The alternate form fits the array.
+-- The alternate form has at most 37 bytes, so it is shorter than the limit of a text.
 pub returns-then-eq-clause-bound : goal.returns-then-eq-clause-bound
 returns-then-eq-clause-bound c =
     omega (arith, written_form_narrow c.args.kind c.args.size c.requires c.write_alternate.ensures)
 
--- The alternate form has no width.
+-- The alternate form, which has no width, has at most 37 bytes.
 pub returns-then-eq-clause-narrow : goal.returns-then-eq-clause-narrow
 returns-then-eq-clause-narrow c = λ _.
     written_form_narrow c.args.kind c.args.size c.requires c.write_alternate.ensures
 
--- Every other text without a width is as short.
+-- Every other text without a width has at most 37 bytes.
 pub returns-clause-narrow : goal.returns-clause-narrow
 returns-clause-narrow c = λ none.
     let narrow = text_without_width_narrow c.args.spec.alternate c.args.kind c.args.size c.args.spec

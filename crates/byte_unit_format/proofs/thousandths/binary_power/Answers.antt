@@ -9,7 +9,7 @@ returns-clause-greatest c =
     (binary_greatest c.args.places c.args.size _ c.requires.places c.requires.some c.requires.small
     (omega (arith, c.min.ensures))).0
 
--- Its position is at most 9.
+-- The position of the prefix is at most 9.
 pub returns-clause-bound : goal.returns-clause-bound
 returns-clause-bound c = few_binary _ c.args.size c.requires.small (returns-clause-greatest c).fits.not_above
 

@@ -37,7 +37,7 @@ returns-then-binary-power-clause-split c = λ kind.
       value = number_of_units kind c.args.size found.result.2 false found.result.0 found.result.1 found.ensures.value;
     }
 
--- The whole part in it is below the limit.
+-- The whole part in the unit with the decimal prefix is below 10^27.
 pub returns-then-binary-power-clause-narrow : goal.returns-then-binary-power-clause-narrow
 returns-then-binary-power-clause-narrow c = λ three.
     let power = c.in_thousands-whole.result.2 in

@@ -29,7 +29,7 @@ overflow_sub-len c =
     (assumption c.significant-used.ensures) c.significant-used.ensures.bound refl in
     omega (arith, found.within, c.requires.len)
 
--- The binary prefix is at least the decimal one, which is one.
+-- The position of the binary prefix is at least that of the decimal one, which is at least 1.
 pub in_eighths-whole-requires-clause-some : goal.in_eighths-whole-requires-clause-some
 in_eighths-whole-requires-clause-some c = elim c.if-binary-most.branch [
   | then-binary-most+else-binary-power w ↦

@@ -7,7 +7,7 @@ use Rattle.byte_unit_format.proofs.UnitFraction.{drop_known}
 use Rattle.byte_unit_format.proofs.WithDigits.{text_at, front_at, take_kept, first_of_padded, padded_length}
 use Rattle.byte_unit_format.proofs.with_digits.put_with_digits.Goals as goal
 
--- `copied`, `middle` and `written` are the array after the digits, after what is between, and after the size.
+-- `copied` and `middle` are the array after the digits and after what is between; `written` is its rest, with the size.
 pub returns : goal.returns
 returns c =
     let size = c.args.size in

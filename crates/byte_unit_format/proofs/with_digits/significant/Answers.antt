@@ -11,7 +11,7 @@ use lib.Lanes.{mask_l}
 use Rattle.byte_unit_format.proofs.FewPlaces.{exponent_below}
 use Rattle.byte_unit_format.proofs.with_digits.significant.Goals as goal
 
--- The byte is not the character `0`, 48.
+-- Whether the byte is not the character `0`, 48.
 abbrev is_used : ℕ → Bool
 is_used byte = not (eqb byte 48)
 

@@ -5,7 +5,7 @@ use Rattle.byte_unit_math.specs.Inverse.{IsSubtracted}
 use Rattle.byte_unit_math.proofs.Estimates.{division_is}
 use Rattle.byte_unit_math.proofs.dividing.div_rem_digit.Goals as goal
 
--- The four multiples make the digit. Each pair is the multiple that was subtracted, or 0, and what is left.
+-- The four counts make the digit. Each pair is how often the divisor was subtracted, and what is left.
 digit_is : {dividend divisor : ℕ} {eights fours twos ones : ℕ × ℕ} → IsSubtracted dividend 8 divisor eights
     → IsSubtracted eights.1 4 divisor fours → IsSubtracted fours.1 2 divisor twos → IsSubtracted twos.1 1 divisor ones
     → (eights.0 + fours.0 + twos.0 + ones.0 ≡ dividend / divisor) × (ones.1 ≡ dividend % divisor)
@@ -13,14 +13,14 @@ digit_is {dividend} {divisor} {eights} {fours} {twos} {ones} in_eights in_fours 
     division_is dividend divisor (eights.0 + fours.0 + twos.0 + ones.0) ones.1
     (omega (arith, in_eights.parts, in_fours.parts, in_twos.parts, in_ones.parts)) (omega (arith, in_ones.below))
 
--- In 64 bits, the digit is the sum of the four multiples.
+-- In 64 bits, the digit is the sum of the four counts.
 pub returns-then-divisor : goal.returns-then-divisor
 returns-then-divisor c =
     let is = digit_is c.subtract_multiple_u64-eights.ensures c.subtract_multiple_u64-fours.ensures
     c.subtract_multiple_u64-twos.ensures c.subtract_multiple_u64-ones.ensures in
     record { digit = c.from.ensures ∙ is.0; rest = c.from-then-divisor.ensures ∙ is.1 }
 
--- In 128 bits, the digit is the sum of the four multiples.
+-- In 128 bits, the digit is the sum of the four counts.
 pub returns : goal.returns
 returns c =
     let is = digit_is c.subtract_multiple-eights.ensures c.subtract_multiple-fours.ensures

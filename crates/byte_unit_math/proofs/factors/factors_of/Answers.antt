@@ -46,7 +46,7 @@ overflow_add-twos c = omega (arith, few (goal.at.overflow_add-twos c).Joined-lef
 pub overflow_add-twos-2 : goal.overflow_add-twos-2
 overflow_add-twos-2 c = omega (arith, few (goal.at.overflow_add-twos-2 c).Joined-left)
 
--- What is left times its factors is the size.
+-- What is left, times the powers of 2 and 5 found, is the size.
 pub returns-clause-product : goal.returns-clause-product
 returns-clause-product c = sym (all_off (goal.at.returns-clause-product c).Joined-left).product
 

@@ -12,7 +12,7 @@ returns-then-n-lt10000-clause-digits c =
     let start : c.put_u64.result ≡ 0 = omega (arith, c.put_u64.ensures.begins, len) in
     rw (start, drop-replicate {X = ℕ} c.decimal_len-len.result 32 48, len) at c.put_u64.ensures.bytes
 
--- `count` is the length of the digits with zeros before them; 32 bytes are copied of them.
+-- `count` is the length of the digits with zeros before them; 32 bytes are copied, from the first digit on.
 pub returns-clause-digits : goal.returns-clause-digits
 returns-clause-digits c =
     let n = c.args.n in

@@ -82,7 +82,7 @@ from_digits-quotient-requires-clause-whole c = rw (count_at_point c).0 (omega (a
 pub from_digits-quotient-requires-clause-digits : goal.from_digits-quotient-requires-clause-digits
 from_digits-quotient-requires-clause-digits c = grind (arith, count_at_point, pow10_bounds)
 
--- The quotient, scaled by 10^28, is the multiple at its places.
+-- `quotient` is that the result, scaled by 10^28, is the multiple times 10^(28 - places).
 pub returns-clause-exact : goal.returns-clause-exact
 returns-clause-exact c =
     let at_point = count_at_point (goal.at.returns-clause-exact c).Joined-places in

@@ -10,7 +10,7 @@ abbrev digits_of : After-power_of_five → ℕ
 digits_of c =
     bit_and c.args.numerator (1 * 2 ^ c.args.places % 2 ^ 128 - 1) * c.power_of_five.result
 
--- The mask takes the remainder by the denominator 2^places.
+-- The mask takes the remainder by the denominator 2^places, so the digits are it times 5^places.
 digits_are : (c : After-power_of_five) → digits_of c ≡ c.args.numerator % 2 ^ c.args.places * 5 ^ c.args.places
 digits_are c = grind (arith, masked_rest)
 

@@ -12,7 +12,7 @@ use Rattle.byte_unit_math.proofs.short.decimal_expansion.Goals as goal
 abbrev scaled_of : After-power_of_five → ℕ
 scaled_of c = c.args.numerator * c.power_of_five.result
 
--- The power of five that the table has is 5^twos.
+-- The scaled number is the numerator times 5^twos, a power that the table has.
 scaled_is : (c : After-power_of_five) → scaled_of c ≡ c.args.numerator * 5 ^ c.args.twos
 scaled_is c = grind arith
 

@@ -18,7 +18,7 @@ from_trimmed_digits-number-requires-clause-places c =
 pub from_trimmed_digits-number-requires-clause-trimmed : goal.from_trimmed_digits-number-requires-clause-trimmed
 from_trimmed_digits-number-requires-clause-trimmed c = short_trimmed c.in-Some.ensures
 
--- The number, scaled by 10^28, is the expansion.
+-- The number is the short expansion, both scaled by 10^28.
 pub returns-in-Some-clause-exact : goal.returns-in-Some-clause-exact
 returns-in-Some-clause-exact c =
     let few : c.in-Some.parts.places ≤ places_of_decimal =

@@ -19,7 +19,7 @@ number_is c = grind (arith, shared_twos)
 pub overflow_shr-reduced : goal.overflow_shr-reduced
 overflow_shr-reduced c = grind (arith, exponents_within_places, shared_few)
 
--- If twos are left below, the reduced numerator is odd.
+-- If factors of 2 are left in the denominator, the reduced numerator is odd.
 pub binary_expansion-requires : goal.binary_expansion-requires
 binary_expansion-requires c = grind (arith, exponents_within_places, odd_if_shared)
 

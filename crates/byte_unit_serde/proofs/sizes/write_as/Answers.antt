@@ -2,7 +2,7 @@
 use Rattle.std.proofs.Common.{IsUtf8, arith, take, take_at, drop, length, ◌≡◌, ◌++◌, subst, sym}
 use Rattle.byte_unit_serde.proofs.sizes.write_as.Goals as goal
 
--- This branch is never taken: the text has room in the array, so its bytes are UTF-8 if the text is.
+-- If the text is UTF-8, this branch is not taken: the text has room in the array, so the bytes are those of the text.
 pub returns-in-Err-clause-exact : goal.returns-in-Err-clause-exact
 returns-in-Err-clause-exact g c =
     let written = c.write_text-len.ensures.written in

@@ -16,7 +16,7 @@ shared_few c = grind (arith, min-le_right)
 pub in_lowest_terms-requires-clause-small : goal.in_lowest_terms-requires-clause-small
 in_lowest_terms-requires-clause-small c = grind (arith, div-le_self)
 
--- If a power of two is left below, the numerator that is left is odd.
+-- If a power of two is left in the denominator, the numerator that is left is odd.
 pub in_lowest_terms-requires-clause-odd : goal.in_lowest_terms-requires-clause-odd
 in_lowest_terms-requires-clause-odd c = grind (arith, odd_if_shared)
 

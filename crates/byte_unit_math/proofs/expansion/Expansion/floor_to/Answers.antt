@@ -3,7 +3,7 @@ use Rattle.std.proofs.Common.{arith}
 use Rattle.byte_unit_math.proofs.Cut.{cut_is_expansion, cleared, EndsInRunOf}
 use Rattle.byte_unit_math.proofs.expansion.Expansion.floor_to.Goals as goal
 
--- `run` says that the digits not kept are zeros, and `array` that the array is cleared after those kept.
+-- `run` says that zeros follow the digits kept up to `places`, and `array` that the array is cleared after those kept.
 pub returns : goal.returns
 returns c =
     let e = c.args.self.now in
