@@ -1,7 +1,5 @@
 //! The choice of a unit for a size: unit sets, the largest unit of a set in which a size is exact, and the largest that
 //! is not above it.
-//!
-//! The `#[inline]` attributes are for speed alone: no contract depends on them.
 
 ghost use Rattle.std.specs.Prelude.{◌≡◌, ◌+◌, ◌*◌, ◌<◌, ◌≤◌, ◌⊎◌, IfSome, IfNone};
 ghost use Rattle.byte_unit_math.specs.Bounds.{scale, size_limit};

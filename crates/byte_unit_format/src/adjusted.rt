@@ -1,6 +1,4 @@
 //! Formatting of a size in a given unit.
-//!
-//! The `#[inline]` attributes are for speed alone: no contract depends on them.
 
 ghost use Rattle.std.specs.Prelude.{◌≡◌, ℕ, ◌*◌, ◌^◌, ◌<◌, ◌≤◌, List, length, IfSome, Some};
 ghost use Rattle.std.specs.Fmt.{DisplaysOnOk, DisplaysStyledOnOk};

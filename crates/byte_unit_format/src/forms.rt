@@ -1,6 +1,4 @@
 //! Formatting of a size: digits only, or with a unit.
-//!
-//! The `#[inline]` attributes are for speed alone: no contract depends on them.
 
 ghost use Rattle.std.specs.Prelude.{◌≡◌, ℕ, ◌<◌, ◌≤◌, List, length};
 ghost use Rattle.byte_unit_math.specs.Bounds.{size_limit};

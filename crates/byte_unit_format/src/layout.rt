@@ -1,6 +1,4 @@
 //! Formatting of a number with its unit.
-//!
-//! The `#[inline]` attributes are for speed alone: no contract depends on them.
 
 ghost use Rattle.std.specs.Prelude.{◌≡◌, ◌+◌, ◌≤◌, ◌++◌, length, max};
 ghost use Rattle.std.specs.Fmt.{decimal};

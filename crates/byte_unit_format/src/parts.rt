@@ -1,6 +1,4 @@
 //! The parts of a formatted text, and writing backwards into a buffer.
-//!
-//! The `#[inline]` attributes are for speed alone: no contract depends on them.
 
 ghost use Rattle.std.specs.Prelude.{◌≡◌, ◌+◌, ◌^◌, ◌≤◌, ◌++◌, length, take, drop, replicate, IsAscii};
 ghost use Rattle.byte_unit_math.specs.Numeral.{fraction_text};

@@ -1,6 +1,4 @@
 //! Formatting of a whole number: digits only.
-//!
-//! The `#[inline]` attributes are for speed alone: no contract depends on them.
 
 ghost use Rattle.std.specs.Prelude.{◌≡◌, ◌≤◌, length};
 ghost use Rattle.byte_unit_format.specs.Room.{AppendsForm};

@@ -1,6 +1,4 @@
 //! The unit of a size at a precision of at most three places, found without a search.
-//!
-//! The `#[inline]` attributes are for speed alone: no contract depends on them.
 
 ghost use Rattle.std.specs.Prelude.{◌≡◌, ℕ, ◌+◌, ◌*◌, ◌-◌, ◌/◌, ◌%◌, ◌^◌, ◌<◌, ◌≤◌, true, false};
 ghost use Rattle.byte_unit_math.specs.Bounds.{scale, size_limit};

@@ -1,6 +1,4 @@
 //! The decimal digits of a number, as ASCII.
-//!
-//! The `#[inline]` attributes are for speed alone: no contract depends on them.
 
 ghost use Rattle.std.specs.Prelude.{◌≡◌, ◌^◌, ◌≤◌, ◌<◌, length, IsAscii, Some};
 ghost use Rattle.std.specs.Fmt.{decimal, DisplaysOnOk, DisplaysStyledOnOk};

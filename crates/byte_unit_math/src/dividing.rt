@@ -1,6 +1,4 @@
 //! Division of 128 bits, with remainder or rounded; by constants; and for one digit of a long division.
-//!
-//! The `#[inline]` attributes are for speed alone: no contract depends on them.
 ghost use Rattle.std.specs.Prelude.{◌≡◌, ℕ, ◌+◌, ◌*◌, ◌/◌, ◌%◌, ◌^◌, ◌<◌, ◌≤◌};
 ghost use Rattle.byte_unit_math.specs.Bounds.{unit_limit};
 ghost use Rattle.byte_unit_math.specs.Inverse.{HasInverse, IsSubtracted};

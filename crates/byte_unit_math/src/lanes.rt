@@ -1,6 +1,4 @@
 //! The decimal digits of a number, sixteen at a time.
-//!
-//! The `#[inline]` attributes are for speed alone: no contract depends on them.
 
 ghost use Rattle.std.specs.Prelude.{◌≡◌, ◌+◌, ◌-◌, ◌/◌, ◌%◌, ◌^◌, ◌<◌, ◌≤◌, ◌++◌, length, drop, replicate};
 ghost use Rattle.std.specs.Fmt.{decimal};

@@ -1,6 +1,4 @@
 //! Products of a decimal and a unit's size, rounded up to a whole number.
-//!
-//! The `#[inline]` attributes are for speed alone: no contract depends on them.
 ghost use Rattle.std.specs.Prelude.{◌≡◌, ℕ, ◌+◌, ◌-◌, ◌*◌, ◌/◌, ◌%◌, ◌^◌, ◌<◌, ◌≤◌, IfSome, IfNone};
 ghost use Rattle.byte_unit_math.specs.Bounds.{bits_limit, places_of_decimal, unit_limit};
 ghost use Rattle.byte_unit_math.specs.Least.{IsLeastSize};

@@ -1,6 +1,4 @@
 //! Terminating decimal expansions with few digits after the point, by one product and one division or shift.
-//!
-//! The `#[inline]` attributes are for speed alone: no contract depends on them.
 ghost use Rattle.std.specs.Prelude.{◌≡◌, ◌≢◌, ℕ, ◌*◌, ◌%◌, ◌^◌, ◌<◌, ◌≤◌, IfSome};
 ghost use Rattle.byte_unit_math.specs.Bounds.{bits_limit, scale, unit_limit};
 ghost use Rattle.byte_unit_math.specs.Exact.{IsLeastPlaces};

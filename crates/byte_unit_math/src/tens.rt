@@ -1,6 +1,4 @@
 //! Powers of 10, of 5 and of 2.
-//!
-//! The `#[inline]` attributes are for speed alone: no contract depends on them.
 ghost use Rattle.std.specs.Prelude.{◌≡◌, ◌^◌, ◌≤◌};
 ghost use Rattle.byte_unit_math.specs.Bounds.{expansion_places};
 

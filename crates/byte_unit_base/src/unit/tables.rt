@@ -2,8 +2,6 @@
 //!
 //! A lookup in a table is a load. LLVM makes a jump table of a `match` over the units, which is slower if the units
 //! change from one string to the next.
-//!
-//! The `#[inline]` attributes are for speed alone: no contract depends on them.
 
 ghost use Rattle.std.specs.Prelude.{◌≡◌, ◌≤◌, ◌-◌, slice_index, slice_get};
 ghost use Rattle.byte_unit_base.specs.UnitLists.{units};

@@ -1,7 +1,5 @@
 // Rendered from crates/byte_unit_byte/src/byte/adjusted.rt by `tools/dev render bits`. Do not edit.
 //! `AdjustedBit`, a size in bits with a unit for its text.
-//!
-//! The `#[inline]` attributes are for speed alone: no contract depends on them.
 
 ghost use Rattle.std.specs.Prelude.{◌≡◌, ◌*◌, ◌<◌, ◌≤◌, ℕ, List, length, IfOk};
 ghost use Rattle.std.specs.String.{string_bytes};

@@ -1,7 +1,5 @@
 // Rendered from crates/byte_unit_byte/src/byte/approximate.rt by `tools/dev render bits`. Do not edit.
 //! The text of a size in bits in its appropriate unit: a few digits, as a person reads it.
-//!
-//! The `#[inline]` attributes are for speed alone: no contract depends on them.
 
 ghost use Rattle.std.specs.Prelude.{◌≤◌, IfOk};
 ghost use Rattle.std.specs.String.{string_bytes};

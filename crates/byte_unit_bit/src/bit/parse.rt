@@ -1,7 +1,5 @@
 // Rendered from crates/byte_unit_byte/src/byte/parse.rt by `tools/dev render bits`. Do not edit.
 //! Parsing of sizes in bits.
-//!
-//! The `#[inline]` attributes are for speed alone: no contract depends on them.
 
 ghost use Rattle.std.specs.Prelude.{false, take};
 ghost use Rattle.byte_unit_base.specs.Line.{IsLine};

@@ -1,7 +1,5 @@
 // Rendered from crates/byte_unit_byte/src/byte/text.rt by `tools/dev render bits`. Do not edit.
 //! Formatting of sizes in bits.
-//!
-//! The `#[inline]` attributes are for speed alone: no contract depends on them.
 
 ghost use Rattle.std.specs.Prelude.{◌≡◌, ◌<◌, ◌≤◌, ℕ, List, length, IfOk};
 ghost use Rattle.std.specs.String.{string_bytes};

@@ -1,6 +1,4 @@
 //! `AdjustedByte`, a size in bytes with a unit for its text.
-//!
-//! The `#[inline]` attributes are for speed alone: no contract depends on them.
 
 ghost use Rattle.std.specs.Prelude.{◌≡◌, ◌*◌, ◌<◌, ◌≤◌, ℕ, List, length, IfOk};
 ghost use Rattle.std.specs.String.{string_bytes};

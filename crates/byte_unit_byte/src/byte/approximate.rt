@@ -1,6 +1,4 @@
 //! The text of a size in bytes in its appropriate unit: a few digits, as a person reads it.
-//!
-//! The `#[inline]` attributes are for speed alone: no contract depends on them.
 
 ghost use Rattle.std.specs.Prelude.{◌≤◌, IfOk};
 ghost use Rattle.std.specs.String.{string_bytes};

@@ -1,6 +1,4 @@
 //! Parsing of sizes in bytes.
-//!
-//! The `#[inline]` attributes are for speed alone: no contract depends on them.
 
 ghost use Rattle.std.specs.Prelude.{take};
 ghost use Rattle.byte_unit_base.specs.Line.{IsLine};
