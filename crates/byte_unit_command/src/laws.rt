@@ -9,7 +9,7 @@ pub(crate) fn texts_are_sizes_or_not()
     ensures { TextsAreSizesOrNot }
 {}
 
-/// States that a size formatted in the exact form or as digits, without padding, is parsed as the same size.
+/// States that a size formatted in the exact form or as digits, unpadded, is parsed as the same size.
 pub fn formatted_sizes_are_read()
     ensures { FormattedSizesAreRead }
 {
