@@ -11,8 +11,9 @@ from all of byte_unit_byte when they are tried. A title is `module.function.what
 it, and what it does wrong. `module` is the file of the function or a folder that this file is in; of several the one
 with the shortest path is meant. A function is public if it has `pub` and a contract and the crate exports it: it is
 `extern "C"`, or in a `pub mod`, or it or the type of its `impl` is in a `pub use`; in a program each one with `pub` is.
-Laws, rendered files and crates of examples and tests are left out. The part of a mutant, from 1/N to N/N, depends on
-its crate and title alone. The exit status is 0 if nothing is found and each mutant is rejected.
+Laws, rendered files and crates of examples and tests are left out. Parts 1/N to N/N are pieces of the list of all
+mutants, crate by crate: `rt ci` proves each crate with mutants once more, so a part has those of one crate or a few.
+The exit status is 0 if nothing is found and each mutant is rejected.
 """
 
 import argparse
@@ -20,7 +21,6 @@ import glob
 import os
 import re
 import tempfile
-import zlib
 from pathlib import Path
 
 from .common import copy_to, path, report, shown, write
@@ -74,20 +74,22 @@ def listed(crates):
     return report(wrong, f"mutants: {total} public functions, each with a mutant")
 
 
-def put(crate, part, folder, prefix=""):
-    """Writes the mutants of a part of a crate's catalogue to a folder, and returns the names of their files."""
-    chosen = {f"{prefix}{title}.edit": text for title, text in catalogue_of(crate).items()
-              if zlib.crc32(f"{crate}/{title}".encode()) % part[1] + 1 == part[0]}  # fmt: skip
-    for name, text in chosen.items():
-        write(os.path.join(folder, name), text)
-    return list(chosen)
+def put(crates, part, folder, prefix=""):
+    """Writes a part of the mutants of the crates' catalogues to must-fail/ of each crate in a folder, and returns the
+    names of their files, as `CRATE/FILE`."""
+    every = [(crate, *mutant) for crate in crates for mutant in catalogue_of(crate).items()]
+    number, parts = part
+    chosen = every[len(every) * (number - 1) // parts : len(every) * number // parts]
+    for crate, title, text in chosen:
+        write(os.path.join(folder, crate, "must-fail", f"{prefix}{title}.edit"), text)
+    return [f"{crate}/{prefix}{title}.edit" for crate, title, _ in chosen]
 
 
 def tried(crates, part):
     """Runs a part of the mutants, and reports those that the prover accepts."""
     with tempfile.TemporaryDirectory() as copy:
         copy_to(copy, "crates", "HANDLES", "crates.txt", without=["must-fail"])
-        names = [f"{crate}/{name}" for crate in crates for name in put(crate, part, f"{copy}/crates/{crate}/must-fail")]
+        names = put(crates, part, f"{copy}/crates")
         status, said = shown("rt", "must-fail", *crates, cwd=copy)
     survived = [name for name in names if f"must-fail {name}: NOT REFUSED" in said]
     rejected = [name for name in names if f"must-fail {name}: refused, as it must be" in said]
@@ -130,5 +132,4 @@ def run(action: ("list", "try", "put", "remove") = "list", *words: part_or_crate
         return tried(crates, part)
     remove()
     if action == "put":
-        count = sum(len(put(crate, part, path("crates", crate, "must-fail"), BY_TURN)) for crate in crates)
-        print(f"{count} mutants of the catalogues for rt ci")
+        print(f"{len(put(crates, part, path('crates'), BY_TURN))} mutants of the catalogues for rt ci")
