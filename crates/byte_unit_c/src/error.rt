@@ -163,7 +163,7 @@ fn index_of(expected: Expected) -> usize
     }
 }
 
-/// The bytes of each `Expected`, at its `index_of`.
+/// The bytes of each `Expected`, at its `index_of`. `tools/dev render tables` renders them from its characters.
 static EXPECTED_BYTES: [[u8; 16]; 8] = [
     *b"BKMGTPEZYR\0\0\0\0\0\0",
     *b"Bb\0\0\0\0\0\0\0\0\0\0\0\0\0\0",

@@ -86,7 +86,8 @@ fn is_plain(c: char) -> bool
     (' ' <= c) & (c <= '~') & (c != '\'') & (c != '\\')
 }
 
-/// Returns the rest of the message of an error in the unit, after its character.
+/// Returns the rest of the message of an error in the unit, after its character. `tools/dev render tables` renders the
+/// messages from the characters of `Expected`.
 #[tactic(auto, using(crate::proofs::Escapes::letter))]
 fn rest_of_message(expected: Expected) -> &'static [u8]
     ensures text { Some result.now

@@ -1,5 +1,6 @@
 """Renders files, and parts of files, from the sources that own what they say.
 
+    tables       tables of byte_unit_base and byte_unit_c, from the prefixes and the lists of expected characters
     bits         byte_unit_bit from byte_unit_byte
     bindings     the lists of units, constants and expected characters in `bindings/`, from tables of the library
     calling      the contracts in CALLING.md, from what `byte_unit` exports
@@ -17,11 +18,11 @@ import os
 from itertools import zip_longest
 
 from ..common import Failure, path, read, reason, report, write
-from . import bindings, bits, contracts, pages, vectors
+from . import bindings, bits, contracts, pages, tables, vectors
 
 # Each yields the name and the text of each file that it renders, or no text for one that has to go, and may end by a
 # failure for what else is wrong.
-PARTS = {"bits": bits.made, "bindings": bindings.made, "calling": contracts.calling,
+PARTS = {"tables": tables.made, "bits": bits.made, "bindings": bindings.made, "calling": contracts.calling,
          "definitions": contracts.definitions, "laws": pages.laws, "guide": pages.guide, "tools": pages.tools,
          "vectors": vectors.made}  # fmt: skip
 

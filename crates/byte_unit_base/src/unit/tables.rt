@@ -105,7 +105,7 @@ pub(crate) static BY_POWER: [[Unit; 4]; 10] = with_prefixes!(table units);
 static VARIANTS: [Unit; 38] = with_prefixes!(table variants);
 
 /// The position of the prefix of each letter in either case, by its byte: from 1 for K to 9 for R, or 0 if the byte is
-/// no prefix letter.
+/// no prefix letter. `tools/dev render tables` renders it from `with_prefixes`.
 pub(crate) static LETTER_POWERS: [u8; 256] = [
     0, 0, 0, 0, 0, 0, 0, 0, 0, 0, 0, 0, 0, 0, 0, 0, 0, 0, 0, 0, 0, 0, 0, 0, 0, 0, 0, 0, 0, 0, 0, 0,
     0, 0, 0, 0, 0, 0, 0, 0, 0, 0, 0, 0, 0, 0, 0, 0, 0, 0, 0, 0, 0, 0, 0, 0, 0, 0, 0, 0, 0, 0, 0, 0,
