@@ -92,7 +92,7 @@ fn decimal_expansion(numerator: u128, twos: u32, tens: u32) -> Option<ShortExpan
     let scaled = numerator * power_of_five(twos);
     let (whole, digits) = div_rem(scaled, power_of_ten(places));
     // Leaves trailing zeros out.
-    let (whole, digits, places) = Decimal::from_digits(whole, digits, places).parts();
+    let (whole, digits, places) = Decimal::from_digits(whole, digits, places).fields();
     Some(ShortExpansion {
         whole,
         digits,
