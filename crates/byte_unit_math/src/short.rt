@@ -43,7 +43,7 @@ pub struct ShortExpansion {
 /// ```
 #[inline(always)]
 pub fn short_expansion(numerator: u128, twos: u32, fives: u32) -> Option<ShortExpansion>
-    requires small { numerator < bits_limit }
+    requires bound { numerator < bits_limit }
     requires order { fives ≤ twos }
     requires den { 2 ^ twos * 5 ^ fives ≤ unit_limit }
     ensures { IfSome result (IsShortExpansion numerator (2 ^ twos * 5 ^ fives)) }
