@@ -13,7 +13,7 @@ use Rattle.byte_unit_base.specs.SizeText.{trim_of, IsSizeText}
 use Rattle.byte_unit_base.specs.ViablePrefix.{ParserState}
 use Rattle.byte_unit_base.specs.Fault.{Fault, fault_at, fault_at_end, stops_at_bi, IsFaultAfter}
 use Rattle.byte_unit_base.specs.UnitScan.{unit_step, unit_of, start as unit_start, scan_of, word_parser_state, Multiple}
-use Rattle.byte_unit_base.specs.UnitScan.{Word, Bi}
+use Rattle.byte_unit_base.specs.UnitScan.{SuffixPart, Bi}
 use Rattle.byte_unit_base.specs.Outcome.{IsPositionOfStop}
 use Rattle.byte_unit_base.specs.ParserEnds.{HasVisibleEnds, IsFirst, IsUnitStop, IsWrongAt, IsWrongPlace}
 use Rattle.byte_unit_base.specs.PlaceReading.{IsUnitPlace, IsSizePlace}
@@ -63,7 +63,7 @@ spells_any flags other text unit (inr multiple) =
 -- a unit that cannot end in its state ends in `bi`
 
 -- if no unit ends in a state, an input that ends there has the error of one that ends in `bi`
-no_unit : (flags : Flags) (m : Multiple) (w : Word) → unit_of flags (scan_of m w) ≡ None
+no_unit : (flags : Flags) (m : Multiple) (w : SuffixPart) → unit_of flags (scan_of m w) ≡ None
     → fault_at_end (word_parser_state m w) ≡ Some stops_at_bi
 no_unit flags m Bi none = refl
 no_unit flags m w none = absurd (let z : ⊥ = cc in z)

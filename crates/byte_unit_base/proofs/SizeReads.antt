@@ -22,7 +22,7 @@ use Rattle.byte_unit_base.specs.Errors.{size_fault}
 use Rattle.byte_unit_base.specs.ReaderLaws.{Represents}
 use Rattle.byte_unit_base.specs.Scan.{read}
 use Rattle.byte_unit_base.specs.UnitScan.{unit_step, unit_of, unit_at_end, word_parser_state, scan_of}
-use Rattle.byte_unit_base.specs.UnitScan.{start as unit_start, UnitScan, Multiple, One, Word, Empty, Bi}
+use Rattle.byte_unit_base.specs.UnitScan.{start as unit_start, UnitScan, Multiple, One, SuffixPart, Empty, Bi}
 use Rattle.byte_unit_base.specs.SizeScan.{size_step, size_scan, size_result, with_shape, size_at_end, size_parser_state}
 use Rattle.byte_unit_base.specs.SizeScan.{size_or_fault, fixed_point, SizeScan, Beginning, Whole, Point, Fraction, Gap}
 use Rattle.byte_unit_base.specs.SizeScan.{UnitAt}
@@ -54,7 +54,7 @@ front_in_unit n s place text r h = record {
 }
 
 -- the text that led to a state within a unit is a viable prefix of a size
-size_front_in_unit : (n : ℕ) (m : Multiple) (w : Word) (text : List ℕ) (r : UnitReached n (scan_of m w) text)
+size_front_in_unit : (n : ℕ) (m : Multiple) (w : SuffixPart) (text : List ℕ) (r : UnitReached n (scan_of m w) text)
     → 0 < length r.unit_part → IsViableSizePrefix current (word_parser_state m w) text
 size_front_in_unit n m Bi text r some = front_in_unit n _ after_bi text r (unit_front m Bi r.unit_part r.reached)
 size_front_in_unit n One Empty text r some =
@@ -136,7 +136,7 @@ abbrev GoesOn : Flags → SizeScan → Type 0
 GoesOn flags s = (rest : List ℕ) × (found : ℕ × Shape) × (read (size_scan flags) s rest ≡ Ok found)
 
 -- within a unit, only `bi` must be completed: by a `t` (116)
-goes_on_in_unit : (flags : Flags) (n : ℕ) (m : Multiple) (w : Word) → GoesOn flags (UnitAt n (scan_of m w))
+goes_on_in_unit : (flags : Flags) (n : ℕ) (m : Multiple) (w : SuffixPart) → GoesOn flags (UnitAt n (scan_of m w))
 unfolding size_step unit_step
 goes_on_in_unit flags n m Bi = (116 ∷ [], (n, _), refl)
 goes_on_in_unit flags n m w = ([], (n, _), refl)

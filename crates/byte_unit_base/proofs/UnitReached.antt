@@ -14,8 +14,8 @@ use Rattle.byte_unit_base.specs.Version.{current}
 use Rattle.byte_unit_base.specs.Spelling.{Flags, IsPrefixLetter, SpellsBinary, SpellsCount, Spells}
 use Rattle.byte_unit_base.specs.UnitScan.{unit_step, unit_of, start, scan_of, position_in, prefix_at, multiple_step}
 use Rattle.byte_unit_base.specs.UnitScan.{word_step, or_word, count_of, multiple_shape, IsMultipleText, IsWordText}
-use Rattle.byte_unit_base.specs.UnitScan.{Word, Empty, UpperB, LowerB, Bi, Bit, Bits, Multiple, One, Decimal, Binary}
-use Rattle.byte_unit_base.specs.UnitScan.{UnitScan}
+use Rattle.byte_unit_base.specs.UnitScan.{SuffixPart, Empty, UpperB, LowerB, Bi, Bit, Bits, Multiple, One, Decimal}
+use Rattle.byte_unit_base.specs.UnitScan.{Binary, UnitScan}
 use Rattle.byte_unit_base.proofs.Lists.{push_last}
 use Rattle.byte_unit_base.proofs.Options.{some_mapped}
 
@@ -95,7 +95,7 @@ lower_push [] c = refl
 lower_push (x ∷ xs) c = ap (λ t. to_ascii_lowercase x ∷ t) (lower_push xs c)
 
 -- one character more of the suffix: the text with it is that of the next state
-word_grows : (w v : Word) (c : ℕ) (text : List ℕ) → word_step w c ≡ Some v → IsWordText w text
+word_grows : (w v : SuffixPart) (c : ℕ) (text : List ℕ) → word_step w c ≡ Some v → IsWordText w text
     → IsWordText v (text ++ c ∷ [])
 word_grows Empty UpperB c text e h = rw h (grind (arith, nat_tests, e))
 word_grows Empty LowerB c text e h = rw h (grind (arith, nat_tests, e))
@@ -106,7 +106,7 @@ word_grows Bit Bits c text e h = grind (arith, nat_tests, e, lower_push text c, 
 word_grows _ _ c text e h = grind (arith, nat_tests, e)
 
 -- if one character more continues the suffix, the text with it led to the next state
-reached_by_word : (m : Multiple) (w : Word) (t : UnitScan) (c : ℕ) (text : List ℕ)
+reached_by_word : (m : Multiple) (w : SuffixPart) (t : UnitScan) (c : ℕ) (text : List ℕ)
     → option_map (scan_of m) (word_step w c) ≡ Some t → Reached (scan_of m w) text → Reached t (text ++ c ∷ [])
 reached_by_word m w t c text h r =
     let v = some_mapped (scan_of m) t (word_step w c) h in
@@ -135,8 +135,8 @@ reached_by_prefix m t c text (Some n) e h r =
     })
 
 -- if a step leads from a state to the next, what is known of the text holds with its character added
-pub Reached-step : (m : Multiple) (w : Word) (t : UnitScan) (c : ℕ) (text : List ℕ) → unit_step (scan_of m w) c ≡ Some t
-    → Reached (scan_of m w) text → Reached t (text ++ c ∷ [])
+pub Reached-step : (m : Multiple) (w : SuffixPart) (t : UnitScan) (c : ℕ) (text : List ℕ)
+    → unit_step (scan_of m w) c ≡ Some t → Reached (scan_of m w) text → Reached t (text ++ c ∷ [])
 unfolding unit_step
 Reached-step m Empty t c text h r = reached_by_prefix m t c text (multiple_step m c) refl h r
 Reached-step m w t c text h r = reached_by_word m w t c text h r
@@ -148,7 +148,7 @@ Reached-start = record { front = []; word = []; text_is = refl; front_is = refl;
 -- the unit at the end of an input
 
 -- a suffix whose kind is known spells that kind
-count_spelled : (flags : Flags) (w : Word) (text : List ℕ) (bit : Bool) → count_of flags w ≡ Some bit
+count_spelled : (flags : Flags) (w : SuffixPart) (text : List ℕ) (bit : Bool) → count_of flags w ≡ Some bit
     → IsWordText w text → SpellsCount flags text bit
 count_spelled flags Empty text bit e h = inl (h, cc)
 count_spelled flags UpperB text bit e h = inr (inl (h, cc))
@@ -166,7 +166,7 @@ prefix_and_suffix_spell_unit flags m front word bit h k =
     inr (record { prefix_part = front; count_part = word; text_is = refl; prefix_is = h; count_is = k })
 
 -- if a state has a unit, the text that led to it spells this unit
-pub Spells-reached : (flags : Flags) (m : Multiple) (w : Word) (text : List ℕ) (unit : Shape)
+pub Spells-reached : (flags : Flags) (m : Multiple) (w : SuffixPart) (text : List ℕ) (unit : Shape)
     → unit_of flags (scan_of m w) ≡ Some unit → Reached (scan_of m w) text → Spells current flags text unit
 Spells-reached flags m w text unit e r =
     let bit = some_mapped (multiple_shape m) unit (count_of flags w) e in

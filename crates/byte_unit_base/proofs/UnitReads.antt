@@ -15,8 +15,8 @@ use Rattle.byte_unit_base.specs.Fault.{fault_at_end}
 use Rattle.byte_unit_base.specs.Readings.{IsUnitReading}
 use Rattle.byte_unit_base.specs.Scan.{read}
 use Rattle.byte_unit_base.specs.UnitScan.{unit_step, unit_scan, unit_of, unit_at_end, unit_result, start, scan_of}
-use Rattle.byte_unit_base.specs.UnitScan.{word_parser_state, multiple_parser_state, IsMultipleText, Word, Empty, UpperB}
-use Rattle.byte_unit_base.specs.UnitScan.{LowerB, Bi, Bit, Bits, Multiple, One, Decimal, Binary}
+use Rattle.byte_unit_base.specs.UnitScan.{word_parser_state, multiple_parser_state, IsMultipleText, SuffixPart, Empty}
+use Rattle.byte_unit_base.specs.UnitScan.{UpperB, LowerB, Bi, Bit, Bits, Multiple, One, Decimal, Binary}
 use Rattle.byte_unit_base.specs.declared.unit.Unit.{Unit as UnitName}
 use Rattle.byte_unit_base.specs.declared.errors.UnitParseError.{UnitParseError}
 use Rattle.byte_unit_base.proofs.Scans.{EndsIn, IsScanOf, read_found, read_meant, read_refused}
@@ -37,7 +37,7 @@ some_prefix (Decimal p) text h = inr (p, false, h)
 some_prefix (Binary p) text h = inr (p, true, h)
 
 -- a prefix, or none, and a beginning of a suffix are a viable prefix of a unit
-word_front : (place : ParserState) (m : Multiple) (w : Word) (text : List ℕ) (r : Reached (scan_of m w) text)
+word_front : (place : ParserState) (m : Multiple) (w : SuffixPart) (text : List ℕ) (r : Reached (scan_of m w) text)
     → IsWord place r.word → IsViableWordPrefix current place text
 word_front place m w text r h = record {
   prefix_part = r.front;
@@ -48,7 +48,7 @@ word_front place m w text r h = record {
 }
 
 -- the text that led to a state is a viable prefix of a unit, with the parser state of the state
-pub unit_front : (m : Multiple) (w : Word) (text : List ℕ) → Reached (scan_of m w) text
+pub unit_front : (m : Multiple) (w : SuffixPart) (text : List ℕ) → Reached (scan_of m w) text
     → IsViableUnitPrefix current (word_parser_state m w) text
 unit_front m Empty text r =
     let e : text ≡ r.front = r.text_is ∙ (ap (λ w. r.front ++ w) r.word_is ∙ append-nil r.front) in
@@ -62,14 +62,14 @@ unit_front m Bits text r = word_front after_bits m Bits text r r.word_is
 -- the result for an input that ends in a state
 
 -- an input that ends in a state spells the unit of the state, or has the error of its parser state
-pub unit_ends : (flags : Flags) (m : Multiple) (w : Word) (text : List ℕ) → Reached (scan_of m w) text
+pub unit_ends : (flags : Flags) (m : Multiple) (w : SuffixPart) (text : List ℕ) → Reached (scan_of m w) text
     → EndsIn (Spells current flags text) (fault_at_end (word_parser_state m w)) (unit_at_end (unit_of flags (scan_of m w)))
 unit_ends flags One Empty text r = (_, Spells-reached flags One Empty text _ refl r, refl)
 unit_ends flags m Bi text r = refl
 unit_ends flags m w text r = (_, Spells-reached flags m w text _ refl r, refl)
 
 -- each state can be completed: a `t` makes a unit after `bi`, and elsewhere nothing is missing
-unit_goes_on : (flags : Flags) (m : Multiple) (w : Word)
+unit_goes_on : (flags : Flags) (m : Multiple) (w : SuffixPart)
     → (rest : List ℕ) × (unit : Shape) × (read (unit_scan flags) (scan_of m w) rest ≡ Ok unit)
 unfolding unit_step
 unit_goes_on flags m Bi = (116 ∷ [], _, refl)

@@ -13,14 +13,14 @@ use Rattle.byte_unit_base.specs.Spelling.{Flags, IsPrefixLetter, SpellsCount, Sp
 use Rattle.byte_unit_base.specs.ViablePrefix.{ParserState, before_unit, after_prefix, after_b, after_bi, after_bit}
 use Rattle.byte_unit_base.specs.ViablePrefix.{after_bits, IsWord, IsViableWordPrefix, IsViableUnitPrefix}
 use Rattle.byte_unit_base.specs.Scan.{run}
-use Rattle.byte_unit_base.specs.UnitScan.{unit_step, unit_of, unit_scan, start, scan_of, prefix_at, count_of}
-use Rattle.byte_unit_base.specs.UnitScan.{multiple_shape, IsWordText, word_parser_state, multiple_parser_state, Word}
+use Rattle.byte_unit_base.specs.UnitScan.{unit_step, unit_of, unit_scan, scan_of, prefix_at, count_of, SuffixPart}
+use Rattle.byte_unit_base.specs.UnitScan.{start, multiple_shape, IsWordText, word_parser_state, multiple_parser_state}
 use Rattle.byte_unit_base.specs.UnitScan.{Empty, UpperB, LowerB, Bi, Bit, Bits, Multiple, One, Decimal, Binary}
 use Rattle.byte_unit_base.proofs.Lists.{from_lowercase}
 use Rattle.byte_unit_base.proofs.Scans.{run_through, run_step, IsScanned}
 
 -- no character before the letters, and none past ASCII, continues a unit
-pub no_other_step : (m : Multiple) (w : Word) (c : ℕ) → (c < 65) ⊎ (128 ≤ c) → unit_step (scan_of m w) c ≡ None
+pub no_other_step : (m : Multiple) (w : SuffixPart) (c : ℕ) → (c < 65) ⊎ (128 ≤ c) → unit_step (scan_of m w) c ≡ None
 unfolding unit_step
 no_other_step m Bits c other = refl
 no_other_step One Empty c other =
@@ -46,7 +46,7 @@ after_bi_text m b i rest e k = ⊎_elim
     (from_lowercase b 98 (omega arith) (omega arith) e)
 
 -- a suffix, and `bi`, is read after any prefix
-pub run_suffix : (m : Multiple) (w : Word) (text : List ℕ) → IsWordText w text
+pub run_suffix : (m : Multiple) (w : SuffixPart) (text : List ℕ) → IsWordText w text
     → run unit_step (scan_of m Empty) text ≡ Some (scan_of m w)
 unfolding unit_step
 run_suffix m Empty text h = ap (run unit_step (scan_of m Empty)) h
@@ -65,7 +65,7 @@ run_suffix m _ _ h = absurd (let k : ⊥ = cc in k)
 
 -- each suffix is that of a state, and means bits or bytes there
 count_word : (flags : Flags) (text : List ℕ) (bit : Bool) → SpellsCount flags text bit
-    → (w : Word) × IsWordText w text × (count_of flags w ≡ Some bit)
+    → (w : SuffixPart) × IsWordText w text × (count_of flags w ≡ Some bit)
 count_word flags text bit (inl h) = (Empty, h.0, ap Some (sym h.1))
 count_word flags text bit (inr (inl h)) = (UpperB, h.0, ap Some (sym h.1))
 count_word flags text bit (inr (inr (inl h))) = (LowerB, h.0, ap Some (sym h.1))
@@ -120,7 +120,7 @@ run_prefix text power binary h =
 -- the state after the text is that of this unit
 pub record RunsToUnit (flags : Flags) (text : List ℕ) (s : Shape) : Type 0 where
   pub multiple : Multiple
-  pub word : Word
+  pub word : SuffixPart
   pub run : run unit_step start text ≡ Some (scan_of multiple word)
   pub unit : unit_of flags (scan_of multiple word) ≡ Some s
 
@@ -150,7 +150,7 @@ spelling_runs flags text s (inr h) =
 
 -- each beginning of `bits` is that of a state, which has its parser state
 word_of : (place : ParserState) (m : Multiple) (text : List ℕ) → IsWord place text
-    → (w : Word) × (run unit_step (scan_of m Empty) text ≡ Some (scan_of m w)) × (word_parser_state m w ≡ place)
+    → (w : SuffixPart) × (run unit_step (scan_of m Empty) text ≡ Some (scan_of m w)) × (word_parser_state m w ≡ place)
 word_of after_b m (b ∷ []) h = ⊎_elim (λ small. (LowerB, run_suffix m LowerB (b ∷ []) (ap (λ x. x ∷ []) small), refl))
     (λ capital. let same : b ≡ 66 = omega arith in (UpperB, run_suffix m UpperB (b ∷ []) (ap (λ x. x ∷ []) same), refl))
     (from_lowercase b 98 (omega arith) (omega arith) (cc))

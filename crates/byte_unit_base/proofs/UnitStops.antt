@@ -3,7 +3,7 @@
 -- Of a walk `w`, `w.0` is the state where it ends, and `w.1` its length. Of a step `u`, `u.0` is the state after it.
 -- What is known of a walk, as `h`, is that its length is within the text, its run, and that no step follows.
 use Rattle.std.proofs.Common.{◌≡◌, ℕ, ◌+◌, ◌<◌, ◌≤◌, List, [], ◌∷◌, ◌++◌, Some, None, Err, length, take, drop, refl}
-use Rattle.std.proofs.Common.{sym, ap, ◌∙◌, arith, ◌⊎◌, inl, inr, ⊎_elim, length-drop, replicate, one-add, chars}
+use Rattle.std.proofs.Common.{sym, ap, ◌∙◌, arith, inl, inr, ⊎_elim, length-drop, replicate, one-add, chars}
 use Rattle.std.proofs.Common.{encode_utf8_all, IsUtf8, IsAscii, take_all}
 use Rattle.std.proofs.lemmas.Bool.{cases_lt}
 use Rattle.std.proofs.lemmas.Str.{encodes-chars, chars-IsAscii}
@@ -13,7 +13,7 @@ use Rattle.byte_unit_base.specs.Version.{current}
 use Rattle.byte_unit_base.specs.Spelling.{Flags, Spells}
 use Rattle.byte_unit_base.specs.Scan.{run, read}
 use Rattle.byte_unit_base.specs.UnitScan.{unit_step, unit_of, unit_at_end, unit_scan, unit_parser_state, scan_of, start}
-use Rattle.byte_unit_base.specs.UnitScan.{UnitScan, Multiple, One, Word, Empty}
+use Rattle.byte_unit_base.specs.UnitScan.{UnitScan, Multiple, One, SuffixPart, Empty}
 use Rattle.byte_unit_base.specs.UnitWord.{unit_stop, stop_parser_state}
 use Rattle.byte_unit_base.specs.Fault.{fault_at}
 use Rattle.byte_unit_base.specs.declared.unit.scan.UnitStop.{UnitStop}
@@ -53,7 +53,8 @@ spelled flags bytes scan unit place leads all e =
 -- where the parser stops
 
 -- what the code keeps of a state has its parser state
-kept_state : (m : Multiple) (w : Word) → unit_parser_state (scan_of m w) ≡ stop_parser_state (unit_stop (scan_of m w))
+kept_state : (m : Multiple) (w : SuffixPart)
+    → unit_parser_state (scan_of m w) ≡ stop_parser_state (unit_stop (scan_of m w))
 kept_state One Empty = refl
 kept_state m Empty = refl
 kept_state m _ = refl

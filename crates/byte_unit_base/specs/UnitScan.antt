@@ -23,18 +23,18 @@ pub data Multiple : Type 0 where
   Binary : ℕ → Multiple
 
 -- the part of a suffix (`B`, `b`, `bit`, `bits`) read so far
-pub data Word : Type 0 where
-  Empty : Word
-  UpperB : Word
-  LowerB : Word
-  Bi : Word
-  Bit : Word
-  Bits : Word
+pub data SuffixPart : Type 0 where
+  Empty : SuffixPart
+  UpperB : SuffixPart
+  LowerB : SuffixPart
+  Bi : SuffixPart
+  Bit : SuffixPart
+  Bits : SuffixPart
 
 -- a state of the machine
 pub record UnitScan : Type 0 where
   pub multiple : Multiple
-  pub word : Word
+  pub word : SuffixPart
 
 -- the position of a capital letter among the letters, the first of which has the position `first`
 abbrev pub position_in : List ℕ → ℕ → ℕ → Option ℕ
@@ -57,7 +57,7 @@ multiple_step (Binary p) c = None
 
 -- the suffix after one character more: `B` (66), or a beginning of `bits` (98, 105, 116, 115); `None` if the character
 -- does not continue it
-abbrev pub word_step : Word → ℕ → Option Word
+abbrev pub word_step : SuffixPart → ℕ → Option SuffixPart
 word_step Empty c = if c == 66 then Some UpperB else (if c == 98 then Some LowerB else None)
 word_step UpperB c = if is_i c then Some Bi else None
 word_step LowerB c = if is_i c then Some Bi else None
@@ -66,16 +66,16 @@ word_step Bit c = if to_ascii_lowercase c == 115 then Some Bits else None
 word_step Bits c = None
 
 -- the state with this prefix and this suffix
-abbrev pub scan_of : Multiple → Word → UnitScan
+abbrev pub scan_of : Multiple → SuffixPart → UnitScan
 scan_of m w = record { multiple = m; word = w }
 
 -- the state after a character that continues the prefix, or else the suffix
-abbrev pub or_word : Multiple → Option Multiple → Option Word → Option UnitScan
+abbrev pub or_word : Multiple → Option Multiple → Option SuffixPart → Option UnitScan
 or_word m (Some n) w = Some (scan_of n Empty)
 or_word m None w = option_map (scan_of m) w
 
 -- the prefix after one character more, if no suffix has begun
-abbrev pub prefix_step : Multiple → Word → ℕ → Option Multiple
+abbrev pub prefix_step : Multiple → SuffixPart → ℕ → Option Multiple
 prefix_step m Empty c = multiple_step m c
 prefix_step m _ c = None
 
@@ -94,7 +94,7 @@ IsMultipleText (Decimal p) text = SpellsPrefix current text p false
 IsMultipleText (Binary p) text = SpellsPrefix current text p true
 
 -- the texts after which the state has this suffix
-abbrev pub IsWordText : Word → List ℕ → Type 0
+abbrev pub IsWordText : SuffixPart → List ℕ → Type 0
 IsWordText Empty text = text ≡ []
 IsWordText UpperB text = text ≡ codes "B"
 IsWordText LowerB text = text ≡ codes "b"
@@ -103,7 +103,7 @@ IsWordText Bit text = str_to_ascii_lowercase text ≡ codes "bit"
 IsWordText Bits text = str_to_ascii_lowercase text ≡ codes "bits"
 
 -- whether the suffix means bits, or `None` for `bi`, which is no suffix
-abbrev pub count_of : Flags → Word → Option Bool
+abbrev pub count_of : Flags → SuffixPart → Option Bool
 count_of flags Empty = Some (not flags.prefer_byte)
 count_of flags UpperB = Some false
 count_of flags LowerB = Some (not flags.ignore_case)
@@ -127,7 +127,7 @@ multiple_parser_state One = before_unit
 multiple_parser_state _ = after_prefix
 
 -- the parser state after this prefix and this suffix
-abbrev pub word_parser_state : Multiple → Word → ParserState
+abbrev pub word_parser_state : Multiple → SuffixPart → ParserState
 word_parser_state m Empty = multiple_parser_state m
 word_parser_state m UpperB = after_b
 word_parser_state m LowerB = after_b

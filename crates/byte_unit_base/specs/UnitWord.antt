@@ -5,9 +5,9 @@ use Rattle.std.specs.Prelude.{ℕ, zero, suc, Bool, true, false, if◌then◌els
 use Rattle.std.specs.List.{common_prefix_len}
 use Rattle.std.specs.Char.{to_ascii_lowercase}
 use Rattle.byte_unit_base.specs.UnitScan.{prefix_at, Multiple, One, Decimal, Binary, UnitScan}
-use Rattle.byte_unit_base.specs.UnitScan.{Word, Empty, UpperB, LowerB, Bi, Bit, Bits}
+use Rattle.byte_unit_base.specs.UnitScan.{SuffixPart, Empty, UpperB, LowerB, Bi, Bit, Bits}
 use Rattle.byte_unit_base.specs.ViablePrefix.{ParserState, before_unit, after_prefix, after_b, after_bi, after_bit, after_bits}
-use Rattle.byte_unit_base.specs.declared.unit.scan.Word.{Word as Letters}
+use Rattle.byte_unit_base.specs.declared.unit.scan.Word.{Word}
 use Rattle.byte_unit_base.specs.declared.unit.scan.Word.TheVariants.{Empty as NoLetter, B as LetterB, Bi as LettersBi}
 use Rattle.byte_unit_base.specs.declared.unit.scan.Word.TheVariants.{Bit as LettersBit, Bits as LettersBits}
 use Rattle.byte_unit_base.specs.declared.unit.scan.UnitStop.{UnitStop}
@@ -22,7 +22,7 @@ multiple_of zero binary = One
 multiple_of (suc n) binary = if binary then Binary (suc n) else Decimal (suc n)
 
 -- the suffix of the first `n` letters of `bits`, the first of which is a `B` or a `b`
-abbrev pub word_of : ℕ → Bool → Word
+abbrev pub word_of : ℕ → Bool → SuffixPart
 word_of n upper = if n == 0 then Empty else (if n == 1 then (if upper then UpperB else LowerB)
     else (if n == 2 then Bi else (if n == 3 then Bit else Bits)))
 
@@ -36,7 +36,7 @@ has_prefix One = false
 has_prefix _ = true
 
 -- the letters of a suffix, in either case
-abbrev pub letters_of : Word → Letters
+abbrev pub letters_of : SuffixPart → Word
 letters_of Empty = NoLetter
 letters_of UpperB = LetterB
 letters_of LowerB = LetterB
@@ -49,7 +49,7 @@ abbrev pub unit_stop : UnitScan → UnitStop
 unit_stop s = record { has_prefix = has_prefix s.multiple; word = letters_of s.word }
 
 -- the parser state after these letters
-abbrev pub letters_parser_state : Bool → Letters → ParserState
+abbrev pub letters_parser_state : Bool → Word → ParserState
 letters_parser_state prefix NoLetter = if prefix then after_prefix else before_unit
 letters_parser_state prefix LetterB = after_b
 letters_parser_state prefix LettersBi = after_bi

@@ -259,7 +259,7 @@ impl fmt::Display for Unit {
 /// ```
 #[tactic(auto, using(crate::proofs::UnitLetters::shape_of_power))]
 pub fn unit_with_prefix(power: u32, binary: bool, kind: Kind) -> Unit
-    requires some { 1 ≤ power }
+    requires positive { 1 ≤ power }
     requires known { power ≤ 9 }
     ensures { shape_of result ≡ shape power binary (counts_bits kind) }
 {

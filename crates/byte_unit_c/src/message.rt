@@ -22,7 +22,7 @@ use std::fmt::InlineText;
 /// Most messages are known but for one character. They are not put together by a `Formatter`, which takes ten times as
 /// long.
 pub fn write_message(error: &ParseError, out: &mut [u8]) -> usize
-    ensures some { 0 < result }
+    ensures positive { 0 < result }
     ensures text { WritesForm (IsErrorText error.now) out.old out.new result }
     ensures bound { result ≤ 256 }
 {
@@ -38,7 +38,7 @@ pub fn write_message(error: &ParseError, out: &mut [u8]) -> usize
 /// there.
 #[inline(always)]
 pub fn write_unit_message(stop: UnitStop, next: Option<char>, flags: Flags, out: &mut [u8]) -> usize
-    ensures some { 0 < result }
+    ensures positive { 0 < result }
     ensures text { (error : UnitParseError) × (unit_fault error ≡ unit_stop_fault flags stop next)
         × WritesForm (IsErrorText (UnitError error)) out.old out.new result }
     ensures bound { result ≤ 256 }
@@ -137,7 +137,7 @@ fn put(part: &[u8], out: &mut [u8], at: usize)
 
 /// Writes a message as `write_message` does, by its `Display`.
 fn write_formatted(error: &ParseError, out: &mut [u8]) -> usize
-    ensures some { 0 < result }
+    ensures positive { 0 < result }
     ensures text { WritesForm (IsErrorText error.now) out.old out.new result }
     ensures bound { result ≤ 256 }
 {

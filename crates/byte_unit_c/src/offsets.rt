@@ -58,7 +58,7 @@ impl<'a> Offsets<'a> {
     /// Preconditions (proved at every call): the offsets ascend to at most the length of `data`, and `i + 1` is less
     /// than their number.
     pub fn text_at<'d>(self, data: &'d [u8], i: usize) -> &'d [u8]
-        requires within { i + 1 < length (offsets_of self) }
+        requires bound { i + 1 < length (offsets_of self) }
         requires ascends { Ascends (pos 0) (pos (length «data».now)) (offsets_of self) }
         ensures { result.now ≡ text_of «data».now (offsets_of self.entry) i }
     {
@@ -83,7 +83,7 @@ fn position(offset: i64) -> usize
 /// Precondition (proved at every call): `begin <= end <= data.len()`.
 fn part<'d>(data: &'d [u8], begin: usize, end: usize) -> &'d [u8]
     requires ordered { begin ≤ end }
-    requires within { end ≤ length «data».now }
+    requires bound { end ≤ length «data».now }
     ensures { result.now ≡ slice_range «data».now begin end }
 {
     &data[begin..end]

@@ -27,7 +27,7 @@ use Rattle.byte_unit_math.specs.Digits.{last_digits}
 use Rattle.byte_unit_math.specs.Finite.{Finite}
 use Rattle.byte_unit_math.specs.Padded.{pad_of}
 use Rattle.byte_unit_math.proofs.Fractions.{fraction_text_some}
-use Rattle.byte_unit_math.proofs.ShortExpansions.{AreParts, parts_expansion}
+use Rattle.byte_unit_math.proofs.ShortExpansions.{AreFields, fields_expansion}
 use Rattle.byte_unit_math.proofs.Texts.{text_of_short_numeral, padded_to_own_places}
 use Rattle.byte_unit_format.specs.Plain.{plain}
 
@@ -123,17 +123,17 @@ fraction_length places digits =
 pub all_places : (e : Finite) (places : ℕ) → places ≡ length e.digits → text_of (pad_of places e) ≡ text_of e
 all_places e places count = ap (λ places. text_of (pad_of places e)) count ∙ ap text_of (padded_to_own_places e)
 
--- If the number is the size in its exact unit, these parts, formatted with the unit, are the text of the size.
-pub size_form_of_parts : (kind : Kind) (size : ℕ) (spec : FormatSpec) {unit : Shape}
+-- If the number is the size in its exact unit, the number's fields, formatted with the unit, are the text of the size.
+pub size_form_of_fields : (kind : Kind) (size : ℕ) (spec : FormatSpec) {unit : Shape}
     {number places whole digits count : ℕ} → places ≡ places_of spec.precision
     → IsRecoveredIn current kind false size places unit → number * bits unit ≡ size * bits_in kind * scale
-    → AreParts number whole digits count → IsSizeForm kind size spec
+    → AreFields number whole digits count → IsSizeForm kind size spec
     (layout (decimal whole ++ fraction_text (last_digits count digits)) (unit_name_in current unit) spec)
-size_form_of_parts kind size spec {unit} {number} {places} {whole} {digits} {count} places_are recovered product parts =
+size_form_of_fields kind size spec {unit} {number} {places} {whole} {digits} {count} places_are recovered product fields =
     let e : Finite = record { whole = whole; digits = last_digits count digits } in
     let within = rw places_are at recovered in
     let text_is = ap (λ number. layout number (unit_name_in current unit) spec)
-    (text_of_short_numeral number places_of_decimal e (parts_expansion parts)) in
+    (text_of_short_numeral number places_of_decimal e (fields_expansion fields)) in
     search (rules, within, product, text_is)
 
 -- If the alternate form is set, the size formatted with a unit is its text.

@@ -9,7 +9,7 @@ use Rattle.std.proofs.Math.Nat.{pow-le-pow_right, mul-le-mul_left, le_of_mul-le-
 use Rattle.std.proofs.lemmas.Nat.{mul-pow, mul-le, mod_below, and_mask}
 use Rattle.std.proofs.lemmas.Nat.Bits.{bit_at-trailing_zeros}
 use Rattle.byte_unit_math.specs.Bounds.{scale, places_of_decimal, expansion_places}
-pub use Rattle.byte_unit_math.specs.DecimalFields.{AreParts}
+pub use Rattle.byte_unit_math.specs.DecimalFields.{AreFields}
 use Rattle.byte_unit_math.specs.Digits.{last_digits}
 use Rattle.byte_unit_math.specs.Exact.{IsExactAt}
 use Rattle.byte_unit_math.specs.Finite.{IsExpansion}
@@ -61,20 +61,20 @@ binary_is_expansion n p odd =
       least = rw (length_last_digits p digits) least.least;
     }
 
--- The parts of a number are its expansion.
-pub parts_expansion :
-    {number whole digits places : ℕ} → AreParts number whole digits places
+-- The fields of a number are its expansion.
+pub fields_expansion :
+    {number whole digits places : ℕ} → AreFields number whole digits places
     → IsExpansion number scale (record { whole = whole; digits = last_digits places digits })
-parts_expansion {number} {whole} {digits} {places} parts =
-    let value = value_of_last_digits places digits ∙ mod-eq_of_lt parts.below in
-    let product = ap (λ power. digits * power) (pow10_split places places_of_decimal parts.few) in
+fields_expansion {number} {whole} {digits} {places} fields =
+    let value = value_of_last_digits places digits ∙ mod-eq_of_lt fields.below in
+    let product = ap (λ power. digits * power) (pow10_split places places_of_decimal fields.few) in
     let split : number ≡ whole * scale + digits * 10 ^ (places_of_decimal - places) =
-    omega (arith, parts.whole_is, parts.digits_are) in
+    omega (arith, fields.whole_is, fields.digits_are) in
     let times = ap (λ number. number * 10 ^ places) split in
     record {
       small = last_digits_below_ten places digits;
       exact = rw (length_last_digits places digits, value) (omega (arith, times, product));
-      least = rw (length_last_digits places digits) parts.least.least;
+      least = rw (length_last_digits places digits) fields.least.least;
     }
 
 -- The number times 5^twos, split `tens + twos` digits from the right, is the quotient by 2^twos * 10^tens, scaled by
@@ -115,12 +115,12 @@ short_of_same_fraction {num} {den} {num'} {den'} {e} same h = record {
   is_expansion = expansion_of_same_fraction num den num' den' (finite_of e) same h.is_expansion;
 }
 
--- If a decimal is num / den, both scaled by 10^28, its parts are the expansion.
+-- If a decimal is num / den, both scaled by 10^28, its fields are the expansion.
 pub short_of_decimal :
-    {N num den : ℕ} {e : ShortExpansion} → 0 < den → N * den ≡ num * scale → AreParts N e.whole e.digits e.places
+    {N num den : ℕ} {e : ShortExpansion} → 0 < den → N * den ≡ num * scale → AreFields N e.whole e.digits e.places
     → IsShortExpansion num den e
-short_of_decimal some same parts = short_of_same_fraction (record { positive = omega arith; positive' = some; same = same })
-    (record { few = omega (arith, parts.few); below = parts.below; is_expansion = parts_expansion parts })
+short_of_decimal some same fields = short_of_same_fraction (record { positive = omega arith; positive' = some; same = same })
+    (record { few = omega (arith, fields.few); below = fields.below; is_expansion = fields_expansion fields })
 
 -- A power of two that numerator and binary unit share can be left out.
 pub reduced_binary : (number reduced shared left twos : ℕ) → twos ≡ left + shared → number ≡ reduced * 2 ^ shared

@@ -35,7 +35,7 @@ pub record IsNormalized (d : Inside) : Type 0 where
   pub only : decimal_fields (decimal_value d) ≡ d
 
 -- The whole part of a number that is scaled by 10^28, and its digits after the point without trailing zeros.
-pub record AreParts (number whole digits places : ℕ) : Type 0 where
+pub record AreFields (number whole digits places : ℕ) : Type 0 where
   pub few : places ≤ places_of_decimal
   pub least : IsLeastPlaces number scale places
   pub whole_is : whole ≡ number / scale

@@ -20,8 +20,8 @@ const GROUPS_LEN: usize = 112;
 ///
 /// A product with a power of 5 gives the next digits: before its last `left` bits, since 10^n / 2^n is 5^n.
 pub(crate) fn binary_digits(numerator: u128, places: u32) -> [u8; EXPANSION_PLACES]
-    requires few { places ≤ expansion_places }
-    requires below { numerator < 2 ^ places }
+    requires places_bound { places ≤ expansion_places }
+    requires bound { numerator < 2 ^ places }
     ensures size { length result ≡ expansion_places }
     ensures bound { All (λ d. d < 10) result }
     ensures digits { take places result ≡ last_digits places (numerator * 5 ^ places) }

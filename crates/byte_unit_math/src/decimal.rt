@@ -5,7 +5,7 @@ ghost use Rattle.std.specs.Cmp.Rules.{comparing};
 ghost use Rattle.std.specs.Ordering.{nat_cmp, as_partial_cmp};
 ghost use Rattle.std.proofs.Common.{rules};
 ghost use Rattle.byte_unit_math.specs.Bounds.{scale, places_of_decimal, whole_limit};
-ghost use Rattle.byte_unit_math.specs.DecimalFields.{AreParts};
+ghost use Rattle.byte_unit_math.specs.DecimalFields.{AreFields};
 ghost use Rattle.byte_unit_math.specs.Exact.{IsLeastPlaces};
 ghost use Rattle.byte_unit_math.specs.Numeral.{short_numeral};
 
@@ -248,8 +248,8 @@ impl Decimal {
     }
 
     /// Returns what `whole`, `digits` and `places` return.
-    pub(crate) fn parts(self) -> (u128, u128, u32)
-        ensures { AreParts self result.0 result.1 result.2 }
+    pub(crate) fn fields(self) -> (u128, u128, u32)
+        ensures { AreFields self result.0 result.1 result.2 }
     {
         (self.whole, self.digits, self.places)
     }

@@ -179,7 +179,7 @@ fn decimal_len_u64(n: u64) -> usize
 #[tactic(auto, using(crate::proofs::WrittenDigits::decimal_ascii))]
 pub fn put_u128(n: u128, bytes: &mut [u8], end: usize) -> usize
     requires room { length (decimal n) ≤ end }
-    requires within { end ≤ length bytes.old }
+    requires end_bound { end ≤ length bytes.old }
     ensures put { IsPutBefore (decimal n) end bytes.old bytes.new result }
     ensures ascii { IsAscii (decimal n) }
 {
@@ -205,10 +205,10 @@ pub fn put_u128(n: u128, bytes: &mut [u8], end: usize) -> usize
 #[inline(always)]
 #[tactic(auto, using(crate::proofs::WrittenDigits::fractions_written))]
 pub fn put_fraction(digits: u128, places: u32, bytes: &mut [u8], end: usize) -> usize
-    requires few { places ≤ places_of_number }
-    requires below { digits < 10 ^ places }
+    requires places_bound { places ≤ places_of_number }
+    requires bound { digits < 10 ^ places }
     requires room { length (fraction_text (last_digits places digits)) ≤ end }
-    requires within { end ≤ length bytes.old }
+    requires end_bound { end ≤ length bytes.old }
     ensures put { let text = fraction_text (last_digits places digits) in
         IsPutBefore text end bytes.old bytes.new result }
     ensures ascii { IsAscii (fraction_text (last_digits places digits)) }
@@ -227,7 +227,7 @@ pub fn put_fraction(digits: u128, places: u32, bytes: &mut [u8], end: usize) -> 
 #[tactic(auto, using(crate::proofs::WrittenDigits::lengths_by_18))]
 fn put_u128_wide(n: u128, bytes: &mut [u8], end: usize) -> usize
     requires room { length (decimal n) ≤ end }
-    requires within { end ≤ length bytes.old }
+    requires end_bound { end ≤ length bytes.old }
     ensures { IsPutBefore (decimal n) end bytes.old bytes.new result }
 {
     let mut start = end;
@@ -256,7 +256,7 @@ fn put_18_digits(n: u64, bytes: &mut [u8], end: usize) -> usize
 #[tactic(auto, using(crate::proofs::WrittenDigits::groups_written))]
 pub(crate) fn put_u64(n: u64, bytes: &mut [u8], end: usize) -> usize
     requires room { length (decimal n) ≤ end }
-    requires within { end ≤ length bytes.old }
+    requires end_bound { end ≤ length bytes.old }
     ensures { IsPutBefore (decimal n) end bytes.old bytes.new result }
 {
     // Four digits at a time from the end; of the first one to four, two if they are more than two, and then two or one.

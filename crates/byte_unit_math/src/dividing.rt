@@ -52,9 +52,9 @@ pub fn div_rem(dividend: u128, divisor: u128) -> (u128, u128)
 #[inline]
 #[tactic(auto, using(crate::proofs::Nearest::rounds_up_even, crate::proofs::Nearest::rounds_down_even))]
 pub fn rounded_quotient(numerator: u128, divisor: u128) -> u128
-    requires small { numerator < 2 ^ 127 }
-    requires some_divisor { 1 ≤ divisor }
-    requires small_divisor { divisor ≤ unit_limit }
+    requires bound { numerator < 2 ^ 127 }
+    requires positive { 1 ≤ divisor }
+    requires divisor_bound { divisor ≤ unit_limit }
     ensures { (number places : ℕ) → numerator ≡ number * 10 ^ places
         → IsNearest number divisor places Even result }
 {
@@ -98,9 +98,9 @@ pub(crate) fn div_rem_by_inverse(
 #[inline(always)]
 #[tactic(auto, using(crate::proofs::Estimates::long_division))]
 pub(crate) fn div_rem_u24(dividend: u128, divisor: u64) -> (u128, u64)
-    requires some { 1 ≤ divisor }
-    requires short { divisor ≤ 2 ^ 24 }
-    requires small { dividend < 2 ^ 120 }
+    requires positive { 1 ≤ divisor }
+    requires divisor_bound { divisor ≤ 2 ^ 24 }
+    requires bound { dividend < 2 ^ 120 }
     ensures quotient { result.0 ≡ dividend / divisor }
     ensures rest { result.1 ≡ dividend % divisor }
 {
@@ -166,7 +166,7 @@ macro_rules! digit_and_rest {
 /// Returns the quotient, which is a digit, and the remainder.
 pub(crate) fn div_rem_digit(dividend: u128, divisor: u128) -> (u128, u128)
     requires digit { dividend < 10 * divisor }
-    requires small { 10 * divisor < 2 ^ 128 }
+    requires product_bound { 10 * divisor < 2 ^ 128 }
     ensures digit { result.0 ≡ dividend / divisor }
     ensures rest { result.1 ≡ dividend % divisor }
 {
@@ -181,7 +181,7 @@ pub(crate) fn div_rem_digit(dividend: u128, divisor: u128) -> (u128, u128)
 /// Subtracts `times * divisor` if the dividend is at least that. Returns `times`, or else 0, and what is left.
 fn subtract_multiple(dividend: u128, times: u128, divisor: u128) -> (u128, u128)
     requires once { dividend < 2 * (times * divisor) }
-    requires small { times * divisor < 2 ^ 128 }
+    requires product_bound { times * divisor < 2 ^ 128 }
     ensures { IsSubtracted dividend times divisor result }
 {
     let multiple = times * divisor;
@@ -195,7 +195,7 @@ fn subtract_multiple(dividend: u128, times: u128, divisor: u128) -> (u128, u128)
 /// Subtracts as `subtract_multiple`, in 64 bits.
 fn subtract_multiple_u64(dividend: u64, times: u64, divisor: u64) -> (u64, u64)
     requires once { dividend < 2 * (times * divisor) }
-    requires small { times * divisor < 2 ^ 64 }
+    requires product_bound { times * divisor < 2 ^ 64 }
     ensures { IsSubtracted dividend times divisor result }
 {
     let multiple = times * divisor;

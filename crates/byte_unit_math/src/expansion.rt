@@ -89,8 +89,8 @@ impl Expansion {
 
     /// Creates the same expansion as `new`, over `2^twos`.
     fn binary(numerator: u128, twos: u32) -> Expansion
-        requires small { numerator < bits_limit }
-        requires few { twos ≤ expansion_places }
+        requires bound { numerator < bits_limit }
+        requires twos_bound { twos ≤ expansion_places }
         ensures { IsExpansion numerator (2 ^ twos) result }
     {
         let shared = numerator.trailing_zeros().min(twos);
@@ -338,8 +338,8 @@ pub fn glyphs_of(e: &Expansion) -> [u8; EXPANSION_PLACES]
 /// Expands `numerator / 2^places`, which is in lowest terms.
 #[inline(always)]
 fn in_lowest_terms(numerator: u128, places: u32) -> Expansion
-    requires small { numerator < bits_limit }
-    requires few { places ≤ expansion_places }
+    requires bound { numerator < bits_limit }
+    requires places_bound { places ≤ expansion_places }
     requires odd { 0 < places → numerator % 2 ≢ 0 }
     ensures { IsExpansion numerator (2 ^ places) result }
 {
@@ -356,9 +356,9 @@ fn in_lowest_terms(numerator: u128, places: u32) -> Expansion
 /// Expands `whole + remainder / den` by long division.
 fn divide(whole: u128, remainder: u128, den: u128) -> Expansion
     requires whole { whole < whole_limit }
-    requires below { remainder < den }
+    requires bound { remainder < den }
     // The dividend of each digit fits 128 bits.
-    requires small { 10 * den < 2 ^ 128 }
+    requires product_bound { 10 * den < 2 ^ 128 }
     requires ends { IsExactAt (whole * den + remainder) den expansion_places }
     ensures { IsExpansion (whole * den + remainder) den result }
 {

@@ -58,8 +58,8 @@ pub fn two_five(size: u128, steps: &mut Steps) -> (u32, u32)
 /// ```
 #[inline(always)]
 pub fn factors_of(size: u128, steps: &mut Steps) -> Factors
-    requires some { 1 ≤ size }
-    requires small { size < size_limit }
+    requires positive { 1 ≤ size }
+    requires bound { size < size_limit }
     ensures product { product_of result ≡ size }
     ensures powers { IsTwoFive size result.twos result.fives }
     ensures steps { steps.new ≡ saturating_add steps.old (result.twos + result.fives + 2) }

@@ -59,7 +59,7 @@ fn digits_with_zeros(n: u128) -> ([u8; 48], usize)
     requires { n < 10 ^ 30 }
     ensures digits { drop (result.1 - length (decimal n)) result.0
         ≡ decimal n ++ replicate (48 - result.1) 48 }
-    ensures within { length (decimal n) ≤ result.1 }
+    ensures len_bound { length (decimal n) ≤ result.1 }
     ensures bound { result.1 ≤ length (decimal n) + 16 }
 {
     // At most 32 digits, and 16 bytes more, since 32 are copied from the first digit that is not a leading zero.

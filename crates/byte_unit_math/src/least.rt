@@ -45,7 +45,7 @@ pub fn least_size(d: Decimal, unit_size: u128, limit: u128) -> Option<u128>
     // No size below the limit is at least the product.
     ensures none { IfNone result ((n : ℕ) → IsLeastSize d unit_size n → limit ≤ n) }
 {
-    let (whole, digits, places) = d.parts();
+    let (whole, digits, places) = d.fields();
     let part = if places <= GROUP_PLACES {
         // All digits are in the most significant group.
         let group = digits as u64 * POWERS_OF_TEN[(GROUP_PLACES - places) as usize] as u64;

@@ -78,11 +78,11 @@ pub fn factored_quotient(
     places: u32,
     steps: &mut Steps,
 ) -> Decimal
-    requires some { 1 ≤ number.left }
-    requires few { (number.twos < 2 ^ 16) × (number.fives < 2 ^ 16) }
+    requires positive { 1 ≤ number.left }
+    requires exponents_bound { (number.twos < 2 ^ 16) × (number.fives < 2 ^ 16) }
     requires places { places ≤ places_of_decimal }
     requires exact { (twos ≤ number.twos + places) × (fives ≤ number.fives + places) }
-    requires small { product_of number * 10 ^ places < whole_limit * (2 ^ twos * 5 ^ fives) }
+    requires bound { product_of number * 10 ^ places < whole_limit * (2 ^ twos * 5 ^ fives) }
     ensures exact { result * (2 ^ twos * 5 ^ fives) ≡ product_of number * scale }
     ensures steps { (least : ℕ) × IsLeastPlaces result scale least
         × (steps.new ≡ saturating_add steps.old least) }
@@ -107,9 +107,9 @@ pub fn factored_quotient(
 /// Splits a fixed-point value into its integer and fractional parts; `divisor`, its scale, is a constant.
 #[inline(always)]
 fn div_rem_small(count: u128, divisor: u64) -> (u128, u128)
-    requires some { 1 ≤ divisor }
-    requires few { divisor ≤ 1000 }
-    requires small { count < whole_limit }
+    requires positive { 1 ≤ divisor }
+    requires divisor_bound { divisor ≤ 1000 }
+    requires bound { count < whole_limit }
     ensures whole { result.0 ≡ count / divisor }
     ensures digits { result.1 ≡ count % divisor }
 {

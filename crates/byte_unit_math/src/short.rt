@@ -43,7 +43,7 @@ pub struct ShortExpansion {
 /// ```
 #[inline(always)]
 pub fn short_expansion(numerator: u128, twos: u32, fives: u32) -> Option<ShortExpansion>
-    requires small { numerator < bits_limit }
+    requires bound { numerator < bits_limit }
     requires order { fives ≤ twos }
     requires den { 2 ^ twos * 5 ^ fives ≤ unit_limit }
     ensures { IfSome result (IsShortExpansion numerator (2 ^ twos * 5 ^ fives)) }
@@ -92,7 +92,7 @@ fn decimal_expansion(numerator: u128, twos: u32, tens: u32) -> Option<ShortExpan
     let scaled = numerator * power_of_five(twos);
     let (whole, digits) = div_rem(scaled, power_of_ten(places));
     // Leaves trailing zeros out.
-    let (whole, digits, places) = Decimal::from_digits(whole, digits, places).parts();
+    let (whole, digits, places) = Decimal::from_digits(whole, digits, places).fields();
     Some(ShortExpansion {
         whole,
         digits,

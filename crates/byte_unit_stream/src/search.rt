@@ -23,7 +23,7 @@ pub fn end_of(bytes: &[u8], end: u8) -> Option<usize>
     ensures bound { IfSome result (λ n. n + 1 < 2 ^ 64) }
 {
     let mut i = 0;
-    // Where a part ends cannot be predicted: a mask finds it with one branch per 16 bytes, not one per byte.
+    // Where a record ends cannot be predicted: a mask finds it with one branch per 16 bytes, not one per byte.
     while bytes.len() - i >= LANES {
         let ends = u8x16::from_slice(&bytes[i..])
             .simd_eq(u8x16::splat(end))

@@ -171,7 +171,7 @@ fn longer_value(digits: &[u8]) -> u128
 fn long_value(digits: &[u8], last_bits: u64) -> u128
     requires digits { AllDigits 10 digits.now }
     requires many { SHORT_DIGITS ≤ length digits.now }
-    requires few { length digits.now ≤ LONG_DIGITS }
+    requires bound { length digits.now ≤ LONG_DIGITS }
     requires last_bits { last_bits ≡ digits_value 10 digits.now % 2 ^ 64 }
     ensures { result ≡ digits_value 10 digits.now }
 {
@@ -295,7 +295,7 @@ pub fn read_unit(
 /// Returns the unit with the prefix of this position, or without a prefix if it is 0.
 #[inline(always)]
 pub fn unit_of(power: usize, binary: bool, bit: bool) -> Unit
-    requires few { power ≤ 9 }
+    requires bound { power ≤ 9 }
     ensures { shape_of result ≡ multiple_shape (multiple_of power binary) bit }
 {
     BY_POWER[power][2 * usize::from(binary) + usize::from(bit)]
@@ -317,7 +317,7 @@ fn suffix_len(word: u64) -> usize
 /// bytes as `B` (`upper`), and with `ignore_case` in lower case too.
 #[inline(always)]
 fn counts_bits(length: usize, upper: bool, flags: Flags) -> bool
-    requires few { length ≤ 4 }
+    requires bound { length ≤ 4 }
     requires whole { length ≢ 2 }
     ensures { count_of flags (word_of length upper) ≡ Some result }
 {
@@ -329,7 +329,7 @@ fn counts_bits(length: usize, upper: bool, flags: Flags) -> bool
 /// Returns the first `length` letters of `bits`, for the error of a unit in which the parser stops after them.
 #[inline(always)]
 fn letters(length: usize) -> Word
-    requires few { length ≤ 4 }
+    requires bound { length ≤ 4 }
     ensures { (upper : Bool) → letters_of (word_of length upper) ≡ result }
 {
     match length {

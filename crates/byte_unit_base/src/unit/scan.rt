@@ -80,11 +80,14 @@ impl UnitStop {
         ensures { unit_fault result ≡ unit_stop_fault flags self next }
     {
         match next {
-            Some(c) => UnitParseError {
-                character: c,
-                expected_characters: self.expected(flags).characters(),
-                also_expect_no_character: !matches!(self.word, Word::Bi),
-            },
+            Some(c) => {
+                let expected = self.expected(flags);
+                UnitParseError {
+                    character: c,
+                    expected_characters: expected.characters(),
+                    also_expect_no_character: expected.or_end(),
+                }
+            }
             None => UnitParseError::STOPS_AT_BI,
         }
     }

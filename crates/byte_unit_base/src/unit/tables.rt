@@ -133,7 +133,7 @@ pub(crate) static BEGINNING: [char; PREFIXES + 1] = with_prefixes!(table expecte
 /// ```
 #[inline(always)]
 pub fn prefix_letter(power: u32) -> u8
-    requires some { 1 ≤ power }
+    requires positive { 1 ≤ power }
     requires known { power ≤ 9 }
     ensures { result ≡ slice_index current.letters (power - 1) }
 {

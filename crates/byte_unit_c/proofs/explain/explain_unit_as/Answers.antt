@@ -21,4 +21,4 @@ returns-in-Some-Err-clause-reading c =
     -- the error of the unit, that it is the one where the parser stops, and its message
     let text = c.write_unit_message.ensures.text in
     let reading = rw c.unit_flags-flags.ensures at (stops.0 text.0 text.1) in
-    (Some (Err text.0), (c.in-Some-Err.ensures.0, reading), (c.write_unit_message.ensures.some, text.2))
+    (Some (Err text.0), (c.in-Some-Err.ensures.0, reading), (c.write_unit_message.ensures.positive, text.2))

@@ -63,8 +63,8 @@ exact_number-number-requires c =
     }
 
 -- with few places, the quotient times 10^places is below the limit of a whole part
-pub factored_quotient-number-requires-clause-small : goal.factored_quotient-number-requires-clause-small
-factored_quotient-number-requires-clause-small c =
+pub factored_quotient-number-requires-clause-bound : goal.factored_quotient-number-requires-clause-bound
+factored_quotient-number-requires-clause-bound c =
     let multiple = row_multiple (row_at_is_row no_row c.multiples_within-row-items.ensures c.loop-row-test.true) in
     let product = in_bits_product c.args.size c.args.own_bits _ _ _ c.requires.own_bits
     c.factors_of-left.ensures.product in

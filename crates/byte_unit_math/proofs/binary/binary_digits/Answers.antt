@@ -14,14 +14,14 @@ use Rattle.byte_unit_math.proofs.binary.binary_digits.Goals as goal
 
 -- Before the first group all digits are missing.
 pub loop-left-init : goal.loop-left-init
-loop-left-init c = IsGrouped-start c.args.numerator c.args.places c.requires.below
+loop-left-init c = IsGrouped-start c.args.numerator c.args.places c.requires.bound
 
 -- The remainder times a power of 5 fits 128 bits.
 pub overflow_mul-product : goal.overflow_mul-product
 overflow_mul-product c =
     let left = c.loop-left.left in
     let count = (left - 1) % 16 + 1 in
-    let few : left ≤ expansion_places = omega (arith, c.loop-left.invariant.few, c.requires.few) in
+    let few : left ≤ expansion_places = omega (arith, c.loop-left.invariant.few, c.requires.places_bound) in
     let fits = product_fits c.loop-left.rest left count (left - count) (omega arith) c.loop-left.invariant.below few
     (let same : count ≡ (left - 1) % 16 + 1 = omega arith in same) in
     omega (arith, product_is c.loop-left.rest count (omega arith), fits)
@@ -43,7 +43,7 @@ loop-left-preserved c =
     let loop = c.loop-left in
     let count = (loop.left - 1) % 16 + 1 in
     let next = loop.left - count in
-    let limit : c.args.places ≤ expansion_places = c.requires.few in
+    let limit : c.args.places ≤ expansion_places = c.requires.places_bound in
     let product = product_is loop.rest count (omega arith) in
     let values_are = c.last_16_values.ensures ∙ ap (λ n. last_digits 16 (n / 2 ^ next)) product in
     let rest_is =
@@ -77,11 +77,11 @@ pub returns-clause-digits : goal.returns-clause-digits
 returns-clause-digits c =
     let start = (goal.at.returns-clause-digits c).After-copy_from_slice in
     ap (λ l. take c.args.places l) (copied_are start)
-    ∙ copied_front _ _ _ _ _ (all_groups start) c.requires.few c.requires.below
+    ∙ copied_front _ _ _ _ _ (all_groups start) c.requires.places_bound c.requires.bound
 
 -- The bytes after them are zeros.
 pub returns-clause-zeros : goal.returns-clause-zeros
 returns-clause-zeros c =
     let start = (goal.at.returns-clause-zeros c).After-copy_from_slice in
     ap (λ l. drop c.args.places l) (copied_are start)
-    ∙ copied_zeros _ _ _ _ _ (all_groups start) c.requires.few c.requires.below
+    ∙ copied_zeros _ _ _ _ _ (all_groups start) c.requires.places_bound c.requires.bound

@@ -6,7 +6,7 @@ use Rattle.byte_unit_math.proofs.expansion.divide.Goals as goal
 
 -- Before the first digit all of the remainder is left.
 pub loop-rest-init : goal.loop-rest-init
-loop-rest-init c = IsDividing-start c.args.whole c.args.remainder c.args.den c.requires.below
+loop-rest-init c = IsDividing-start c.args.whole c.args.remainder c.args.den c.requires.bound
 
 -- While a remainder is left, there is a place for one more digit.
 pub bounds-digits-places : goal.bounds-digits-places

@@ -11,11 +11,11 @@ use Rattle.byte_unit_math.proofs.expansion.in_lowest_terms.Goals as goal
 -- The last `places` bits of the numerator are its remainder by the denominator 2^places.
 rest_is : (c : Start)
     → bit_and c.args.numerator (1 * 2 ^ c.args.places % 2 ^ 128 - 1) ≡ c.args.numerator % 2 ^ c.args.places
-rest_is c = masked_rest c.args.numerator c.args.places c.requires.few
+rest_is c = masked_rest c.args.numerator c.args.places c.requires.places_bound
 
 -- The whole part is below the limit of a whole part, 2^112.
 whole_small : (c : Start) → c.args.numerator / 2 ^ c.args.places < whole_limit
-whole_small c = omega (arith, c.requires.small, div-le_self c.args.numerator (2 ^ c.args.places))
+whole_small c = omega (arith, c.requires.bound, div-le_self c.args.numerator (2 ^ c.args.places))
 
 -- The expansion is trimmed: its last digit is not zero, since the remainder is odd.
 pub invariant_of-result : goal.invariant_of-result
@@ -23,7 +23,7 @@ invariant_of-result c =
     let start = (goal.at.invariant_of-result c).Start in
     record {
       size = c.binary_digits.ensures.size;
-      few = c.requires.few;
+      few = c.requires.places_bound;
       small = c.binary_digits.ensures.bound;
       rest = c.binary_digits.ensures.zeros;
       last = λ some.

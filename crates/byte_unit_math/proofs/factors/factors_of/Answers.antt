@@ -8,11 +8,11 @@ use Rattle.byte_unit_math.proofs.factors.factors_of.Goals as goal
 
 -- The shift leaves the odd part of the size.
 pub loop-left-init : goal.loop-left-init
-loop-left-init c = FivesOff-trailing_zeros c.args.size c.requires.some (omega arith)
+loop-left-init c = FivesOff-trailing_zeros c.args.size c.requires.positive (omega arith)
 
 -- There are few fives in the size.
 pub overflow_add-fives : goal.overflow_add-fives
-overflow_add-fives c = omega (arith, FivesOff-few _ _ _ _ c.requires.small c.loop-left.invariant)
+overflow_add-fives c = omega (arith, FivesOff-few _ _ _ _ c.requires.bound c.loop-left.invariant)
 
 -- One more five is divided out.
 pub loop-left-preserved : goal.loop-left-preserved
@@ -24,7 +24,7 @@ overflow_add-fives-then-left c =
     let short = c.divide_out_fives-short in
     let off = FivesOff-joined _ _ _ _ short.result.0 short.result.1 c.loop-left.invariant
     (omega (arith, short.ensures.product, c.if-left.true)) short.ensures.odd in
-    omega (arith, FivesOff-few _ _ _ _ c.requires.small off)
+    omega (arith, FivesOff-few _ _ _ _ c.requires.bound off)
 
 -- What is left in the end and the factors found represent the size, in both branches.
 all_off : (c : Joined-left) → FivesOff c.args.size c.if-left.left (trailing_zeros w128 c.args.size) c.if-left.fives
@@ -36,7 +36,7 @@ no_five c = grind arith
 
 -- The exponents of 2 and 5 are together at most 99, since the size is below 10^30 < 2^100.
 few : (c : Joined-left) → trailing_zeros w128 c.args.size + c.if-left.fives ≤ 99
-few c = FivesOff-few _ _ _ _ c.requires.small (all_off c)
+few c = FivesOff-few _ _ _ _ c.requires.bound (all_off c)
 
 -- The exponents together are at most 99.
 pub overflow_add-twos : goal.overflow_add-twos

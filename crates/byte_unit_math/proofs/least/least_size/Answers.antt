@@ -10,19 +10,19 @@ use Rattle.byte_unit_math.proofs.least.least_size.Goals.{Joined-whole, Joined-pl
 use Rattle.byte_unit_math.proofs.least.least_size.Goals.{then-places-le-GROUP_PLACES, else-places-le-GROUP_PLACES}
 use Rattle.byte_unit_math.proofs.least.least_size.Goals as goal
 
--- The part that the code computes is the least size of the fraction. `parts-whole.result` is the whole part, the
+-- The part that the code computes is the least size of the fraction. `fields-whole.result` is the whole part, the
 -- digits after the point as a number, and how many they are.
 fraction_least : (c : Joined-places-le-GROUP_PLACES)
-    → IsLeastSize (c.parts-whole.result.1 * 10 ^ (places_of_decimal - c.parts-whole.result.2)) c.args.unit_size
+    → IsLeastSize (c.fields-whole.result.1 * 10 ^ (places_of_decimal - c.fields-whole.result.2)) c.args.unit_size
     c.if-places-le-GROUP_PLACES.part
 fraction_least c =
     let unit = c.args.unit_size in
-    let fraction = c.parts-whole.result.1 * 10 ^ (places_of_decimal - c.parts-whole.result.2) in
+    let fraction = c.fields-whole.result.1 * 10 ^ (places_of_decimal - c.fields-whole.result.2) in
     elim c.if-places-le-GROUP_PLACES.branch [
       | then-places-le-GROUP_PLACES w ↦
-          let first = in_first_group c.parts-whole.result.1 c.parts-whole.result.2
-          w.if-places-le-GROUP_PLACES.true c.parts-whole.ensures.below in
-          let power = ten_power_at (7 - c.parts-whole.result.2) (omega arith) in
+          let first = in_first_group c.fields-whole.result.1 c.fields-whole.result.2
+          w.if-places-le-GROUP_PLACES.true c.fields-whole.ensures.below in
+          let power = ten_power_at (7 - c.fields-whole.result.2) (omega arith) in
           let rounded = rw power at w.carry_of_group-part.ensures.rounded in
           rw w.part-is (IsLeastSize-group fraction _ unit _ first.all rounded)
       | else-places-le-GROUP_PLACES w ↦
@@ -39,14 +39,14 @@ fraction_least c =
 -- With the whole part it is the least size of the decimal.
 size_least : (c : Joined-places-le-GROUP_PLACES)
     → IsLeastSize c.args.d c.args.unit_size
-    (c.parts-whole.result.0 * c.args.unit_size + c.if-places-le-GROUP_PLACES.part)
+    (c.fields-whole.result.0 * c.args.unit_size + c.if-places-le-GROUP_PLACES.part)
 size_least c =
-    IsLeastSize-parts c.args.d c.args.unit_size c.parts-whole.result.0 _ c.if-places-le-GROUP_PLACES.part
-    c.parts-whole.ensures.whole_is c.parts-whole.ensures.digits_are (fraction_least c)
+    IsLeastSize-parts c.args.d c.args.unit_size c.fields-whole.result.0 _ c.if-places-le-GROUP_PLACES.part
+    c.fields-whole.ensures.whole_is c.fields-whole.ensures.digits_are (fraction_least c)
 
 -- If it reaches the limit, each size that is large enough does.
 not_below : (c : Joined-places-le-GROUP_PLACES)
-    → c.args.limit ≤ c.parts-whole.result.0 * c.args.unit_size + c.if-places-le-GROUP_PLACES.part
+    → c.args.limit ≤ c.fields-whole.result.0 * c.args.unit_size + c.if-places-le-GROUP_PLACES.part
     → (n : ℕ) → IsLeastSize c.args.d c.args.unit_size n → c.args.limit ≤ n
 not_below c reached n h = omega (arith, reached, (size_least c).least n h.has)
 
@@ -64,7 +64,7 @@ returns-in_err-size-clause-none c = IfNone-always _ _
 
 -- The sum is taken in both branches.
 size_is : (c : Joined-whole)
-    → c.if-whole.size ≡ c.parts-whole.result.0 * c.args.unit_size + c.if-places-le-GROUP_PLACES.part
+    → c.if-whole.size ≡ c.fields-whole.result.0 * c.args.unit_size + c.if-places-le-GROUP_PLACES.part
 size_is c = grind arith
 
 -- A size below the limit is the least one. `at` has the states before the end of the call.

@@ -33,7 +33,7 @@ count_fits c = grind (arith, count_below_limit, count_is_exact_quotient)
 
 -- The factors of the multiple are small enough for each step of the product.
 few : (c : Start) → FewFactors c.args.number.left (twos_of c) (fives_of c)
-few c = FewFactors-below_limit c.args.number.left (twos_of c) (fives_of c) c.requires.some (count_fits c)
+few c = FewFactors-below_limit c.args.number.left (twos_of c) (fives_of c) c.requires.positive (count_fits c)
 
 -- The exponent of 5 is within the table of powers.
 pub bounds-number : goal.bounds-number
@@ -48,16 +48,16 @@ pub overflow_mul-count : goal.overflow_mul-count
 overflow_mul-count c = omega (arith, (few (goal.at.overflow_mul-count c).Start).small)
 
 -- The multiple is below 2^112, as the division needs it, in the branch of one place.
-pub div_rem_small-requires-clause-small : goal.div_rem_small-requires-clause-small
-div_rem_small-requires-clause-small c = (few (goal.at.div_rem_small-requires-clause-small c).Start).small
+pub div_rem_small-requires-clause-bound : goal.div_rem_small-requires-clause-bound
+div_rem_small-requires-clause-bound c = (few (goal.at.div_rem_small-requires-clause-bound c).Start).small
 
 -- The multiple is below 2^112 in the branch of two places.
-pub div_rem_small-requires-in-2-clause-small : goal.div_rem_small-requires-in-2-clause-small
-div_rem_small-requires-in-2-clause-small c = (few (goal.at.div_rem_small-requires-in-2-clause-small c).Start).small
+pub div_rem_small-requires-in-2-clause-bound : goal.div_rem_small-requires-in-2-clause-bound
+div_rem_small-requires-in-2-clause-bound c = (few (goal.at.div_rem_small-requires-in-2-clause-bound c).Start).small
 
 -- The multiple is below 2^112 in the branch of three places.
-pub div_rem_small-requires-in-3-clause-small : goal.div_rem_small-requires-in-3-clause-small
-div_rem_small-requires-in-3-clause-small c = (few (goal.at.div_rem_small-requires-in-3-clause-small c).Start).small
+pub div_rem_small-requires-in-3-clause-bound : goal.div_rem_small-requires-in-3-clause-bound
+div_rem_small-requires-in-3-clause-bound c = (few (goal.at.div_rem_small-requires-in-3-clause-bound c).Start).small
 
 -- The power of ten is not zero.
 pub div_rem-requires : goal.div_rem-requires

@@ -58,4 +58,4 @@ returns c =
     (cut_at_point (c.args.numerator * 5 ^ c.args.twos) (c.args.tens + c.args.twos) few)
     ∙ decimal_is_exact c.args.numerator c.args.twos c.args.tens few) in
     let some = mul-le 1 1 _ _ (one-le-pow c.args.twos 2 (omega arith)) (one-le-pow c.args.tens 10 (omega arith)) in
-    short_of_decimal some exact c.parts-whole.ensures
+    short_of_decimal some exact c.fields-whole.ensures

@@ -18,4 +18,4 @@ at_place _ few _ _ x y e f = rw (e, f) refl
 
 -- the two numbers are 1 if the prefix is binary, and 1 if the kind is bits
 pub returns : goal.returns
-returns c = at_place c.args.power c.requires.few c.args.binary c.args.bit _ _ c.from.ensures c.from-2.ensures
+returns c = at_place c.args.power c.requires.bound c.args.binary c.args.bit _ _ c.from.ensures c.from-2.ensures

@@ -7,12 +7,12 @@ use Rattle.byte_unit_c.proofs.offsets.Offsets.text_at.Goals as goal
 -- the offset where the text begins is not negative
 pub position-begin-requires : goal.position-begin-requires
 position-begin-requires c =
-    is_position c.at.result _ _ c.args.i (search rules) c.at.ensures c.requires.ascends (omega (arith, c.requires.within))
+    is_position c.at.result _ _ c.args.i (search rules) c.at.ensures c.requires.ascends (omega (arith, c.requires.bound))
 
 -- the offset where it ends is not negative
 pub position-end-requires : goal.position-end-requires
 position-end-requires c =
-    is_position c.at-2.result _ _ (c.args.i + 1) (search rules) c.at-2.ensures c.requires.ascends c.requires.within
+    is_position c.at-2.result _ _ (c.args.i + 1) (search rules) c.at-2.ensures c.requires.ascends c.requires.bound
 
 -- the text begins no later than it ends, and ends within the data
 pub part-requires : goal.part-requires
@@ -23,9 +23,9 @@ part-requires c =
     let high = pos (length c.args.data.now) in
     let begin_is = c.position-begin.ensures ∙ ap position (as_read c.at.result begin (search rules) c.at.ensures) in
     let end_is = c.position-end.ensures ∙ ap position (as_read c.at-2.result end (search rules) c.at-2.ensures) in
-    let ordered = positions begin end (rises (pos 0) high xs c.args.i c.requires.ascends c.requires.within) in
-    let within = positions end high (between (pos 0) high xs (c.args.i + 1) c.requires.ascends c.requires.within).1 in
-    record { ordered = omega (arith, begin_is, end_is, ordered); within = omega (arith, end_is, within) }
+    let ordered = positions begin end (rises (pos 0) high xs c.args.i c.requires.ascends c.requires.bound) in
+    let within = positions end high (between (pos 0) high xs (c.args.i + 1) c.requires.ascends c.requires.bound).1 in
+    record { ordered = omega (arith, begin_is, end_is, ordered); bound = omega (arith, end_is, within) }
 
 -- the part of the data between the two positions is the text
 pub returns : goal.returns

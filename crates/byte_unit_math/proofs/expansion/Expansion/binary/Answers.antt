@@ -13,8 +13,8 @@ shared_few : (c : After-min-shared) → c.min-shared.result ≤ c.args.twos
 shared_few c = grind (arith, min-le_right)
 
 -- The numerator that is left is not larger.
-pub in_lowest_terms-requires-clause-small : goal.in_lowest_terms-requires-clause-small
-in_lowest_terms-requires-clause-small c = grind (arith, div-le_self)
+pub in_lowest_terms-requires-clause-bound : goal.in_lowest_terms-requires-clause-bound
+in_lowest_terms-requires-clause-bound c = grind (arith, div-le_self)
 
 -- If a power of two is left in the denominator, the numerator that is left is odd.
 pub in_lowest_terms-requires-clause-odd : goal.in_lowest_terms-requires-clause-odd
@@ -27,7 +27,7 @@ returns c =
     let shared = c.min-shared.result in
     let reduced = c.args.numerator / 2 ^ shared in
     let places = c.args.twos - shared in
-    let number_is = shared_twos c.args.numerator shared (omega (arith, c.requires.small))
+    let number_is = shared_twos c.args.numerator shared (omega (arith, c.requires.bound))
     (omega (arith, c.min-shared.ensures, min-le_left (trailing_zeros w128 c.args.numerator) c.args.twos)) in
     let sum : c.args.twos ≡ places + shared = omega (arith, shared_few start) in
     let same = reduced_binary c.args.numerator reduced shared places c.args.twos sum number_is in

@@ -1,7 +1,7 @@
 -- The stored digits are those of the fraction without trailing zeros.
 use Rattle.std.proofs.Common.{arith}
 use Rattle.byte_unit_math.proofs.ShortDecimals.{digits_of_fields, places_of_fields}
-use Rattle.byte_unit_math.proofs.decimal.Decimal.parts.Goals as goal
+use Rattle.byte_unit_math.proofs.decimal.Decimal.fields.Goals as goal
 
 pub returns : goal.returns
 returns c =
