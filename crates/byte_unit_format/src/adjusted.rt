@@ -183,7 +183,7 @@ pub fn display_adjusted<W: fmt::Write>(
 #[inline(never)]
 #[tactic(auto, using(crate::proofs::TextParts::writes_form))]
 fn write_slow(size: u128, of: Target, rounding: Rounding, spec: FormatSpec, out: &mut [u8]) -> usize
-    requires size { size < size_limit }
+    requires bound { size < size_limit }
     requires rounding { IsRoundingOf of.unit spec rounding }
     ensures written { WritesForm (IsAdjustedForm of.kind size of.unit spec) out.old out.new result }
     ensures bound { result < text_limit }
@@ -197,7 +197,7 @@ fn write_slow(size: u128, of: Target, rounding: Rounding, spec: FormatSpec, out:
 /// Writes as `write_slow`, by all digits of the number.
 #[inline(never)]
 fn write_full(size: u128, of: Target, rounding: Rounding, spec: FormatSpec, out: &mut [u8]) -> usize
-    requires size { size < size_limit }
+    requires bound { size < size_limit }
     requires rounding { IsRoundingOf of.unit spec rounding }
     ensures written { WritesForm (IsAdjustedForm of.kind size of.unit spec) out.old out.new result }
     ensures bound { result < text_limit }
@@ -235,7 +235,7 @@ fn short_parts(
     rounding: Rounding,
     spec: FormatSpec,
 ) -> Option<TextParts<'static>>
-    requires size { size < size_limit }
+    requires bound { size < size_limit }
     requires rounding { IsRoundingOf of.unit spec rounding }
     ensures text { IfSome result
         (λ parts. IsAdjustedForm of.kind size of.unit spec (parts_text parts)) }
