@@ -36,7 +36,7 @@ const ALTERNATE_PLACES: u16 = 16;
 
 /// Up to this many digits after the point, a number is rounded by one division: any size in bits times 10^7 fits 127
 /// bits.
-const FEW_PLACES: u32 = 7;
+const ONE_DIVISION_PLACES: u32 = 7;
 
 /// The kind of a size, and the unit that it is formatted in. These two are passed in registers; with the size they
 /// would be passed in memory, which takes 6 to 15 instructions more.
@@ -147,7 +147,7 @@ pub fn write_adjusted(size: u128, kind: Kind, unit: Unit, spec: FormatSpec, out:
 {
     let rounding = rounding_of(unit, spec);
     match rounding {
-        Rounding::To(places) if places <= FEW_PLACES => {
+        Rounding::To(places) if places <= ONE_DIVISION_PLACES => {
             let scaled = size * kind.bits() * power_of_ten(places);
             let number = rounded_quotient(scaled, unit.as_bits_u128());
             scaled_parts(number, places, unit, spec).write(out)
