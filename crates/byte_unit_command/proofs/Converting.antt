@@ -3,7 +3,7 @@ use Rattle.std.proofs.Common.{◌≡◌, ℕ, suc, ◌-◌, Bool, true, false, L
 use Rattle.std.proofs.Common.{sym, ap, subst, ◌∙◌, arith, append_assoc, append-nil, inl, length-append}
 use Rattle.std.proofs.lemmas.Bool.{or_parts}
 use Rattle.byte_unit_command.specs.Field.{Found, IsPlaced, IsSize, IsNoSize, other, size, rejected}
-use Rattle.byte_unit_command.specs.Fields.{IsChosen, fields_by, fields_of, splits_at_blanks}
+use Rattle.byte_unit_command.specs.Fields.{IsChosenField, fields_by, fields_of, splits_at_blanks}
 use Rattle.byte_unit_command.specs.Messages.{AreFieldMessages, AreLimitMessages, AreMessagesOfFields}
 use Rattle.byte_unit_command.specs.Messages.{AreMessagesToRejected, AreRecordMessages, AreMessages, IsMessageIf}
 use Rattle.byte_unit_command.specs.Messages.{next_place, last_place, other as other_told, size as size_told}
@@ -83,7 +83,7 @@ after-more options old new text messages more found new_is =
 
 module _ (options : Options) (number : ℕ) (field : List ℕ) (old new : State) where
   -- a field that is not chosen was copied
-  pub AddsField-other : ¬ IsChosen options.fields.now number → new ≡ record old { out = old.out ++ field }
+  pub AddsField-other : ¬ IsChosenField options.fields.now number → new ≡ record old { out = old.out ++ field }
       → AddsField options number field old new
   AddsField-other not_chosen new_is = record {
     text = field;
@@ -98,7 +98,7 @@ module _ (options : Options) (number : ℕ) (field : List ℕ) (old new : State)
   }
 
   -- the text of a size was appended, and the size counted
-  pub AddsField-size : (n : ℕ) (formatted messages : List ℕ) → IsChosen options.fields.now number
+  pub AddsField-size : (n : ℕ) (formatted messages : List ℕ) → IsChosenField options.fields.now number
       → IsSize options field n → IsPlaced options number field n formatted
       → AreLimitMessages options old.word old.place number field n messages
       → new ≡ after options old formatted messages (Some n ∷ []) → AddsField options number field old new
@@ -113,7 +113,7 @@ module _ (options : Options) (number : ℕ) (field : List ℕ) (old new : State)
   }
 
   -- a rejected field was copied and counted
-  pub AddsField-rejected : (messages new_messages out : List ℕ) → IsChosen options.fields.now number
+  pub AddsField-rejected : (messages new_messages out : List ℕ) → IsChosenField options.fields.now number
       → IsNoSize options field → AreFieldMessages options old.word old.place number field true messages
       → new_messages ≡ old.messages ++ messages → ¬ (options.invalid ≡ Abort) → out ≡ old.out ++ field
       → new ≡ record old { tally = tally_with options old.tally None; out = out; messages = new_messages }

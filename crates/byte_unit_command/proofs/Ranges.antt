@@ -2,12 +2,12 @@
 use native.Mathlib.Numerals.{unary_clauses}
 use Rattle.std.proofs.Common.{ℕ, suc, ◌<◌, ◌≤◌, inl, inr, List, [], ◌∷◌, length, arith, slice_index_or}
 use Rattle.std.specs.List.{AllAdjacentBelow}
-use Rattle.byte_unit_command.specs.Fields.{GoesTo, IsChosen, IsInOrder}
+use Rattle.byte_unit_command.specs.Fields.{GoesTo, IsChosenField, IsInOrder}
 use Rattle.byte_unit_command.specs.declared.options.FieldRange.{FieldRange}
 
 -- of ranges in order, none chooses a field before the first of them
 pub none-before : (range : FieldRange) (others : List FieldRange) (number : ℕ) → IsInOrder (range ∷ others)
-    → number < range.first → ¬ IsChosen (range ∷ others) number
+    → number < range.first → ¬ IsChosenField (range ∷ others) number
 none-before range [] number order early (inl is) = omega (arith, is.0, early)
 none-before range [] number order early (inr none) = none
 none-before range (next ∷ others) number order early (inl is) = omega (arith, is.0, early)
@@ -16,13 +16,13 @@ none-before range (next ∷ others) number order early (inr more) =
 
 -- of ranges in order, none chooses a field before the first of them, which the code gets by its index
 pub none-before-first : (ranges : List FieldRange) (default : FieldRange) (number : ℕ) → IsInOrder ranges
-    → number < (slice_index_or ranges 0 default).first → ¬ IsChosen ranges number
+    → number < (slice_index_or ranges 0 default).first → ¬ IsChosenField ranges number
 none-before-first [] default number order early = λ none. none
 none-before-first (range ∷ others) default number order early = none-before range others number order early
 
 -- the first of them chooses a field that it has begun before, or at, and that it goes to
 pub chosen-by_first : (ranges : List FieldRange) (default : FieldRange) (number : ℕ) → 0 < length ranges
-    → GoesTo ranges number → (slice_index_or ranges 0 default).first ≤ number → IsChosen ranges number
+    → GoesTo ranges number → (slice_index_or ranges 0 default).first ≤ number → IsChosenField ranges number
 chosen-by_first [] default number some goes begun = omega (arith, some)
 chosen-by_first (range ∷ others) default number some goes begun = inl (begun, goes)
 

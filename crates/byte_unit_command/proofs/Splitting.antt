@@ -4,8 +4,8 @@ use Rattle.std.proofs.Common.{arith, append_assoc, append-nil, inl, inr, true, f
 use Rattle.std.proofs.Common.{length-drop, eqb-true}
 use Rattle.std.specs.List.{onto_first}
 use Rattle.byte_unit_command.specs.Field.{Found, IsField, other, size, rejected}
-use Rattle.byte_unit_command.specs.Fields.{IsChosen, at_blanks, begins_blank, between_of, blank_fields, bytes_between}
-use Rattle.byte_unit_command.specs.Fields.{fields_by, fields_of, is_blank}
+use Rattle.byte_unit_command.specs.Fields.{IsChosenField, at_blanks, begins_blank, between_of, blank_fields}
+use Rattle.byte_unit_command.specs.Fields.{bytes_between, fields_by, fields_of, is_blank}
 use Rattle.byte_unit_command.specs.Messages.{AreFieldMessages, AreMessagesOfFields, AreMessagesToRejected}
 use Rattle.byte_unit_command.specs.Messages.{other as other_told}
 use Rattle.byte_unit_command.specs.RunOutput.{Passes}
@@ -50,7 +50,7 @@ AreFields-cons options number field others own rest own_found rest_found (next, 
 
 -- a field that is not chosen is copied with one more byte before it
 IsField-byte : (options : Options) (number byte : ℕ) (field text : List ℕ) (found : List Found)
-    → ¬ IsChosen options.fields.now number
+    → ¬ IsChosenField options.fields.now number
     → IsField options number field text found → IsField options number (byte ∷ field) (byte ∷ text) found
 IsField-byte options number byte field text found not_chosen (other _ text_is found_is) =
     other not_chosen (ap (λ bytes. byte ∷ bytes) text_is) found_is
@@ -61,7 +61,7 @@ IsField-byte options number byte field text found not_chosen (rejected chosen no
 
 -- one more byte before the first of these fields, which is not chosen, is copied with it
 AreFields-byte : (options : Options) (number byte : ℕ) (fields : List (List ℕ)) (text : List ℕ) (found : List Found)
-    → ¬ IsChosen options.fields.now number → AreFields options number fields text found
+    → ¬ IsChosenField options.fields.now number → AreFields options number fields text found
     → AreFields options number (onto_first byte fields) (byte ∷ text) found
 AreFields-byte options number byte [] text found not_chosen (text_is, found_is) =
     other not_chosen (ap (λ bytes. byte ∷ bytes) text_is) found_is
@@ -81,7 +81,7 @@ AreFields-byte options number byte (field ∷ next ∷ others) text found not_ch
 
 -- fields none of which is chosen are copied, with the delimiters between them
 AreFields-copied : (options : Options) (delimiter : ℕ) → between_of options ≡ delimiter ∷ []
-    → (bytes : List ℕ) (number : ℕ) → ((later : ℕ) → number ≤ later → ¬ IsChosen options.fields.now later)
+    → (bytes : List ℕ) (number : ℕ) → ((later : ℕ) → number ≤ later → ¬ IsChosenField options.fields.now later)
     → AreFields options number (split_by delimiter bytes) bytes []
 AreFields-copied options delimiter between [] number past = other (past number (omega arith)) refl refl
 AreFields-copied options delimiter between (byte ∷ bytes) number past =
@@ -115,7 +115,7 @@ blank_fields_IsSplit (byte ∷ bytes) =
 
 -- fields between blanks none of which is chosen are copied
 AreFields-copied_blanks : (options : Options) → between_of options ≡ [] → (bytes : List ℕ) (number : ℕ)
-    → ((later : ℕ) → number ≤ later → ¬ IsChosen options.fields.now later)
+    → ((later : ℕ) → number ≤ later → ¬ IsChosenField options.fields.now later)
     → AreFields options number (blank_fields bytes) bytes []
 AreFields-copied_blanks options between [] number past = other (past number (omega arith)) refl refl
 AreFields-copied_blanks options between (byte ∷ bytes) number past =
@@ -146,7 +146,7 @@ module _ (options : Options) (delimiter : ℕ) (is : options.delimiter ≡ Some 
 
   -- fields none of which is chosen are copied, with the bytes between them
   pub fields_copied : (bytes : List ℕ) (number : ℕ)
-      → ((later : ℕ) → number ≤ later → ¬ IsChosen options.fields.now later)
+      → ((later : ℕ) → number ≤ later → ¬ IsChosenField options.fields.now later)
       → AreFields options number (fields_of options bytes) bytes []
   fields_copied bytes number past =
       let Copies : Bool → Type 0 = λ blanks. between_of options ≡ bytes_between blanks (Some delimiter)
@@ -160,7 +160,7 @@ module _ (options : Options) (delimiter : ℕ) (is : options.delimiter ≡ Some 
 
 -- fields none of which is chosen have no messages
 AreMessagesOfFields-none : (options : Options) (word : List ℕ) (place : ℕ) (fields : List (List ℕ)) (number : ℕ)
-    → ((later : ℕ) → number ≤ later → ¬ IsChosen options.fields.now later)
+    → ((later : ℕ) → number ≤ later → ¬ IsChosenField options.fields.now later)
     → AreMessagesOfFields options word place number fields []
 AreMessagesOfFields-none options word place [] number past = refl
 AreMessagesOfFields-none options word place (field ∷ fields) number past = (
@@ -326,7 +326,7 @@ module _ {options : Options} {bytes : List ℕ} {old : State} {number : ℕ} {re
 
   -- if no other field is chosen, copying the rest adds the fields of the whole record
   pub AddsFields-copied : AreFields options number (fields_of options rest) rest []
-      → ((later : ℕ) → number ≤ later → ¬ IsChosen options.fields.now later)
+      → ((later : ℕ) → number ≤ later → ¬ IsChosenField options.fields.now later)
       → AddsFields options bytes old (record new { out = new.out ++ rest })
   AddsFields-copied copied past =
       let all = so_far.goes_on rest [] copied in

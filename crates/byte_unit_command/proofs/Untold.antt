@@ -2,7 +2,7 @@
 use Rattle.std.proofs.Common.{◌≡◌, ℕ, ◌+◌, ◌-◌, Bool, true, false, ◌||◌, List, [], ◌∷◌, ◌++◌, length, inl, inr}
 use Rattle.std.proofs.Common.{refl, sym, ap, subst, ◌∙◌, arith}
 use Rattle.byte_unit_command.specs.Field.{IsSize, IsNoSize, ignores_case, without_suffix}
-use Rattle.byte_unit_command.specs.Fields.{IsChosen}
+use Rattle.byte_unit_command.specs.Fields.{IsChosenField}
 use Rattle.byte_unit_command.proofs.Readings.{sizes_or_not}
 use Rattle.byte_unit_command.specs.Messages.{AreFieldMessages, AreLimitMessages, AreMessagesOfFields, AreRecordMessages}
 use Rattle.byte_unit_command.specs.Messages.{AreMessages, IsMessage, IsMessageIf, other, size, rejected, ignored}
@@ -46,7 +46,7 @@ module _ (options : Options) (word : List ℕ) (place number : ℕ) (field : Lis
       above_told) ∙ IsMessageIf-none (is_below options.min n) Below below empty.1 below_told
 
   -- a chosen size about which there is no message is beyond no limit
-  pub within-untold : (n : ℕ) (is_rejected : Bool) → IsChosen options.fields.now number
+  pub within-untold : (n : ℕ) (is_rejected : Bool) → IsChosenField options.fields.now number
       → IsSize options field n → AreFieldMessages options word place number field is_rejected [] → is_beyond options n
       ≡ false
   within-untold n is_rejected chosen is (other not _ _) = absurd (not chosen)
@@ -60,7 +60,7 @@ module _ (options : Options) (word : List ℕ) (place number : ℕ) (field : Lis
       absurd (no_size_is_rejected options field n is none)
 
   -- a rejected field about which there is no message is ignored
-  pub ignored-untold : (is_rejected : Bool) → IsChosen options.fields.now number
+  pub ignored-untold : (is_rejected : Bool) → IsChosenField options.fields.now number
       → IsNoSize options field → AreFieldMessages options word place number field is_rejected []
       → tells_rejected options.invalid ≡ false
   ignored-untold is_rejected chosen none (other not _ _) = absurd (not chosen)

@@ -5,7 +5,7 @@ use Rattle.std.specs.Str.{IsUtf8, bytes_eq}
 use Rattle.byte_unit.specs.Fault.{Fault}
 use Rattle.byte_unit.specs.declared.Kind.{Kind}
 use Rattle.byte_unit.specs.declared.Kind.TheVariants.{Byte, Bit}
-use Rattle.byte_unit_command.specs.Fields.{IsChosen, gap_of, width_of}
+use Rattle.byte_unit_command.specs.Fields.{IsChosenField, gap_of, width_of}
 use Rattle.byte_unit_command.specs.Prefixes.{IsAcceptedBy, IsRejectedBy}
 use Rattle.byte_unit_command.specs.Formatted.{IsFormatted}
 use Rattle.byte_unit_command.specs.declared.options.Options.{Options}
@@ -61,8 +61,9 @@ pub record IsPlaced (options : Options) (number : ℕ) (field : List ℕ) (size 
 -- what is written for the field with this number, and what is found in it: a field that is not chosen is copied; a size
 -- is replaced by its text; a field that is not a size is copied too
 pub data IsField (options : Options) (number : ℕ) (field text : List ℕ) (found : List Found) : Type 0 where
-  other : ¬ IsChosen options.fields.now number → text ≡ field → found ≡ [] → IsField options number field text found
-  size : (n : ℕ) → IsChosen options.fields.now number → IsSize options field n → IsPlaced options number field n text
-      → found ≡ Some n ∷ [] → IsField options number field text found
-  rejected : IsChosen options.fields.now number → IsNoSize options field → text ≡ field → found ≡ None ∷ []
+  other : ¬ IsChosenField options.fields.now number → text ≡ field → found ≡ []
+      → IsField options number field text found
+  size : (n : ℕ) → IsChosenField options.fields.now number → IsSize options field n
+      → IsPlaced options number field n text → found ≡ Some n ∷ [] → IsField options number field text found
+  rejected : IsChosenField options.fields.now number → IsNoSize options field → text ≡ field → found ≡ None ∷ []
       → IsField options number field text found

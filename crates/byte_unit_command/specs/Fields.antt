@@ -82,9 +82,9 @@ abbrev pub InRange : FieldRange → ℕ → Type 0
 InRange range number = (range.first ≤ number) × MatchOption range.last ⊤ (λ last. number ≤ last)
 
 -- the field with this number is converted: it is in one of the ranges
-abbrev pub IsChosen : List FieldRange → ℕ → Type 0
-IsChosen [] number = ⊥
-IsChosen (range ∷ ranges) number = InRange range number ⊎ IsChosen ranges number
+abbrev pub IsChosenField : List FieldRange → ℕ → Type 0
+IsChosenField [] number = ⊥
+IsChosenField (range ∷ ranges) number = InRange range number ⊎ IsChosenField ranges number
 
 -- the ranges begin in their order
 abbrev pub IsInOrder : List FieldRange → Type 0
@@ -100,6 +100,6 @@ GoesTo (range ∷ ranges) number = MatchOption range.last ⊤ (λ last. number �
 -- from the field with this number on, the ranges that are left choose the same fields; the first of them does not end
 -- before it, and they are in order if all are
 pub record AreRangesFrom (ranges : List FieldRange) (number : ℕ) (left : List FieldRange) : Type 0 where
-  pub same : (later : ℕ) → number ≤ later → IsChosen ranges later ↔ IsChosen left later
+  pub same : (later : ℕ) → number ≤ later → IsChosenField ranges later ↔ IsChosenField left later
   pub in_order : IsInOrder ranges → IsInOrder left
   pub goes : GoesTo left number

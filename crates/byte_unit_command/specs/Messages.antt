@@ -9,7 +9,7 @@ use Rattle.std.specs.Str.{IsUtf8, is_utf8, chars}
 use Rattle.byte_unit.specs.Errors.{size_fault}
 use Rattle.byte_unit.specs.FaultText.{parse_text}
 use Rattle.byte_unit_command.specs.Field.{IsSize, IsNoSize, ignores_case, without_suffix}
-use Rattle.byte_unit_command.specs.Fields.{IsChosen, fields_of}
+use Rattle.byte_unit_command.specs.Fields.{IsChosenField, fields_of}
 use Rattle.byte_unit_command.specs.Prefixes.{IsRejectedBy}
 use Rattle.byte_unit_command.specs.Sums.{is_above, is_below}
 use Rattle.byte_unit_command.specs.WrongCharacter.{ArePlaceWords}
@@ -121,16 +121,16 @@ tells_rejected Ignore = false
 -- the messages about a field, and whether it is to be converted and is not a size
 pub data AreFieldMessages (options : Options) (word : List ℕ) (place number : ℕ) (field : List ℕ) (is_rejected : Bool)
     (text : List ℕ) : Type 0 where
-  other : ¬ IsChosen options.fields.now number → is_rejected ≡ false → text ≡ []
+  other : ¬ IsChosenField options.fields.now number → is_rejected ≡ false → text ≡ []
       → AreFieldMessages options word place number field is_rejected text
-  size : (n : ℕ) → IsChosen options.fields.now number → IsSize options field n → is_rejected ≡ false
+  size : (n : ℕ) → IsChosenField options.fields.now number → IsSize options field n → is_rejected ≡ false
       → AreLimitMessages options word place number field n text
       → AreFieldMessages options word place number field is_rejected text
-  rejected : (reason : FieldError) → IsChosen options.fields.now number → IsFieldError options field reason
+  rejected : (reason : FieldError) → IsChosenField options.fields.now number → IsFieldError options field reason
       → is_rejected ≡ true
       → tells_rejected options.invalid ≡ true → IsMessage options word place number field reason text
       → AreFieldMessages options word place number field is_rejected text
-  ignored : IsChosen options.fields.now number → IsNoSize options field → is_rejected ≡ true
+  ignored : IsChosenField options.fields.now number → IsNoSize options field → is_rejected ≡ true
       → tells_rejected options.invalid ≡ false → text ≡ []
       → AreFieldMessages options word place number field is_rejected text
 

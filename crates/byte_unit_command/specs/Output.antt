@@ -1,7 +1,7 @@
 -- What is written for records, and what is found in them.
 use Rattle.std.specs.Prelude.{◌≡◌, ℕ, zero, suc, ◌+◌, ◌-◌, ◌⊎◌, List, [], ◌∷◌, ◌++◌}
 use Rattle.byte_unit_command.specs.Field.{Found, IsField, IsNoSize}
-use Rattle.byte_unit_command.specs.Fields.{IsChosen, fields_of, between_of}
+use Rattle.byte_unit_command.specs.Fields.{IsChosenField, fields_of, between_of}
 use Rattle.byte_unit_command.specs.declared.options.Options.{Options}
 
 -- what is written for the fields of a record, the first of which has this number: their texts with the bytes between
@@ -33,4 +33,4 @@ AreRecords options header (bytes ∷ others) text found =
 abbrev pub HasRejectedField : Options → ℕ → List (List ℕ) → Type 0
 HasRejectedField options number [] = ⊥
 HasRejectedField options number (field ∷ others) =
-    IsChosen options.fields.now number × IsNoSize options field ⊎ HasRejectedField options (number + 1) others
+    IsChosenField options.fields.now number × IsNoSize options field ⊎ HasRejectedField options (number + 1) others

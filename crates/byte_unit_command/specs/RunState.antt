@@ -5,7 +5,7 @@ use Rattle.std.specs.Prelude.{Result, Ok, Err, ⊤}
 use Rattle.std.specs.declared.vec.Vec.{Vec}
 use Rattle.byte_unit.specs.Bounds.{size_limit}
 use Rattle.byte_unit_command.specs.Field.{Found, IsField, IsNoSize}
-use Rattle.byte_unit_command.specs.Fields.{IsChosen, fields_of}
+use Rattle.byte_unit_command.specs.Fields.{IsChosenField, fields_of}
 use Rattle.byte_unit_command.specs.Messages.{AreFieldMessages, AreMessagesOfFields, AreMessagesToRejected}
 use Rattle.byte_unit_command.specs.Messages.{AreRecordMessages, AreMessages, next_place, last_place}
 use Rattle.byte_unit_command.specs.RunOutput.{Passes}
@@ -99,7 +99,7 @@ pub record AddsField (options : Options) (number : ℕ) (field : List ℕ) (old 
 pub record IsRejectedField (options : Options) (number : ℕ) (field : List ℕ) (old : State) (new_messages : List ℕ) :
     Type 0 where
   pub mode : options.invalid ≡ Abort
-  pub chosen : IsChosen options.fields.now number
+  pub chosen : IsChosenField options.fields.now number
   pub no_size : IsNoSize options field
   pub messages : List ℕ
   pub are_messages : AreFieldMessages options old.word old.place number field true messages

@@ -5,7 +5,7 @@ ghost use Rattle.std.specs.Prelude.{OnOk, OnErr, IsErrOf, IsTrue, IsFalse, vec_c
 ghost use Rattle.byte_unit.specs.Forms.{text_limit};
 ghost use Rattle.byte_unit_command.specs.Capacity.{field_room, fields_room, record_room};
 ghost use Rattle.byte_unit_command.specs.Field.{IsNoSize};
-ghost use Rattle.byte_unit_command.specs.Fields.{AreRangesFrom, GoesTo, InRange, IsChosen, IsInOrder, at_blanks};
+ghost use Rattle.byte_unit_command.specs.Fields.{AreRangesFrom, GoesTo, InRange, IsChosenField, IsInOrder, at_blanks};
 ghost use Rattle.byte_unit_command.specs.RunState.{AddsRecords, Grows, messages_of, state_of};
 ghost use Rattle.byte_unit_command.specs.CallEnds.{AbortsNext, Extends, FieldEndsEarly, FieldIsAdded, FieldIsRejected};
 ghost use Rattle.byte_unit_command.specs.CallEnds.{FieldsAreAdded, FieldsAreRejected, FieldsEndEarly, KeepsMessages};
@@ -201,8 +201,8 @@ impl<A: Allocator> Converter<A> {
     ) -> RunResult
         requires capacity { text_limit ≤ length digits.old }
         requires blanks { at_blanks options.now ≡ BLANKS }
-        requires yes { IsTrue chosen → IsChosen options.now.fields.now number }
-        requires no { IsFalse chosen → ¬ IsChosen options.now.fields.now number }
+        requires yes { IsTrue chosen → IsChosenField options.now.fields.now number }
+        requires no { IsFalse chosen → ¬ IsChosenField options.now.fields.now number }
         ensures ok { FieldIsAdded options.now number field.now self.old self.new result }
         ensures rejected { FieldIsRejected options.now number field.now self.old self.new result }
         ensures early { FieldEndsEarly options.now number field.now self.old result }
@@ -237,7 +237,7 @@ impl<A: Allocator> Converter<A> {
     #[cold]
     #[inline(never)]
     fn add_rejected(&mut self, options: &Options, number: u64, field: &[u8]) -> RunResult
-        requires chosen { IsChosen options.now.fields.now number }
+        requires chosen { IsChosenField options.now.fields.now number }
         requires none { IsNoSize options.now field.now }
         ensures ok { FieldIsAdded options.now number field.now self.old self.new result }
         ensures rejected { FieldIsRejected options.now number field.now self.old self.new result }
@@ -262,8 +262,8 @@ impl<A: Allocator> Converter<A> {
 fn is_chosen(ranges: &[FieldRange], in_order: bool, number: u64) -> bool
     requires order { IsTrue in_order → IsInOrder ranges.now }
     requires goes { IsTrue in_order → GoesTo ranges.now number }
-    ensures yes { IsTrue result → IsChosen ranges.now number }
-    ensures no { IsFalse result → ¬ IsChosen ranges.now number }
+    ensures yes { IsTrue result → IsChosenField ranges.now number }
+    ensures no { IsFalse result → ¬ IsChosenField ranges.now number }
 {
     if !in_order {
         return is_in_one(ranges, number);
@@ -276,8 +276,8 @@ fn is_chosen(ranges: &[FieldRange], in_order: bool, number: u64) -> bool
 
 /// Returns `true` if the field with this number is in one of the ranges.
 fn is_in_one(ranges: &[FieldRange], number: u64) -> bool
-    ensures yes { IsTrue result → IsChosen ranges.now number }
-    ensures no { IsFalse result → ¬ IsChosen ranges.now number }
+    ensures yes { IsTrue result → IsChosenField ranges.now number }
+    ensures no { IsFalse result → ¬ IsChosenField ranges.now number }
 {
     match ranges {
         [] => false,

@@ -3,7 +3,7 @@
 ghost use Rattle.std.specs.Prelude.{◌≡◌, ◌++◌, [], take, List, ℕ, OnOk, IsOk, true, false};
 ghost use Rattle.std.specs.String.{string_bytes};
 ghost use Rattle.byte_unit_command.specs.Field.{IsNoSize};
-ghost use Rattle.byte_unit_command.specs.Fields.{IsChosen};
+ghost use Rattle.byte_unit_command.specs.Fields.{IsChosenField};
 ghost use Rattle.byte_unit_command.specs.Messages.{AreFieldMessages, AreLimitMessages, AreWords};
 ghost use Rattle.byte_unit_command.specs.Messages.{IsMessage, IsMessageIf, IsFieldError, AreCharacterWords};
 ghost use Rattle.byte_unit_command.specs.WrongCharacter.{character_words};
@@ -110,7 +110,7 @@ pub(crate) fn add_reject_notice<A: Allocator>(
     field: &[u8],
     notices: &mut Notices<A>,
 ) -> Result<(), AllocError>
-    requires chosen { IsChosen options.now.fields.now number }
+    requires chosen { IsChosenField options.now.fields.now number }
     requires none { IsNoSize options.now field.now }
     ensures ok { OnOk result ((text : List ℕ)
         × AreFieldMessages options.now place.now.word.now place.now.number

@@ -95,7 +95,7 @@ pub fn run_with_capacity<A: Allocator, R: Read, W: Write, E: Write>(
     digits: &mut [u8],
     streams: &mut Streams<R, W, E>,
 ) -> Result<Result<Tally, RunError>, AllocError>
-    requires some { 0 < length buffer.old }
+    requires nonempty { 0 < length buffer.old }
     requires capacity { text_limit ≤ length digits.old }
     ensures run { IfOk result
         (IsRunOf R.remaining W.contents E.contents options.now streams.old streams.new) }
@@ -134,7 +134,7 @@ pub fn run_with_buffers<A: Allocator, R: Read, W: Write, E: Write>(
     streams: &mut Streams<R, W, E>,
 ) -> Result<Tally, RunError>
     requires empty { AreEmpty buffers.old }
-    requires some { 0 < length buffer.old }
+    requires nonempty { 0 < length buffer.old }
     requires capacity { text_limit ≤ length digits.old }
     ensures run { IsRunOf R.remaining W.contents E.contents options.now
         streams.old streams.new result }
@@ -320,7 +320,7 @@ fn read_max(options: &Options, len: usize) -> usize
     ensures most { result ≡ most_of_read options.now len }
     ensures texts { most_of_text options.now * result ≤ max texts_max (most_of_text options.now) }
     ensures bound { result ≤ len }
-    ensures some { 0 < len → 0 < result }
+    ensures positive { 0 < len → 0 < result }
 {
     // In the mode `abort` a run ends with its first message about a rejected field.
     let tells_rejected = matches!(options.invalid, Invalid::Fail | Invalid::Warn);
@@ -353,7 +353,7 @@ fn read_room(options: &Options, longest: usize, chunk: usize) -> Option<usize>
 fn text_max(options: &Options) -> usize
     ensures most { result ≡ most_of_text options.now }
     ensures bound { result < 2 ^ 63 + 65573 }
-    ensures some { 0 < result }
+    ensures positive { 0 < result }
 {
     let number_len = match options.form {
         Form::Exact | Form::Plain => NARROW_TEXT,

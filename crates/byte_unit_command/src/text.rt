@@ -34,7 +34,7 @@ pub(crate) fn add_in_width<A: Allocator>(
     digits: &mut [u8],
     text: &mut Vec<u8, A>,
 ) -> Result<(), AllocError>
-    requires size { size < size_limit }
+    requires bound { size < size_limit }
     requires capacity { text_limit ≤ length digits.old }
     ensures ok { OnOk result ((formatted : List ℕ)
         × IsFormatted (record options.now { width = width }) size formatted
@@ -146,7 +146,7 @@ fn add_spaces<A: Allocator>(count: usize, text: &mut Vec<u8, A>) -> Result<(), A
 /// Preconditions (proved at every call): `size` is less than 10^30, and `out` has capacity for any text.
 #[inline(always)]
 fn write_size(options: &Options, size: u128, out: &mut [u8]) -> usize
-    requires size { size < size_limit }
+    requires bound { size < size_limit }
     requires capacity { text_limit ≤ length out.old }
     ensures written { BeginsWithForm
         (IsFormText options.now.kind options.now.form options.now.precision size)
@@ -167,7 +167,7 @@ fn write_size(options: &Options, size: u128, out: &mut [u8]) -> usize
 #[tactic(auto, using(crate::proofs::Numbers::begins_with))]
 #[inline(always)]
 fn write_as<const BITS: bool>(options: &Options, size: u128, out: &mut [u8]) -> usize
-    requires size { size < size_limit }
+    requires bound { size < size_limit }
     requires capacity { text_limit ≤ length out.old }
     ensures written { BeginsWithForm
         (IsFormText (kind_of BITS) options.now.form options.now.precision size)
@@ -211,7 +211,7 @@ fn write_as<const BITS: bool>(options: &Options, size: u128, out: &mut [u8]) -> 
 #[cold]
 #[inline(never)]
 fn write_number(size: u128, kind: Kind, unit: Unit, precision: Option<u16>, out: &mut [u8]) -> usize
-    requires size { size < size_limit }
+    requires bound { size < size_limit }
     requires capacity { text_limit ≤ length out.old }
     ensures written { BeginsWithForm
         (IsFormText kind (Form.NumberOf unit) precision size)

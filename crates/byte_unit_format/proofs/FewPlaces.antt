@@ -17,7 +17,7 @@ use Rattle.byte_unit_choice.specs.Choice.{IsRecoveredIn, IsExactUnit, places_wit
 use Rattle.byte_unit_base.specs.Kinds.{bits_in, counts_bits, own_unit}
 use Rattle.byte_unit_choice.specs.Family.{own_family}
 use Rattle.byte_unit_base.specs.declared.kind.Kind.{Kind}
-use Rattle.byte_unit_format.specs.FewPlaces.{FitsPrefix, IsGreatest}
+use Rattle.byte_unit_format.specs.FewPlaces.{FitsPrefix, IsGreatestPower}
 use Rattle.byte_unit_format.proofs.NarrowTexts.{pow10_next, prefix_of, unit_bits, own_kind, pow10_le_pow2}
 use Rattle.byte_unit_format.proofs.NarrowTexts.{bits_in_positive, prefix_at_least, prefix_lt_next, exact_of_fits}
 
@@ -70,7 +70,7 @@ pub record IsDivided (size whole thousandths power : ℕ) : Type 0 where
 
 -- If a thousandth is left, or fewer than a thousand, no larger decimal prefix fits.
 pub greatest_thousands : {size whole thousandths power : ℕ} → IsDivided size whole thousandths power
-    → (thousandths ≡ 0 → whole < 1000) → IsGreatest 3 10 3 size power
+    → (thousandths ≡ 0 → whole < 1000) → IsGreatestPower 3 10 3 size power
 greatest_thousands {size} {whole} {thousandths} {power} divided ends =
     let prefix = 10 ^ (3 * power) in
     record {
@@ -126,9 +126,9 @@ fits_three {places} {size} {prefix} few fits = record {
 }
 
 -- Of thousandths that end in zeros fewer digits are left, and the prefix stays.
-pub greatest_of_zeros_left : {places size power : ℕ} (whole thousandths : ℕ) → places ≤ 3 → IsGreatest 3 10 3 size power
-    → (whole * 1000 + thousandths) * 10 ^ (3 * power) ≡ size * 1000 → thousandths % 10 ^ (3 - places) ≡ 0
-    → IsGreatest places 10 3 size power
+pub greatest_of_zeros_left : {places size power : ℕ} (whole thousandths : ℕ) → places ≤ 3
+    → IsGreatestPower 3 10 3 size power → (whole * 1000 + thousandths) * 10 ^ (3 * power) ≡ size * 1000
+    → thousandths % 10 ^ (3 - places) ≡ 0 → IsGreatestPower places 10 3 size power
 greatest_of_zeros_left {places} {size} {power} whole thousandths few greatest value zeros =
     let rest = 10 ^ (3 - places) in
     let tens = 10 ^ places in
@@ -170,7 +170,7 @@ left_over whole thousandths (suc (suc (suc (suc more)))) few left = absurd (omeg
 -- size is whole.
 pub greatest_before : {places size power : ℕ} (whole thousandths : ℕ) → places ≤ 3 → 1 ≤ power
     → 10 ^ (3 * power) ≤ size → (whole * 1000 + thousandths) * 10 ^ (3 * power) ≡ size * 1000
-    → thousandths % 10 ^ (3 - places) ≢ 0 → IsGreatest places 10 3 size (power - 1)
+    → thousandths % 10 ^ (3 - places) ≢ 0 → IsGreatestPower places 10 3 size (power - 1)
 greatest_before {places} {size} {power} whole thousandths few some not_above value left =
     let count : ℕ = (whole * 1000 + thousandths) * 10 ^ places in
     let counted : count * 10 ^ (3 * (power - 1)) ≡ size * 10 ^ places =
@@ -194,7 +194,7 @@ odd_product left (suc (suc (suc (suc more)))) few odd = absurd (omega (arith, fe
 -- The lowest and the highest bit of a size tell the largest binary prefix that fits it, of which it is eighths.
 pub binary_greatest : (places size power : ℕ) → places ≤ 3 → 0 < size → size < size_limit
     → power ≡ min (trailing_zeros w128 size + places) (128 - 1 - leading_zeros w128 size) / 10
-    → IsGreatest places 2 10 size power × (size % 2 ^ (10 * power - 3) ≡ 0)
+    → IsGreatestPower places 2 10 size power × (size % 2 ^ (10 * power - 3) ≡ 0)
 binary_greatest places size power at_most some small count =
     let twos = trailing_zeros w128 size in
     let left = size / 2 ^ twos in
@@ -288,7 +288,7 @@ module _ (kind : Kind) (places size : ℕ) (few : places ≤ 3) where
       })
 
   -- If no decimal prefix of a later position fits the size, the binary prefix is the larger one.
-  pub recovered_binary : {binary : ℕ} → 1 ≤ binary → binary ≤ 9 → IsGreatest places 2 10 size binary
+  pub recovered_binary : {binary : ℕ} → 1 ≤ binary → binary ≤ 9 → IsGreatestPower places 2 10 size binary
       → ((other : ℕ) → FitsPrefix places size (10 ^ (3 * other)) → other ≤ binary)
       → IsRecoveredIn current kind false size places (shape binary true (counts_bits kind))
   recovered_binary {binary} some known twos later =
@@ -300,8 +300,8 @@ module _ (kind : Kind) (places size : ℕ) (few : places ≤ 3) where
       (λ other fits. omega (arith, raised other (later other fits), pow10_le_pow2 other)))
 
   -- If not, the decimal prefix is the larger one.
-  pub recovered_decimal : {decimal binary : ℕ} → 1 ≤ decimal → decimal ≤ 9 → IsGreatest places 10 3 size decimal
-      → IsGreatest places 2 10 size binary → binary < decimal
+  pub recovered_decimal : {decimal binary : ℕ} → 1 ≤ decimal → decimal ≤ 9 → IsGreatestPower places 10 3 size decimal
+      → IsGreatestPower places 2 10 size binary → binary < decimal
       → IsRecoveredIn current kind false size places (shape decimal false (counts_bits kind))
   recovered_decimal {decimal} {binary} some known tens twos earlier =
       let raised = λ (other : ℕ) (at_most : other ≤ decimal).
@@ -330,8 +330,8 @@ module _ (kind : Kind) (places size : ℕ) (few : places ≤ 3) where
       )
 
   -- Nor is one that fits none.
-  pub recovered_none : {decimal binary : ℕ} → decimal ≡ 0 → binary ≡ 0 → IsGreatest places 10 3 size decimal
-      → IsGreatest places 2 10 size binary → IsRecoveredIn current kind false size places (own_unit kind)
+  pub recovered_none : {decimal binary : ℕ} → decimal ≡ 0 → binary ≡ 0 → IsGreatestPower places 10 3 size decimal
+      → IsGreatestPower places 2 10 size binary → IsRecoveredIn current kind false size places (own_unit kind)
   recovered_none no_decimal no_binary tens twos =
       inr (
         λ unit exact_unit.

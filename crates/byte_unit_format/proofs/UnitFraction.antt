@@ -28,7 +28,7 @@ use Rattle.byte_unit_base.proofs.NumberTexts.{number_ascii}
 use Rattle.byte_unit_format.specs.Forms.{IsSizeForm}
 use Rattle.byte_unit_format.specs.NamedSpecs.{alternate_spec}
 use Rattle.byte_unit_format.specs.UnitFraction.{thousandths_text, thousandths_of, unit_of}
-use Rattle.byte_unit_format.specs.UnitFraction.{unit_fraction_text, HasPrefix, IsSplit}
+use Rattle.byte_unit_format.specs.UnitFraction.{unit_fraction_text, IsProperFraction, IsSplit}
 use Rattle.byte_unit_format.specs.declared.thousandths.UnitFraction.{UnitFraction}
 use Rattle.byte_unit_format.specs.declared.thousandths.UnitFraction.TheVariants.{Own, Eighths, Thousandths}
 
@@ -39,7 +39,7 @@ text_of_thousandths : (whole thousandths : ℕ) → thousandths < 1000
 text_of_thousandths whole thousandths below = grind arith
 
 -- The thousandths are less than one, and the prefix is one of the nine.
-unit_fraction_bounds : (kind : Kind) (fraction : UnitFraction) → HasPrefix fraction
+unit_fraction_bounds : (kind : Kind) (fraction : UnitFraction) → IsProperFraction fraction
     → (thousandths_of fraction < 1000) × ((unit_of kind fraction).power ≤ 9)
 unit_fraction_bounds kind Own known = (omega arith, omega arith)
 unit_fraction_bounds kind (Eighths eighths power) known = (omega (arith, known.0), known.2)
@@ -69,7 +69,7 @@ form_of_thousandths kind size whole thousandths unit below recovered product =
     }
 
 -- A split size is the text of its whole part and of what follows.
-pub form_of_split : (kind : Kind) (size whole : ℕ) (fraction : UnitFraction) → HasPrefix fraction
+pub form_of_split : (kind : Kind) (size whole : ℕ) (fraction : UnitFraction) → IsProperFraction fraction
     → IsSplit kind size 3 whole fraction
     → IsSizeForm kind size alternate_spec (decimal whole ++ unit_fraction_text kind fraction)
 form_of_split kind size whole fraction known split =
@@ -131,7 +131,7 @@ form_ascii whole thousandths unit small known =
     (IsAscii-cons 32 name (omega arith) (name_ascii unit known)))
 
 -- A size with what follows its whole part is ASCII.
-pub split_ascii : (kind : Kind) (whole : ℕ) (fraction : UnitFraction) → whole < 10 ^ 27 → HasPrefix fraction
+pub split_ascii : (kind : Kind) (whole : ℕ) (fraction : UnitFraction) → whole < 10 ^ 27 → IsProperFraction fraction
     → IsAscii (decimal whole ++ unit_fraction_text kind fraction)
 split_ascii kind whole fraction small known =
     form_ascii whole (thousandths_of fraction) (unit_of kind fraction) small

@@ -8,6 +8,6 @@ pub record FitsPrefix (places size prefix : ℕ) : Type 0 where
   pub not_above : prefix ≤ size
 
 -- The size fits the prefix base^(step * power), and none of a greater power.
-pub record IsGreatest (places base step size power : ℕ) : Type 0 where
+pub record IsGreatestPower (places base step size power : ℕ) : Type 0 where
   pub fits : FitsPrefix places size (base ^ (step * power))
   pub greatest : (other : ℕ) → FitsPrefix places size (base ^ (step * other)) → other ≤ power

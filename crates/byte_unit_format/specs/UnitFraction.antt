@@ -40,7 +40,7 @@ pub record IsSplit (kind : Kind) (size precision whole : ℕ) (fraction : UnitFr
       ≡ size * bits_in kind * scale
 
 -- The prefix is one of the nine, and the eighths or thousandths are less than a unit.
-abbrev pub HasPrefix : UnitFraction → Type 0
-HasPrefix Own = Unit {0}
-HasPrefix (Eighths eighths power) = (eighths < 8) × (1 ≤ power) × (power ≤ 9)
-HasPrefix (Thousandths thousandths power) = (thousandths < 1000) × (1 ≤ power) × (power ≤ 9)
+abbrev pub IsProperFraction : UnitFraction → Type 0
+IsProperFraction Own = Unit {0}
+IsProperFraction (Eighths eighths power) = (eighths < 8) × (1 ≤ power) × (power ≤ 9)
+IsProperFraction (Thousandths thousandths power) = (thousandths < 1000) × (1 ≤ power) × (power ≤ 9)

@@ -36,7 +36,7 @@ const ALTERNATE_PLACES: u16 = 16;
 
 /// Up to this many digits after the point, a number is rounded by one division: any size in bits times 10^7 fits 127
 /// bits.
-const FEW_PLACES: u32 = 7;
+const ONE_DIVISION_PLACES: u32 = 7;
 
 /// The kind of a size, and the unit that it is formatted in. These two are passed in registers; with the size they
 /// would be passed in memory, which takes 6 to 15 instructions more.
@@ -147,7 +147,7 @@ pub fn write_adjusted(size: u128, kind: Kind, unit: Unit, spec: FormatSpec, out:
 {
     let rounding = rounding_of(unit, spec);
     match rounding {
-        Rounding::To(places) if places <= FEW_PLACES => {
+        Rounding::To(places) if places <= ONE_DIVISION_PLACES => {
             let scaled = size * kind.bits() * power_of_ten(places);
             let number = rounded_quotient(scaled, unit.as_bits_u128());
             scaled_parts(number, places, unit, spec).write(out)
@@ -183,7 +183,7 @@ pub fn display_adjusted<W: fmt::Write>(
 #[inline(never)]
 #[tactic(auto, using(crate::proofs::TextParts::writes_form))]
 fn write_slow(size: u128, of: Target, rounding: Rounding, spec: FormatSpec, out: &mut [u8]) -> usize
-    requires size { size < size_limit }
+    requires bound { size < size_limit }
     requires rounding { IsRoundingOf of.unit spec rounding }
     ensures written { WritesForm (IsAdjustedForm of.kind size of.unit spec) out.old out.new result }
     ensures bound { result < text_limit }
@@ -197,7 +197,7 @@ fn write_slow(size: u128, of: Target, rounding: Rounding, spec: FormatSpec, out:
 /// Writes as `write_slow`, by all digits of the number.
 #[inline(never)]
 fn write_full(size: u128, of: Target, rounding: Rounding, spec: FormatSpec, out: &mut [u8]) -> usize
-    requires size { size < size_limit }
+    requires bound { size < size_limit }
     requires rounding { IsRoundingOf of.unit spec rounding }
     ensures written { WritesForm (IsAdjustedForm of.kind size of.unit spec) out.old out.new result }
     ensures bound { result < text_limit }
@@ -235,7 +235,7 @@ fn short_parts(
     rounding: Rounding,
     spec: FormatSpec,
 ) -> Option<TextParts<'static>>
-    requires size { size < size_limit }
+    requires bound { size < size_limit }
     requires rounding { IsRoundingOf of.unit spec rounding }
     ensures text { IfSome result
         (λ parts. IsAdjustedForm of.kind size of.unit spec (parts_text parts)) }

@@ -8,7 +8,7 @@ ghost use Rattle.byte_unit_base.specs.Kinds.{own_unit};
 ghost use Rattle.byte_unit_base.specs.Version.{current, unit_name_in};
 ghost use Rattle.byte_unit_format.specs.Forms.{IsSizeForm, narrow_text};
 ghost use Rattle.byte_unit_format.specs.NamedSpecs.{alternate_spec};
-ghost use Rattle.byte_unit_format.specs.UnitFraction.{HasPrefix, unit_fraction_text, thousandths_text};
+ghost use Rattle.byte_unit_format.specs.UnitFraction.{IsProperFraction, unit_fraction_text, thousandths_text};
 ghost use Rattle.byte_unit_format.specs.Written.{WritesForm};
 
 use crate::parts::put;
@@ -53,7 +53,7 @@ fn write_if_fits(size: u128, kind: Kind, out: &mut [u8]) -> usize
 /// Writes as `put_form`: the slow path, for a size of more than 64 bits.
 #[inline(never)]
 fn put_form_wide(size: u128, kind: Kind, out: &mut [u8]) -> usize
-    requires small { size < size_limit }
+    requires bound { size < size_limit }
     requires room { narrow_text ≤ length out.old }
     ensures { WritesForm (IsSizeForm kind size alternate_spec) out.old out.new result }
 {
@@ -63,7 +63,7 @@ fn put_form_wide(size: u128, kind: Kind, out: &mut [u8]) -> usize
 /// Writes the size in its unit to the beginning of `out`, and returns its length.
 #[inline(always)]
 pub(crate) fn put_form(size: u128, kind: Kind, out: &mut [u8]) -> usize
-    requires small { size < size_limit }
+    requires bound { size < size_limit }
     requires room { narrow_text ≤ length out.old }
     ensures written { WritesForm (IsSizeForm kind size alternate_spec) out.old out.new result }
     ensures bound { result ≤ narrow_text }
@@ -77,8 +77,8 @@ pub(crate) fn put_form(size: u128, kind: Kind, out: &mut [u8]) -> usize
 #[inline(always)]
 #[tactic(auto, using(crate::proofs::NarrowTexts::whole_length, std::proofs::lemmas::Grind::common_steps))]
 pub(crate) fn put_split(whole: u128, fraction: UnitFraction, kind: Kind, out: &mut [u8]) -> usize
-    requires small { whole < 10 ^ 27 }
-    requires prefix { HasPrefix fraction }
+    requires bound { whole < 10 ^ 27 }
+    requires prefix { IsProperFraction fraction }
     requires room { narrow_text ≤ length out.old }
     ensures ends { result ≡ length (decimal whole ++ unit_fraction_text kind fraction) }
     ensures bytes { out.new
@@ -95,7 +95,7 @@ pub(crate) fn put_split(whole: u128, fraction: UnitFraction, kind: Kind, out: &m
 /// point are written as four bytes; the space and the unit then overwrite what is too much of these.
 #[inline(always)]
 fn put_unit_fraction(fraction: UnitFraction, kind: Kind, out: &mut [u8], point: usize) -> usize
-    requires prefix { HasPrefix fraction }
+    requires prefix { IsProperFraction fraction }
     requires room { point + 8 ≤ length out.old }
     ensures ends { result ≡ point + length (unit_fraction_text kind fraction) }
     ensures bytes { drop point out.new ≡ unit_fraction_text kind fraction ++ drop result out.old }

@@ -77,7 +77,7 @@ impl TextParts<'_> {
     /// Appends the parts by one copy from a buffer on the stack.
     #[tactic(auto, using(crate::proofs::TextParts::piece_ascii))]
     fn push_whole<A: Allocator>(&self, text: &mut String<A>)
-        requires few { length (parts_text self.now) ≤ BUFFER_LEN }
+        requires bound { length (parts_text self.now) ≤ BUFFER_LEN }
         requires ready { IsReady self.now }
         requires room { length (parts_text self.now) ≤ spare_capacity text.old }
         ensures { IsPushed (parts_text self.now) text.old text.new }
@@ -106,7 +106,7 @@ impl TextParts<'_> {
     #[tactic(auto, using(crate::proofs::TextParts::row_ascii))]
     fn put(&self, out: &mut [u8], end: usize) -> usize
         requires room { length (parts_text self.now) ≤ end }
-        requires within { end ≤ length out.old }
+        requires end_bound { end ≤ length out.old }
         requires ready { IsReady self.now }
         ensures put { IsPutBefore (parts_text self.now) end out.old out.new result }
         ensures ascii { IsAscii (parts_text self.now) }
@@ -129,7 +129,7 @@ impl Fraction<'_> {
     #[tactic(auto, using(crate::proofs::TextParts::fraction_long))]
     pub(crate) fn len(&self) -> usize
         ensures exact { result ≡ length (fraction_of self.now) }
-        ensures small { result ≤ places_in self.now + 1 }
+        ensures places_bound { result ≤ places_in self.now + 1 }
         ensures bound { result ≤ 2 ^ 32 }
     {
         let places = match self {
@@ -160,7 +160,7 @@ impl Fraction<'_> {
 #[tactic(auto, using(crate::proofs::TextParts::first_digits_put))]
 fn put_first(e: &Expansion, places: u32, out: &mut [u8], end: usize) -> usize
     requires room { length (fraction_text (pad_of places e.now).digits) ≤ end }
-    requires within { end ≤ length out.old }
+    requires end_bound { end ≤ length out.old }
     ensures put { let text = fraction_text (pad_of places e.now).digits in
         IsPutBefore text end out.old out.new result }
     ensures ascii { IsAscii (fraction_text (pad_of places e.now).digits) }
@@ -192,7 +192,7 @@ fn push_first<A: Allocator>(text: &mut String<A>, e: &Expansion, places: u32)
 #[inline(always)]
 pub(crate) fn put(bytes: &[u8], out: &mut [u8], end: usize) -> usize
     requires room { length bytes.now ≤ end }
-    requires within { end ≤ length out.old }
+    requires end_bound { end ≤ length out.old }
     ensures begins { result + length bytes.now ≡ end }
     ensures before { take result out.new ≡ take result out.old }
     ensures bytes { drop result out.new ≡ bytes.now ++ drop end out.old }
@@ -206,7 +206,7 @@ pub(crate) fn put(bytes: &[u8], out: &mut [u8], end: usize) -> usize
 #[inline(always)]
 fn put_run(byte: u8, count: usize, out: &mut [u8], end: usize) -> usize
     requires room { count ≤ end }
-    requires within { end ≤ length out.old }
+    requires end_bound { end ≤ length out.old }
     ensures { IsPutBefore (replicate count byte) end out.old out.new result }
 {
     let start = end - count;
@@ -218,9 +218,9 @@ fn put_run(byte: u8, count: usize, out: &mut [u8], end: usize) -> usize
 #[inline(always)]
 #[tactic(auto, using(crate::proofs::TextParts::short_put))]
 fn put_short(bytes: &[u8], out: &mut [u8], end: usize) -> usize
-    requires short { length bytes.now ≤ 3 }
+    requires bound { length bytes.now ≤ 3 }
     requires room { length bytes.now ≤ end }
-    requires within { end ≤ length out.old }
+    requires end_bound { end ≤ length out.old }
     ensures { IsPutBefore bytes.now end out.old out.new result }
 {
     let len = bytes.len();

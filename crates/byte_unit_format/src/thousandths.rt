@@ -8,15 +8,15 @@ ghost use Rattle.byte_unit_base.specs.Kinds.{bits_in, counts_bits};
 ghost use Rattle.byte_unit_base.specs.Shape.{bits, shape};
 ghost use Rattle.byte_unit_base.specs.Units.{shape_of};
 ghost use Rattle.byte_unit_base.specs.Version.{current};
-ghost use Rattle.byte_unit_format.specs.FewPlaces.{IsGreatest};
-ghost use Rattle.byte_unit_format.specs.UnitFraction.{HasPrefix, IsSplit};
+ghost use Rattle.byte_unit_format.specs.FewPlaces.{IsGreatestPower};
+ghost use Rattle.byte_unit_format.specs.UnitFraction.{IsProperFraction, IsSplit};
 
 use byte_unit_base::{Kind, Unit, unit_with_prefix};
 use byte_unit_choice::recoverable_unit;
 use byte_unit_math::{Decimal, Steps, div_rem_thousand, power_of_ten};
 
 /// The precision up to which the unit is found without a search.
-const FEW_PLACES: usize = 3;
+const THOUSANDTH_PLACES: usize = 3;
 
 /// What follows the whole part of a size in a unit: the digits after the point, and the unit.
 #[derive(Clone, Copy)]
@@ -36,7 +36,7 @@ pub(crate) fn unit_within(size: u128, kind: Kind, places: usize) -> (Decimal, Un
     ensures recovered { IsRecovered kind false size places result.1 }
     ensures exact { result.0 * bits (shape_of result.1) ≡ size * bits_in kind * scale }
 {
-    if places > FEW_PLACES {
+    if places > THOUSANDTH_PLACES {
         return recoverable_unit(size, kind, false, places, &mut Steps::new());
     }
     let (whole, fraction) = split(size, places as u32);
@@ -58,12 +58,12 @@ pub(crate) fn unit_within(size: u128, kind: Kind, places: usize) -> (Decimal, Un
 /// most three, into its whole part and what follows. If there is no such unit, the whole part is the size.
 #[inline(always)]
 pub(crate) fn split(size: u128, places: u32) -> (u128, UnitFraction)
-    requires small { size < size_limit }
+    requires bound { size < size_limit }
     requires places { places ≤ 3 }
     ensures split { (kind : OfKind) → IsSplit kind size places result.0 result.1 }
     ensures whole { result.0 < size_limit }
     ensures narrow { places ≡ 3 → result.0 < 10 ^ 27 }
-    ensures prefix { HasPrefix result.1 }
+    ensures prefix { IsProperFraction result.1 }
 {
     // No prefix is below 1000.
     if size < 1000 {
@@ -84,15 +84,15 @@ pub(crate) fn split(size: u128, places: u32) -> (u128, UnitFraction)
 /// Splits a size that is a number of eighths of the unit with a binary prefix.
 #[inline(always)]
 pub(crate) fn in_eighths(size: u128, power: u32) -> (u128, UnitFraction)
-    requires small { size < size_limit }
-    requires some { 1 ≤ power }
-    requires few { power ≤ 9 }
+    requires bound { size < size_limit }
+    requires positive { 1 ≤ power }
+    requires power_bound { power ≤ 9 }
     requires eighths { size % 2 ^ (10 * power - 3) ≡ 0 }
     ensures split { (kind : OfKind) (places : ℕ)
         → IsRecoveredIn current kind false size places (shape power true (counts_bits kind))
         → IsSplit kind size places result.0 result.1 }
     ensures whole { result.0 < 10 ^ 27 }
-    ensures prefix { HasPrefix result.1 }
+    ensures prefix { IsProperFraction result.1 }
 {
     let eighths = size >> (10 * power - 3);
     (
@@ -107,13 +107,13 @@ pub(crate) fn in_eighths(size: u128, power: u32) -> (u128, UnitFraction)
 #[tactic(auto, using(byte_unit_math::proofs::Digits::one_le_pow10))]
 fn in_thousands(size: u128, places: u32) -> (u128, u64, u32)
     requires large { 1000 ≤ size }
-    requires small { size < size_limit }
+    requires bound { size < size_limit }
     requires places { places ≤ 3 }
     ensures bound { result.2 ≤ 9 }
-    ensures greatest { IsGreatest places 10 3 size result.2 }
+    ensures greatest { IsGreatestPower places 10 3 size result.2 }
     ensures value { (result.0 * 1000 + result.1) * 10 ^ (3 * result.2) ≡ size * 1000 }
     ensures thousandths { result.1 < 1000 }
-    ensures some { places ≡ 3 → 1 ≤ result.2 }
+    ensures positive { places ≡ 3 → 1 ≤ result.2 }
 {
     let (whole, thousandths, power) = in_three_places(size);
     if thousandths % power_of_ten(3 - places) as u64 == 0 {
@@ -127,10 +127,10 @@ fn in_thousands(size: u128, places: u32) -> (u128, u64, u32)
 #[inline(always)]
 fn in_three_places(size: u128) -> (u128, u64, u32)
     requires large { 1000 ≤ size }
-    requires small { size < size_limit }
-    ensures some { 1 ≤ result.2 }
+    requires bound { size < size_limit }
+    ensures positive { 1 ≤ result.2 }
     ensures bound { result.2 ≤ 9 }
-    ensures greatest { IsGreatest 3 10 3 size result.2 }
+    ensures greatest { IsGreatestPower 3 10 3 size result.2 }
     ensures value { (result.0 * 1000 + result.1) * 10 ^ (3 * result.2) ≡ size * 1000 }
     ensures thousandths { result.1 < 1000 }
 {
@@ -151,11 +151,11 @@ fn in_three_places(size: u128) -> (u128, u64, u32)
 /// places, at most three, or 0 if there is none: 2^(10 n) divides 10^p times the size if 2^(10 n - p) divides the size.
 #[inline(always)]
 pub(crate) fn binary_power(size: u128, places: u32) -> u32
-    requires some { 1 ≤ size }
-    requires small { size < size_limit }
+    requires positive { 1 ≤ size }
+    requires bound { size < size_limit }
     requires places { places ≤ 3 }
     ensures bound { result ≤ 9 }
-    ensures greatest { IsGreatest places 2 10 size result }
+    ensures greatest { IsGreatestPower places 2 10 size result }
     ensures eighths { size % 2 ^ (10 * result - 3) ≡ 0 }
 {
     let twos = size.trailing_zeros() + places;

@@ -29,7 +29,7 @@ use std::simd::prelude::*;
 /// ```
 #[inline(always)]
 pub fn write_with_digits(size: u128, kind: Kind, between: [u8; 3], out: &mut [u8]) -> usize
-    requires small { size < size_limit }
+    requires bound { size < size_limit }
     requires room { with_digits_text ≤ length out.old }
     ensures text { IsTextWithDigits kind size between (take result out.new) }
     ensures bound { result ≤ with_digits_text }
@@ -45,7 +45,7 @@ pub fn write_with_digits(size: u128, kind: Kind, between: [u8; 3], out: &mut [u8
 /// Writes as `write_with_digits`.
 #[inline(always)]
 fn put_with_digits(size: u128, kind: Kind, between: [u8; 3], out: &mut [u8]) -> usize
-    requires small { size < size_limit }
+    requires bound { size < size_limit }
     requires room { with_digits_text ≤ length out.old }
     ensures { PutsWithDigits kind size between out.new result }
 {
@@ -60,7 +60,7 @@ fn put_with_digits(size: u128, kind: Kind, between: [u8; 3], out: &mut [u8]) -> 
 /// Writes as `write_with_digits`: the slow path, for a size of more than 64 bits.
 #[inline(never)]
 fn put_with_digits_wide(size: u128, kind: Kind, between: [u8; 3], out: &mut [u8]) -> usize
-    requires small { size < size_limit }
+    requires bound { size < size_limit }
     requires room { with_digits_text ≤ length out.old }
     ensures { PutsWithDigits kind size between out.new result }
 {
@@ -77,7 +77,7 @@ fn put_form_of(
     kind: Kind,
     out: &mut [u8],
 ) -> usize
-    requires small { size < size_limit }
+    requires bound { size < size_limit }
     requires digits { digits.now ≡ padded_digits size }
     requires len { len ≡ length (decimal size) }
     requires room { narrow_text ≤ length out.old }

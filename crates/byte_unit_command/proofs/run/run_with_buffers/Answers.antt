@@ -36,7 +36,7 @@ reads-init g c = (
   HasServed-start _ _ _ c.args.options.now _ _ c.requires.empty.0 c.requires.empty.1 c.requires.empty.2 refl refl refl
       refl,
   record {
-    finished = omega (arith, c.read_max-most.ensures.some c.requires.some);
+    finished = omega (arith, c.read_max-most.ensures.positive c.requires.nonempty);
     unfinished = omega (arith, c.args.buffers.now.part.ok.0, ap length c.requires.empty.0);
     part_capacity = omega arith;
     waiting_capacity = omega arith;
@@ -138,7 +138,7 @@ returns-clause-run g c =
       arith,
       c.reads.auto.chunk,
       length-take-le c.read_max-most.result c.args.buffer.now c.read_max-most.ensures.bound,
-      c.read_max-most.ensures.some c.requires.some,
+      c.read_max-most.ensures.positive c.requires.nonempty,
     )))
     c.deref-2.ensures.value c.finish.result c.finish.ensures.written
 
@@ -202,10 +202,10 @@ returns-clause-memory g c = λ fits is.
       arith,
       c.reads.auto.chunk,
       length-take-le c.read_max-most.result c.args.buffer.now c.read_max-most.ensures.bound,
-      c.read_max-most.ensures.some c.requires.some,
+      c.read_max-most.ensures.positive c.requires.nonempty,
     )) in
     let at_end_fits = end-fits options c.reads.invariant.1 (waiting.ok.0 ∙ ap length so_far.none_waits) capacity
-    (c.read_max-most.ensures.some c.requires.some) in
+    (c.read_max-most.ensures.positive c.requires.nonempty) in
     let len : vec_len buffers.part ≡ length part = buffers.part.ok.0 ∙ ap length (sym c.deref-2.ensures.value) in
     let room = subst (λ len. vec_len waiting + end_room options len ≤ vec_capacity waiting) len at_end_fits in (
       so_far.course.read,
@@ -223,7 +223,7 @@ returns-clause-bound g c =
     let part = c.reads.buffers.part in
     let below = longest_record-below c.args.options.now.record_end so_far.course.read part.items
     (c.args.longest + c.read_max-most.result) so_far.served.begun within.finished
-    (omega (arith, within.unfinished, part.ok.0, c.read_max-most.ensures.some c.requires.some)) in
+    (omega (arith, within.unfinished, part.ok.0, c.read_max-most.ensures.positive c.requires.nonempty)) in
     OnOk-always c.finish.result (
       so_far.course.read,
       HasRead-end so_far c.read.new.self (take end.field-0 c.read.new.buf) end.ensures.came

@@ -10,11 +10,11 @@ pub returns-in-InUnit-clause-narrow : goal.returns-in-InUnit-clause-narrow
 returns-in-InUnit-clause-narrow g c =
     let precision = c.args.options.now.precision in
     subst (λ form. c.write_adjusted.result ≤ form_max form precision) (sym c.in-InUnit.is)
-    (adjusted-narrow _ precision c.requires.size c.write_adjusted.ensures.written)
+    (adjusted-narrow _ precision c.requires.bound c.write_adjusted.ensures.written)
 
 -- in the largest unit, the text is within `form_max`
 pub returns-in-Largest-clause-narrow : goal.returns-in-Largest-clause-narrow
 returns-in-Largest-clause-narrow g c =
     let precision = c.args.options.now.precision in
     subst (λ form. c.write_adjusted-in-Largest.result ≤ form_max form precision) (sym c.in-Largest.is)
-    (adjusted-narrow _ precision c.requires.size c.write_adjusted-in-Largest.ensures.written)
+    (adjusted-narrow _ precision c.requires.bound c.write_adjusted-in-Largest.ensures.written)

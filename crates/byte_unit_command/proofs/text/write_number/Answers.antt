@@ -29,4 +29,4 @@ returns-clause-written c =
 -- the number is no longer than the text, which is within `unit_text_max`
 pub returns-clause-narrow : goal.returns-clause-narrow
 returns-clause-narrow c =
-    omega (arith, adjusted-narrow c.args.unit c.args.precision c.requires.size c.write_adjusted-len.ensures.written)
+    omega (arith, adjusted-narrow c.args.unit c.args.precision c.requires.bound c.write_adjusted-len.ensures.written)

@@ -1,6 +1,6 @@
 -- The digits are written, and the space and the name over what is left of their four bytes.
 use Rattle.std.proofs.Common.{◌≡◌, ◌+◌, ◌∷◌, [], ◌++◌, true, false, refl, ap, subst, arith, ◌∙◌, drop}
-use Rattle.byte_unit_format.specs.UnitFraction.{thousandths_text, HasPrefix}
+use Rattle.byte_unit_format.specs.UnitFraction.{thousandths_text, IsProperFraction}
 use Rattle.byte_unit_format.proofs.UnitFraction.{drop_known, named, written_over}
 use Rattle.byte_unit_format.proofs.alternate.put_unit_fraction.Goals as goal
 use Rattle.byte_unit_format.proofs.alternate.put_unit_fraction.Goals.{then-len-gt0, else-len-gt0}
@@ -10,7 +10,7 @@ pub returns-in-Eighths-clause-bytes : goal.returns-in-Eighths-clause-bytes
 returns-in-Eighths-clause-bytes c =
     let written = c.digits_of_eighths-len in
     let name = c.put-in-Eighths.ensures in
-    let known = subst HasPrefix c.in-Eighths.is c.requires.prefix in
+    let known = subst IsProperFraction c.in-Eighths.is c.requires.prefix in
     rw (c.in-Eighths.is, ← named c.args.kind c.in-Eighths.power true known.1 c.prefix_letter.ensures c.own_letter-own.ensures)
     (written_over c.args.out.now c.put-end.new.out c.put-in-Eighths.new.out written.result.0 _ c.args.point
     written.result.1 _ written.ensures.four written.ensures.bound (omega arith) written.ensures.text
@@ -30,7 +30,7 @@ returns-after-len-gt0-clause-bytes c =
     let name = c.put-in-Thousandths.ensures in
     let text = thousandths_text c.in-Thousandths.thousandths in
     let letters = 32 ∷ c.prefix_letter-in-Thousandths.result ∷ c.own_letter-own.result ∷ [] in
-    let known = subst HasPrefix c.in-Thousandths.is c.requires.prefix in
+    let known = subst IsProperFraction c.in-Thousandths.is c.requires.prefix in
     let put : drop point new ≡ (text ++ letters) ++ drop end old = elim c.if-len-gt0.branch [
       | then-len-gt0 w ↦
           (let digits = w.put-then-len-gt0.ensures in

@@ -9,10 +9,10 @@ pub returns-clause-split : goal.returns-clause-split
 returns-clause-split c = λ kind places recovered. record {
   recovered = recovered;
   value = number_of_units kind c.args.size c.args.power true _ _
-      (eighths_value c.args.size c.args.power c.requires.some c.requires.eighths);
+      (eighths_value c.args.size c.args.power c.requires.positive c.requires.eighths);
 }
 
 -- The whole part is below the limit.
 pub returns-clause-whole : goal.returns-clause-whole
-returns-clause-whole c = whole_below c.args.size c.args.power true _ _ c.requires.small c.requires.some
-    (eighths_value c.args.size c.args.power c.requires.some c.requires.eighths)
+returns-clause-whole c = whole_below c.args.size c.args.power true _ _ c.requires.bound c.requires.positive
+    (eighths_value c.args.size c.args.power c.requires.positive c.requires.eighths)

@@ -16,7 +16,7 @@ pub returns-clause-greatest : goal.returns-clause-greatest
 returns-clause-greatest c =
     let found = c.in_three_places-whole in
     let power = ap (λ n. found.result.1 % n) c.power_of_ten.ensures in
-    greatest_before found.result.0 found.result.1 c.requires.places found.ensures.some
+    greatest_before found.result.0 found.result.1 c.requires.places found.ensures.positive
     found.ensures.greatest.fits.not_above found.ensures.value
     (λ none. omega (arith, power ∙ none, c.if-thousandths-power_of_ten-eq0.false))
 
@@ -25,4 +25,4 @@ pub returns-clause-value : goal.returns-clause-value
 returns-clause-value c =
     let found = c.in_three_places-whole in
     ap (λ n. ((found.result.0 * 1000 + n) * 1000 + 0) * 10 ^ (3 * (found.result.2 - 1))) c.from.ensures
-    ∙ omega (arith, value_before found.result.0 found.result.1 found.ensures.some found.ensures.value)
+    ∙ omega (arith, value_before found.result.0 found.result.1 found.ensures.positive found.ensures.value)

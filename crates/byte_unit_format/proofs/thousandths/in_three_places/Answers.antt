@@ -5,7 +5,7 @@ use Rattle.byte_unit_format.proofs.thousandths.in_three_places.Goals as goal
 
 -- The whole part is divided by a thousand once more.
 pub groups-preserved : goal.groups-preserved
-groups-preserved c = divided_more c.requires.small c.groups.invariant c.groups-test.true c.if-whole-ge1000.true
+groups-preserved c = divided_more c.requires.bound c.groups.invariant c.groups-test.true c.if-whole-ge1000.true
     c.div_rem_thousand-next.ensures.quotient c.div_rem_thousand-next.ensures.rest
 
 -- Less than a thousand is left, so no larger prefix fits.

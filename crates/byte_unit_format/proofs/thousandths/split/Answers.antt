@@ -41,7 +41,7 @@ returns-then-binary-power-clause-split c = λ kind.
 pub returns-then-binary-power-clause-narrow : goal.returns-then-binary-power-clause-narrow
 returns-then-binary-power-clause-narrow c = λ three.
     let power = c.in_thousands-whole.result.2 in
-    whole_below c.args.size power false _ _ c.requires.small (omega (arith, c.if-binary-power.true))
+    whole_below c.args.size power false _ _ c.requires.bound (omega (arith, c.if-binary-power.true))
     c.in_thousands-whole.ensures.value
 
 -- The binary prefix is the larger one.

@@ -17,7 +17,7 @@ pub returns-then-most-eq0-clause-form : goal.returns-then-most-eq0-clause-form
 returns-then-most-eq0-clause-form c =
     let kind = c.args.kind in
     let size = c.args.size in
-    let below = (few_digits size c.requires.small).2 (omega (arith, c.requires.len, c.if-most-eq0.true)) in
+    let below = (few_digits size c.requires.bound).2 (omega (arith, c.requires.len, c.if-most-eq0.true)) in
     rw (front_is _ _ c.put_split.ensures.bytes c.put_split.ensures.ends)
     (form_of_thousandths kind size size 0 (own_unit kind) (omega arith) (recovered_own kind 3 size (omega arith) below)
     (omega (arith, own_number kind size (size * scale) (own_unit kind) refl refl)))
@@ -25,16 +25,16 @@ returns-then-most-eq0-clause-form c =
 -- `found`, here and below, is what the digits tell of the largest decimal prefix: no more are used than there are.
 pub overflow_sub-len : goal.overflow_sub-len
 overflow_sub-len c =
-    let found = found_power c.requires.digits c.requires.len c.requires.small (omega (arith, c.if-most-eq0.false))
+    let found = found_power c.requires.digits c.requires.len c.requires.bound (omega (arith, c.if-most-eq0.false))
     (assumption c.significant-used.ensures) c.significant-used.ensures.bound refl in
     omega (arith, found.within, c.requires.len)
 
 -- The position of the binary prefix is at least that of the decimal one, which is at least 1.
-pub in_eighths-whole-requires-clause-some : goal.in_eighths-whole-requires-clause-some
-in_eighths-whole-requires-clause-some c = elim c.if-binary-most.branch [
+pub in_eighths-whole-requires-clause-positive : goal.in_eighths-whole-requires-clause-positive
+in_eighths-whole-requires-clause-positive c = elim c.if-binary-most.branch [
   | then-binary-most+else-binary-power w ↦
       (let used = w.significant-used.ensures in
-      let found = found_power {power = w.min-power.result} c.requires.digits c.requires.len c.requires.small
+      let found = found_power {power = w.min-power.result} c.requires.digits c.requires.len c.requires.bound
       (omega (arith, c.if-most-eq0.false)) (assumption used) used.bound (omega (arith, w.min-power.ensures)) in
       omega (arith, found.some, w.if-binary-power))
   | else-binary-most w ↦ omega (arith, c.if-most-eq0.false, w.if-binary-most)
@@ -43,7 +43,7 @@ in_eighths-whole-requires-clause-some c = elim c.if-binary-most.branch [
 -- The position of the decimal prefix is at most 9.
 pub prefix_letter-requires-clause-known : goal.prefix_letter-requires-clause-known
 prefix_letter-requires-clause-known c =
-    let found = found_power c.requires.digits c.requires.len c.requires.small (omega (arith, c.if-most-eq0.false))
+    let found = found_power c.requires.digits c.requires.len c.requires.bound (omega (arith, c.if-most-eq0.false))
     (assumption c.significant-used.ensures) c.significant-used.ensures.bound (omega (arith, c.min-power.ensures)) in
     found.known
 
@@ -54,9 +54,9 @@ returns-then-binary-power-clause-form c =
     let size = c.args.size in
     let power = c.min-power.result in
     let used = c.significant-used.ensures in
-    let found = found_power c.requires.digits c.requires.len c.requires.small (omega (arith, c.if-most-eq0.false))
+    let found = found_power c.requires.digits c.requires.len c.requires.bound (omega (arith, c.if-most-eq0.false))
     (assumption used) used.bound (omega (arith, c.min-power.ensures)) in
-    let cut = cut_of_size size c.significant-used.result power found.some c.requires.small found.greatest.fits.not_above
+    let cut = cut_of_size size c.significant-used.result power found.some c.requires.bound found.greatest.fits.not_above
     found.is_used (omega (arith, c.min-power.ensures, c.requires.len, found.within)) in
     let name = named kind power false found.some c.prefix_letter.ensures c.own_letter.ensures in
     rw (c.put_decimal.ensures.text, name, c.requires.digits, c.requires.len, cut.whole_is, cut.fraction_is)
@@ -76,18 +76,18 @@ returns-clause-form c =
     elim c.if-binary-most.branch [
       | then-binary-most+else-binary-power w ↦
           (let used = w.significant-used.ensures in
-          let found = found_power {power = w.min-power.result} c.requires.digits c.requires.len c.requires.small
+          let found = found_power {power = w.min-power.result} c.requires.digits c.requires.len c.requires.bound
           (omega (arith, c.if-most-eq0.false)) (assumption used) used.bound (omega (arith, w.min-power.ensures)) in (
             omega (arith, found.some, w.if-binary-power),
             λ other fits. omega (arith, found.greatest.greatest other fits, w.if-binary-power),
           ))
       | else-binary-most w ↦
-          (let above = (few_digits size c.requires.small).3 (omega (arith, c.requires.len, c.if-most-eq0.false)) in (
+          (let above = (few_digits size c.requires.bound).3 (omega (arith, c.requires.len, c.if-most-eq0.false)) in (
             omega (arith, c.if-most-eq0.false, w.if-binary-most),
             λ other fits.
                 omega (
                   arith,
-                  not_above_digits size other (omega (arith, above)) c.requires.small fits,
+                  not_above_digits size other (omega (arith, above)) c.requires.bound fits,
                   c.requires.len,
                   w.if-binary-most,
                 ),

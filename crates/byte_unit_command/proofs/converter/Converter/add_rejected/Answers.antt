@@ -2,7 +2,7 @@
 use Rattle.std.proofs.Common.{true≢false, ap, sym, ◌≡◌, ℕ, List, false, ◌∙◌, refl, rules, is_ok}
 use Rattle.byte_unit_command.specs.Messages.{tells_rejected}
 use Rattle.byte_unit_command.specs.Field.{IsNoSize}
-use Rattle.byte_unit_command.specs.Fields.{IsChosen}
+use Rattle.byte_unit_command.specs.Fields.{IsChosenField}
 use Rattle.byte_unit_command.specs.RunState.{FieldHasNoMessage, State, messages_of, state_of}
 use Rattle.byte_unit_command.specs.declared.options.Options.{Options}
 use Rattle.byte_unit_command.specs.declared.options.Invalid.TheVariants.{Abort}
@@ -12,7 +12,7 @@ use Rattle.byte_unit_stream.proofs.Beginnings.{IsBeginningOf-if}
 use Rattle.byte_unit_command.proofs.converter.Converter.add_rejected.Goals as goal
 
 -- a rejected field about which there is no message is ignored
-ignored : (options : Options) (old : State) (number : ℕ) (field : List ℕ) → IsChosen options.fields.now number
+ignored : (options : Options) (old : State) (number : ℕ) (field : List ℕ) → IsChosenField options.fields.now number
     → IsNoSize options field → FieldHasNoMessage options number field old → tells_rejected options.invalid ≡ false
 ignored options old number field chosen none untold =
     ignored-untold options old.word old.place number field untold.0 chosen none untold.1

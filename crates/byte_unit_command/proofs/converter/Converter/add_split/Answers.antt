@@ -5,7 +5,7 @@ use Rattle.std.proofs.Common.{◌⊎◌, true≢false, ◌≡◌, ◌≤◌, ◌
 use Rattle.std.proofs.Common.{subst, Err, arith, length-drop, vec_len, eqb-true, length-take-le}
 use Rattle.std.proofs.lemmas.List.{nil_from_length, take_rest}
 use Rattle.byte_unit_command.specs.Capacity.{text_room}
-use Rattle.byte_unit_command.specs.Fields.{IsChosen, between_of, fields_of}
+use Rattle.byte_unit_command.specs.Fields.{IsChosenField, between_of, fields_of}
 use Rattle.byte_unit_command.specs.Messages.{AreMessagesOfFields}
 use Rattle.byte_unit_command.specs.RunState.{AddsFields, State, messages_of, state_of}
 use Rattle.byte_unit_command.specs.declared.error.RunError.{RunError}
@@ -107,11 +107,11 @@ returns-then-is_empty-clause-ok g c =
     c.in_ok-extend_from_slice.ensures.items in
     let ranges = c.ranges_from-ranges.result.now in
     let none = nil_from_length ranges (eqb-true (length ranges) 0 (sym c.if-is_empty.ensures)) in
-    let past : (later : ℕ) → number + 1 ≤ later → ¬ IsChosen options.fields.now later =
+    let past : (later : ℕ) → number + 1 ≤ later → ¬ IsChosenField options.fields.now later =
     λ later high chosen.
     let left = (c.ranges_from-ranges.ensures.same later high).0
     ((c.loop-n.invariant.2 later (omega (arith, high))).0 chosen) in
-    subst (λ ranges. IsChosen ranges later) none left in
+    subst (λ ranges. IsChosenField ranges later) none left in
     let copied = AddsFields-copied stepped
     (fields_copied options c.args.delimiter c.requires.delimiter behind (number + 1) past) past in
     let out : c.extend_from_slice-then-is_empty.new.self.items ≡ before ++ behind =

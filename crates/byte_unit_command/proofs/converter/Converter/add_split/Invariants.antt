@@ -1,7 +1,7 @@
 -- The fields before the rest were added, within their room, and the ranges that are left choose the same of the others;
 -- the rest gets shorter.
 use Rattle.std.proofs.Common.{ℕ, ◌≤◌, ◌↔◌, length, IsTrue}
-use Rattle.byte_unit_command.specs.Fields.{GoesTo, IsChosen, IsInOrder}
+use Rattle.byte_unit_command.specs.Fields.{GoesTo, IsChosenField, IsInOrder}
 use Rattle.byte_unit_command.specs.RunState.{state_of}
 use Rattle.byte_unit_command.proofs.Rooms.{IsSplitWithin}
 use Rattle.byte_unit_command.proofs.Splitting.{IsSplitting}
@@ -14,7 +14,7 @@ invariant-loop-n g l =
     let old = state_of l.initial.self in
     IsSplitting l.options l.bytes old l.number l.rest (state_of l.self)
     × IsSplitWithin l.options old l.bytes l.initial.self.waiting l.number l.rest l.self.waiting
-    × ((later : ℕ) → l.number ≤ later → IsChosen l.options.fields.now later ↔ IsChosen l.ranges later)
+    × ((later : ℕ) → l.number ≤ later → IsChosenField l.options.fields.now later ↔ IsChosenField l.ranges later)
     × (IsTrue l.in_order → IsInOrder l.ranges) × GoesTo l.ranges l.number
 
 -- the rest gets shorter with each field
