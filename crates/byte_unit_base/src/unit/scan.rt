@@ -80,14 +80,11 @@ impl UnitStop {
         ensures { unit_fault result ≡ unit_stop_fault flags self next }
     {
         match next {
-            Some(c) => {
-                let expected = self.expected(flags);
-                UnitParseError {
-                    character: c,
-                    expected_characters: expected.characters(),
-                    also_expect_no_character: expected.or_end(),
-                }
-            }
+            Some(c) => UnitParseError {
+                character: c,
+                expected_characters: self.expected(flags).characters(),
+                also_expect_no_character: !matches!(self.word, Word::Bi),
+            },
             None => UnitParseError::STOPS_AT_BI,
         }
     }
