@@ -6,19 +6,20 @@ use Rattle.byte_unit_command.specs.RunOutput.{all_of, finished_of}
 use Rattle.byte_unit_command.specs.RunState.{RecordsHaveNoMessage, State, start_of}
 use Rattle.byte_unit_command.specs.declared.options.Options.{Options}
 use Rattle.byte_unit_command.proofs.Rooms.{read_room-more, end_room-read}
-use Rattle.byte_unit_command.proofs.Runs.{IsServed, finished-piece, records-last, with_output}
+use Rattle.byte_unit_command.proofs.Runs.{IsServed, with_output}
 use Rattle.byte_unit_command.proofs.Untold.{next-untold}
 use Rattle.byte_unit_stream.specs.Chunks.{ended_records, nonempty_record}
+use Rattle.byte_unit_stream.proofs.ChunkRecords.{finished_records-piece, records_of-begun}
 use Rattle.byte_unit_stream.proofs.Longest.{IsWithin}
 
 -- if there is no message about what was read and what comes next
 module _ {options : Options} {word read written messages part : List ℕ} {state : State}
     (served : IsServed options word read written messages part state) where
   -- there is no message about records that come next, if there is none about them and those that were read
-  others-untold : (records all : List (List ℕ)) → ended_records options.record_end [] read ++ records ≡ all
+  others-untold : (records all : List (List ℕ)) → finished_of options read ++ records ≡ all
       → AreMessages options word 0 options.header all [] → RecordsHaveNoMessage options records state
   others-untold records all all_is none =
-      next-untold options (ended_records options.record_end [] read) records (start_of options word)
+      next-untold options (finished_of options read) records (start_of options word)
       (with_output state written messages) served.added
       (subst (λ records. AreMessages options word 0 options.header records []) (sym all_is) none)
 
@@ -27,12 +28,13 @@ module _ {options : Options} {word read written messages part : List ℕ} {state
       → AreMessages options word 0 options.header (finished_of options (read ++ piece)) []
       → RecordsHaveNoMessage options (ended_records options.record_end part piece) state
   piece-untold piece = others-untold (ended_records options.record_end part piece) (finished_of options (read ++ piece))
-      (finished-piece served piece)
+      (finished_records-piece options.record_end read served.begun piece)
 
   -- there is no message about the last record
   pub last-untold : AreMessages options word 0 options.header (all_of options read) []
       → RecordsHaveNoMessage options (nonempty_record part) state
-  last-untold = others-untold (nonempty_record part) (all_of options read) (records-last served)
+  last-untold = others-untold (nonempty_record part) (all_of options read)
+      (records_of-begun options.record_end read served.begun)
 
 -- buffers that had capacity at the start have it between two reads
 module _ {Z : Type 0} (options : Options) {longest chunk : ℕ} {part waiting part_now waiting_now : Vec ℕ Z}

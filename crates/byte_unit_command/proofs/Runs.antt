@@ -15,8 +15,7 @@ use Rattle.byte_unit_command.proofs.Starts.{aborted-from_start, converted-from_s
 use Rattle.byte_unit_command.proofs.Starts.{messages-from_start, tally-from_start, total_line-from_start}
 use Rattle.byte_unit_stream.specs.Chunks.{ended_records, begun_record, nonempty_record}
 use Rattle.byte_unit_stream.specs.Beginnings.{IsBeginningOf}
-use Rattle.byte_unit_stream.proofs.ChunkRecords.{ended_records-append, begun_record-append}
-use Rattle.byte_unit_stream.proofs.ChunkRecords.{finished_records-ended_records, records_of-ended_records}
+use Rattle.byte_unit_stream.proofs.ChunkRecords.{finished_records-piece, begun_record-piece, records_of-begun}
 use Rattle.byte_unit_stream.proofs.Beginnings.{IsBeginningOf-after, IsBeginningOf-self}
 
 -- a state with other texts and messages
@@ -28,9 +27,9 @@ abbrev pub IsRunResult : Options → List ℕ → List ℕ → Type 0 → Result
 IsRunResult options word read complete result written messages =
     IsWritten options read complete result written × AreRunMessages options word read complete result messages
 
--- between two reads: the records that end in what was read are converted, and the rest is the unfinished record
+-- between two reads: the finished records of what was read are converted, and the rest is the unfinished record
 pub record IsServed (options : Options) (word read written messages part : List ℕ) (state : State) : Type 0 where
-  pub added : AddsRecords options (ended_records options.record_end [] read) (start_of options word)
+  pub added : AddsRecords options (finished_of options read) (start_of options word)
       (with_output state written messages)
   pub begun : part ≡ begun_record options.record_end [] read
 
@@ -62,10 +61,10 @@ append-nothing front more none = sym (append-nil front) ∙ ap (λ more. front +
 
 module _ {options : Options} {word read written messages part : List ℕ} {state : State}
     (served : IsServed options word read written messages part state) where
-  -- if records are converted after those of what was read, both lists are
+  -- if records are converted after the finished ones of what was read, both lists are
   AddsRecords-then : {records : List (List ℕ)} {new : State} {out told : List ℕ}
       → AddsRecords options records (idle state) new → new.out ≡ out → new.messages ≡ told
-      → AddsRecords options (ended_records options.record_end [] read ++ records) (start_of options word)
+      → AddsRecords options (finished_of options read ++ records) (start_of options word)
       (with_output new (written ++ out) (messages ++ told))
   AddsRecords-then {records} {new} {out} {told} adds out_is told_is =
       let between = with_output state written messages in
@@ -75,47 +74,20 @@ module _ {options : Options} {word read written messages part : List ℕ} {state
       AddsRecords-after options records written messages (idle state) new adds in
       let at : From written messages = subst (λ out. From out messages) (append-nil written)
       (subst (From (written ++ [])) (append-nil messages) after) in
-      let whole = AddsRecords-append options (ended_records options.record_end [] read) records
-      (start_of options word) between last served.added at in
-      let To : List ℕ → List ℕ → Type 0 = λ out told. AddsRecords options
-      (ended_records options.record_end [] read ++ records) (start_of options word)
-      (with_output new (written ++ out) (messages ++ told)) in
+      let whole = AddsRecords-append options (finished_of options read) records (start_of options word) between last
+      served.added at in
+      let To : List ℕ → List ℕ → Type 0 = λ out told. AddsRecords options (finished_of options read ++ records)
+      (start_of options word) (with_output new (written ++ out) (messages ++ told)) in
       subst (λ out. To out told) out_is (subst (To new.out) told_is whole)
 
-  -- the finished records of what was read are converted
-  AddsRecords-finished : AddsRecords options (finished_of options read) (start_of options word)
-      (with_output state written messages)
-  AddsRecords-finished =
-      subst (λ records. AddsRecords options records (start_of options word) (with_output state written messages))
-      (sym (finished_records-ended_records options.record_end read)) served.added
-
-  -- the records that end in what was read, then those that end in the next piece, are those of both
-  ended-piece : (piece : List ℕ) → ended_records options.record_end [] read
-      ++ ended_records options.record_end part piece ≡ ended_records options.record_end [] (read ++ piece)
-  ended-piece piece =
-      ap (λ part. ended_records options.record_end [] read ++ ended_records options.record_end part piece) served.begun
-      ∙ sym (ended_records-append options.record_end [] read piece)
-
-  -- the records that end in what was read, then those that end in the next piece, are the finished records of both
-  pub finished-piece : (piece : List ℕ) → ended_records options.record_end [] read
-      ++ ended_records options.record_end part piece ≡ finished_of options (read ++ piece)
-  finished-piece piece = ended-piece piece ∙ sym (finished_records-ended_records options.record_end (read ++ piece))
-
-  -- the records that were read, then the first that end in the piece, are the first finished records of both
+  -- the finished records that were read, then the first that end in the piece, are the first finished records of both
   beginning-piece : (piece : List ℕ) (first : List (List ℕ))
       → IsBeginningOf first (ended_records options.record_end part piece)
-      → IsBeginningOf (ended_records options.record_end [] read ++ first) (finished_of options (read ++ piece))
+      → IsBeginningOf (finished_of options read ++ first) (finished_of options (read ++ piece))
   beginning-piece piece first is_beginning =
-      subst (IsBeginningOf (ended_records options.record_end [] read ++ first)) (finished-piece piece)
-      (IsBeginningOf-after (ended_records options.record_end [] read) first
-      (ended_records options.record_end part piece) is_beginning)
-
-  -- the unfinished record after the piece is that of all that was read
-  pub begun-piece : (piece next_part : List ℕ) → next_part ≡ begun_record options.record_end part piece
-      → next_part ≡ begun_record options.record_end [] (read ++ piece)
-  begun-piece piece next_part part_is =
-      part_is ∙ ap (λ begun. begun_record options.record_end begun piece) served.begun
-      ∙ sym (begun_record-append options.record_end [] read piece)
+      subst (IsBeginningOf (finished_of options read ++ first))
+      (finished_records-piece options.record_end read served.begun piece)
+      (IsBeginningOf-after (finished_of options read) first (ended_records options.record_end part piece) is_beginning)
 
   -- converting the records that end in the next piece keeps the invariant
   pub IsServed-piece : (piece more more_messages next_part : List ℕ) (next : State)
@@ -124,21 +96,22 @@ module _ {options : Options} {word read written messages part : List ℕ} {state
       → IsServed options word (read ++ piece) (written ++ more) (messages ++ more_messages) next_part next
   IsServed-piece piece more more_messages next_part next adds part_is = record {
     added = subst (λ records. AddsRecords options records (start_of options word)
-        (with_output next (written ++ more) (messages ++ more_messages))) (ended-piece piece)
+        (with_output next (written ++ more) (messages ++ more_messages)))
+        (finished_records-piece options.record_end read served.begun piece)
         (AddsRecords-then {new = with_output next more more_messages} adds refl refl);
-    begun = begun-piece piece next_part part_is;
+    begun = part_is ∙ begun_record-piece options.record_end read served.begun piece;
   }
 
   -- between two reads, all finished records are converted and all messages about them told, as is right for `Read`
   pub IsRunResult-read : (complete : Type 0) → IsRunResult options word read complete (Err Read) written messages
   IsRunResult-read complete =
-      let adds = AddsRecords-finished in
+      let adds = served.added in
       ((adds.found, converted-from_start options word adds), messages-from_start options word adds)
 
   -- between two reads, what is written and told is also right for a run that is out of memory
   pub IsRunResult-memory : (complete : Type 0) → IsRunResult options word read complete (Err Memory) written messages
   IsRunResult-memory complete =
-      let adds = AddsRecords-finished in
+      let adds = served.added in
       let finished = finished_of options read in (
         record {
           first = finished;
@@ -157,7 +130,7 @@ module _ {options : Options} {word read written messages part : List ℕ} {state
         → new.messages ≡ more_messages
         → AreFirstMessages options word (finished_of options (read ++ piece)) (messages ++ more_messages)
     first-messages first new is_beginning adds told_is = (
-      ended_records options.record_end [] read ++ first,
+      finished_of options read ++ first,
       beginning-piece piece first is_beginning,
       messages-from_start options word (AddsRecords-then {new = new} {out = new.out} adds refl told_is),
     )
@@ -170,7 +143,7 @@ module _ {options : Options} {word read written messages part : List ℕ} {state
     IsRunResult-piece Memory (first, new, is_beginning, adds, out_is, told_is) =
         let whole = AddsRecords-then {new = new} adds out_is told_is in (
           record {
-            first = ended_records options.record_end [] read ++ first;
+            first = finished_of options read ++ first;
             found = whole.found;
             is_beginning = beginning-piece piece first is_beginning;
             converted = converted-from_start options word whole;
@@ -181,7 +154,7 @@ module _ {options : Options} {word read written messages part : List ℕ} {state
         let whole = AddsRecords-then {new = new} {out = new.out} {told = new.messages} adds refl refl in
         let records = ended_records options.record_end part piece in (
           inl (record {
-            first = ended_records options.record_end [] read ++ first;
+            first = finished_of options read ++ first;
             found = whole.found;
             text = written ++ new.out;
             is_beginning = beginning-piece piece first is_beginning;
@@ -191,10 +164,10 @@ module _ {options : Options} {word read written messages part : List ℕ} {state
           inl (first-messages [] (idle state) (records, refl) (AddsRecords-none options (idle state)) (sym none)),
         )
     IsRunResult-piece Rejected (before, after, bytes, new, are, adds, out_is, header_is, aborts) =
-        let ended = ended_records options.record_end [] read in
+        let finished = finished_of options read in
         let whole = AddsRecords-then {new = new} {told = new.messages} adds out_is refl in
-        let records_are = sym (finished-piece piece) ∙ ap (λ records. ended ++ records) are
-        ∙ sym (append_assoc ended before (bytes ∷ after)) in
+        let records_are = sym (finished_records-piece options.record_end read served.begun piece)
+        ∙ ap (λ records. finished ++ records) are ∙ sym (append_assoc finished before (bytes ∷ after)) in
         let at = aborted-from_start options word whole bytes after (finished_of options (read ++ piece)) records_are
         header_is (at_next new) refl refl aborts (messages ++ more_messages)
         (ap (λ more. messages ++ more) aborts.messages_are
@@ -202,12 +175,6 @@ module _ {options : Options} {word read written messages part : List ℕ} {state
         (inl at.0, inl at.1)
     IsRunResult-piece Read at = absurd at
     IsRunResult-piece Total at = absurd at
-
-  -- the records that end in what was read, then the unfinished one if it is not empty, are all records of the input
-  pub records-last : ended_records options.record_end [] read ++ nonempty_record part ≡ all_of options read
-  records-last =
-      ap (λ part. ended_records options.record_end [] read ++ nonempty_record part) served.begun
-      ∙ sym (records_of-ended_records options.record_end read)
 
   module _ (more more_messages : List ℕ) (complete : Type 0) (at_end : complete) where
     -- if the last record is converted, all records of the input are
@@ -217,7 +184,8 @@ module _ {options : Options} {word read written messages part : List ℕ} {state
         (with_output new (written ++ out) (messages ++ more_messages))
     AddsRecords-all new out adds out_is messages_are =
         subst (λ records. AddsRecords options records (start_of options word)
-        (with_output new (written ++ out) (messages ++ more_messages))) records-last
+        (with_output new (written ++ out) (messages ++ more_messages)))
+        (records_of-begun options.record_end read served.begun)
         (AddsRecords-then {new = new} adds out_is (sym messages_are))
 
     -- the messages before the last record, then those about it, are those about all records
@@ -253,7 +221,7 @@ module _ {options : Options} {word read written messages part : List ℕ} {state
         let finished = finished_of options read in (
           subst (AreFirst options finished) (append-nothing written more none) (IsRunResult-memory complete).0,
           inl (subst (AreFirstMessages options word finished) (append-nothing messages more_messages untold)
-              (finished, IsBeginningOf-self finished, messages-from_start options word AddsRecords-finished)),
+              (finished, IsBeginningOf-self finished, messages-from_start options word served.added)),
         )
     IsRunResult-finished (Err Memory) (none, inr (new, adds, messages_are)) = (
       subst (AreFirst options (finished_of options read)) (append-nothing written more none)
@@ -261,8 +229,8 @@ module _ {options : Options} {word read written messages part : List ℕ} {state
       inr (at_end, all-messages new adds messages_are),
     )
     IsRunResult-finished (Err Rejected) (none, header_is, aborts, last_is) =
-        let ended = ended_records options.record_end [] read in
-        let records_are = sym records-last ∙ ap (λ last. ended ++ last) last_is in
+        let records_are = sym (records_of-begun options.record_end read served.begun)
+        ∙ ap (λ last. finished_of options read ++ last) last_is in
         let at = aborted-from_start options word served.added part [] (all_of options read) records_are header_is
         (at_next (idle state)) refl refl aborts (messages ++ more_messages)
         (ap (λ more. messages ++ more) aborts.messages_are) in (

@@ -1,7 +1,7 @@
 -- Lemmas: the loop of a run, read by read.
 use Rattle.std.proofs.Common.{◌≡◌, ◌≢◌, ℕ, List, [], ◌∷◌, ◌++◌, Option, Result, Ok, Err}
 use Rattle.std.specs.Prelude.{⊤, IsErrAnd}
-use Rattle.std.proofs.Common.{refl, sym, ap, subst, append_assoc, append-nil, arith, take, ◌+◌, ◌<◌}
+use Rattle.std.proofs.Common.{refl, sym, ap, subst, ◌∙◌, append_assoc, append-nil, arith, take, ◌+◌, ◌<◌}
 use Rattle.std.specs.Io.KnownBytes.{Appends, Consumes}
 use Rattle.std.specs.declared.vec.Vec.{Vec}
 use Rattle.std.proofs.KnownBytes.{Appends-trans, Consumes-trans}
@@ -17,8 +17,7 @@ use Rattle.byte_unit_lines.proofs.Answering.{AreAnswers-append, AreAnswers-singl
 use Rattle.byte_unit_lines.proofs.Answering.{IsAnswered-append}
 use Rattle.byte_unit_stream.specs.Chunks.{ended_records, begun_record, nonempty_record}
 use Rattle.byte_unit_stream.proofs.Bytes.{Consumes-at_end, IsWrittenBy}
-use Rattle.byte_unit_stream.proofs.ChunkRecords.{ended_records-append, begun_record-append}
-use Rattle.byte_unit_stream.proofs.ChunkRecords.{finished_records-ended_records, records_of-ended_records}
+use Rattle.byte_unit_stream.proofs.ChunkRecords.{finished_records-piece, begun_record-piece, records_of-begun}
 use Rattle.byte_unit_stream.proofs.ChunkRecords.{nonempty_record-nonempty}
 use Rattle.byte_unit_stream.proofs.Longest.{IsWithin, longest_record-below}
 use Rattle.byte_unit_stream.proofs.Beginnings.{IsBeginningOf-after, IsBeginningOf-longer}
@@ -29,9 +28,9 @@ pub record Course : Type 0 where
   pub written : List ℕ
   pub line : List ℕ
 
--- between two reads: the lines that end in what was read are answered, and the rest is the unfinished line
+-- between two reads: the finished lines of what was read are answered, and the rest is the unfinished line
 pub record IsServed (kind : Kind) (course : Course) : Type 0 where
-  pub answered : AreAnswers kind (ended_records line_end [] course.read) course.written
+  pub answered : AreAnswers kind (finished_lines course.read) course.written
   pub begun : course.line ≡ begun_record line_end [] course.read
 
 -- the invariant of the loop: the same for what was consumed from a reader and appended to a writer; no answer is
@@ -75,33 +74,25 @@ IsWritten-error kind read written (Err _) error is_error is_written =
     subst (λ other. IsWritten kind read (Err other) written) (sym is_error) is_written
 
 module _ (kind : Kind) (course : Course) (served : IsServed kind course) where
-  -- the lines that end in what was read, then those that end in the next piece, are those of both
-  ended_lines-piece : (piece : List ℕ) → ended_records line_end [] course.read ++ ended_records line_end course.line piece
-      ≡ ended_records line_end [] (course.read ++ piece)
-  ended_lines-piece piece = rw (served.begun, ended_records-append line_end [] course.read piece) refl
-
   -- answering the lines that end in the next piece keeps the invariant
   pub IsServed-piece : (piece answers line : List ℕ) → AreAnswers kind (ended_records line_end course.line piece) answers
       → line ≡ begun_record line_end course.line piece
       → IsServed kind (record { read = course.read ++ piece; written = course.written ++ answers; line = line })
   IsServed-piece piece answers line are_answers line_is = record {
-    answered = subst (λ lines. AreAnswers kind lines (course.written ++ answers)) (ended_lines-piece piece)
+    answered = subst (λ lines. AreAnswers kind lines (course.written ++ answers))
+        (finished_records-piece line_end course.read served.begun piece)
         (AreAnswers-append kind _ _ course.written answers served.answered are_answers);
-    begun = rw (line_is, served.begun, begun_record-append line_end [] course.read piece) refl;
+    begun = line_is ∙ begun_record-piece line_end course.read served.begun piece;
   }
-
-  -- between two reads, the answers to all finished lines are written
-  pub finished_lines_answered : AreAnswers kind (finished_lines course.read) course.written
-  finished_lines_answered = rw (finished_records-ended_records line_end course.read) served.answered
 
   -- between two reads, what is written is right for a run that is out of memory then
   pub first_lines_answered : IsWritten kind course.read (Err Memory) course.written
-  first_lines_answered = (finished_lines course.read, ([], sym (append-nil (finished_lines course.read))), finished_lines_answered)
+  first_lines_answered = (finished_lines course.read, ([], sym (append-nil (finished_lines course.read))), served.answered)
 
   -- at the end of the input, what is written is the report if there is no unfinished line
   pub report_without_last_line : course.line ≡ [] → IsReport kind course.read course.written
   report_without_last_line none =
-      rw (records_of-ended_records line_end course.read, ← served.begun, none, append-nil (ended_records line_end [] course.read))
+      rw (← records_of-begun line_end course.read served.begun, none, append-nil (finished_lines course.read))
       served.answered
 
   -- at the end of the input, what is written and the answer to the unfinished line are the report, if there is such a
@@ -109,9 +100,8 @@ module _ (kind : Kind) (course : Course) (served : IsServed kind course) where
   report_with_last_line : course.line ≢ [] → (answer : List ℕ) → IsAnswer kind course.line answer
       → IsReport kind course.read (course.written ++ answer)
   report_with_last_line some answer is_answer =
-      let ended = ended_records line_end [] course.read in
-      rw (records_of-ended_records line_end course.read, ← served.begun, nonempty_record-nonempty course.line some)
-      (AreAnswers-append kind ended (course.line ∷ []) course.written answer served.answered
+      rw (← records_of-begun line_end course.read served.begun, nonempty_record-nonempty course.line some)
+      (AreAnswers-append kind (finished_lines course.read) (course.line ∷ []) course.written answer served.answered
       (AreAnswers-single kind course.line answer is_answer))
 
   -- after the call that writes the answer to the last line, what is written is right for the result of that call
@@ -128,25 +118,25 @@ module _ (kind : Kind) (course : Course) (served : IsServed kind course) where
 
 -- a beginning of the answers to first lines is a beginning of a report, since each of the other lines has an answer too
 beginning_of_report : EachLineHasAnAnswer → (kind : Kind) (read written : List ℕ)
-    → BeginFirst kind (ended_records line_end [] read) written → IsWritten kind read (Err Write) written
-beginning_of_report each kind read written (whole, (answered, (unanswered, ended_is), are_answers), is_beginning) =
+    → BeginFirst kind (finished_lines read) written → IsWritten kind read (Err Write) written
+beginning_of_report each kind read written (whole, (answered, (unanswered, finished_is), are_answers), is_beginning) =
     let last = nonempty_record (begun_record line_end [] read) in
     let others = unanswered ++ last in
     let rest = lines_have_answers kind (each kind) others in
     let lines : answered ++ others ≡ lines_of read =
-    rw (records_of-ended_records line_end read, ended_is, append_assoc answered unanswered last) refl in (
+    rw (← records_of-begun line_end read refl, finished_is, append_assoc answered unanswered last) refl in (
       whole ++ rest.0,
       subst (λ lines. AreAnswers kind lines (whole ++ rest.0)) lines
           (AreAnswers-append kind answered others whole rest.0 are_answers rest.1),
       IsBeginningOf-longer written whole rest.0 is_beginning,
     )
 
--- what an error leaves written for the lines that ended is right for a run that fails with this error
-IsWritten-ended_lines : EachLineHasAnAnswer → (kind : Kind) (read : List ℕ) (error : RunError) (written : List ℕ)
-    → IsAnswered kind (ended_records line_end [] read) (Err error) written → IsWritten kind read (Err error) written
-IsWritten-ended_lines each kind read Memory written at = rw (finished_records-ended_records line_end read) at
-IsWritten-ended_lines each kind read Read written at = absurd at
-IsWritten-ended_lines each kind read Write written at = beginning_of_report each kind read written at
+-- what an error leaves written for the finished lines is right for a run that fails with this error
+IsWritten-finished_lines : EachLineHasAnAnswer → (kind : Kind) (read : List ℕ) (error : RunError) (written : List ℕ)
+    → IsAnswered kind (finished_lines read) (Err error) written → IsWritten kind read (Err error) written
+IsWritten-finished_lines each kind read Memory written at = at
+IsWritten-finished_lines each kind read Read written at = absurd at
+IsWritten-finished_lines each kind read Write written at = beginning_of_report each kind read written at
 
 -- what is written before a piece, then what an error leaves written for it, is right for a run that fails with this
 -- error
@@ -154,10 +144,11 @@ pub IsWritten-piece : EachLineHasAnAnswer → (kind : Kind) (course : Course) �
     (written : List ℕ) → IsAnswered kind (ended_records line_end course.line piece) (Err error) written
     → IsWritten kind (course.read ++ piece) (Err error) (course.written ++ written)
 IsWritten-piece each kind course served piece error written at =
-    let ended = ended_records line_end [] course.read in
-    IsWritten-ended_lines each kind (course.read ++ piece) error (course.written ++ written)
-    (subst (λ lines. IsAnswered kind lines (Err error) (course.written ++ written)) (ended_lines-piece kind course served piece)
-    (IsAnswered-append kind ended (ended_records line_end course.line piece) course.written served.answered error written at))
+    IsWritten-finished_lines each kind (course.read ++ piece) error (course.written ++ written)
+    (subst (λ lines. IsAnswered kind lines (Err error) (course.written ++ written))
+    (finished_records-piece line_end course.read served.begun piece)
+    (IsAnswered-append kind (finished_lines course.read) (ended_records line_end course.line piece) course.written
+    served.answered error written at))
 
 -- reading a piece and answering the lines that end in it keeps the invariant
 abbrev pub HasServed-piece : {kind : Kind} {left between held holds : Option (List ℕ)} {line answers : List ℕ}

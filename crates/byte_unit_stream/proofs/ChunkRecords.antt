@@ -41,7 +41,7 @@ module _ (end : ℕ) where
       grind (arith, nat_tests, ended_records-append [] front back, ended_records-append (part ++ byte ∷ []) front back)
 
   -- the unfinished record after two chunks is the one after the second, begun by the one after the first
-  pub begun_record-append : (part front back : List ℕ)
+  begun_record-append : (part front back : List ℕ)
       → begun_record end part (front ++ back) ≡ begun_record end (begun_record end part front) back
   begun_record-append part [] back = refl
   begun_record-append part (byte ∷ front) back =
@@ -78,13 +78,30 @@ module _ (end : ℕ) where
   split_by-ended_records bytes = grind (arith, (split_by_IsSplit bytes).2, split_by-onto [] bytes)
 
   -- the finished records of an input are the records that end in it
-  pub finished_records-ended_records : (bytes : List ℕ) → finished_records end bytes ≡ ended_records end [] bytes
+  finished_records-ended_records : (bytes : List ℕ) → finished_records end bytes ≡ ended_records end [] bytes
   finished_records-ended_records bytes = ap but_last (split_by-ended_records bytes) ∙ but_last-snoc _ _
 
   -- the records of an input are the records that end in it, then the unfinished record if it is not empty
   pub records_of-ended_records : (bytes : List ℕ)
       → records_of end bytes ≡ ended_records end [] bytes ++ nonempty_record (begun_record end [] bytes)
   records_of-ended_records bytes = ap but_empty_last (split_by-ended_records bytes) ∙ but_empty_last-snoc _ _
+
+  -- `part` is the unfinished record after the bytes that were read
+  module _ (read : List ℕ) {part : List ℕ} (begun : part ≡ begun_record end [] read) where
+    -- the finished records of what was read, then the records that end in the next piece, are the finished ones of both
+    pub finished_records-piece : (piece : List ℕ)
+        → finished_records end read ++ ended_records end part piece ≡ finished_records end (read ++ piece)
+    finished_records-piece piece =
+        rw (begun, finished_records-ended_records read, finished_records-ended_records (read ++ piece))
+        (sym (ended_records-append [] read piece))
+
+    -- the unfinished record after the next piece is that of both
+    pub begun_record-piece : (piece : List ℕ) → begun_record end part piece ≡ begun_record end [] (read ++ piece)
+    begun_record-piece piece = rw (begun, begun_record-append [] read piece) refl
+
+    -- the finished records, then the unfinished one if it is not empty, are all records of what was read
+    pub records_of-begun : finished_records end read ++ nonempty_record part ≡ records_of end read
+    records_of-begun = rw (begun, finished_records-ended_records read, records_of-ended_records read) refl
 
   -- one byte more, that at `place`: an end byte finishes the record that was begun, and any other byte extends it
   module _ (part bytes : List ℕ) (place : ℕ) (fits : place < length bytes) where

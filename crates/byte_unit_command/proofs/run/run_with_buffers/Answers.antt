@@ -14,12 +14,13 @@ use Rattle.byte_unit_command.specs.declared.tally.Tally.{Tally}
 use Rattle.byte_unit_command.proofs.Answering.{HasFed-from_empty, piece-answered, piece-unwritten}
 use Rattle.byte_unit_command.proofs.Dues.{SufficeFor-piece, end-fits, last-untold, piece-untold}
 use Rattle.byte_unit_command.proofs.Results.{OnOk-always}
-use Rattle.byte_unit_command.proofs.Runs.{IsServed, begun-piece}
+use Rattle.byte_unit_command.proofs.Runs.{IsServed}
 use Rattle.byte_unit_command.proofs.Served.{HasRead-end, HasRead-more, HasServed-piece, HasServed-start}
 use Rattle.byte_unit_command.proofs.Served.{IsRunOf-finished, IsRunOf-long, IsRunOf-piece, IsRunOf-read}
 use Rattle.byte_unit_stream.specs.Chunks.{begun_record}
 use Rattle.byte_unit_stream.specs.Beginnings.{IsBeginningOf}
 use Rattle.byte_unit_stream.specs.Streams.{HasWritten, reader_of}
+use Rattle.byte_unit_stream.proofs.ChunkRecords.{begun_record-piece}
 use Rattle.byte_unit_stream.proofs.Longest.{longest_of-ended_records-append, longest_record-unfinished}
 use Rattle.byte_unit_stream.proofs.Longest.{longest_record-below}
 use Rattle.byte_unit_command.proofs.run.run_with_buffers.Goals as goal
@@ -157,7 +158,8 @@ returns-then-len-longest-clause-memory g c = λ _ _.
     let so_far = c.reads.invariant.0 in
     let piece = take c.in-Some.n c.read.new.buf in
     let part = c.feed-fed.new.self.part in
-    let begun = begun-piece so_far.served piece part.items c.in_ok-fed-in-Some.ensures.part in
+    let begun = c.in_ok-fed-in-Some.ensures.part
+    ∙ begun_record-piece c.args.options.now.record_end so_far.course.read so_far.served.begun piece in
     let long = longest_record-unfinished c.args.options.now.record_end (so_far.course.read ++ piece) part.items
     begun in (
       so_far.course.read ++ piece,

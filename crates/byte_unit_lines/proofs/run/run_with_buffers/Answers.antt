@@ -7,14 +7,14 @@ use Rattle.std.proofs.lemmas.Result.{on_ok_weaker}
 use Rattle.std.proofs.KnownBytes.{Appends-trans, Consumes-kept, Consumes-trans}
 use Rattle.byte_unit_lines.specs.Answer.{IsAnswer}
 use Rattle.byte_unit_lines.specs.declared.run.RunError.TheVariants.{Memory, Write}
-use Rattle.byte_unit_lines.proofs.Runs.{Course, IsServed, course_of, HasServed-piece, finished_lines_answered}
+use Rattle.byte_unit_lines.proofs.Runs.{Course, IsServed, course_of, HasServed-piece}
 use Rattle.byte_unit_lines.proofs.Runs.{IsWritten-piece, IsWritten-error, IsWritten-last_line}
 use Rattle.byte_unit_lines.proofs.Runs.{report_without_last_line, first_lines_answered, HasServed-at_end, longest_line-below}
 use Rattle.byte_unit_lines.specs.Lines.{line_end}
 use Rattle.byte_unit_stream.specs.Chunks.{begun_record}
 use Rattle.byte_unit_stream.proofs.Bytes.{IsWrittenBy}
 use Rattle.byte_unit_stream.proofs.Longest.{longest_of-ended_records-append, longest_record-unfinished}
-use Rattle.byte_unit_stream.proofs.ChunkRecords.{begun_record-append, empty_from_length, nonempty_from_length}
+use Rattle.byte_unit_stream.proofs.ChunkRecords.{begun_record-piece, empty_from_length, nonempty_from_length}
 use Rattle.byte_unit_lines.proofs.run.run_with_buffers.Goals as goal
 
 -- a read failed: the answers to all finished lines of what was read before are written
@@ -26,7 +26,7 @@ returns-in-None-clause-run g c =
       so_far.written,
       Consumes-kept _ _ _ so_far.read so_far.gave c.in-None.ensures.none,
       so_far.took,
-      finished_lines_answered c.args.kind (course_of so_far) so_far.served,
+      so_far.served.answered,
     )
 
 -- the invariant holds at the start: nothing is read or written, and both buffers are empty
@@ -96,8 +96,7 @@ returns-then-len-longest-clause-memory g c = λ _ _.
     let read = so_far.read ++ piece in
     let line = c.answer_piece.new.line in
     let fed = c.in-Ok.ensures in
-    let begun : line.items ≡ begun_record line_end [] read =
-    rw (fed.line, so_far.served.begun, begun_record-append line_end [] so_far.read piece) refl in
+    let begun = fed.line ∙ begun_record-piece line_end so_far.read so_far.served.begun piece in
     -- the unfinished line is no longer than the longest line
     let long = longest_record-unfinished line_end read line.items begun in (
       read,
