@@ -3,3 +3,4 @@ pub mod Ends
 pub mod Longest
 pub mod ChunkRecords
 pub mod Beginnings
+pub mod Feeding

@@ -2,15 +2,16 @@
 -- early, what was appended is that of the records before. Of the invariant, `.0` is what was converted, and `.1` are
 -- the bounds (`IsFedWithin`). `.ok.0` of a vector: its length is that of its items. `.ensures.1` of a
 -- `from_residual`: the error in its result is the one that `?` passes on.
-use Rattle.std.proofs.Common.{true≢false, ◌≡◌, ◌+◌, ◌-◌, ◌∷◌, [], length, take, drop, sym, ap, subst, ◌∙◌}
+use Rattle.std.proofs.Common.{true≢false, ◌≡◌, ◌+◌, ◌-◌, ◌∷◌, [], length, take, drop, refl, sym, ap, subst, ◌∙◌}
 use Rattle.std.proofs.Common.{Err, arith, length-drop, vec_capacity, vec_len}
 use Rattle.std.proofs.lemmas.List.{take_rest, length-take-le}
 use Rattle.byte_unit_command.specs.RunState.{AddsRecords, messages_of, state_of}
-use Rattle.byte_unit_command.proofs.Feeding.{IsFed-start, IsFed-step, IsNext, IsNext-alone, IsNext-untold}
-use Rattle.byte_unit_command.proofs.Feeding.{EndsEarly-record, feed_of}
+use Rattle.byte_unit_command.proofs.Converting.{AddsRecords-append, AddsRecords-none}
+use Rattle.byte_unit_command.proofs.Feeding.{EndsEarly-record, IsNext-untold, feed_of}
 use Rattle.byte_unit_command.proofs.Results.{IfErr-passed}
 use Rattle.byte_unit_command.proofs.Rooms.{IsFedWithin-fits, IsFedWithin-step}
 use Rattle.byte_unit_stream.proofs.ChunkRecords.{empty_from_length}
+use Rattle.byte_unit_stream.proofs.Feeding.{IsFed-step, IsNext, IsNext-alone}
 use Rattle.byte_unit_command.proofs.run.Buffers.feed.Goals.{then-is_empty+in_ok-add_record}
 use Rattle.byte_unit_command.proofs.run.Buffers.feed.Goals.{else-is_empty+in_ok-extend_from_slice+in_ok-add_record-2}
 use Rattle.byte_unit_command.proofs.run.Buffers.feed.Goals as goal
@@ -21,8 +22,8 @@ returns-in_err-add_record-clause-error g c =
     let part = c.loop-n.self.part in
     -- nothing of it was read before; `part.ok.0` says that the length of a vector is that of its items
     let none = empty_from_length part.items (vec_len part) part.ok.0 c.if-is_empty.ensures in
-    let next = IsNext-alone c.args.options.now c.loop-n.self c.loop-n.rest.now c.in-Some.n c.in-Some.ensures.some
-    none in
+    let next = IsNext-alone c.args.options.now.record_end (feed_of c.loop-n.self c.loop-n.rest.now) c.in-Some.n
+    c.in-Some.ensures.some none in
     let failed = c.in_err-add_record in
     let error = failed.field-0.0 in
     let after = c.add_record.new.self in
@@ -35,8 +36,8 @@ returns-in_err-add_record-clause-error g c =
 pub returns-in_err-add_record-2-clause-error : goal.returns-in_err-add_record-2-clause-error
 returns-in_err-add_record-2-clause-error g c =
     let bytes_are = c.deref.ensures.value ∙ c.in_ok-extend_from_slice.ensures.items in
-    let next : IsNext c.args.options.now (feed_of c.loop-n.self c.loop-n.rest.now) c.in-Some.n c.deref.result.now =
-    record { ends = c.in-Some.ensures.some; bytes_are = bytes_are } in
+    let next : IsNext c.args.options.now.record_end (feed_of c.loop-n.self c.loop-n.rest.now) c.in-Some.n
+    c.deref.result.now = record { ends = c.in-Some.ensures.some; bytes_are = bytes_are } in
     let failed = c.in_err-add_record-2 in
     let passed = c.from_residual-in_err-add_record-2 in
     let after = c.add_record-else-is_empty.new.self in
@@ -48,7 +49,7 @@ returns-in_err-add_record-2-clause-error g c =
 -- at the start no record is added, and no buffer has grown
 pub loop-n-init : goal.loop-n-init
 loop-n-init g c = (
-  IsFed-start c.args.options.now (feed_of c.args.self.now c.args.bytes.now),
+  record { records = []; added = AddsRecords-none c.args.options.now _; ended = refl; begun = refl },
   record {
     part_len = omega arith;
     waiting_len = omega arith;
@@ -77,8 +78,8 @@ loop-n-preserved g c =
           let empty : vec_len part ≡ 0 = part.ok.0 ∙ ap length none in
           let adds = subst (AddsRecords options (take place rest ∷ []) now.state)
           (sym (ap (λ at. state_of at.converter) w.self-is)) w.in_ok-add_record.ensures.ok in (
-            IsFed-step c.loop-n.invariant.0 (IsNext-alone options c.loop-n.self rest place ends none) next adds
-                (ap (λ at. at.part.items) w.self-is ∙ none) rest_is,
+            IsFed-step c.loop-n.invariant.0 (IsNext-alone options.record_end now place ends none)
+                (AddsRecords-append options) next adds (ap (λ at. at.part.items) w.self-is ∙ none) rest_is,
             IsFedWithin-step c.loop-n.invariant.1 place (length (take place rest)) ends.0 (omega (arith, taken, empty))
                 (ap (λ at. vec_len at.part) w.self-is ∙ empty)
                 (omega (arith, ap (λ at. vec_len at.converter.waiting) w.self-is, w.add_record.ensures.len))
@@ -89,14 +90,14 @@ loop-n-preserved g c =
       | else-is_empty+in_ok-extend_from_slice+in_ok-add_record-2 w ↦
           let bytes = w.deref.result.now in
           let bytes_are = w.deref.ensures.value ∙ w.in_ok-extend_from_slice.ensures.items in
-          let is_next : IsNext options now place bytes = record { ends = ends; bytes_are = bytes_are } in
+          let is_next : IsNext options.record_end now place bytes = record { ends = ends; bytes_are = bytes_are } in
           let adds = subst (AddsRecords options (bytes ∷ []) now.state)
           (sym (ap (λ at. state_of at.converter) w.self-is)) w.in_ok-add_record-2.ensures.ok in
           let lens = w.in_ok-extend_from_slice.ensures.len in
           let joined : length bytes ≡ vec_len part + place =
           omega (arith, ap length w.deref.ensures.value, w.extend_from_slice.new.self.ok.0, lens, taken) in
           let added = w.add_record-else-is_empty.ensures in (
-            IsFed-step c.loop-n.invariant.0 is_next next adds
+            IsFed-step c.loop-n.invariant.0 is_next (AddsRecords-append options) next adds
                 (ap (λ at. at.part.items) w.self-is ∙ w.clear.ensures.items) rest_is,
             IsFedWithin-step c.loop-n.invariant.1 place (length bytes) ends.0 joined
                 (ap (λ at. vec_len at.part) w.self-is ∙ w.clear.ensures.len)
@@ -119,7 +120,7 @@ returns-in_err-add_record-clause-succeeds g c = λ suffice untold.
     let part = c.loop-n.self.part in
     let none = empty_from_length part.items (vec_len part) part.ok.0 c.if-is_empty.ensures in
     let taken : length (take place rest) ≡ place = length-take-le place rest (omega (arith, ends.0)) in
-    let next = IsNext-alone c.args.options.now c.loop-n.self rest place ends none in
+    let next = IsNext-alone c.args.options.now.record_end (feed_of c.loop-n.self rest) place ends none in
     let room = IsFedWithin-fits c.loop-n.invariant.1 suffice place (length (take place rest)) ends.0
     (omega (arith, taken, part.ok.0, ap length none)) in
     let told = IsNext-untold c.loop-n.invariant.0 next untold in
@@ -132,7 +133,7 @@ returns-in_err-add_record-2-clause-succeeds g c = λ suffice untold.
     let place = c.in-Some.n in
     let bytes = c.deref.result.now in
     let bytes_are = c.deref.ensures.value ∙ c.in_ok-extend_from_slice.ensures.items in
-    let next : IsNext c.args.options.now (feed_of c.loop-n.self rest) place bytes =
+    let next : IsNext c.args.options.now.record_end (feed_of c.loop-n.self rest) place bytes =
     record { ends = c.in-Some.ensures.some; bytes_are = bytes_are } in
     let within = c.in-Some.ensures.some.0 in
     let joined : length bytes ≡ vec_len c.loop-n.self.part + place = omega (

@@ -1,6 +1,8 @@
 -- The records before the rest were added, within their room; the rest gets shorter.
 use Rattle.std.proofs.Common.{length}
-use Rattle.byte_unit_command.proofs.Feeding.{IsFed, feed_of}
+use Rattle.byte_unit_command.specs.RunState.{AddsRecords}
+use Rattle.byte_unit_command.proofs.Feeding.{feed_of}
+use Rattle.byte_unit_stream.proofs.Feeding.{IsFed}
 use Rattle.byte_unit_command.proofs.Rooms.{IsFedWithin}
 use Rattle.byte_unit_command.proofs.run.Buffers.feed.Given as goal
 
@@ -8,7 +10,7 @@ use Rattle.byte_unit_command.proofs.run.Buffers.feed.Given as goal
 abbrev pub invariant-loop-n : goal.invariant-loop-n
 invariant-loop-n g l =
     let start = l.initial.self in
-    IsFed l.options (feed_of start l.bytes) (feed_of l.self l.rest)
+    IsFed l.options.record_end (AddsRecords l.options) (feed_of start l.bytes) (feed_of l.self l.rest)
     × IsFedWithin l.options start.part start.converter.waiting l.bytes l.self.part l.self.converter.waiting l.rest
 
 -- the rest gets shorter with each record
