@@ -8,6 +8,7 @@ use Rattle.byte_unit_command.specs.Messages.{AreMessagesOfFields}
 use Rattle.byte_unit_command.specs.RunState.{FieldHasNoMessage, FieldsHaveNoMessage, State}
 use Rattle.byte_unit_command.specs.declared.options.Options.{Options}
 use Rattle.byte_unit_command.proofs.Untold.{first-untold}
+use Rattle.byte_unit_stream.proofs.Feeding.{IsFedWithin}
 
 -- the room of some fields and that of others are at most the room of all, if these are at least as many as both
 times-le : (room some others all : ℕ) → some + others ≤ all → room * some + room * others ≤ room * all
@@ -60,10 +61,11 @@ module _ (options : Options) where
   fields-step (Some delimiter) part rest place fits = omega (arith, fits)
 
   -- a record with its end byte takes no more of the room than the bytes after it leave
-  pub feed_room-step : (part rest place : ℕ) → place < rest
-      → record_room options (part + place) + feed_room options 0 (rest - (place + 1)) ≤ feed_room options part rest
-  feed_room-step part rest place fits =
-      omega (arith, times-le (text_room options) _ _ _ (fields-step options.delimiter part rest place fits), fits)
+  pub feed_room-step : (part rest place : ℕ) → place < rest → (count : ℕ) → count ≡ part + place
+      → record_room options count + feed_room options 0 (rest - (place + 1)) ≤ feed_room options part rest
+  feed_room-step part rest place fits count count_is =
+      let fields = fields-step options.delimiter part rest place fits in
+      rw count_is (omega (arith, times-le (text_room options) _ _ _ fields, fits))
 
   -- with more bytes before the read, or in it, no fewer fields may end in it
   fields-more : (mark : Option ℕ) (part rest longest chunk : ℕ) → part ≤ longest → rest ≤ chunk
@@ -138,51 +140,14 @@ split_len-step room old all text rest place gap added ended left some fits so_fa
     subst (λ left. ended + split_room room left ≤ old + split_room room all) (sym left_is)
     (omega (arith, split_room-cut room rest (place + gap) some fits, so_far, more, ended_is))
 
--- from the start to now, the buffers have grown by no more than the bytes that are no longer left account for, and no
--- capacity has fallen
-pub record IsFedWithin {Z : Type 0} (options : Options) (part waiting : Vec ℕ Z) (bytes : List ℕ)
-    (part_now waiting_now : Vec ℕ Z) (rest : List ℕ) : Type 0 where
-  pub part_len : vec_len part_now + length rest ≤ vec_len part + length bytes
-  pub waiting_len : vec_len waiting_now + feed_room options (vec_len part_now) (length rest)
-      ≤ vec_len waiting + feed_room options (vec_len part) (length bytes)
-  pub part_capacity : vec_capacity part ≤ vec_capacity part_now
-  pub waiting_capacity : vec_capacity waiting ≤ vec_capacity waiting_now
-
--- the bounds on the buffers hold after one more record
-pub IsFedWithin-step : {Z : Type 0} {options : Options} {part waiting : Vec ℕ Z} {bytes : List ℕ}
-    {part_now waiting_now : Vec ℕ Z} {rest : List ℕ} → IsFedWithin options part waiting bytes part_now waiting_now rest
-    → (place count : ℕ) → place < length rest → count ≡ vec_len part_now + place
-    → {part_next waiting_next : Vec ℕ Z} {left : List ℕ} → vec_len part_next ≡ 0
-    → vec_len waiting_next ≤ vec_len waiting_now + record_room options count
-    → vec_capacity part_now ≤ vec_capacity part_next → vec_capacity waiting_now ≤ vec_capacity waiting_next
-    → length left ≡ length rest - (place + 1) → IsFedWithin options part waiting bytes part_next waiting_next left
-IsFedWithin-step {options = options} {part = part} {waiting = waiting} {bytes = bytes} {part_now = part_now}
-    {waiting_now = waiting_now} {rest = rest} so_far place count ends count_is {part_next} {waiting_next} {left} none
-    added part_kept waiting_kept left_is =
-    let most = vec_len waiting + feed_room options (vec_len part) (length bytes) in
-    let taken : vec_len waiting_next ≤ vec_len waiting_now + record_room options (vec_len part_now + place) =
-    subst (λ count. vec_len waiting_next ≤ vec_len waiting_now + record_room options count) count_is added in record {
-      part_len = omega (arith, so_far.part_len, none, left_is, ends);
-      waiting_len = subst (λ next. vec_len waiting_next + feed_room options next (length left) ≤ most) (sym none)
-          (subst (λ left. vec_len waiting_next + feed_room options 0 left ≤ most) (sym left_is) (omega (
-            arith,
-            feed_room-step options (vec_len part_now) (length rest) place ends,
-            so_far.waiting_len,
-            taken,
-          )));
-      part_capacity = omega (arith, so_far.part_capacity, part_kept);
-      waiting_capacity = omega (arith, so_far.waiting_capacity, waiting_kept);
-    }
-
 -- in buffers that suffice, there is room for the next record
-pub IsFedWithin-fits : {Z : Type 0} {options : Options} {part waiting : Vec ℕ Z} {bytes : List ℕ}
-    {part_now waiting_now : Vec ℕ Z} {rest : List ℕ} → IsFedWithin options part waiting bytes part_now waiting_now rest
+pub IsFedWithin-fits : {Z : Type 0} (options : Options) {part waiting : Vec ℕ Z} {bytes : List ℕ}
+    {part_now waiting_now : Vec ℕ Z} {rest : List ℕ}
+    → IsFedWithin (feed_room options) part waiting bytes part_now waiting_now rest
     → SufficeFor options (vec_len part) (length bytes) part waiting → (place count : ℕ) → place < length rest
     → count ≡ vec_len part_now + place → vec_len waiting_now + record_room options count ≤ vec_capacity waiting_now
-IsFedWithin-fits {options = options} {part = part} {bytes = bytes} {part_now = part_now} {waiting_now = waiting_now}
-    {rest = rest} within
-    suffice place count ends count_is =
+IsFedWithin-fits options {part = part} {bytes = bytes} {part_now = part_now} {rest = rest} within suffice
+    place count ends count_is =
     let read = feed_room-read options (vec_len part) (length bytes) in
-    let step = feed_room-step options (vec_len part_now) (length rest) place ends in
-    subst (λ count. vec_len waiting_now + record_room options count ≤ vec_capacity waiting_now) (sym count_is)
-    (omega (arith, within.waiting_len, within.waiting_capacity, suffice.1, read, step))
+    let step = feed_room-step options (vec_len part_now) (length rest) place ends count count_is in
+    omega (arith, within.waiting_len, within.waiting_capacity, suffice.1, read, step)

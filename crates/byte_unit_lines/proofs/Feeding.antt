@@ -1,7 +1,5 @@
 -- Lemmas: the loop over the lines that end in a chunk.
-use Rattle.std.proofs.Common.{◌≡◌, ◌+◌, ◌*◌, ◌≤◌, ℕ, List, [], ◌∷◌, ◌++◌, length, vec_len, ap, ◌∙◌, append_assoc}
-use Rattle.std.proofs.Common.{vec_capacity}
-use Rattle.std.specs.declared.vec.Vec.{Vec}
+use Rattle.std.proofs.Common.{◌≡◌, ◌*◌, ℕ, List, [], ◌∷◌, ◌++◌, ap, ◌∙◌, append_assoc}
 use Rattle.byte_unit_lines.specs.Answer.{Kind}
 use Rattle.byte_unit_lines.specs.Capacity.{answer_max}
 use Rattle.byte_unit_lines.specs.Answered.{AddsAnswer, AddsAnswers}
@@ -24,11 +22,6 @@ pub AddsAnswers-single : (kind : Kind) (line old : List ℕ) {new after : List �
 AddsAnswers-single kind line old (answer, is_answer, new_is) after_is =
     (answer, AreAnswers-single kind line answer is_answer, after_is ∙ new_is)
 
--- from the start to now, the buffers have grown by no more than the bytes that are no longer left account for: the line
--- by these bytes, the answers by an answer to each; and no capacity has fallen
-pub record IsFedWithin {Z : Type 0} (line answers : Vec ℕ Z) (bytes : List ℕ) (line_now answers_now : Vec ℕ Z) (rest : List ℕ)
-    : Type 0 where
-  pub line_len : vec_len line_now + length rest ≤ vec_len line + length bytes
-  pub answers_len : vec_len answers_now + answer_max * length rest ≤ vec_len answers + answer_max * length bytes
-  pub line_capacity : vec_capacity line ≤ vec_capacity line_now
-  pub answers_capacity : vec_capacity answers ≤ vec_capacity answers_now
+-- the room for the answers to the lines that end in `rest` bytes, one for each byte, however long the part before is
+abbrev pub answers_room : ℕ → ℕ → ℕ
+answers_room part rest = answer_max * rest

@@ -6,7 +6,7 @@ use Rattle.std.specs.Prelude.{vec_capacity}
 use Rattle.std.proofs.lemmas.List.{take_all, take_rest}
 use Rattle.byte_unit_lines.specs.Lines.{line_end}
 use Rattle.byte_unit_lines.proofs.Feeding.{AddsAnswers-append, AddsAnswers-single}
-use Rattle.byte_unit_stream.proofs.Feeding.{Feed, IsFed-step, IsNext, IsNext-alone}
+use Rattle.byte_unit_stream.proofs.Feeding.{Feed, IsFed-step, IsFedWithin-step, IsNext, IsNext-alone}
 use Rattle.byte_unit_stream.proofs.ChunkRecords.{empty_from_length}
 use Rattle.byte_unit_lines.proofs.run.feed.Goals.{then-is_empty+in_ok-add_answer}
 use Rattle.byte_unit_lines.proofs.run.feed.Goals.{else-is_empty+in_ok-extend_from_slice+in_ok-add_answer-2}
@@ -39,16 +39,12 @@ loop-n-preserved g c =
           let none = empty_from_length part.items (vec_len part) part.ok.0 w.if-is_empty.ensures in
           let answer = AddsAnswers-single c.args.kind (take place rest) now.state w.in_ok-add_answer.ensures.ok
           (ap (λ waiting. waiting.items) w.waiting-is) in
-          let same = ap (λ line. vec_len line) w.line-is in
-          let added = ap (λ waiting. vec_len waiting) w.waiting-is in
-          let grown = ap (λ waiting. vec_capacity waiting) w.waiting-is in
           let growth = w.add_answer.ensures.growth in (
-            record {
-              line_len = omega (arith, so_far.0.line_len, same, left, within);
-              answers_len = omega (arith, so_far.0.answers_len, added, growth.len, left, within);
-              line_capacity = omega (arith, so_far.0.line_capacity, ap (λ line. vec_capacity line) w.line-is);
-              answers_capacity = omega (arith, so_far.0.answers_capacity, grown, growth.capacity);
-            },
+            IsFedWithin-step so_far.0 place within left
+                (ap (λ line. vec_len line) w.line-is ∙ (part.ok.0 ∙ ap length none))
+                (omega (arith, ap (λ waiting. vec_len waiting) w.waiting-is, growth.len, within))
+                (omega (arith, ap (λ line. vec_capacity line) w.line-is))
+                (omega (arith, ap (λ waiting. vec_capacity waiting) w.waiting-is, growth.capacity)),
             IsFed-step so_far.1 (IsNext-alone line_end now place ends none) append next answer
                 (ap (λ line. line.items) w.line-is ∙ none) rest_is,
           )
@@ -62,18 +58,13 @@ loop-n-preserved g c =
           } in
           let answer = AddsAnswers-single c.args.kind line now.state w.in_ok-add_answer-2.ensures.ok
           (ap (λ waiting. waiting.items) w.waiting-is) in
-          let cleared = ap (λ line. vec_len line) w.line-is in
           let kept = ap (λ line. vec_capacity line) w.line-is in
           let extended = w.extend_from_slice.ensures.capacity in
-          let added = ap (λ waiting. vec_len waiting) w.waiting-is in
-          let grown = ap (λ waiting. vec_capacity waiting) w.waiting-is in
           let growth = w.add_answer-else-is_empty.ensures.growth in (
-            record {
-              line_len = omega (arith, so_far.0.line_len, cleared, w.clear.ensures.len, left, within);
-              answers_len = omega (arith, so_far.0.answers_len, added, growth.len, left, within);
-              line_capacity = omega (arith, so_far.0.line_capacity, kept, extended, w.clear.ensures.capacity);
-              answers_capacity = omega (arith, so_far.0.answers_capacity, grown, growth.capacity);
-            },
+            IsFedWithin-step so_far.0 place within left (ap (λ line. vec_len line) w.line-is ∙ w.clear.ensures.len)
+                (omega (arith, ap (λ waiting. vec_len waiting) w.waiting-is, growth.len, within))
+                (omega (arith, kept, extended, w.clear.ensures.capacity))
+                (omega (arith, ap (λ waiting. vec_capacity waiting) w.waiting-is, growth.capacity)),
             IsFed-step so_far.1 is_next append next answer (ap (λ line. line.items) w.line-is ∙ w.clear.ensures.items)
                 rest_is,
           )

@@ -9,9 +9,9 @@ use Rattle.byte_unit_command.specs.RunState.{AddsRecords, messages_of, state_of}
 use Rattle.byte_unit_command.proofs.Converting.{AddsRecords-append, AddsRecords-none}
 use Rattle.byte_unit_command.proofs.Feeding.{EndsEarly-record, IsNext-untold, feed_of}
 use Rattle.byte_unit_command.proofs.Results.{IfErr-passed}
-use Rattle.byte_unit_command.proofs.Rooms.{IsFedWithin-fits, IsFedWithin-step}
+use Rattle.byte_unit_command.proofs.Rooms.{IsFedWithin-fits, feed_room-step}
 use Rattle.byte_unit_stream.proofs.ChunkRecords.{empty_from_length}
-use Rattle.byte_unit_stream.proofs.Feeding.{IsFed-step, IsNext, IsNext-alone}
+use Rattle.byte_unit_stream.proofs.Feeding.{IsFed-step, IsFedWithin-step, IsNext, IsNext-alone}
 use Rattle.byte_unit_command.proofs.run.Buffers.feed.Goals.{then-is_empty+in_ok-add_record}
 use Rattle.byte_unit_command.proofs.run.Buffers.feed.Goals.{else-is_empty+in_ok-extend_from_slice+in_ok-add_record-2}
 use Rattle.byte_unit_command.proofs.run.Buffers.feed.Goals as goal
@@ -71,6 +71,7 @@ loop-n-preserved g c =
     let rest_is = take_rest rest (place + 1) in
     let taken : length (take place rest) ≡ place = length-take-le place rest (omega (arith, ends.0)) in
     let left : length next.rest ≡ length rest - (place + 1) = ap length rest_is ∙ length-drop (place + 1) rest in
+    let room = feed_room-step options (vec_len part) (length rest) place ends.0 in
     -- the cases of the `if`: the record lies wholly in this read, or has begun in an earlier one
     elim c.if-is_empty.branch [
       | then-is_empty+in_ok-add_record w ↦
@@ -80,12 +81,14 @@ loop-n-preserved g c =
           (sym (ap (λ at. state_of at.converter) w.self-is)) w.in_ok-add_record.ensures.ok in (
             IsFed-step c.loop-n.invariant.0 (IsNext-alone options.record_end now place ends none)
                 (AddsRecords-append options) next adds (ap (λ at. at.part.items) w.self-is ∙ none) rest_is,
-            IsFedWithin-step c.loop-n.invariant.1 place (length (take place rest)) ends.0 (omega (arith, taken, empty))
-                (ap (λ at. vec_len at.part) w.self-is ∙ empty)
-                (omega (arith, ap (λ at. vec_len at.converter.waiting) w.self-is, w.add_record.ensures.len))
-                (omega (arith, ap (λ at. vec_capacity at.part) w.self-is))
-                (omega (arith, ap (λ at. vec_capacity at.converter.waiting) w.self-is, w.add_record.ensures.capacity))
-                left,
+            IsFedWithin-step c.loop-n.invariant.1 place ends.0 left (ap (λ at. vec_len at.part) w.self-is ∙ empty)
+                (omega (
+                  arith,
+                  ap (λ at. vec_len at.converter.waiting) w.self-is,
+                  w.add_record.ensures.len,
+                  room (length (take place rest)) (omega (arith, taken, empty)),
+                )) (omega (arith, ap (λ at. vec_capacity at.part) w.self-is))
+                (omega (arith, ap (λ at. vec_capacity at.converter.waiting) w.self-is, w.add_record.ensures.capacity)),
           )
       | else-is_empty+in_ok-extend_from_slice+in_ok-add_record-2 w ↦
           let bytes = w.deref.result.now in
@@ -99,15 +102,19 @@ loop-n-preserved g c =
           let added = w.add_record-else-is_empty.ensures in (
             IsFed-step c.loop-n.invariant.0 is_next (AddsRecords-append options) next adds
                 (ap (λ at. at.part.items) w.self-is ∙ w.clear.ensures.items) rest_is,
-            IsFedWithin-step c.loop-n.invariant.1 place (length bytes) ends.0 joined
+            IsFedWithin-step c.loop-n.invariant.1 place ends.0 left
                 (ap (λ at. vec_len at.part) w.self-is ∙ w.clear.ensures.len)
-                (omega (arith, ap (λ at. vec_len at.converter.waiting) w.self-is, added.len))
                 (omega (
+                  arith,
+                  ap (λ at. vec_len at.converter.waiting) w.self-is,
+                  added.len,
+                  room (length bytes) joined,
+                )) (omega (
                   arith,
                   ap (λ at. vec_capacity at.part) w.self-is,
                   w.extend_from_slice.ensures.capacity,
                   w.clear.ensures.capacity,
-                )) (omega (arith, ap (λ at. vec_capacity at.converter.waiting) w.self-is, added.capacity)) left,
+                )) (omega (arith, ap (λ at. vec_capacity at.converter.waiting) w.self-is, added.capacity)),
           )
     ]
 
@@ -121,7 +128,7 @@ returns-in_err-add_record-clause-succeeds g c = λ suffice untold.
     let none = empty_from_length part.items (vec_len part) part.ok.0 c.if-is_empty.ensures in
     let taken : length (take place rest) ≡ place = length-take-le place rest (omega (arith, ends.0)) in
     let next = IsNext-alone c.args.options.now.record_end (feed_of c.loop-n.self rest) place ends none in
-    let room = IsFedWithin-fits c.loop-n.invariant.1 suffice place (length (take place rest)) ends.0
+    let room = IsFedWithin-fits c.args.options.now c.loop-n.invariant.1 suffice place (length (take place rest)) ends.0
     (omega (arith, taken, part.ok.0, ap length none)) in
     let told = IsNext-untold c.loop-n.invariant.0 next untold in
     absurd (true≢false (sym (c.in_err-add_record.ensures.early.succeeds room told)))
@@ -143,6 +150,6 @@ returns-in_err-add_record-2-clause-succeeds g c = λ suffice untold.
       c.in_ok-extend_from_slice.ensures.len,
       length-take-le place rest (omega (arith, within)),
     ) in
-    let room = IsFedWithin-fits c.loop-n.invariant.1 suffice place (length bytes) within joined in
+    let room = IsFedWithin-fits c.args.options.now c.loop-n.invariant.1 suffice place (length bytes) within joined in
     absurd (true≢false (sym (c.in_err-add_record-2.ensures.early.succeeds room
     (IsNext-untold c.loop-n.invariant.0 next untold))))
