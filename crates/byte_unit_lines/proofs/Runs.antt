@@ -1,13 +1,12 @@
 -- Lemmas: the loop of a run, read by read.
 use Rattle.std.proofs.Common.{◌≡◌, ◌≢◌, ℕ, List, [], ◌∷◌, ◌++◌, Option, Result, Ok, Err}
 use Rattle.std.specs.Prelude.{⊤, IsErrAnd}
-use Rattle.std.proofs.Common.{refl, sym, ap, subst, ◌∙◌, append_assoc, append-nil, arith, take, ◌+◌, ◌<◌}
+use Rattle.std.proofs.Common.{refl, sym, ap, subst, ◌∙◌, append_assoc, append-nil, take}
 use Rattle.std.specs.Io.KnownBytes.{Appends, Consumes}
-use Rattle.std.specs.declared.vec.Vec.{Vec}
 use Rattle.std.proofs.KnownBytes.{Appends-trans, Consumes-trans}
 use Rattle.byte_unit_lines.specs.Answer.{Kind, IsAnswer}
 use Rattle.byte_unit_lines.specs.Laws.{EachLineHasAnAnswer}
-use Rattle.byte_unit_lines.specs.Lines.{finished_lines, lines_of, line_end, longest_line}
+use Rattle.byte_unit_lines.specs.Lines.{finished_lines, lines_of, line_end}
 use Rattle.byte_unit_lines.specs.Report.{AreAnswers, IsReport}
 use Rattle.byte_unit_lines.specs.RunOutput.{IsWritten}
 use Rattle.byte_unit_lines.specs.Answered.{BeginFirst, IsAnswered}
@@ -19,7 +18,6 @@ use Rattle.byte_unit_stream.specs.Chunks.{ended_records, begun_record, nonempty_
 use Rattle.byte_unit_stream.proofs.Bytes.{Consumes-at_end, IsWrittenBy}
 use Rattle.byte_unit_stream.proofs.ChunkRecords.{finished_records-piece, begun_record-piece, records_of-begun}
 use Rattle.byte_unit_stream.proofs.ChunkRecords.{nonempty_record-nonempty}
-use Rattle.byte_unit_stream.proofs.Longest.{IsWithin, longest_record-below}
 use Rattle.byte_unit_stream.proofs.Beginnings.{IsBeginningOf-after, IsBeginningOf-longer}
 
 -- the bytes that were read and written so far, and the unfinished line
@@ -54,17 +52,6 @@ pub HasServed-at_end : {kind : Kind} {left rest held holds : Option (List ℕ)} 
     → Consumes rest end (take count buffer) → count ≡ 0 → Consumes left end so_far.read
 HasServed-at_end {left} {rest} so_far end buffer {count} came none =
     Consumes-at_end left rest end so_far.read (take count buffer) so_far.gave came (ap (λ count. take count buffer) none)
-
--- the longest line that was read is shorter than the limit and a read together
-pub longest_line-below : {Z : Type 0} {kind : Kind} {left rest held holds : Option (List ℕ)} {answers : List ℕ}
-    → (longest chunk : ℕ) (first first_answers line waiting : Vec ℕ Z)
-    → (so_far : HasServed kind left rest held holds line.items answers)
-    → IsWithin line_end longest chunk first first_answers so_far.read line waiting
-    → 0 < chunk → longest_line so_far.read < longest + chunk
-longest_line-below longest chunk first first_answers line waiting so_far within some =
-    -- the line is not longer than its buffer's length, which `line.ok.0` says
-    longest_record-below line_end so_far.read line.items (longest + chunk) so_far.served.begun within.finished
-    (omega (arith, within.unfinished, line.ok.0, some))
 
 -- what is written at an error is written for a result that is this error
 pub IsWritten-error : (kind : Kind) (read written : List ℕ) (result : Result ⊤ RunError) (error : RunError)

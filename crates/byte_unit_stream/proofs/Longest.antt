@@ -37,7 +37,7 @@ module _ (end : ℕ) where
       grind (arith, nat_tests, longest_of-ended_records [] bytes bound some (omega arith), on)
 
   -- with a next chunk, the records that end stay below a bound of at least the unfinished one and the chunk together
-  pub longest_of-ended_records-append : (front back : List ℕ) (bound : ℕ) → longest_of (ended_records end [] front) < bound
+  longest_of-ended_records-append : (front back : List ℕ) (bound : ℕ) → longest_of (ended_records end [] front) < bound
       → length (begun_record end [] front) + length back ≤ bound → longest_of (ended_records end [] (front ++ back)) < bound
   longest_of-ended_records-append front back bound below fits =
       let begun = begun_record end [] front in
@@ -50,12 +50,6 @@ module _ (end : ℕ) where
       → length part ≤ longest_record end bytes
   longest_record-unfinished bytes part part_is = omega (arith, longest_record-ended_records bytes, ap length part_is)
 
-  -- the longest record of an input is below a bound if the unfinished record and those that end in it are
-  pub longest_record-below : (bytes part : List ℕ) (bound : ℕ) → part ≡ begun_record end [] bytes
-      → longest_of (ended_records end [] bytes) < bound → length part < bound → longest_record end bytes < bound
-  longest_record-below bytes part bound part_is ended unfinished =
-      omega (arith, longest_record-ended_records bytes, ap length part_is, ended, unfinished)
-
 -- between two reads: each record that ended is shorter than the limit and a read together, the unfinished one is within
 -- the limit, and no capacity has fallen
 pub record IsWithin {Z : Type 0} (end longest chunk : ℕ) (part waiting : Vec ℕ Z) (read : List ℕ)
@@ -64,3 +58,27 @@ pub record IsWithin {Z : Type 0} (end longest chunk : ℕ) (part waiting : Vec �
   pub unfinished : vec_len part_now ≤ longest
   pub part_capacity : vec_capacity part ≤ vec_capacity part_now
   pub waiting_capacity : vec_capacity waiting ≤ vec_capacity waiting_now
+
+module _ {Z : Type 0} {end longest chunk : ℕ} {part waiting : Vec ℕ Z} {read : List ℕ} {part_now waiting_now : Vec ℕ Z}
+    (within : IsWithin end longest chunk part waiting read part_now waiting_now)
+    (begun : part_now.items ≡ begun_record end [] read) where
+  -- the longest record that was read is shorter than the limit and a read, of at least one byte, together
+  pub longest_record-within : 0 < chunk → longest_record end read < longest + chunk
+  longest_record-within some =
+      let unfinished : length (begun_record end [] read) ≤ longest =
+      omega (arith, ap length begun, part_now.ok.0, within.unfinished) in
+      omega (arith, longest_record-ended_records end read, within.finished, unfinished, some)
+
+  -- the bounds hold after a next piece, no longer than a read, if the record that is unfinished then is within the limit,
+  -- and no capacity has fallen
+  pub IsWithin-piece : (piece : List ℕ) → length piece ≤ chunk → {part_next waiting_next : Vec ℕ Z}
+      → vec_len part_next ≤ longest → vec_capacity part_now ≤ vec_capacity part_next
+      → vec_capacity waiting_now ≤ vec_capacity waiting_next
+      → IsWithin end longest chunk part waiting (read ++ piece) part_next waiting_next
+  IsWithin-piece piece few short part_kept waiting_kept = record {
+    finished = longest_of-ended_records-append end read piece (longest + chunk) within.finished
+        (omega (arith, ap length begun, part_now.ok.0, within.unfinished, few));
+    unfinished = short;
+    part_capacity = omega (arith, within.part_capacity, part_kept);
+    waiting_capacity = omega (arith, within.waiting_capacity, waiting_kept);
+  }

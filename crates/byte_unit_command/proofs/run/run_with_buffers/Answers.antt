@@ -2,7 +2,7 @@
 -- not returned while no record is longer than the limit and there is no message. Of the invariant, `.0` is what was
 -- served, and `.1` are the bounds (`IsWithin`). `.ok.0` of a vector: its length is that of its items. `.ensures.1` of a
 -- `from_residual`: the error in its result is the one that `?` passes on.
-use Rattle.std.proofs.Common.{◌≡◌, ◌+◌, ◌≤◌, ℕ, List, [], ◌++◌, Result, Ok, Err, take, length, vec_len, arith, refl}
+use Rattle.std.proofs.Common.{◌≡◌, ◌+◌, ◌≤◌, ℕ, List, ◌++◌, Result, Ok, Err, take, length, vec_len, arith, refl}
 use Rattle.std.proofs.Common.{sym, ap, subst, ◌∙◌, inl, inr, true≢false, length-take, length-take-le, IsErrAnd}
 use Rattle.std.proofs.Common.{vec_capacity}
 use Rattle.std.specs.Io.KnownBytes.{IsAtEnd}
@@ -17,12 +17,10 @@ use Rattle.byte_unit_command.proofs.Results.{OnOk-always}
 use Rattle.byte_unit_command.proofs.Runs.{IsServed}
 use Rattle.byte_unit_command.proofs.Served.{HasRead-end, HasRead-more, HasServed-piece, HasServed-start}
 use Rattle.byte_unit_command.proofs.Served.{IsRunOf-finished, IsRunOf-long, IsRunOf-piece, IsRunOf-read}
-use Rattle.byte_unit_stream.specs.Chunks.{begun_record}
 use Rattle.byte_unit_stream.specs.Beginnings.{IsBeginningOf}
 use Rattle.byte_unit_stream.specs.Streams.{HasWritten, reader_of}
 use Rattle.byte_unit_stream.proofs.ChunkRecords.{begun_record-piece}
-use Rattle.byte_unit_stream.proofs.Longest.{longest_of-ended_records-append, longest_record-unfinished}
-use Rattle.byte_unit_stream.proofs.Longest.{longest_record-below}
+use Rattle.byte_unit_stream.proofs.Longest.{IsWithin-piece, longest_record-unfinished, longest_record-within}
 use Rattle.byte_unit_command.proofs.run.run_with_buffers.Goals as goal
 
 -- a piece that was read is no longer than what a run reads at once
@@ -49,7 +47,6 @@ pub reads-preserved : goal.reads-preserved
 reads-preserved g c =
     let options = c.args.options.now in
     let so_far = c.reads.invariant.0 in
-    let within = c.reads.invariant.1 in
     let piece = take c.in-Some.n c.read.new.buf in
     let fed = c.in_ok-fed-in-Some.ensures in
     let new = c.feed-fed.new.self in
@@ -59,24 +56,13 @@ reads-preserved g c =
     so_far.none_untold fed.ok fed.error)
     (subst (HasWritten g.W.Write.contents c.reads.streams.writer c.write_whole.new.writer) c.deref.ensures.value
     c.in_ok-write_whole-in-Some.ensures.ok) c.tell.ensures.told refl in
-    let begun : length (begun_record options.record_end [] so_far.course.read) ≤ c.args.longest =
-    omega (arith, ap length so_far.served.begun, c.reads.buffers.part.ok.0, within.unfinished) in
     let few = short c.in-Some.n c.read_max-most.result c.read.new.buf c.args.buffer.now
     (omega (arith, c.read.auto.buf, c.reads.auto.chunk)) c.read_max-most.ensures.bound in (
       HasServed-piece so_far _ _ piece c.in-Some.ensures.came answered fed.part c.clear.ensures.items
           c.tell.ensures.none,
-      record {
-        finished = longest_of-ended_records-append options.record_end so_far.course.read piece
-            (c.args.longest + c.read_max-most.result) within.finished (omega (arith, begun, few));
-        unfinished = omega (arith, c.if-len-longest.false, c.len.ensures);
-        part_capacity = omega (arith, within.part_capacity, fed.part_capacity);
-        waiting_capacity = omega (
-          arith,
-          within.waiting_capacity,
-          fed.waiting_capacity,
-          c.clear.ensures.capacity,
-        );
-      },
+      IsWithin-piece c.reads.invariant.1 so_far.served.begun piece few
+          (omega (arith, c.if-len-longest.false, c.len.ensures)) fed.part_capacity
+          (omega (arith, fed.waiting_capacity, c.clear.ensures.capacity)),
     )
 
 -- a read failed: what was written before is right for that
@@ -220,12 +206,9 @@ returns-clause-memory g c = λ fits is.
 pub returns-clause-bound : goal.returns-clause-bound
 returns-clause-bound g c =
     let so_far = c.reads.invariant.0 in
-    let within = c.reads.invariant.1 in
     let end = c.in-Some-eq0 in
-    let part = c.reads.buffers.part in
-    let below = longest_record-below c.args.options.now.record_end so_far.course.read part.items
-    (c.args.longest + c.read_max-most.result) so_far.served.begun within.finished
-    (omega (arith, within.unfinished, part.ok.0, c.read_max-most.ensures.positive c.requires.nonempty)) in
+    let below = longest_record-within c.reads.invariant.1 so_far.served.begun
+    (c.read_max-most.ensures.positive c.requires.nonempty) in
     OnOk-always c.finish.result (
       so_far.course.read,
       HasRead-end so_far c.read.new.self (take end.field-0 c.read.new.buf) end.ensures.came

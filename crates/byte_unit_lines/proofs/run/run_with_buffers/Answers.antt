@@ -1,7 +1,7 @@
 -- Each read is served: the answers to the lines that end in it are written, and the line that it has begun waits.
 -- `Memory` is not returned while the lines are no longer than the limit. Of the invariant, `.0` is what was served, and
 -- `.1` are the bounds (`IsWithin`). `.ok.0` of a vector: its length is that of its items.
-use Rattle.std.proofs.Common.{◌≡◌, ◌≢◌, ◌+◌, ◌≤◌, [], ◌++◌, refl, sym, ap, subst, ◌∙◌, take, length, vec_len, arith, rules}
+use Rattle.std.proofs.Common.{◌≡◌, ◌≢◌, ◌≤◌, [], ◌++◌, refl, sym, ap, subst, ◌∙◌, take, length, vec_len, arith, rules}
 use Rattle.std.proofs.lemmas.List.{length-take, take_all}
 use Rattle.std.proofs.lemmas.Result.{on_ok_weaker}
 use Rattle.std.proofs.KnownBytes.{Appends-trans, Consumes-kept, Consumes-trans}
@@ -9,11 +9,10 @@ use Rattle.byte_unit_lines.specs.Answer.{IsAnswer}
 use Rattle.byte_unit_lines.specs.declared.run.RunError.TheVariants.{Memory, Write}
 use Rattle.byte_unit_lines.proofs.Runs.{Course, IsServed, course_of, HasServed-piece}
 use Rattle.byte_unit_lines.proofs.Runs.{IsWritten-piece, IsWritten-error, IsWritten-last_line}
-use Rattle.byte_unit_lines.proofs.Runs.{report_without_last_line, first_lines_answered, HasServed-at_end, longest_line-below}
+use Rattle.byte_unit_lines.proofs.Runs.{report_without_last_line, first_lines_answered, HasServed-at_end}
 use Rattle.byte_unit_lines.specs.Lines.{line_end}
-use Rattle.byte_unit_stream.specs.Chunks.{begun_record}
 use Rattle.byte_unit_stream.proofs.Bytes.{IsWrittenBy}
-use Rattle.byte_unit_stream.proofs.Longest.{longest_of-ended_records-append, longest_record-unfinished}
+use Rattle.byte_unit_stream.proofs.Longest.{IsWithin-piece, longest_record-unfinished, longest_record-within}
 use Rattle.byte_unit_stream.proofs.ChunkRecords.{begun_record-piece, empty_from_length, nonempty_from_length}
 use Rattle.byte_unit_lines.proofs.run.run_with_buffers.Goals as goal
 
@@ -53,27 +52,18 @@ reads-init g c = (
 pub reads-preserved : goal.reads-preserved
 reads-preserved g c =
     let so_far = c.reads.invariant.0 in
-    let within = c.reads.invariant.1 in
     let piece = take c.in-Some.n c.read.new.buf in
     let fed = c.in-Ok.ensures in
     -- a triple: the bytes that were written, that they were appended to the writer, and that they are the answers
     let answers = fed.written in
     let line = c.answer_piece.new.line in
-    -- the line that was unfinished before this read is at most `longest` too
-    let begun : length (begun_record line_end [] so_far.read) ≤ c.args.longest =
-    omega (arith, ap length so_far.served.begun, c.reads.buffers.line.ok.0, within.unfinished) in
     -- the bytes of this read are no more than `buffer` holds
     let short : length piece ≤ length c.args.buffer.now =
     omega (arith, length-take c.in-Some.n c.read.new.buf, c.read.auto.buf, c.reads.auto.buffer) in (
       HasServed-piece so_far _ _ piece answers.0 line.items c.answer_piece.new.waiting.items c.in-Some.ensures.came
           answers.1 answers.2 fed.line fed.waiting,
-      record {
-        finished = longest_of-ended_records-append line_end so_far.read piece (c.args.longest + length c.args.buffer.now)
-            within.finished (omega (arith, begun, short));
-        unfinished = omega (arith, c.if-len-longest.false, c.len.ensures);
-        part_capacity = omega (arith, within.part_capacity, fed.line_capacity);
-        waiting_capacity = omega (arith, within.waiting_capacity, fed.waiting_capacity);
-      },
+      IsWithin-piece c.reads.invariant.1 so_far.served.begun piece short
+          (omega (arith, c.if-len-longest.false, c.len.ensures)) fed.line_capacity fed.waiting_capacity,
     )
 
 -- the unfinished line exceeds `longest`: the answers to all finished lines are written, as `Memory` allows
@@ -112,7 +102,7 @@ returns-then-is_empty-clause-bound g c =
     let end = c.in-Some-eq0 in (
       so_far.read,
       HasServed-at_end so_far _ c.read.new.buf end.ensures.came end.field-0-test,
-      longest_line-below c.args.longest _ _ _ c.reads.buffers.line _ so_far c.reads.invariant.1 c.requires.buffer,
+      longest_record-within c.reads.invariant.1 so_far.served.begun c.requires.buffer,
     )
 
 -- the input has ended in a line: on `Ok` each line that was read is shorter than `longest` and a `buffer` together
@@ -121,8 +111,7 @@ returns-in_ok-add_answer-clause-bound g c =
     let so_far = c.reads.invariant.0 in
     let end = c.in-Some-eq0 in
     let gave = HasServed-at_end so_far _ c.read.new.buf end.ensures.came end.field-0-test in
-    let below = longest_line-below c.args.longest _ _ _ c.reads.buffers.line _ so_far c.reads.invariant.1
-    c.requires.buffer in
+    let below = longest_record-within c.reads.invariant.1 so_far.served.begun c.requires.buffer in
     on_ok_weaker c.write_whole.result (λ _. (so_far.read, gave, below)) c.write_whole.ensures.ok
 
 -- the lines of a read could not all be answered: what is written is what the error allows
