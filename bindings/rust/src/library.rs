@@ -72,6 +72,7 @@ impl From<FormatSpec> for sys::Spec {
             has_precision: spec.precision.is_some().into(),
             alternate: spec.alternate.into(),
             sign: spec.sign as u8,
+            // 0 is unset, so the codes of the alignments begin with 1.
             align: spec.align.map_or(0, |align| align as u8 + 1),
         }
     }

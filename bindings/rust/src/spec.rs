@@ -1,6 +1,7 @@
 //! The options of formatting.
 
 /// The sign of digits without a unit, or the spacing between a number and its unit.
+// The variants are in the order of their codes in the library.
 #[derive(Debug, Clone, Copy, Default, PartialEq, Eq, Hash)]
 pub enum Sign {
     /// No sign. One space before a unit.
@@ -13,6 +14,7 @@ pub enum Sign {
 }
 
 /// The alignment of a number within the width.
+// The variants are in the order of their codes in the library.
 #[derive(Debug, Clone, Copy, PartialEq, Eq, Hash)]
 pub enum Align {
     /// On the left, with the spaces after it.

@@ -88,6 +88,7 @@ const BITS: [u128; UNITS.len()] = {
 /// assert_eq!(size.get_appropriate_unit(UnitType::Binary).get_unit(), Unit::KiB);
 /// assert_eq!(size.get_appropriate_unit(UnitType::Decimal).get_unit(), Unit::KB);
 /// ```
+// The variants are in the order of their codes in the library.
 #[derive(Debug, Clone, Copy, PartialEq, Eq, Hash)]
 pub enum UnitType {
     /// Powers of 1024: `KiB`, `MiB` and so on.

@@ -75,7 +75,7 @@ IsNoDigit c = is_digit c ≡ false
 pub wide_no_digit : (c : ℕ) → 128 ≤ c → IsNoDigit c
 wide_no_digit c wide = grind (arith, nat_tests)
 
--- the bytes after a run of digits start with none
+-- if the bytes do not start with a digit, their first character, if there is one, is no digit
 pub no_digit_first : (bytes : List ℕ) → digits_len bytes ≡ 0 → IsFirst IsNoDigit bytes
 no_digit_first [] e = tt
 no_digit_first (b ∷ bs) e = grind (arith, nat_tests, e)

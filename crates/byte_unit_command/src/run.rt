@@ -86,7 +86,9 @@ pub fn run<R: Read, W: Write, E: Write>(
 /// reason is tested, not proved.
 ///
 /// The inner result is that of the run, with the errors of [`run`]. There `Memory` means that more than `longest` bytes
-/// of a record have been read without its end byte, or that a message was due about a record that was read.
+/// of a record have been read without its end byte, or that a message was due about a record that was read. A longer
+/// record is converted only if the read in which it exceeds `longest` returns its end byte too, and so never if it has at
+/// least as many bytes as `longest` and the length of `buffer` together.
 pub fn run_with_capacity<A: Allocator, R: Read, W: Write, E: Write>(
     alloc: &A,
     options: &Options,
@@ -122,8 +124,8 @@ pub fn run_with_capacity<A: Allocator, R: Read, W: Write, E: Write>(
 ///
 /// # Errors
 ///
-/// Those of [`run`], and `Memory` if more than `longest` bytes of a record have been read without its end byte. If
-/// `buffers` have capacity for such records and reads into `buffer`, `Memory` is returned for no other reason than a
+/// Those of [`run`], and `Memory` if more than `longest` bytes of a record have been read without its end byte; which
+/// longer records are converted is as for [`run_with_capacity`]. If `buffers` have capacity for such records and reads into `buffer`, `Memory` is returned for no other reason than a
 /// message that was due about a record that was read.
 pub fn run_with_buffers<A: Allocator, R: Read, W: Write, E: Write>(
     buffers: &mut Buffers<A>,

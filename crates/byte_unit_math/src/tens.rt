@@ -80,7 +80,7 @@ pub(crate) fn power_of_five(exponent: u32) -> u128
     POWERS_OF_FIVE[exponent as usize]
 }
 
-/// The powers of 5 below 2^112.
+/// The powers of 5 below 2^112, the limit of whole parts: no number below it has more factors 5.
 pub(crate) const POWERS_OF_FIVE: [u128; 49] = [
     1,
     5,

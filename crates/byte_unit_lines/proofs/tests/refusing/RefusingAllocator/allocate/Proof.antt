@@ -1,4 +1,6 @@
--- An allocation is counted, and then fails or is passed on to the inner allocator. Assumes `Logic`.
+-- An allocation is counted, and then fails or is passed on to the inner allocator. The proof walks by hand over the code
+-- as `rt check` lowers it, the module `Code` (the toolchain's docs/WALKS.md). The parameters 𝓤 to 𝓡 are those of every
+-- statement: the program logic, `Logic`, and the machine.
 --     Z       the inner allocator, with what the statement assumes of it
 --     κ, q    the lifetime of the `&` to the allocator, and the share of its token.  κ' is one that outlives it
 --     τ       the type that the block is for

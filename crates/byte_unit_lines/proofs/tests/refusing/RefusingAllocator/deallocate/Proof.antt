@@ -1,4 +1,4 @@
--- The block is deallocated by the inner allocator. Assumes `Logic`. The letters are those of the proof of `allocate`.
+-- The block is deallocated by the inner allocator. The form and the letters are those of the proof of `allocate`.
 use Rattle.std.proofs.Common.{◌≡◌, ◌+◌, ℕ, [], ◌∷◌, refl, w64}
 use Rattle.std.proofs.alloc.Calls.{Al, α, seen, token, Gives, at_gives, Gives-goes, Gives-Gives}
 use Rattle.std.proofs.raw_atomic.Walks.{leaves, proved}
