@@ -1,4 +1,4 @@
-//! Where a string is wrong: the index in bytes of its first wrong character.
+//! Where a string is wrong: the index in bytes of its first wrong character; and a parser of units that returns it.
 //!
 //! The calls that return it alone parse the string once more.
 
@@ -169,6 +169,7 @@ fn whole_len(bytes: &[u8]) -> usize
 {
     let mut whole = 0;
     let mut count = 0;
+    // The goals about the loop have their names from this label.
     'digits: while count < bytes.len() && bytes[count].is_ascii_digit() {
         let next = whole * 10 + u128::from(bytes[count] - b'0');
         if next >= WHOLE_LIMIT {
@@ -185,6 +186,7 @@ fn places_len(bytes: &[u8]) -> usize
     ensures { IsPlacesLen bytes.now result }
 {
     let mut count = 0;
+    // The goals about the loop have their names from this label.
     'digits: while count < bytes.len()
         && count < DECIMAL_PLACES as usize
         && bytes[count].is_ascii_digit()

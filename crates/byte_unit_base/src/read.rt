@@ -1,4 +1,4 @@
-//! The parser of a number and a unit.
+//! The parser of a number and a unit, and a test that bytes have nothing to trim.
 
 ghost use Rattle.std.specs.Prelude.{◌≡◌, IsTrue};
 ghost use Rattle.std.specs.Str.{chars};

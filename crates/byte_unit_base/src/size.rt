@@ -23,7 +23,7 @@ use crate::{Kind, ParseError, Unit, ValueParseError, binary, read_size};
 use byte_unit_math::{Decimal, least_size};
 use std::str;
 
-/// The limit of sizes, 10^30: the least number that is not a size.
+/// The limit of sizes, 10^30, which is 1000 times the largest decimal prefix: the least number that is not a size.
 const SIZE_LIMIT: u128 = 1_000_000_000_000_000_000_000_000_000_000;
 
 /// Returns the number if it is a size, that is below 10^30. Returns `None` if it is 10^30 or more.

@@ -1,4 +1,4 @@
-//! The units of bits and bytes.
+//! The units of bits and bytes: their names, their bits and their prefixes.
 
 ghost use Rattle.std.specs.Prelude.{◌≡◌, ◌≤◌};
 ghost use Rattle.byte_unit_math.specs.Bounds.{unit_limit};

@@ -7,7 +7,7 @@ use Rattle.byte_unit_choice.specs.declared.unit_type.UnitType.{UnitType}
 use Rattle.byte_unit_choice.specs.declared.unit_type.UnitType.TheVariants.{Binary, Decimal, Both}
 use Rattle.byte_unit_base.specs.declared.unit.Unit.{Unit as UnitName}
 
--- the unit with a code, which is its index among the units; none if the code is 38 or more
+-- the unit with a code, which is its index among the units; none if the code is 38, the number of units, or more
 abbrev pub unit_at : ℕ → Option UnitName
 unit_at code = slice_get units code
 

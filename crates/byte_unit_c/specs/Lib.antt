@@ -1,3 +1,4 @@
+-- The definitions that the contracts of this crate are written in: codes, and what the calls write and return.
 pub mod Version
 pub mod Flags
 pub mod Values

@@ -6,7 +6,8 @@ ghost use Rattle.byte_unit_c.specs.Codes.{types, unit_at};
 use byte_unit_base::Unit;
 use byte_unit_choice::UnitType;
 
-/// Returns the unit with a code, which is its index among the variants. Returns `None` if the code is 38 or more.
+/// Returns the unit with a code, which is its index among the variants. Returns `None` if the code is 38, the number of
+/// units, or more.
 pub fn unit_at(code: u32) -> Option<Unit>
     ensures { result ≡ unit_at code }
 {

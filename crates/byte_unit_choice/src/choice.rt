@@ -36,7 +36,9 @@ pub enum Family {
     Bits,
 }
 
-/// Up to this many places a number is computed from the factors of the size: in any unit their product fits 128 bits.
+/// Up to this many places a number is computed from the factors of the size. A unit with a prefix has 1000 bits or
+/// more, so the number times 10^5 is below 8 * 10^30 / 1000 * 10^5, which is below 2^112, the bound of
+/// `factored_quotient`.
 const FEW_PLACES: u32 = 5;
 
 /// Chooses the largest unit of the unit set, not above the size, in which the size is exact within `places` decimal
@@ -243,5 +245,6 @@ fn multiples_within(family: Family, in_bits: u128, first: u32) -> &'static [Unit
         Family::Bytes => &BYTES,
         Family::Bits => &BITS,
     };
+    // Each prefix has the same number of rows, and the largest prefix is first.
     &units[units.len() / PREFIXES * (PREFIXES - prefixes)..]
 }

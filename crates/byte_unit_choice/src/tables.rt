@@ -61,7 +61,7 @@ macro_rules! put_rows {
     };
 }
 
-/// The units of bytes and of bits with a prefix, the largest first.
+/// The units of bytes and of bits with a prefix, four for each of the nine, the largest first.
 pub(crate) static ALL: [UnitRow; 36] = with_prefixes!(rows all);
 
 /// The units of bytes with a prefix, the largest first.

@@ -1,4 +1,4 @@
-//! Binary and decimal units.
+//! The types of prefixes that a choice of a unit may take: binary, decimal, or either.
 
 /// The type of the prefixes that a choice may take.
 ///

@@ -1,4 +1,4 @@
--- Capacity that suffices for a run's buffers.
+-- Capacity that suffices for a run's buffers, and how much a run reads at once.
 use Rattle.std.specs.Prelude.{◌≡◌, ℕ, ◌+◌, ◌*◌, ◌/◌, ◌≤◌, min, max, [], length, vec_len, vec_capacity, Option, None}
 use Rattle.std.specs.Prelude.{Some, Bool, true, false, ◌||◌, if◌then◌else◌, is_some}
 use Rattle.std.specs.declared.vec.Vec.{Vec}
@@ -17,7 +17,8 @@ abbrev pub unit_places : Option ℕ → ℕ
 unit_places None = expansion_places
 unit_places (Some precision) = max expansion_places precision
 
--- the most bytes of such a text, without padding: 32 digits, the point, the digits after it, a space and three letters
+-- a bound on the bytes of such a text, without padding: 31 digits, the point, the digits after it, a space and three
+-- letters are one byte less
 abbrev pub unit_text_max : Option ℕ → ℕ
 unit_text_max precision = 37 + unit_places precision
 
@@ -75,7 +76,8 @@ passes_with_message Ignore = false
 abbrev pub can_tell_more : Options → Bool
 can_tell_more options = passes_with_message options.invalid || (is_some options.max || is_some options.min)
 
--- the bytes that are counted for the messages about a field
+-- the bytes that are counted for the messages about a field: an estimate, which makes reads shorter and bounds no
+-- message
 abbrev pub message_room : Options → ℕ
 message_room options = if can_tell_more options then 128 else 0
 

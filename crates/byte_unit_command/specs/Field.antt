@@ -35,7 +35,7 @@ IsSizeText options text size =
 abbrev pub IsSize : Options → List ℕ → ℕ → Type 0
 IsSize options field = IsSizeText options (without_suffix options.suffix.now field)
 
--- the field is not a size: it is not UTF-8, or it is rejected
+-- the text is not a size: it is not UTF-8, or it is rejected
 abbrev pub IsNoSizeText : Options → List ℕ → Type 0
 IsNoSizeText options text =
     ¬ IsUtf8 text

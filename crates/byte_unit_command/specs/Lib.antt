@@ -1,3 +1,4 @@
+-- The definitions that the contracts of this crate are written in: the call, the run and what it writes.
 pub mod Ending
 pub mod Fields
 pub mod Field

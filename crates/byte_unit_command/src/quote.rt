@@ -1,4 +1,4 @@
-//! Quotes a field in a message.
+//! Quotes a field in a message, and escapes control characters.
 
 ghost use Rattle.std.specs.Prelude.{◌≡◌, ◌++◌, ◌<◌, ◌≤◌, ◌||◌, false, nat_lt, nat_le, length, IsTrue, OnOk};
 ghost use Rattle.std.specs.Fmt.{digit_glyph};
@@ -11,7 +11,7 @@ ghost use Rattle.byte_unit_command.specs.Messages.{is_printable as is_printable_
 use std::alloc::{AllocError, Allocator};
 use std::fmt::Write;
 
-/// The most bytes of a field that a message quotes.
+/// The most bytes of a field that a message quotes, so that a message about a long field is short.
 const QUOTED: usize = 80;
 
 /// Appends a field in quotes, with control characters and bytes that are not UTF-8 escaped. Of a long field only the

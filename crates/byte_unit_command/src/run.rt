@@ -87,8 +87,8 @@ pub fn run<R: Read, W: Write, E: Write>(
 ///
 /// The inner result is that of the run, with the errors of [`run`]. There `Memory` means that more than `longest` bytes
 /// of a record have been read without its end byte, or that a message was due about a record that was read. A longer
-/// record is converted only if the read in which it exceeds `longest` returns its end byte too, and so never if it has at
-/// least as many bytes as `longest` and the length of `buffer` together.
+/// record is converted only if the read in which it exceeds `longest` returns its end byte too, and so never if it has
+/// at least as many bytes as `longest` and the length of `buffer` together.
 pub fn run_with_capacity<A: Allocator, R: Read, W: Write, E: Write>(
     alloc: &A,
     options: &Options,
@@ -125,8 +125,8 @@ pub fn run_with_capacity<A: Allocator, R: Read, W: Write, E: Write>(
 /// # Errors
 ///
 /// Those of [`run`], and `Memory` if more than `longest` bytes of a record have been read without its end byte; which
-/// longer records are converted is as for [`run_with_capacity`]. If `buffers` have capacity for such records and reads into `buffer`, `Memory` is returned for no other reason than a
-/// message that was due about a record that was read.
+/// longer records are converted is as for [`run_with_capacity`]. If `buffers` have capacity for such records and reads
+/// into `buffer`, `Memory` is returned for no other reason than a message that was due about a record that was read.
 pub fn run_with_buffers<A: Allocator, R: Read, W: Write, E: Write>(
     buffers: &mut Buffers<A>,
     options: &Options,
@@ -301,8 +301,8 @@ impl<A: Allocator> Buffers<A> {
     }
 }
 
-/// The most bytes of the text of a size in its own unit, or as digits; and of one in a given unit, but for the digits
-/// after the point.
+/// The most bytes of the text of a size in its own unit, or as digits; and one more than the most of one in a given
+/// unit, but for the digits after the point.
 const NARROW_TEXT: usize = 37;
 
 /// The most digits after the point of a size in a given unit, but for zeros: a bit is 1 / 2^93 RiB, the largest unit.
@@ -343,7 +343,9 @@ fn read_room(options: &Options, longest: usize, chunk: usize) -> Option<usize>
         None => chunk,
         Some(_) => longest.checked_add(chunk)?,
     };
+    // While it is appended, a short text takes `AT_ONCE` bytes.
     let text = AT_ONCE.max(text_max(options));
+    // One text more, since at the end of the input the total follows the last record.
     let texts = text.checked_mul(fields.checked_add(1)?)?;
     texts
         .checked_add(longest)?
@@ -354,6 +356,7 @@ fn read_room(options: &Options, longest: usize, chunk: usize) -> Option<usize>
 /// Returns the most bytes of the text of a size with the suffix.
 fn text_max(options: &Options) -> usize
     ensures most { result ≡ most_of_text options.now }
+    // The suffix has fewer than 2^63 bytes, as every slice, and the number at most 37 + 65,535.
     ensures bound { result < 2 ^ 63 + 65573 }
     ensures positive { 0 < result }
 {

@@ -50,8 +50,8 @@ pub(crate) fn without_suffix<'a>(suffix: &[u8], text: &'a [u8]) -> &'a [u8]
     }
 }
 
-/// No size, in place of one: a number in registers takes fewer instructions than an `Option`. So does each number from
-/// this one on, since the first bit tells them.
+/// Stands for no size, as each number of 2^127 or more does, so that the first bit tells: sizes are below 10^30. A
+/// number in registers takes fewer instructions than an `Option`.
 const NO_SIZE: u128 = 1 << 127;
 
 /// Returns the size that a field represents, or `None` if it is not a size.

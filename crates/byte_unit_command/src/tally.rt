@@ -6,7 +6,7 @@ ghost use Rattle.byte_unit_command.specs.Sums.{is_beyond};
 
 use crate::options::Options;
 
-/// The total from which on no sum is a size, 10^30.
+/// The limit of totals, 10^30, which is that of sizes. A total that reaches it stays there.
 pub(crate) const TOTAL_LIMIT: u128 = 1_000_000_000_000_000_000_000_000_000_000;
 
 /// What was counted in the fields that were converted.

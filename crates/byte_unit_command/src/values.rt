@@ -1,4 +1,4 @@
-//! The values of the options of a call.
+//! The values of the options of a call, as clap has parsed them.
 
 ghost use Rattle.byte_unit_command.specs.Values.{HasValues};
 

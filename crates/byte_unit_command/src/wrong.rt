@@ -1,4 +1,4 @@
-//! What is wrong with a call.
+//! What is wrong with a call, as a message; and the escapes in a message of clap.
 
 ghost use Rattle.std.specs.Prelude.{◌≡◌, ◌++◌, List, ℕ, OnOk, IfOk};
 ghost use Rattle.std.specs.String.{string_bytes};

@@ -44,7 +44,7 @@ IsNumeralBy full num den text = IsFullNumeral num den text
 IsNumeralBy (round_to places) num den text = IsRoundNumeral num den places text
 IsNumeralBy (short_to places) num den text = IsShortNumeral num den places text
 
--- The most digits after the point in the alternate form if a precision is set.
+-- The most digits after the point in the alternate form if a precision is set, as in the Rust crate.
 abbrev pub alternate_places : ℕ
 alternate_places = 16
 

@@ -31,7 +31,8 @@ use std::alloc::{AllocError, Allocator};
 use std::fmt;
 use std::fmt::Display;
 
-/// The most digits after the point in the alternate form if a precision is set.
+/// The most digits after the point in the alternate form if a precision is set: as in the Rust crate, whose floats hold
+/// no more.
 const ALTERNATE_PLACES: u16 = 16;
 
 /// Up to this many digits after the point, a number is rounded by one division: any size in bits times 10^7 fits 127
@@ -59,7 +60,8 @@ enum Rounding {
 
 /// Returns the length in bytes of a size formatted in a unit. Does not allocate.
 ///
-/// If no width is set, it is at most 129, and with a precision at most 36 more than that, or 39.
+/// If no width is set, it is at most 129 without a precision, and at most 36 more than a precision, or 39 for a
+/// precision below 3.
 ///
 /// Precondition (proved at every call): the size is below 10^30.
 ///
@@ -282,7 +284,7 @@ fn scaled_size(size: u128, kind: Kind, places: u32) -> Option<u128>
         return None;
     }
     let scaled = (size * kind.bits()).checked_mul(power_of_ten(places))?;
-    // The bound of `rounded_quotient`, which doubles a remainder.
+    // The bound of the numerator of `rounded_quotient`.
     (scaled < 1 << 127).then_some(scaled)
 }
 

@@ -16,7 +16,8 @@ use crate::thousandths::{UnitFraction, split};
 use byte_unit_base::{Kind, prefix_letter};
 use byte_unit_math::{decimal_len, put_u128};
 
-/// The most bytes of a text without a width: 27 digits, a point, 5 digits, a space and three letters.
+/// The most bytes of a text without a width: 27 digits, a point, 5 digits, a space and three letters, as of some sizes
+/// in `KiB` at a precision of 5.
 pub(crate) const NARROW_TEXT: usize = 37;
 
 /// Writes the size in its unit to the beginning of `out` if it fits, and returns its length.
@@ -141,7 +142,8 @@ pub(crate) fn own_letter(kind: Kind) -> u8
     }
 }
 
-/// Returns a point and the digits of eighths, with spaces for trailing zeros, and the length without these.
+/// Returns a point and the digits of eighths, with spaces for trailing zeros, and the length without these: 0 if there
+/// are no eighths.
 #[inline(always)]
 fn digits_of_eighths(eighths: u64) -> ([u8; 4], usize)
     requires { eighths < 8 }
@@ -161,7 +163,7 @@ fn digits_of_eighths(eighths: u64) -> ([u8; 4], usize)
     }
 }
 
-/// Returns a point and the digits of thousandths, and the length without trailing zeros.
+/// Returns a point and the digits of thousandths, and the length without trailing zeros: 0 if there are no thousandths.
 #[inline(always)]
 fn digits_of_thousandths(thousandths: u64) -> ([u8; 4], usize)
     requires { thousandths < 1000 }

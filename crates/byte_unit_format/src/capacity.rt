@@ -8,7 +8,7 @@ ghost use Rattle.byte_unit_format.specs.Room.{spare_capacity, AppendsForm};
 use std::alloc::{AllocError, Allocator};
 use std::str;
 
-/// The most copies of a character that are appended at once.
+/// The most copies of a character that are appended at once: those in an array on the stack.
 const RUN: usize = 64;
 
 /// Reserves capacity for `len` more bytes: the one allocation of an appending call, which is not made if the spare

@@ -17,7 +17,7 @@ use crate::thousandths::unit_within;
 use byte_unit_base::Kind;
 use std::alloc::{AllocError, Allocator};
 
-/// The precision if none is set.
+/// The precision of the alternate form if none is set, as in the Rust crate.
 const DEFAULT_PRECISION: usize = 3;
 
 /// Returns the length in bytes of a formatted size: at most 37 if no width is set. Does not allocate.

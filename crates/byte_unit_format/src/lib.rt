@@ -1,4 +1,5 @@
-//! Formatting of sizes: digits only, a number with its unit, a size, and a size in a given unit.
+//! Formatting of sizes: digits only, a number with its unit, a size, a size in a given unit, and the digits of a size
+//! with the size in its unit after them.
 //!
 //! Sizes in bytes and in bits share these functions, which take their `Kind`.
 #![tactic(auto)]

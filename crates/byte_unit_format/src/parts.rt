@@ -13,13 +13,14 @@ use crate::capacity::{push, push_ascii, push_run, reserve};
 use byte_unit_math::{DecimalDigits, Expansion, glyphs_of, put_fraction, put_u128};
 use std::alloc::{AllocError, Allocator};
 
-/// The length of the buffer on the stack, in which texts that fit it are put together.
+/// The length of the buffer on the stack, in which texts that fit it are put together, and the digits of a
+/// `Fraction::Last` in any case: with the point they are at most 39 bytes.
 const BUFFER_LEN: usize = 96;
 
 /// The digits after the point, and their number.
 #[derive(Clone, Copy)]
 pub(crate) enum Fraction<'a> {
-    /// The last digits of a number, at most 38, with leading zeros.
+    /// The last digits of a number, with leading zeros: at most 38, any of which a `u128` holds.
     Last(u128, u32),
     /// The first digits of an expansion, with trailing zeros.
     First(&'a Expansion, u32),

@@ -15,7 +15,8 @@ use byte_unit_base::{Kind, Unit, unit_with_prefix};
 use byte_unit_choice::recoverable_unit;
 use byte_unit_math::{Decimal, Steps, div_rem_thousand, power_of_ten};
 
-/// The precision up to which the unit is found without a search.
+/// The precision up to which the unit is found without a search: the size is then a number of eighths of a binary
+/// prefix, or of thousandths of a decimal one.
 const THOUSANDTH_PLACES: usize = 3;
 
 /// What follows the whole part of a size in a unit: the digits after the point, and the unit.
@@ -138,6 +139,7 @@ fn in_three_places(size: u128) -> (u128, u64, u32)
     let mut whole = first;
     let mut thousandths = rest;
     let mut power = 1;
+    // The goals about the loop have their names from this label.
     'groups: while thousandths == 0 && whole >= 1000 {
         let (next, rest) = div_rem_thousand(whole);
         whole = next;

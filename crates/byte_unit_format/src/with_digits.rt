@@ -19,7 +19,8 @@ use std::simd::prelude::*;
 /// beginning of `out`, and returns the length of this text, at most 70 bytes. A number in a decimal unit is cut from
 /// the digits. Bytes of `out` after the text are overwritten too.
 ///
-/// Preconditions (proved at every call): the size is below 10^30, and `out` has at least 70 bytes.
+/// Preconditions (proved at every call): the size is below 10^30, and `out` has at least 70 bytes: for 30 digits, the
+/// three bytes between, and 37 bytes of the size in its unit.
 ///
 /// # Examples
 /// ```rust

@@ -1,3 +1,4 @@
+-- The definitions that the contracts of this crate are written in: answers, reports and the ends of a run.
 pub mod Answer
 pub mod Capacity
 pub mod Ending

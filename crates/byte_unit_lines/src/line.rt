@@ -12,7 +12,7 @@ use byte_unit_base::size;
 use byte_unit_format::write_with_digits;
 use std::alloc::{AllocError, Allocator};
 
-/// The maximum length in bytes of an answer: two strings of at most 37 bytes, ` = ` between them, and the line end.
+/// A bound on the length in bytes of an answer: two strings of at most 37 bytes, ` = ` between them, and the line end.
 /// No text of a size without a width is longer than 37 bytes.
 pub(crate) const ANSWER_MAX: usize = 78;
 

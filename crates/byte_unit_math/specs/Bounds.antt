@@ -1,7 +1,7 @@
 -- The bounds of decimals, sizes and units.
 use Rattle.std.specs.Prelude.{ℕ, ◌*◌, ◌^◌}
 
--- The number of digits after the point that a `Decimal` keeps.
+-- The number of digits after the point that a `Decimal` keeps, as that of the Rust crate does.
 abbrev pub places_of_decimal : ℕ
 places_of_decimal = 28
 
@@ -14,11 +14,11 @@ places_of_number = 38
 abbrev pub scale : ℕ
 scale = 10 ^ places_of_decimal
 
--- The whole part of a decimal is below 2^112.
+-- The whole part of a decimal is below 2^112. So is each size in bits, which is below 8 * 10^30, and that below 2^103.
 abbrev pub whole_limit : ℕ
 whole_limit = 2 ^ 112
 
--- A size is below 10^30: in bytes for `Byte`, in bits for `Bit`.
+-- A size is below 10^30, which is 1000 times the largest decimal prefix: in bytes for `Byte`, in bits for `Bit`.
 abbrev pub size_limit : ℕ
 size_limit = 10 ^ 30
 

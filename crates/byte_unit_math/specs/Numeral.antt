@@ -25,6 +25,7 @@ numeral q p = text_of (at_places p q)
 abbrev pub short_numeral : ℕ → ℕ → List ℕ
 short_numeral q p = text_of (trim_expansion (at_places p q))
 
--- Private: the digits of a number, and the digit 0 (48) after them up to 32 bytes.
+-- Private: the digits of a number, and the digit 0 (48) after them up to 32 bytes, the length of the array that
+-- `put_padded_digits` fills.
 abbrev pub padded_digits : ℕ → List ℕ
 padded_digits n = decimal n ++ replicate (32 - length (decimal n)) 48

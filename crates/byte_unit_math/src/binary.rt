@@ -10,10 +10,11 @@ use crate::lanes::last_16_values;
 use crate::tens::POWERS_OF_FIVE;
 use std::simd::prelude::*;
 
-/// The number of digits that one product gives.
+/// The number of digits that one product gives: as many as `last_16_values` returns.
 const GROUP: u32 = 16;
 
-/// The length of an array of whole groups, from which 93 digits are copied: they begin within the first group.
+/// The length of an array of seven groups, from which 93 digits are copied: they begin within the first group, at the
+/// index 15 or before it, and so end at 108 or before it.
 const GROUPS_LEN: usize = 112;
 
 /// Returns the digits after the point of `numerator / 2^places`, and then zeros.

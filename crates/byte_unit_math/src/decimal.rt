@@ -1,4 +1,4 @@
-//! Exact decimals with 28 places.
+//! Exact decimals with at most 28 digits after the point, their order and their text.
 ghost use Rattle.std.specs.Prelude.{◌≡◌, ℕ, ◌+◌, ◌*◌, ◌-◌, ◌^◌, ◌/◌, ◌%◌, ◌<◌, ◌≤◌, nat_eq, Some, SomeIff};
 ghost use Rattle.std.specs.Cmp.{partial_order_from_own_ties, partial_equiv_from_equiv};
 ghost use Rattle.std.specs.Cmp.Rules.{comparing};
@@ -14,13 +14,14 @@ use std::cmp::Ordering;
 use std::fmt;
 use std::marker::Model;
 
-/// The most digits after the point of a [`Decimal`].
+/// The most digits after the point of a [`Decimal`]: as many as the `Decimal` of the Rust crate has.
 pub const DECIMAL_PLACES: u32 = 28;
 
 /// One, scaled by 10^28.
 pub(crate) const ONE: u128 = 10_000_000_000_000_000_000_000_000_000;
 
-/// The limit of whole parts, 2^112.
+/// The limit of whole parts, 2^112. The bits of every size are below it: they are fewer than 8 * 10^30, and so than
+/// 2^103.
 pub const WHOLE_LIMIT: u128 = 5_192_296_858_534_827_628_530_496_329_220_096;
 
 /// A non-negative decimal with at most 28 digits after the point and a whole part below 2^112.

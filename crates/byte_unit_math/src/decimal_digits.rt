@@ -1,4 +1,4 @@
-//! The decimal digits of a number, as ASCII.
+//! The decimal digits of a number, or of a fraction after its point, as ASCII, and the number of digits.
 
 ghost use Rattle.std.specs.Prelude.{◌≡◌, ◌^◌, ◌≤◌, ◌<◌, length, IsAscii, Some};
 ghost use Rattle.std.specs.Fmt.{decimal, DisplaysOnOk, DisplaysStyledOnOk};
@@ -16,7 +16,7 @@ use std::{fmt, str};
 /// The most decimal digits of a `u128`.
 pub const NUMBER_DIGITS: usize = 39;
 
-/// The two digits of each number below 100.
+/// The two digits of each number below 100: those of `n` are at the index `2 * n`.
 static PAIRS: [u8; 200] = *b"\
     0001020304050607080910111213141516171819\
     2021222324252627282930313233343536373839\
@@ -149,7 +149,7 @@ pub fn decimal_len(n: u128) -> usize
     few as usize + 1
 }
 
-/// Returns the number of decimal digits as `decimal_len`, in 64 bits.
+/// Returns the number of decimal digits of a number of 10 or more as `decimal_len`, in 64 bits.
 #[inline(always)]
 #[tactic(auto, using(crate::proofs::WrittenDigits::lengths_by_bits))]
 fn decimal_len_u64(n: u64) -> usize

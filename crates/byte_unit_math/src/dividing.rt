@@ -5,10 +5,10 @@ ghost use Rattle.byte_unit_math.specs.Inverse.{HasInverse, IsSubtracted};
 ghost use Rattle.byte_unit_math.specs.Nearest.{IsNearest};
 ghost use Rattle.byte_unit_math.specs.declared.expansion.Ties.TheVariants.{Even};
 
-/// The radix of groups of 18 digits.
+/// 10^18, the radix of the groups of digits in which `put_u128_wide` writes a long number.
 const TEN_POW_18: u64 = 1_000_000_000_000_000_000;
 
-/// The reciprocal of `TEN_POW_18`: 2^123 / 10^18, rounded down.
+/// The reciprocal of `TEN_POW_18`: 2^123 / 10^18, rounded down. With a greater power of 2 it would not fit 64 bits.
 const TEN_POW_18_INVERSE: u64 = 10_633_823_966_279_326_983;
 
 /// The base of a long division by a number of at most 24 bits: each step fits 64 bits.

@@ -1,4 +1,4 @@
-//! Terminating decimal expansions: a whole part and at most 93 digits after the point.
+//! Terminating decimal expansions: a whole part and at most 93 digits after the point; their rounding and their text.
 ghost use Rattle.std.specs.Prelude.{◌≡◌, ◌≢◌, ◌+◌, ◌-◌, ◌*◌, ◌%◌, ◌^◌, ◌≤◌, ◌<◌, ◌++◌, ℕ, length, take};
 ghost use Rattle.std.specs.Prelude.{replicate, slice_index, IsAscii, Some};
 ghost use Rattle.std.specs.Bool.{MatchBool};
@@ -17,7 +17,8 @@ use crate::tens::{power_of_five, power_of_two};
 use std::marker::Model;
 use std::{fmt, str};
 
-/// The most digits after the point of an [`Expansion`].
+/// The most digits after the point of an [`Expansion`]: the largest unit has 2^93 bits, and a fraction over 2^93 has
+/// up to 93 digits.
 pub const EXPANSION_PLACES: usize = 93;
 
 /// How to round a number halfway between two decimals.

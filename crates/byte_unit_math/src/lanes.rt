@@ -10,13 +10,13 @@ use crate::decimal_digits::{decimal_len, put_u64};
 use crate::dividing::div_rem_by_inverse;
 use std::simd::prelude::*;
 
-/// The length of the array of [`put_padded_digits`].
+/// The length of the array of [`put_padded_digits`]: two groups of 16 digits, since a number has up to 30.
 pub const PADDED_DIGITS: usize = 32;
 
-/// 10^16, the radix of groups of 16 digits.
+/// 10^16, the radix of groups of 16 digits: as many bytes as a vector `u8x16` has.
 pub(crate) const TEN_POW_16: u64 = 10_000_000_000_000_000;
 
-/// The reciprocal of `TEN_POW_16`: 2^117 / 10^16, rounded down.
+/// The reciprocal of `TEN_POW_16`: 2^117 / 10^16, rounded down. With a greater power of 2 it would not fit 64 bits.
 const TEN_POW_16_INVERSE: u64 = 16_615_349_947_311_448_411;
 
 /// Writes the digits of a number as ASCII to the beginning of an array and the digit 0 to the rest of it, and returns

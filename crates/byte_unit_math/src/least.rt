@@ -15,13 +15,13 @@ const GROUP: u64 = 10_000_000;
 /// The radix of half the digits of a fraction, which fit a `u64`.
 const TEN_POW_14: u64 = 100_000_000_000_000;
 
-/// The reciprocal of `TEN_POW_14`: 2^110 / 10^14, rounded down.
+/// The reciprocal of `TEN_POW_14`: 2^110 / 10^14, rounded down. With a greater power of 2 it would not fit 64 bits.
 const TEN_POW_14_INVERSE: u64 = 12_980_742_146_337_069_071;
 
 /// The number of digits of a group.
 const GROUP_PLACES: u32 = 7;
 
-/// The number of groups of a fraction.
+/// The number of groups of a fraction, which has 28 digits.
 const GROUPS: u32 = 4;
 
 /// Returns `d * unit_size` rounded up to a whole number. Returns `None` if that is `limit` or more.
@@ -125,6 +125,7 @@ fn carry_of_group(digits: u64, unit_size: u128, carry: u128) -> u128
         // The sum is less than 10^7 * 2^40, which is less than 2^64: the carry is at most the unit's size.
         u128::from((digits * unit_size as u64 + carry as u64 + (GROUP - 1)) / GROUP)
     } else {
+        // The sum is less than 10^7 * 2^93 + 2^93 + 10^7, which is less than 2^120, and the radix is less than 2^24.
         let product = u128::from(digits) * unit_size + carry;
         div_rem_u24(product + u128::from(GROUP - 1), GROUP).0
     }

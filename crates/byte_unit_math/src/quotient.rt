@@ -9,7 +9,7 @@ use crate::dividing::{div_rem, div_rem_digit, div_rem_u24};
 use crate::tens::{POWERS_OF_FIVE, power_of_ten};
 use crate::{DECIMAL_PLACES, Decimal, Factors, Steps};
 
-/// The limit of numbers of 64 bits.
+/// The limit of numbers of 64 bits, which are divided faster.
 const TWO_POW_64: u128 = 1 << 64;
 
 /// Returns `size / unit` if it is exact within `places` digits after the point, and `None` otherwise. More than 28
@@ -79,6 +79,7 @@ pub fn factored_quotient(
     steps: &mut Steps,
 ) -> Decimal
     requires positive { 1 ≤ number.left }
+    // Far above the exponents of any size, and low enough that their sums with `places` fit 32 bits.
     requires exponents_bound { (number.twos < 2 ^ 16) × (number.fives < 2 ^ 16) }
     requires places { places ≤ places_of_decimal }
     requires exact { (twos ≤ number.twos + places) × (fives ≤ number.fives + places) }
@@ -104,7 +105,8 @@ pub fn factored_quotient(
     quotient
 }
 
-/// Splits a fixed-point value into its integer and fractional parts; `divisor`, its scale, is a constant.
+/// Splits a fixed-point value into its integer and fractional parts; `divisor`, its scale, is a constant: 10, 100 or
+/// 1000.
 #[inline(always)]
 fn div_rem_small(count: u128, divisor: u64) -> (u128, u128)
     requires positive { 1 ≤ divisor }

@@ -1,4 +1,5 @@
-//! Terminating decimal expansions with few digits after the point, by one product and one division or shift.
+//! Terminating decimal expansions with few digits after the point, by one product and one division or shift, and exact
+//! quotients by them.
 ghost use Rattle.std.specs.Prelude.{◌≡◌, ◌≢◌, ℕ, ◌*◌, ◌%◌, ◌^◌, ◌<◌, ◌≤◌, IfSome};
 ghost use Rattle.byte_unit_math.specs.Bounds.{bits_limit, scale, unit_limit};
 ghost use Rattle.byte_unit_math.specs.Exact.{IsLeastPlaces};
@@ -10,7 +11,7 @@ use crate::quotient::exact_quotient;
 use crate::tens::{power_of_five, power_of_ten, power_of_two};
 use crate::{DECIMAL_PLACES, Decimal, Steps};
 
-/// The most digits after the point of a [`ShortExpansion`].
+/// The most digits after the point of a [`ShortExpansion`]: any 38 digits are a number of 128 bits.
 const MOST_PLACES: u32 = 38;
 
 /// The most factors 2 that a decimal unit has beside its factors 10: the eight bits of a byte.
@@ -87,6 +88,7 @@ fn decimal_expansion(numerator: u128, twos: u32, tens: u32) -> Option<ShortExpan
     if twos > BYTE_TWOS || tens > DECIMAL_PLACES - twos {
         return None;
     }
+    // At most 28, as `Decimal::from_digits` requires.
     let places = tens + twos;
     // 10^(tens + twos) / (2^twos * 10^tens) is 5^twos.
     let scaled = numerator * power_of_five(twos);

@@ -14,6 +14,7 @@ use std::marker::Model;
 /// ```
 #[derive(Clone, Copy, Debug)]
 pub struct Steps {
+    /// The number of steps so far.
     count: u64,
 }
 

@@ -63,6 +63,8 @@ pub fn power_of_ten(exponent: u32) -> u128
 }
 
 /// Returns `2^exponent`.
+///
+/// Precondition (proved at every call): `exponent <= 93`, that of the largest unit.
 pub(crate) fn power_of_two(exponent: u32) -> u128
     requires { exponent ≤ expansion_places }
     ensures { result ≡ 2 ^ exponent }

@@ -54,6 +54,7 @@ fn spec_of(size: Byte) -> FormatSpec
         → IsBinaryString InBytes size text }
     ensures narrow { result.width ≡ None }
 {
+    // At three digits after the point, as many as `FormatSpec::ALTERNATE` allows.
     let (_, unit) = size.get_recoverable_unit(false, 3);
     if has_binary_prefix(unit) {
         FormatSpec::ALTERNATE

@@ -1,4 +1,5 @@
-//! A reader and a writer that record a failure, the search for the end of a record, and writing all of a buffer.
+//! A reader and a writer that record a failure, the search for the end of a record, and writing all of a buffer; and a
+//! reader and a writer in memory, for tests.
 #![tactic(auto)]
 
 pub mod paced;

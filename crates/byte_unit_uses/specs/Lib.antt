@@ -1,3 +1,4 @@
+-- The definitions that the contracts of this crate are written in: views and errors.
 pub mod Capped
 pub mod CommandLine
 pub mod Quota

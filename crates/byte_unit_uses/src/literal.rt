@@ -162,7 +162,7 @@ pub fn unknown_suffix() -> Result<Unit, UnitParseError>
     Unit::parse_str("Kx", false, true)
 }
 
-/// Returns the error of an unknown unit, from bytes.
+/// Returns the error of an unknown unit, from bytes: no unit begins with the `Q`.
 pub fn unknown_unit_in_bytes() -> Result<Byte, ParseError>
     ensures { IsErrAnd result (λ error.
         size_fault error ≡ bad_unit 81 (codes "BKMGTPEZYR") true) }

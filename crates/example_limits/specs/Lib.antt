@@ -1,2 +1,3 @@
+-- The definitions that the contracts of this program are written in.
 pub mod Rules
 pub mod Sizes

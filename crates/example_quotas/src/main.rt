@@ -101,7 +101,7 @@ fn quota_cell(alloc: Global, quota: Byte) -> Result<String, AllocError> {
     quota.get_adjusted_unit(unit).to_text(alloc, CELL)
 }
 
-/// Formats a row of the table.
+/// Formats a row of the table: the name in 8 columns, and three cells.
 fn row(alloc: Global, user: &User) -> Result<String, AllocError> {
     let used = cell(alloc, user.used)?;
     let quota = quota_cell(alloc, user.quota)?;

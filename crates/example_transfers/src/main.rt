@@ -71,7 +71,7 @@ fn parse_transfer(text: &str) -> Result<Transfer> {
     Ok(Transfer { size, seconds })
 }
 
-/// Formats a row of the report.
+/// Formats a row of the report: the name in 10 columns, and the size and the rate in 12 each.
 fn row(alloc: Global, name: &str, transfer: Transfer) -> Result<String, AllocError> {
     let size = transfer
         .size

@@ -21,8 +21,8 @@ pub fn each_text_is_one_of_three()
     ensures { EachTextIsOneOfThree }
 {}
 
-/// States that each string is accepted as one size of the kind or rejected with one error, and not both. A size that is
-/// too large is an error here, with the number as it was written.
+/// States that each string is accepted as one size of the kind or refused (rejected with one error), not both. A size
+/// that is too large is an error here, with the number as it was written.
 pub fn texts_are_accepted_or_refused()
     ensures { TextsAreAcceptedOrRejected }
 {}

@@ -23,16 +23,16 @@ use byte_unit_math::{DECIMAL_PLACES, Decimal, WHOLE_LIMIT};
 use core::dec2flt::read_digits;
 use std::simd::prelude::*;
 
-/// The number of digits of which a `u64` holds any: 19.
+/// The most digits whose value always fits a `u64`: 19.
 const SHORT_DIGITS: usize = 19;
 
-/// The number of digits of which a `u128` holds any: 38.
+/// The most digits whose value always fits a `u128`: 38.
 const LONG_DIGITS: usize = 38;
 
-/// 10^19.
+/// 10^19, by which the digits before the last 19 are multiplied.
 const NINETEEN_DIGITS: u128 = 10_000_000_000_000_000_000;
 
-/// The byte of one pair of digits in every four bytes.
+/// Keeps the lowest byte of every four bytes: the value of one pair of digits.
 const PAIR_OF_FOUR_BYTES: u64 = 0x0000_00ff_0000_00ff;
 
 /// Parses a number and a unit from a line, which is not trimmed. Returns the unit and the number. The line is at the
@@ -75,6 +75,7 @@ pub fn leading_spaces(bytes: &[u8]) -> usize
     ensures all { IsFirst IsNoSpace (drop result bytes.now) }
 {
     let mut count = 0;
+    // The goals about the loop have their names from this label.
     'spaces: while count < bytes.len() && bytes[count] == b' ' {
         count += 1;
     }
@@ -227,6 +228,7 @@ fn few_digits(line: &[u8], from: usize) -> (usize, u64)
 {
     let mut end = from;
     let mut value = 0u64;
+    // The goals about the loop have their names from this label.
     'digits: while end < line.len() {
         let digit = line[end].wrapping_sub(b'0');
         if digit > 9 {

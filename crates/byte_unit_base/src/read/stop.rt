@@ -1,4 +1,4 @@
-//! Where the parser of a number and a unit stops, and the error there.
+//! Where the parser of a number and a unit stops, the character there, and the error by it.
 
 ghost use Rattle.std.specs.Prelude.{◌≡◌};
 ghost use Rattle.std.specs.Str.{chars, IsAscii};
@@ -25,7 +25,7 @@ pub enum Reason {
 /// otherwise split the number into bytes.
 #[derive(Clone, Copy)]
 pub struct Stop {
-    /// The index in bytes of the character that is rejected, or 0 if the number is too long. ASCII comes before it.
+    /// The index in bytes of the character that is rejected, or 0 if the number is too long. Only ASCII is before it.
     pub place: usize,
     /// Why it stops.
     pub reason: Reason,

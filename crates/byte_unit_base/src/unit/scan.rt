@@ -1,4 +1,4 @@
-//! The error of a unit in which the parser stops.
+//! Where the parser of a unit stops, and the error there; the options of the parsers.
 
 ghost use Rattle.std.specs.Prelude.{◌≡◌, ℕ};
 

@@ -92,13 +92,15 @@ macro_rules! table {
     };
 }
 
-/// The name and the shape of each unit, in the order of the variants.
+/// The name and the shape of each of the 38 units, in the order of the variants: two have no prefix, and each of the
+/// nine prefixes has four.
 pub(crate) static UNITS: [UnitData; 38] = with_prefixes!(table data);
 
 /// The bits of each unit, in the order of the variants.
 pub(crate) static UNIT_BITS: [u128; 38] = with_prefixes!(table bits);
 
-/// The units by the position of the prefix: of bytes and of bits, with the decimal prefix and with the binary one.
+/// The units by the position of the prefix, from 0 for none to 9 for R: those of bytes and of bits, with the decimal
+/// prefix and then with the binary one.
 pub(crate) static BY_POWER: [[Unit; 4]; 10] = with_prefixes!(table units);
 
 /// The units, in the order of the variants.

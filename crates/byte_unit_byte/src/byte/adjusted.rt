@@ -91,7 +91,8 @@ impl AdjustedByte {
 
     /// Returns the length of the text under the spec, in bytes: below 65,600. Does not allocate.
     ///
-    /// If no width is set, it is at most 129, and with a precision at most 36 more than that, or 39.
+    /// If no width is set, it is at most 129 without a precision, and at most 36 more than a precision, or 39 for a
+    /// precision below 3.
     ///
     /// # Examples
     /// ```rust
