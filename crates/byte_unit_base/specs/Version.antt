@@ -21,7 +21,7 @@ abbrev pub first_version : Version
 first_version = record { letters = codes "KMGTPEZY"; whole_limit = 2 ^ 96; size_limit = 10 ^ 27 }
 
 -- v2, which the code implements: it adds ronna, which the SI adopted in 2022. A size is below 10^30, which is 1000 RB,
--- and a whole part is below 2^112
+-- and a whole part, below 2^112, can hold each size in bits
 abbrev pub current : Version
 current = record { letters = codes "KMGTPEZYR"; whole_limit = Bounds.whole_limit; size_limit = Bounds.size_limit }
 

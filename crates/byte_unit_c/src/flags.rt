@@ -31,6 +31,7 @@ pub struct ParseFlags {
 }
 
 impl ParseFlags {
+    /// Creates the flags of sizes of this kind.
     fn new(kind: Kind, ignore_case: bool) -> ParseFlags
         ensures kind { result.kind ≡ kind }
         ensures ignore_case { result.ignore_case ≡ ignore_case }

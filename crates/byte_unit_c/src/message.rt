@@ -61,7 +61,7 @@ fn is_known(unit: &UnitParseError, expected: Expected) -> bool
     is_plain(unit.character) & (unit.also_expect_no_character == expected.or_end())
 }
 
-/// Writes `the text is not UTF-8` to the start of `out` if it fits, and returns its length.
+/// Writes `the text is not UTF-8` to the start of `out` if it fits, and returns its length, 21.
 pub fn write_not_utf8(out: &mut [u8]) -> usize
     ensures text { WritesForm
         (λ words. words ≡ codes "the text is not UTF-8") out.old out.new result }
@@ -70,7 +70,7 @@ pub fn write_not_utf8(out: &mut [u8]) -> usize
     write(b"the text is not UTF-8", out)
 }
 
-/// Writes `a flag is unknown` to the start of `out` if it fits, and returns its length.
+/// Writes `a flag is unknown` to the start of `out` if it fits, and returns its length, 17.
 pub fn write_unknown_flag(out: &mut [u8]) -> usize
     ensures text { WritesForm (λ words. words ≡ codes "a flag is unknown") out.old out.new result }
     ensures len { result ≡ 17 }
@@ -78,7 +78,7 @@ pub fn write_unknown_flag(out: &mut [u8]) -> usize
     write(b"a flag is unknown", out)
 }
 
-/// Returns whether a message has the character between quotes as it is.
+/// Returns whether a message has the character between quotes (39) as it is.
 fn is_plain(c: char) -> bool
     ensures { IsTrue result → (c < 128) × (debug_char c ≡ Some (39 ∷ c ∷ 39 ∷ [])) }
 {
@@ -93,6 +93,7 @@ fn rest_of_message(expected: Expected) -> &'static [u8]
     ensures text { Some result.now
         ≡ Some (codes "' is incorrect")
         ++? expected_text (expected_codes expected) (expects_end expected) }
+    // So the whole message has at most 256 bytes.
     ensures bound { length result.now ≤ 200 }
 {
     match expected {

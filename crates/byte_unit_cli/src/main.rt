@@ -26,7 +26,8 @@ const FAILED: u8 = 1;
 /// The exit status of a call that is wrong.
 const WRONG: u8 = 2;
 
-/// The exit status if the reader of the output has gone, as a shell has it for the signal of a broken pipe.
+/// The exit status if the reader of the output has gone, as a shell has it for the signal of a broken pipe: 128 and the
+/// number of the signal, 13.
 const CLOSED: u8 = 141;
 
 /// Converts what `input` gives, and returns the exit status.

@@ -50,11 +50,12 @@ pub struct Options<'a> {
     pub binary: bool,
     /// How a size is formatted.
     pub form: Form,
-    /// The number of digits after the point.
+    /// The number of digits after the point: at most this many in the exact form (3 for `None`), and exactly this many
+    /// in a unit with a prefix (all for `None`). The other texts have all their digits.
     pub precision: Option<u16>,
     /// What follows the text of a size, and is taken off before a field is read; nothing for none.
     pub suffix: &'a [u8],
-    /// The least number of columns of a size.
+    /// The least number of columns of a size; 0 for none.
     pub width: u16,
     /// Whether the spaces that fill the width are after the size, and not before it.
     pub align_left: bool,
@@ -74,8 +75,8 @@ pub struct Options<'a> {
     pub invalid: Invalid,
     /// Whether the total of the sizes follows the last record.
     pub total: bool,
-    /// The maximum of the sizes.
+    /// The maximum of the sizes: a size above it has a message, and is counted as `Tally::beyond`.
     pub max: Option<u128>,
-    /// The minimum of the sizes.
+    /// The minimum of the sizes: a size below it has a message, and is counted as `Tally::beyond`.
     pub min: Option<u128>,
 }

@@ -23,7 +23,7 @@ use byte_unit_stream::{end_of, write_whole};
 use std::alloc::{AllocError, Allocator, Global};
 use std::io::{Read, Write};
 
-/// The number of bytes that [`run`] asks for in each read: 64 KiB.
+/// The number of bytes that [`run`] asks for in each read: 64 KiB, as many as a pipe of Linux holds by default.
 const CHUNK: usize = 65536;
 
 /// The length of a buffer that has capacity for the text of any size: 65,535 digits after the point, the greatest
@@ -309,7 +309,8 @@ const NARROW_TEXT: usize = 37;
 const UNIT_PLACES: usize = 93;
 
 /// The most bytes that the texts of the sizes of one read may take, if each byte of it begins a field: 40 bytes for
-/// each of 65,536.
+/// each of 65,536. So [`run`] reads a whole chunk at once if no text is longer and no messages are
+/// counted.
 const TEXTS_MAX: usize = 2_621_440;
 
 /// The bytes that are counted for the messages about a field, in a run that can have more than one message. An

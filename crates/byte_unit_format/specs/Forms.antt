@@ -49,6 +49,7 @@ IsText = IsTextIn current
 abbrev pub narrow_text : ℕ
 narrow_text = 37
 
--- A text is shorter than this number of bytes, since width and precision are 16-bit numbers.
+-- A text is shorter than this number of bytes. Width and precision are 16-bit numbers, so it has at most 65,535
+-- columns, or at most 65,535 digits after the point and 44 bytes more.
 abbrev pub text_limit : ℕ
 text_limit = 65600

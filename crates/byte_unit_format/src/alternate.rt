@@ -74,7 +74,8 @@ pub(crate) fn put_form(size: u128, kind: Kind, out: &mut [u8]) -> usize
     put_split(whole, fraction, kind, out)
 }
 
-/// Writes a whole part and what follows it to the beginning of `out`, and returns their length.
+/// Writes a whole part and what follows it to the beginning of `out`, and returns their length. The whole part has at
+/// most 27 digits, since a size of 1000 or more is exact in a unit with a prefix.
 #[inline(always)]
 #[tactic(auto, using(crate::proofs::NarrowTexts::whole_length, std::proofs::lemmas::Grind::common_steps))]
 pub(crate) fn put_split(whole: u128, fraction: UnitFraction, kind: Kind, out: &mut [u8]) -> usize
@@ -93,7 +94,8 @@ pub(crate) fn put_split(whole: u128, fraction: UnitFraction, kind: Kind, out: &m
 }
 
 /// Writes what follows the whole part from the index `point`, and returns the index after it. The digits after the
-/// point are written as four bytes; the space and the unit then overwrite what is too much of these.
+/// point are written as four bytes; the space and the unit, at most four bytes, then overwrite what is too much of
+/// these.
 #[inline(always)]
 fn put_unit_fraction(fraction: UnitFraction, kind: Kind, out: &mut [u8], point: usize) -> usize
     requires prefix { IsProperFraction fraction }

@@ -23,7 +23,7 @@ use std::io::{Read, Write};
 /// The byte that ends a line.
 const LINE_END: u8 = b'\n';
 
-/// The number of bytes that [`run`] asks for in each read: 64 KiB.
+/// The number of bytes that [`run`] asks for in each read: 64 KiB, as many as a pipe of Linux holds by default.
 const CHUNK: usize = 65536;
 
 /// What a run keeps from one read to the next.

@@ -3,7 +3,8 @@
 use Rattle.std.specs.Prelude.{◌≡◌, ℕ, ◌+◌, ◌*◌, ◌/◌, ◌^◌, ◌<◌, ◌≤◌}
 
 -- The conditions under which a multiplication replaces a division: the leading 64 bits of `n`, which are n / 2^cut,
--- times `inverse`, divided by 2^shift, are n / divisor or one less.
+-- times `inverse`, divided by 2^shift, are n / divisor or one less. By `close` they are no further below it; the
+-- other conditions keep the numbers within 64 bits.
 pub record HasInverse (n divisor inverse cut shift : ℕ) : Type 0 where
   pub leading : n < 2 ^ (64 + cut)
   pub cut_fits : cut < 64

@@ -11,7 +11,7 @@ const TEN_POW_18: u64 = 1_000_000_000_000_000_000;
 /// The reciprocal of `TEN_POW_18`: 2^123 / 10^18, rounded down. With a greater power of 2 it would not fit 64 bits.
 const TEN_POW_18_INVERSE: u64 = 10_633_823_966_279_326_983;
 
-/// The base of a long division by a number of at most 24 bits: each step fits 64 bits.
+/// The base of a long division by a number of at most 2^24: each step fits 64 bits.
 const BASE: u64 = 1 << 40;
 
 /// Returns the quotient and the remainder. If both numbers fit 64 bits, the division is the faster one of 64 bits.

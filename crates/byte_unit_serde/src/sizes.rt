@@ -37,6 +37,7 @@ pub(crate) fn write_as<S: Sink>(
     let len = write_text(size, kind, spec, &mut bytes);
     match std::str::from_utf8(&bytes[..len]) {
         Ok(text) => out.write_str(text),
+        // Never: each text of a size is ASCII, which the contract of `write_text` does not say.
         Err(_) => Err(out.custom("not UTF-8")),
     }
 }

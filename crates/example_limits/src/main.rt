@@ -37,8 +37,11 @@ struct Limits {
 /// A rule for limits.
 #[derive(Clone, Copy)]
 enum Rule {
+    /// The largest file is no larger than all files together may be.
     FileInTotal,
+    /// The files and the cache fit the disk.
     AllOnDisk,
+    /// The largest file takes at most an hour.
     WithinHour,
 }
 
@@ -66,6 +69,7 @@ impl Limits {
                 Some(left) => self.cache.unwrap_or(Byte::MIN) > left,
                 None => true,
             },
+            // The bits of the file, and those of an hour.
             Rule::WithinHour => 8 * self.file.as_u128() > 3600 * self.rate.as_u128(),
         }
     }

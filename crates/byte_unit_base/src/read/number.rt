@@ -177,6 +177,7 @@ fn long_value(digits: &[u8], last_bits: u64) -> u128
     ensures { result ≡ digits_value 10 digits.now }
 {
     let (front, _) = digits.split_at(digits.len() - SHORT_DIGITS);
+    // From the index 0, with no digits before them.
     let (_, high) = read_digits(front, 0, 0);
     let product = u128::from(high) * NINETEEN_DIGITS;
     // The value of the last 19 digits fits 64 bits, so it follows from these bits.
