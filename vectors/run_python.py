@@ -1,11 +1,13 @@
 """Answers test vectors by the Python package byte_unit. Reads records that end with a zero byte, each a call of
-byte-unit.txt with its text unescaped, and writes a line for each: the answer, or `-` for a call it does not have."""
+byte-unit.txt, whose head has the forms, with its text unescaped and without the quote after it. Writes a line for each:
+the answer, or `-` for a call that the package does not have."""
 
 import re
 import sys
 
 import byte_unit
 
+# The values of keyword arguments, by their signs in a format string.
 ALIGNS = {"<": "left", "^": "center", ">": "right"}
 SIGNS = {"+": "plus", "-": "minus"}
 
@@ -31,6 +33,7 @@ def plain(count):
 
 
 def text(words, bits):
+    """Returns the text of a size: formatted, or adjusted `in` a unit or `by` a type of units."""
     size = int(words[2])
     if words[3].startswith("{"):
         return byte_unit.text(size, bits=bits, **spec(words[3]))
@@ -39,6 +42,7 @@ def text(words, bits):
 
 
 def answer(words, given):
+    """Returns the answer to a call, by its words and its text; without one the text is empty."""
     bits, uncased, either_kind = "bit" in words[1:2], "uncased" in words, words[2:3] == ["any"]
     if words[0] == "parse":
         return byte_unit.parse(given, bits=bits, ignore_case=uncased)

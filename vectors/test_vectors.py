@@ -7,8 +7,9 @@ import pytest
 from byte_unit_dev.fixtures import NODE, compiled, ended, environment, path, read
 from byte_unit_dev.model.exact import Rejected, form, size_of
 
-# How many rows each runner has, so that no call is left out unseen.
+# How many rows each runner has, so that no call is left out unseen: vectors/README.md has the numbers, too.
 BY_MODEL, BY_BINDING, BY_JAVASCRIPT = 613, 1141, 1076
+# The names of errors in the rows, by those that the exact model has.
 MODEL_ERRORS = {"no value": "NoValue", "not a number": "NotNumber", "number too long": "NumberTooLong",
                 "out of range": "ExceededBounds", "bad unit": "Unit"}  # fmt: skip
 
@@ -24,6 +25,7 @@ class Row:
 
 
 def unescaped(text):
+    """Returns a text of a row with `\\{N*c}` as N characters, and `\\u{..}` as the character with this code point."""
     text = re.sub(r"\\\{(\d+)\*(\\u\{[0-9A-Fa-f]+\}|.)\}", lambda m: m[2] * int(m[1]), text, flags=re.S)
     return re.sub(r"\\u\{([0-9A-Fa-f]+)\}", lambda m: chr(int(m[1], 16)), text)
 

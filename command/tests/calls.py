@@ -7,25 +7,33 @@ from byte_unit_dev.model.exact import SIZE_LIMIT, Rejected, some_line, some_unit
 from model import BITS_64, BY_LETTER, FORMS, OPTIONS, Wrong, options_of, read
 from program import Call
 
+# The greatest number of 16 bits, as of a precision or a width.
 BITS_16 = (1 << 16) - 1
+# The options by which a limit is read.
 READ_BY = ("bits", "ignore-case", "from")
+# Numbers at and beside limits: those of 8, 16, 32 and 64 bits, 28 digits of the form exact, and those at which a wrong
+# program of test_wrong.py does otherwise.
 PRECISIONS = [0, 1, 2, 3, 7, 8, 27, 28, 29, 92, 93, 94, 255, 256, 999, 1000, 1001, BITS_16]
 WIDTHS = [1, 4, 8, 9, 36, 37, 38, 127, 128, 255, 256, 999, 1000, 1001, 32767, 32768, BITS_16]
 COUNTS = [0, 1, 1, 2, 3, 5, 19, 20, 255, 256, BITS_16, BITS_16 + 1, 1 << 32, BITS_64 - 1, BITS_64]
 LIMITS = [0, 1, 8, 999, 1000, 1001, 1024, 1500, 8000, 10**6, 10**9, 2**64, 10**20, SIZE_LIMIT // 8, SIZE_LIMIT - 1]
 ENDS = [31, 255, 256, BITS_16, BITS_16 + 1, 1 << 32, 1 << 63, BITS_64]
+# The ends of units.
 SUFFIXES = ["", "B", "b", "bit", "bits", "BIT", "bItS"]
+# One byte each, and the tab as it is also written.
 DELIMITERS = [*",;:\t .Bb1|-=\\'\x01\x1b\x7f", "\\t"]
 # Of one to four bytes, with those that messages escape, or that print with no width or from the right.
 ODD = [*"x/:@[`{'\"\\,-+_%\0\a\b\t\v\f\r\x1b\x1f\x7f\x80\x85\x9b\x9f\xa0\xad\xb5\xe9\u0131\u0301\u0308",
        *"\u05d0\u0661\u1680\u17b5",
        *"\u200b\u200d\u200e\u2028\u202e\u2066\u20dd\u212a\u3000\u4e2d\ue000\ufeff\uff11\uff2b\uff9e\ufffd",
        *"\U0001d7cf\U0001f600\U000e0001\U000e0100\U0010ffff"]
+# Characters at the 80 bytes after which a quoted text is cut, and bytes that are not UTF-8.
 CUT = ["a", "\x1b", "\x7f", "\x9b", "\xe9", "\u0301", "\u20ac", "\ufeff", "\U0001f600", "\U0001d7cf"]
 BROKEN = [b"\xff", b"\x80", b"\xc3", b"\xe2\x82", b"\xf0\x9f\x98", b"\xed\xa0\x80", b"\xc0\xaf", b"\xf4\x90\x80\x80"]
 
 
 def happens(rng, percent):
+    """Returns true in this percentage of the cases: for the highest numbers, so that a draw is false if it shrinks."""
     return rng.randrange(100) >= 100 - percent
 
 
@@ -36,6 +44,7 @@ def near(rng, values, most, least=0):
 
 
 def some_to(rng, texts):
+    """Returns a form, or a unit with or without white space at its ends."""
     if happens(rng, 40):
         return rng.choice(FORMS)
     unit = some_unit(rng, SUFFIXES) or "B"
@@ -49,10 +58,12 @@ def some_precision(rng, texts):
 
 
 def some_number(rng, number):
+    """Returns a number with or without a sign or zeros before it."""
     return rng.choice(["", "", "", "", "+", "0", "00"]) + str(number)
 
 
 def some_range(rng, first, last):
+    """Returns a range of fields in one of its spellings."""
     first, last = sorted([first, last])
     zero = rng.choice(["", "", "", "0", "000"])
     return rng.choice([f"{zero}{first}", f"{zero}{first}", f"{first}-", f"{first}-{zero}{last}", f"{first}-{last}",
@@ -75,6 +86,7 @@ def some_fields(rng, texts):
 
 
 def some_limit(rng, texts):
+    """Returns a text that is a size under the other options."""
     while True:
         if happens(rng, 50):
             text = f"{near(rng, LIMITS, SIZE_LIMIT - 1)}{rng.choice(['', 'b', 'B', 'bit'])}"

@@ -14,6 +14,7 @@ from byte_unit_dev.model.exact import (BASE, FORM_PLACES, SIZE_LIMIT, UNITS, WHI
                                        size_of, unit_message, unit_of, value_of)
 from program import Result
 
+# The most bytes of a text that a message quotes; the greatest number of 64 bits; and the words that are forms.
 QUOTED = 80
 BITS_64 = (1 << 64) - 1
 FORMS = ("exact", "plain", "si", "iec", "auto")
@@ -41,7 +42,8 @@ def quoted(data):
 
 @functools.lru_cache(maxsize=1 << 10)
 def text_of(size, kind, ignore_case, to, precision):
-    """Returns the text of a size: of a unit without a prefix, and for `exact`, with all digits after the point."""
+    """Returns the text of a size. The precision is that of a number of a unit with a prefix; for `exact` it chooses the
+    unit, in which all digits are shown."""
     if to == "plain":
         return str(size)
     if to == "exact":
@@ -56,12 +58,14 @@ def text_of(size, kind, ignore_case, to, precision):
 
 
 def checked(value, holds, why, quotes=True):
+    """Returns the value of an option. Raises `Wrong` with the reason if it does not hold."""
     if not holds:
         raise Wrong(why, quotes)
     return value
 
 
 def form(text, options):
+    """Returns the text of `--to`, which has to be a form or a unit."""
     unit, words = text.strip(WHITE_SPACE), (options.kind, options.ignore_case)
     if text not in FORMS and (not unit or not unit_of(unit, *words)):
         raise Wrong("not a form or a unit" + (f": {unit_message(unit, *words)}" if unit else ""))
@@ -69,10 +73,12 @@ def form(text, options):
 
 
 def read(data, options):
+    """Returns the size that bytes represent under the options, or why they represent none."""
     return size_of(data, options.kind, options.ignore_case, binary=getattr(options, "from") == "iec")
 
 
 def limit(text, options):
+    """Returns the size of `--max` or `--min`."""
     size = read(text.encode(), options)  # Without a suffix.
     if isinstance(size, Rejected):
         raise Wrong(size.message)
@@ -92,8 +98,9 @@ def ranges(text, options):
     return [(int(first or 1), int(last)) for first, last in pairs]
 
 
-# An option: its letter; its value in a call without it, or what returns it of the options in the rows before; what returns its value, of its text and the options in the rows
-# before; and its text if it has none, but for `None` the next word is its text.
+# An option: its letter; its value in a call without it, or what returns that, of the options in the rows before; what
+# returns its value, of its text and the options in the rows before; and the text that it has if none is given, or
+# `None` if the next word is its text.
 Option = namedtuple("Option", "letter default value alone", defaults=["", False, lambda text, options: True, ""])
 OPTIONS = {
     "bits": Option(),
@@ -179,10 +186,12 @@ class Run:
         self.options, self.word, self.messages, self.total, self.statuses = options, word, [], 0, {0}
 
     def tell(self, message, status):
+        """Adds a message, and the exit status for what it says."""
         self.messages.append(f"byte-unit: {message}\n".encode())
         self.statuses.add(status)
 
     def shown(self, size, columns=0):
+        """Returns what is written for a size, in the width of `--padding` or else of these columns."""
         options = self.options
         text = text_of(size, options.kind, options.ignore_case, options.to, options.precision)
         text = ((text.split(" ")[0] if options.no_unit else text) + options.suffix).encode()
@@ -190,6 +199,8 @@ class Run:
         return text.ljust(-width) if width < 0 else text.rjust(width)
 
     def convert(self, place, data, gap=b"", columns=0):
+        """Returns what is written for a field, after the gap, and tells what is wrong with it. A field that is not a
+        size is copied."""
         options, named = self.options, f"{place}: {quoted(data)}"
         text = data.removesuffix(options.suffix.encode())
         size = read(text, options)
@@ -224,6 +235,7 @@ class Run:
             for number, part in enumerate(parts, 1))
 
     def result(self, records, header, unread):
+        """Returns the result for records, of which the first, the header, are copied."""
         written = []
         try:
             for at, data in enumerate(records, 1):

@@ -9,8 +9,10 @@ from dataclasses import dataclass, fields
 
 # The program asks for this number of bytes in each read; for fewer if texts are long or there can be messages.
 CHUNK = 65536
-# What it asks for at least, if texts have at most 240 bytes, as with a suffix; of a longer packet the rest would be lost.
+# What it asks for at least, if texts have at most 240 bytes, as with a suffix; the rest of a longer packet would be
+# lost.
 PACKET = 7_000
+# After this time a call has failed.
 SECONDS = 600
 # Shows values, but for the middle of long ones.
 SHORT = reprlib.Repr()

@@ -4,6 +4,7 @@ import unicodedata
 
 from program import Call, Result
 
+# Parts of messages, and the greatest size.
 START = "('B', 'K', 'M', 'G', 'T', 'P', 'E', 'Z', 'Y' or 'R' or no character is expected)"
 BLANK = "no value can be found"
 WIDTH = "not a number from 1 to 65535, or its negative"
@@ -18,10 +19,12 @@ def told(place, why, at=0):
 
 
 def unit(c, expected=START):
+    """Returns a message on a character that cannot be in a unit."""
     return f"the character '{c}' is incorrect {expected}"
 
 
 def digit(c):
+    """Returns a message on a character that is there in place of a digit."""
     return f"the character '{c}' is not a number"
 
 
@@ -36,6 +39,7 @@ def misused(*texts):
 
 
 def unknown(word):
+    """Returns a message about a word that is no option."""
     return misused(f"unexpected argument '{word}' found", f"  tip: to pass '{word}' as a value, use '-- {word}'")
 
 
@@ -44,6 +48,7 @@ def field(text, quoted, why, at=0):
     return "--invalid=warn", text + b"\n", text + b"\n", 0, told(f"line 1: '{quoted}'", why, at)
 
 
+# What ls, df, ps and free print.
 LISTING = b"total 24\n-rw-r--r-- 1 root root    512 Nov 27 10:00 a b\n-rwxr-xr-x 1 root root 486240 Nov 27 14:11 c\n"
 DISKS = b"Filesystem      Size  Used Avail Use% Mounted on\n/dev/sda1        50G   20G   28G  42% /\n"
 PROCESSES = b"USER         PID  VSZ   RSS COMMAND\nroot           1 166264 11888 /sbin/init\n"
@@ -269,6 +274,7 @@ WRONG_WORDS = [
 
 
 def row(words, data=b"", written=b"", status=0, messages=""):
+    """Returns a call and its result. Words that are one text are separated by spaces."""
     words = words.split() if isinstance(words, str) else words
     return Call(words, data), Result(written, messages.encode(), status)
 
@@ -280,7 +286,7 @@ MODELLED += [row(words, b"", b"", 2, message) for words, message in WRONG_VALUES
 OTHERS = [row(words, b"", b"", 2, message) for words, message in WRONG_WORDS]
 OTHERS += [row(word, b"", b"byte-unit 3.0.0\n") for word in ("--version", "-V")]
 LINES = b"1.5 KB\n" * 15_000
-# More than 2^24 bytes: the wrong program "out of memory for 16 MB" of test_wrong.py refuses no less.
+# More than 2^24 bytes: the wrong program "out of memory for 16 MB" of test_wrong.py fails for no fewer.
 LONG = b"0" * 17_000_000
 
 

@@ -50,7 +50,7 @@ def test_large_calls(program, calls):
     ("yes 1.5 KiB | head -n 10000000", "--to=exact", 80_000_000, 5),
     ("head -c 1000000000 /dev/zero | tr '\\0' 1", "--invalid=ignore", 1_000_000_001, 2_000)])
 def test_memory(program, source, word, size, most):
-    """Of 10,000,000 lines, and of a line of 1 GB: in MB, at most."""
+    """The memory for 10,000,000 lines, and for a line of 1 GB, is at most `most` MB."""
     need("/usr/bin/time")
     script = f"{source} | /usr/bin/time -q -f %M $0 {word} | wc -c; exit ${{PIPESTATUS[-2]}}"
     status, written, memory = ended("bash", "-c", script, program)

@@ -11,6 +11,7 @@ import pytest
 from byte_unit_dev.fixtures import ended, need, redirected
 from program import CHUNK, Call, run
 
+# After this time a call has failed.
 SECONDS = 60
 LINES = b"1.5 KiB\n" * 1_000_000
 READ_FAILED = b"byte-unit: read failed\n"
@@ -34,6 +35,7 @@ def test_stream_that_fails(program, how, words, data, wanted):
 
 @pytest.mark.parametrize("word", ["--help", "--version", "1 KB"])
 def test_closed_output(program, closed, word):
+    # The shell's status of a program that SIGPIPE ends, 128 + 13.
     assert ended(program, word, stdout=closed) == (141, None, b"")
 
 
@@ -65,6 +67,7 @@ def test_standard_error_that_fails_once(start):
     reading, writing = os.pipe()
     fcntl.fcntl(writing, fcntl.F_SETPIPE_SZ, 4096)
     os.set_blocking(writing, False)
+    # The pipe is full, and a write to it fails at once.
     os.write(writing, b"." * 4096)
     child = start("--invalid=fail", stdin=subprocess.PIPE, stderr=writing)
     os.close(writing)
@@ -96,7 +99,7 @@ def test_terminal(start):
     ours, its = pty.openpty()
     child = start(stdin=its)
     os.close(its)
-    os.write(ours, b"1536\n\x04")
+    os.write(ours, b"1536\n\x04")  # and Ctrl-D
     written, messages = child.communicate(timeout=SECONDS)
     os.close(ours)
     assert (child.returncode, written, messages) == (0, b"1.5 KiB\n", TERMINAL)

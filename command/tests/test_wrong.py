@@ -14,8 +14,10 @@ from model import BITS_64, Wrong, converted, limit, options_of, parsed, result_o
 from program import Call, Result
 from rows import LARGE, MODELLED, OTHERS
 
+# Enough that each wrong program is told, with the fixed and large calls.
 RANDOM_CALLS = 2_000
 
+# How a run ends that is out of memory, or whose input fails; messages on fields, and the numbers of records in them.
 NO_MEMORY = Result(b"", b"byte-unit: out of memory\n", 1)
 READ_FAILED = Result(b"", b"byte-unit: read failed\n", 1)
 FIELD = re.compile(rb"byte-unit: (?:line|record|operand) .*\n")
@@ -38,6 +40,7 @@ class Case:
 
 
 def replaced(pattern, new):
+    """Returns what replaces a pattern in the messages."""
     return lambda text, case: re.sub(pattern, new, text)
 
 
@@ -59,11 +62,13 @@ def split_quotes(text, case):
 
 
 def copied_header(text, case):
+    """Takes the first operand for a header, which is copied."""
     copies = case.operands and case.options and "header" in case.options.texts
     return case.operands[0].encode() + case.options.end + text.partition(case.options.end)[2] if copies else text
 
 
 def is_cut_twice(case):
+    """Tells whether a record comes in three reads or more."""
     inner = case.call.pieces()[1:-1] if case.options and not case.operands else []
     return any(case.options.end not in piece for piece in inner)
 
@@ -80,6 +85,7 @@ def rejected_part(got, case):
 
 
 def without_human(got, case):
+    """Takes a call with `-H` for one without it."""
     words = [word for word in case.call.words if word not in ("-H", "--human-readable")]
     return result_of(replace(case.call, words=words)) if case.options and words != case.call.words else got
 
@@ -100,11 +106,13 @@ def unit_and(end, when):
 
 
 def in_bits(size, case):
+    """Takes a `b` at the end of `--max` for bits."""
     text = case.options.texts["max"]
     return limit(text + "it", case.options) if text[-1:] == "b" else size
 
 
-# Each with the part of the result, the option, or the operands, that it takes for something else.
+# The wrong programs by what each does, with the part of the result (or `all` of it), the option, or the operands, that
+# it takes for something else, and what it takes in its place.
 WRONG = {
     "nonsense for every message": ("messages", replaced(FIELD, b"byte-unit: line 9: 'z': nonsense\n")),
     "messages in reverse order": ("messages", chosen(lambda lines, case: reversed(lines))),

@@ -1,4 +1,5 @@
-"""Copies and builds the bindings, and programs over the Rust crate byte-unit 5.2.6, in environments of their own."""
+"""Copies and builds the bindings, the C library if none is given, and programs over the Rust crate byte-unit 5.2.6 or
+the package in its place, in environments of their own."""
 
 import glob
 import os
@@ -9,6 +10,7 @@ from pathlib import Path
 from .common import Failure, output, path, write
 from .needs import DEBIAN_PYTHON, DEBIAN_RUST, is_there
 
+# The crates that the original, the package and their programs need, as Debian installs them.
 CRATES = ("rust_decimal", "utf8-width", "serde", "serde_json", "toml")
 NEEDS = ["cargo", *(f"{DEBIAN_RUST}/{name}-*" for name in CRATES)]
 # The crates that Debian installs take the place of the registry.
@@ -17,11 +19,15 @@ replace-with = "debian"
 [source.debian]
 directory = "{DEBIAN_RUST}"
 """
+# The features of the original crate that are compared and measured; the package has them by name.
 OPTIONS = ["--release", "--offline", "--quiet", "--no-default-features", "--features", "std,byte,bit,u128"]
+# The fastest code that cargo makes, since the programs are measured.
 PROFILE = {"CARGO_PROFILE_RELEASE_LTO": "fat", "CARGO_PROFILE_RELEASE_CODEGEN_UNITS": "1",
            "CARGO_PROFILE_RELEASE_PANIC": "abort"}
+# Variables by which a build could find another library, other flags or another folder for what it makes.
 UNSET = ["PYTHONPATH", "BYTE_UNIT_LIBRARY_DIR", "PKG_CONFIG", "PKG_CONFIG_PATH", "RUSTFLAGS", "RUSTDOCFLAGS",
          "CARGO_BUILD_TARGET", "CARGO_TARGET_DIR"]  # fmt: skip
+# Builds ask for no network, print little, and leave no bytecode.
 SET = {"PYTHONDONTWRITEBYTECODE": "1", "PYTHONUTF8": "1", "PIP_DISABLE_PIP_VERSION_CHECK": "1",
        "CARGO_TERM_QUIET": "true", "CARGO_NET_OFFLINE": "true", "CARGO_PROFILE_DEV_DEBUG": "0"}  # fmt: skip
 
@@ -39,7 +45,9 @@ def copied(binding, folder):
 
 
 def wheel(package, library, folder, seconds=0, **variables):
-    """Builds the wheel of a copy of the binding for Python, with a library inside, in a folder. Returns its path."""
+    """Builds the wheel of a copy of the binding for Python, with a library inside and without symbols, in a folder.
+
+    Its files have the time `seconds`. Returns its path."""
     here = environment(BYTE_UNIT_LIBRARY_DIR=library, SOURCE_DATE_EPOCH=seconds, LDFLAGS="-s", **variables)
     output(DEBIAN_PYTHON, "setup.py", "bdist_wheel", "-d", folder, cwd=package, env=here)
     (made,) = Path(folder).glob("*.whl")
@@ -59,6 +67,7 @@ def original(given, work):
     """Copies the sources of the crate into a folder for cargo, and returns it."""
     crate = os.path.join(work, "original")
     for name in glob.glob("**/*.rs*", root_dir=given, recursive=True):
+        # A file such as `src--lib.rs.txt` may itself be in a folder `src`.
         found = re.fullmatch(r"(?:src/)+(.*\.rs)(?:\.txt)?", name.replace("--", "/"))
         if found:
             os.makedirs(os.path.dirname(os.path.join(crate, "src", found[1])), exist_ok=True)

@@ -1,5 +1,5 @@
-"""Makes a clean Debian 12, for this processor or for aarch64, and systems that begin as one, in which a script has what
-it installs there alone."""
+"""Makes a clean Debian 12, for this processor or for aarch64, and runs scripts in systems that begin as one: each has
+only what is installed there, and is gone when its script ends."""
 
 import os
 import shlex
@@ -12,8 +12,10 @@ from .needs import QEMU_AARCH64, is_there
 SOURCE = "deb $(REPO_URI) $(CODENAME) $(COMPONENT)"
 RELEASES = ["bookworm", "bookworm-updates", "bookworm-security"]
 ARCHIVES = "/var/cache/apt/archives"
+# All variables that a script has: those of root, with no questions by apt.
 HERE = {"PATH": "/usr/local/sbin:/usr/local/bin:/usr/sbin:/usr/bin:/sbin:/bin", "HOME": "/root", "LC_ALL": "C.UTF-8",
         "DEBIAN_FRONTEND": "noninteractive"}  # fmt: skip
+# With mounts that nothing else sees, and processes that end with it.
 ALONE = ["unshare", "--mount", "--pid", "--fork", "--kill-child"]
 # The status of a script that lacks something: its packages could not be installed, say. Its last line says what.
 MISSING = 99
@@ -30,10 +32,12 @@ mount -t overlay overlay -o "lowerdir={ARCHIVES},upperdir=new-archives,workdir=w
 mount --bind "$DIST" root/dist
 cp /etc/resolv.conf root/etc/resolv.conf
 """
+# A folder of this machine, at its own place in the system and only to be read.
 MOUNT = """mkdir -p root{0}
 mount --bind {0} root{0}
 mount -o remount,bind,ro root{0}"""
-# In a name space of users, in which qemu-user runs programs for aarch64, as nowhere else; and without a network.
+# In a name space of users, in which qemu-user runs programs for aarch64, as nowhere else; and without a network. What
+# runs there waits until its users, 65,536 from root on, are those of this machine: before that it may mount nothing.
 AARCH64 = f"""unshare --user --mount --net true || {{ echo "the kernel makes no name spaces"; exit {MISSING}; }}
 mkfifo begun mapped
 unshare --user --mount --net sh -euc 'echo > begun; read -r _ < mapped; exec sh -euc "$IN_AARCH64"' &
@@ -51,6 +55,7 @@ exec chroot root sh -c "$SCRIPT"
 """
 # What Debian's packages make when they are configured, and scripts here use.
 ALTERNATIVES = {"awk": "mawk", "cc": "gcc"}
+# By this /bin, /lib and others are links into /usr, which no package does that is only unpacked.
 MERGED = "/usr/share/mmdebstrap/hooks/merged-usr"
 # What apt, dpkg, ldconfig and Python keep of a package that is gone; and what is mounted.
 KEPT = ("proc|dev|dist|tmp|root/[.]cache|var/(cache|log|lib/(apt|dpkg|systemd|ucf))|etc/(ld[.]so[.]cache|[.]pwd[.]lock)"
@@ -59,7 +64,9 @@ LISTED = f"find root -xdev -regextype posix-extended -regex 'root/({KEPT})(/.*)?
 
 
 def make(folder):
-    """Makes a Debian 12 that has apt and the essential packages alone, and returns its folder, in another."""
+    """Makes a Debian 12 that has apt and the essential packages alone below a folder, and returns its own folder.
+
+    Fails if the kernel lets no system begin as it."""
     made = bootstrapped(folder, "--variant=minbase")
     env = {**os.environ, **HERE, "WORK": str(folder / "work"), "BASE": str(made), "DIST": str(folder / "work")}
     checked(*ALONE, "sh", "-euc", BEGIN, env=env)
@@ -67,7 +74,7 @@ def make(folder):
 
 
 def make_aarch64(folder, packages):
-    """Makes a Debian 12 for aarch64 that has packages and the essential ones, and returns its folder, in another.
+    """Makes a Debian 12 for aarch64 that has packages and the essential ones below a folder. Returns its own folder.
 
     They are unpacked and not configured, which would take minutes: here qemu-user runs what is for aarch64."""
     named = [f"--include={name}" for name in ["?essential", *sorted(packages)]]
@@ -79,7 +86,9 @@ def make_aarch64(folder, packages):
 
 
 def bootstrapped(folder, *how):
-    """Calls mmdebstrap, with the sources of this machine's apt, and returns the folder of what it makes."""
+    """Calls mmdebstrap, with the sources of this machine's apt, and returns the folder of what it makes.
+
+    The lists of packages are kept, so that scripts can install some; nothing waits for the disk."""
     if not is_there("mmdebstrap"):
         raise Failure("a clean Debian 12 could not be made: mmdebstrap is missing")
     found = dict.fromkeys(output("apt-get", "indextargets", "--format", SOURCE, "Created-By: Packages").splitlines())

@@ -1,4 +1,4 @@
-"""What all commands share: the repository's files, calls of other programs, and the way to report."""
+"""What all commands share: the repository's files, calls of other programs and their time, signals, and reports."""
 
 import os
 import resource
@@ -50,6 +50,7 @@ def call(*words, **more):
 def shown(*words, cwd):
     """Runs a program, which ends with this one, and prints what it prints. Returns its status, and that as text."""
     how = {"stdin": subprocess.DEVNULL, "stdout": subprocess.PIPE, "stderr": subprocess.STDOUT, "errors": "replace"}
+    # In a session of its own, so that a signal below also ends what the program has started.
     with subprocess.Popen(words, cwd=cwd, encoding="utf-8", start_new_session=True, **how) as process:
         said = ""
         try:

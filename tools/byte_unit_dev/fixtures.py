@@ -1,4 +1,5 @@
-"""What tests share, with the tools too: options, fixtures of what is built once, comparisons, runs, reports."""
+"""What the tests share: their options, fixtures of what is built once, comparisons, runs of programs, and the lines
+that pytest ends with. They import what they use of the tools from here, too."""
 
 import contextlib
 import functools
@@ -23,14 +24,17 @@ from .needs import DEBIAN_PYTHON, DEBIAN_RUST, PACKAGES, PYTHON_PACKAGE, is_ther
 
 # The first cargo of the path, and Debian's.
 CARGOS = list(dict.fromkeys([shutil.which("cargo") or "cargo", "/usr/bin/cargo"]))
+# The compiler for aarch64, and what runs its programs on this processor.
 AARCH64_CC, AARCH64_RUN = "aarch64-linux-gnu-gcc", ["qemu-aarch64", "-L", "/usr/aarch64-linux-gnu"]
+# Node 18 and 20 have 64-bit memory only with this option.
 NODE = ["node", "--experimental-wasm-memory64"]
+# The crates by which the feature `serde` of the Rust package is built and tested.
 SERDE = [f"{DEBIAN_RUST}/{name}-*" for name in ("serde", "serde_json", "toml")]
 
 
 def pytest_addoption(parser):
     parser.addoption("--after-ci", action="store_true", help="use the libraries and programs that rt ci has built")
-    parser.addoption("--lines", type=int, default=4000, help="the number of generated lines; of calls, a fifth")
+    parser.addoption("--lines", type=int, default=4000, help="the number of generated lines; five times as many calls")
     parser.addoption("--seed", type=int, default=1, help="chooses what is generated")
 
 
@@ -59,7 +63,7 @@ def ended(*words, **how):
 
 
 def redirected(how, *words, data=b"1 KB\n"):
-    """Returns the same of a program of which the shell redirects a stream, such as `> /dev/full`."""
+    """Returns what `ended` does, for a program of which the shell redirects a stream, such as `> /dev/full`."""
     return ended("sh", "-c", f'exec "$0" "$@" {how}', *words, input=data)
 
 
@@ -118,8 +122,9 @@ def seed(request):
 
 @pytest.fixture(scope="session")
 def check_drawn(request, seed):
-    """Checks that `wrong`, which returns what is wrong with a list, returns nothing for `count` values that `make` draws
-    from a `random.Random`. Else hypothesis finds a simplest list of `together` values that it returns something for."""
+    """Checks that `wrong`, which returns what is wrong with a list, returns nothing for `count` values that `make`
+    draws, each from a `random.Random`. Else hypothesis finds a simplest list of `together` values for which it returns
+    something."""
     def check(make, wrong, count=request.config.getoption("lines"), together=1):
         found = wrong([make(random.Random(f"{seed} {at}")) for at in range(count)])
         if not found:
@@ -181,6 +186,7 @@ def check_needs(wheel, folder):
     said = output("readelf", "-dVW", Path(folder) / "byte_unit/_native.abi3.so")
     assert set(re.findall(r"\(NEEDED\).*\[(.+)\]", said)) <= {"libc.so.6", "ld-linux-aarch64.so.1"}
     versions = re.findall(r"Name: (\w+?)_([0-9.]+) ", said)
+    # Its tag, manylinux_2_17, promises that glibc 2.17 is enough.
     assert versions and all(name == "GLIBC" and [*map(int, number.split("."))] <= [2, 17] for name, number in versions)
 
 
@@ -227,7 +233,7 @@ def python_aarch64(aarch64, tmp_path_factory):
 
 
 class Cargo:
-    """A cargo and the rustc in its folder, with the environment of its calls."""
+    """A cargo and the rustc in its folder, with the environment of its calls, which build in a folder for work."""
 
     def __init__(self, cargo, library, work):
         beside = os.path.dirname(cargo)
@@ -268,7 +274,7 @@ def cargo(cargos):
 
 @pytest.fixture(scope="session")
 def rust_package(tmp_path_factory):
-    """A copy of the Rust package. Without Debian's serde, leaves it out."""
+    """A copy of the Rust package. If one of SERDE is missing, it needs none, and its feature `serde` is empty."""
     package = copied("rust", tmp_path_factory.mktemp("rust"))
     if all(map(is_there, SERDE)):
         write(f"{package}/.cargo/config.toml", CONFIG)

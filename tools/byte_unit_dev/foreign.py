@@ -8,6 +8,7 @@ from .common import Failure, call, output
 from .needs import DEBIAN_PYTHON
 
 CC = "aarch64-linux-gnu-gcc"
+# What apt reads for packages of arm64: its state is in a folder of its own, so that nothing of this machine changes.
 CONF = """APT::Architecture "arm64";
 APT::Architectures {{ "arm64"; }};
 APT::Sandbox::User "root";

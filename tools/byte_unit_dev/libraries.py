@@ -10,6 +10,8 @@ byte_unit.h beside it.
 With --target, the crate byte_unit_c is proved again for another target, over the same libraries. For
 wasm64-unknown-unknown, FOLDER then has byte_unit.wasm alone, which bindings/js needs; for aarch64-unknown-linux-gnu the
 archive and the header, and the shared library if Debian's aarch64-linux-gnu-gcc is there.
+
+`tools/dev make-dist` builds the command byte-unit by this module, too.
 """
 
 import argparse
@@ -145,7 +147,7 @@ def link_in(folder):
 
 
 def link_shared(folder, cc):
-    """Links the shared library of the folder's archive, if there is the compiler."""
+    """Links the shared library of the folder's archive, all of it, if there is the compiler."""
     archive = folder / ARCHIVE
     if not shutil.which(cc):
         print(f"skipped: libbyte_unit.so: there is no C compiler {cc}")
@@ -159,6 +161,7 @@ def link_shared(folder, cc):
 
 
 def linked(cc, place, *words):
-    """Links a shared object, in which each symbol has to be defined."""
+    """Links a shared object, in which each symbol has to be defined and all addresses are set, and then fixed, as it is
+    loaded."""
     if call(cc, "-shared", "-o", place, "-Wl,-z,defs,-z,relro,-z,now", *words, stdout=None, stderr=None).returncode:
         raise Failure(f"{cc} failed: see above")

@@ -30,6 +30,7 @@ from .source import EXAMPLES, catalogue, files, public_names, source
 
 # What the names of the mutants begin with that `put` copies.
 BY_TURN = "by-turn."
+# In `Source.code`, a string such as that of `extern "C"` is spaces.
 FUNCTION = re.compile(r'^ *pub (extern     )?fn (\w+)', re.M)
 IMPL = re.compile(r"^impl(?:<[^>]*>)? (\w+)", re.M)
 

@@ -24,6 +24,7 @@ class Server:
         self.extension = Path(shutil.copytree(path("bindings/postgresql"), folder / "extension"))
         self.make("all", f"PG_CONFIG={POSTGRESQL_15}/bin/pg_config")
         self.make("install")
+        # A port that is free now.
         with socket.socket() as free:
             free.bind(("127.0.0.1", 0))
             self.port = str(free.getsockname()[1])
@@ -33,6 +34,7 @@ class Server:
             os.chmod(name, 0o755)
         shutil.chown(folder / "data", self.user())
         self.by_user(self.bin / "initdb", "-A", "trust", "-U", "tester", "-E", "UTF8", "--locale=C", "--no-sync")
+        # Nothing waits for the disk. The tests decode changes, have workers, and turn jit on for single queries.
         settings = ["listen_addresses=127.0.0.1", "unix_socket_directories=", "fsync=off", "wal_level=logical",
                     "max_worker_processes=8", "jit=off"]  # fmt: skip
         options = " ".join([f"-p {self.port}", *(f"-c {setting}" for setting in settings)])
@@ -45,8 +47,8 @@ class Server:
         return "nobody" if os.geteuid() == 0 else pwd.getpwuid(os.geteuid()).pw_name
 
     def make(self, *words):
-        """Calls make for the extension, with the server if it runs, and returns its output. A later word replaces one of
-        these: PG_CONFIG says where it is installed."""
+        """Calls make for the extension, with the server if it runs, and returns its output. A word such as PG_CONFIG,
+        by which make finds the folders to install in, replaces the one here."""
         words = [
             "make",
             "-s",

@@ -1,4 +1,7 @@
-"""Reads the sources of the crates: `Source` is a file of Rattle, and `Spec` a file of definitions (`.antt`)."""
+"""Reads the sources of the crates: `Source` is a file of Rattle, and `Spec` a file of definitions (`.antt`).
+
+It also has the crates that each one uses, and copies them; the names that a crate exports; and its mutants' catalogue.
+"""
 
 import functools
 import glob
@@ -8,9 +11,13 @@ import textwrap
 
 from .common import Failure, copy_to, path, read, write
 
+# A string or a character of code; the `'` of a lifetime has none after it.
 STRING = r'"(?:\\.|[^"\\])*"|\'(?:\\.[^\']*|[^\'\\])\''
+# What is no code: a comment or a string.
 QUOTED = re.compile(rf"//[^\n]*|{STRING}", re.S)
+# A name in definitions and clauses, which may have hyphens.
 WORD = re.compile(r"[^\W\d][\w\-]*")
+# The lines of the comment before a definition, or none.
 COMMENT = r"((?:^--(?: .*)?\n)*)"
 # The comment of a definition and its first line, with its name. Its kind, such as `abbrev` or `record`, is before or
 # after `pub`.
@@ -48,7 +55,8 @@ def below(names):
 
 
 def copy_crates(folder, names, more, without):
-    """Copies crates and those that they need, without what has one of these names, and adds more to their crates.txt."""
+    """Copies crates and those that they need, without what has one of these names, and writes their crates.txt, to
+    which it adds more."""
     rows = {name: crates()[name] for name in below(names)}
     copy_to(folder, *(f"crates/{name}" for name in rows), without=without)
     lines = "".join(f"{name}: {' '.join(needed)}\n" for name, needed in {**rows, **more}.items())

@@ -27,10 +27,13 @@ from .replace import remove_folders, replace
 from .source import library
 
 HERE = Path(ROOT)
+# The crates of every copy, and those that `--with` adds, by its words.
 CRATES, MORE = library(), {"serde": "byte_unit_serde"}
+# The folders of a crate that are copied.
 PARTS = ["src", "specs", "proofs"]
 # What `rt` built of a crate that it proved, in its folder. It is used only where the crate's text is the same.
 BUILT = "out/rlib"
+# What was copied, by which a later --update knows whether it was changed.
 RECORD = "crates/byte_unit/VERSION"
 
 
@@ -149,6 +152,7 @@ def contents_of(top, crates):
 
 
 def sums(contents):
+    """Returns the checksum of each file by its path; that of a link, which no record has, is False."""
     return {name: content is not None and hashlib.sha256(content).hexdigest() for name, content in contents.items()}
 
 

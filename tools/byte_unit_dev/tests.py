@@ -14,6 +14,7 @@ import sys
 from .common import Failure, ROOT, call, path
 from .needs import DEBIAN_PYTHON
 
+# The parts by the words that choose them, and the file or folder of each.
 PARTS = {
     **{part: f"bindings/c/test_{part}.py" for part in ("header", "c", "install", "aarch64")},
     **{part: f"bindings/{part}/test_{part}.py" for part in ("python", "rust", "sqlite", "postgresql", "js")},
@@ -29,6 +30,7 @@ def run(*words, after_ci=False, lines=4000, seed=1):
     if wrong:
         raise Failure(f"'{wrong[0]}' is no part; these are: {' '.join(PARTS)}")
     os.chdir(ROOT)
+    # The Python that runs this may be another than Debian's, for which pytest is installed.
     for python in filter(shutil.which, (sys.executable, DEBIAN_PYTHON)):
         if call(python, "-c", "import pytest, hypothesis").returncode == 0:
             chosen = [path(PARTS[part]) for part in parts or PARTS]

@@ -1,4 +1,5 @@
-// A library before libc in which the call FAIL_AT of an allocating function fails, and with FAIL_ON those after it too.
+// A library, put before libc by LD_PRELOAD, in which the call FAIL_AT of an allocating function fails, or none if that
+// is 0, and with FAIL_ON those after it too.
 // Counts the calls from `main` on, and writes a byte to the descriptor FAIL_TOLD for each call that fails.
 #include <errno.h>
 #include <stddef.h>

@@ -9,6 +9,7 @@ from itertools import count
 import pytest
 from byte_unit_dev.fixtures import ROOT, call, compiled, copy_to, ended, path, read, write
 
+# How many calls run at once.
 LANES = int(os.environ.get("RT_JOBS") or min(4, os.cpu_count()))
 # What a test may end with: the error itself, or the message of an `expect` with the error.
 FAILURE = re.compile(r"(?:[\w ]+: )?(?:AllocError|Error\(out of memory\))")
@@ -60,6 +61,7 @@ def test_calls_without_allocator(tmp_path):
 
 @pytest.mark.whole
 def test_all_tests():
+    """The tests of byte_unit_tests, as each of the first six allocations of a test fails."""
     assert not list(wrong_endings(ROOT, 6))
 
 
@@ -94,6 +96,7 @@ def test_program(program_of, shim, crate, words, data, on):
     program, end = program_of(crate), b"\0" if "-z" in words else b"\n"
     wanted, _ = failing_call(program, shim, words, data, 0, False)
     with ThreadPoolExecutor(LANES) as pool:
+        # By 32 calls at a time, up to those in which no allocation fails.
         for start in count(1, 32):
             runs = list(pool.map(lambda at: failing_call(program, shim, words, data, at, on), range(start, start + 32)))
             assert start > 1 or data is not MANY or runs[0][1], "no allocation failed"

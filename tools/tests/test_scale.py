@@ -75,6 +75,7 @@ def feed(program, chunks, target):
 @pytest.mark.parametrize("lines", [1_000_000, pytest.param(10_000_000, marks=pytest.mark.whole)])
 def test_many_lines(program, seed, lines, tmp_path):
     """Each gives a line of output, in no more memory than a hundredth takes, and the same however a pipe cuts them."""
+    # The program reads 65,536 bytes at once; pieces of other lengths cut lines elsewhere. Memory is in KiB.
     rng, source, target, held, digests = random.Random(seed + lines), tmp_path / "in", tmp_path / "out", [], set()
     pool = [some_line(rng) for _ in range(20_000)]
     for count, size in ((lines // 100, lambda: 1 << 16), (lines, lambda: 1 << 16), (lines, lambda: 4095),
@@ -96,7 +97,7 @@ def test_many_lines(program, seed, lines, tmp_path):
     (b"0", b"1", b"1 = 1 B\n"), (b"x", b"x", b"not a number\n"), (b"1", b"1", b"number too long\n"),
     (b"0", b"\xff", b"not text\n")])
 def test_long_line(program, length, fill, end, wanted, tmp_path):
-    """One line of output, whether it is a size or not, with memory linear in its length."""
+    """One line of output, whether it is a size or not, in memory of three times its length and 8 MiB at most."""
     blocks, rest = divmod(length - 1, 1 << 20)
     chunks = chain(repeat(fill * (1 << 20), blocks), [fill * rest, end])
     status, memory = feed(program, chunks, tmp_path / "out")

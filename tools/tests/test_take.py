@@ -2,6 +2,7 @@
 
 import os
 import shutil
+import subprocess
 from functools import partial
 from hashlib import sha256
 
@@ -62,7 +63,7 @@ def copied(here, there):
 def run(here, *words, status=0):
     """Calls `tools/dev take`, and returns what it prints. If it fails, that is one line, and nothing changes."""
     before = contents(here.parent, times=True)
-    ran = call(here / "tools/dev", "take", *words, stderr=-1, cwd=here)
+    ran = call(here / "tools/dev", "take", *words, stderr=subprocess.PIPE, cwd=here)
     assert ran.returncode == status and bool(ran.stderr) == bool(status) != bool(ran.stdout)
     if status:
         assert contents(here.parent, times=True) == before and (status == 2 or ran.stderr.count("\n") == 1)
@@ -172,7 +173,7 @@ def test_proofs(here, there, copied, monkeypatch):
     assert contents(copied / MATH / "out") == contents(here / MATH / "out")
     shutil.rmtree(copied / MATH / "out")
     (copied / MATH / "out").write_text("A file.")
-    ran = call(here / "tools/dev", "take", "--update", "--with", "proofs", copied, stderr=-1, cwd=here)
+    ran = call(here / "tools/dev", "take", "--update", "--with", "proofs", copied, stderr=subprocess.PIPE, cwd=here)
     assert f"{MATH}/out: File exists; the crates are there, but not all that was built of them" in ran.stderr
     assert ran.returncode == 1 and ran.stderr.count("\n") == 1 and not list(copied.glob(".take-*"))
     assert "byte_unit_serde" not in (here / "proved").read_text()
@@ -188,6 +189,7 @@ def test_proofs(here, there, copied, monkeypatch):
 def test_each_failure(here, copied, monkeypatch, error):
     """If one of the moves of an update fails, or a signal comes there, nothing changes."""
     change(here)
+    # A file of each crate, crates.txt, the record, the file that is new, and the one that is removed.
     before, left, moves = contents(copied), [], len(CRATES) + 4
     monkeypatch.setattr(take, "HERE", here)
     monkeypatch.setattr(take, "first_line", lambda *words: None)

@@ -1,4 +1,4 @@
--- The parsers as functions: what a parser returns is what they give.
+-- The parsers as functions: what a parser returns is what they give, and the size that they give is the least one.
 use Rattle.std.proofs.Common.{◌≡◌, ℕ, ◌<◌, ◌≤◌, List, Result, Ok, Err, true, false, refl, sym, ap, ◌∙◌, arith}
 use Rattle.std.specs.Str.{IsUtf8, is_utf8}
 use Rattle.std.proofs.lemmas.Str.{IsUtf8-from_is_utf8}
@@ -38,7 +38,7 @@ pub unit_of_its_shape : (unit : UnitName) → unit_of_shape (shape_of unit) ≡ 
 unit_of_its_shape UnitNames.B = refl
 unit_of_its_shape _ = refl
 
--- a parser of a unit that returns the result of the state machine
+-- a parser of a unit that returns the result of the state machine returns what the parser as a function gives
 pub unit_computed : (flags : Flags) (bytes : List ℕ) (r : Result UnitName UnitParseError)
     → unit_result r ≡ read (unit_scan flags) start (trim_of bytes)
     → result_map_both (λ unit. unit) unit_fault r ≡ result_map_both unit_of_shape (λ fault. fault) (parsed_unit flags bytes)
@@ -47,7 +47,8 @@ unit_computed flags bytes (Ok unit) e =
     ap Ok (sym (unit_of_its_shape unit)) ∙ ap (result_map_both unit_of_shape (λ fault. fault)) e
 unit_computed flags bytes (Err error) e = ap (result_map_both unit_of_shape (λ fault. fault)) e
 
--- a parser of a number and a unit that returns the result of the state machine
+-- a parser of a number and a unit that returns the result of the state machine returns what the parser as a function
+-- gives
 pub number_computed : (flags : Flags) (bytes : List ℕ) (r : Result (ℕ × UnitName) ParseError)
     → size_result r ≡ read (size_scan flags) Beginning (trim_of bytes)
     → result_map_both (λ r. r) size_fault r
@@ -62,10 +63,10 @@ pub rounded_up_is_least : (kind : Kind) (N : ℕ) (unit : Shape) → IsLeastOf k
 rounded_up_is_least Byte N unit = record { has = omega arith; least = λ m r. omega (arith, r) }
 rounded_up_is_least Bit N unit = record { has = omega arith; least = λ m r. omega (arith, r) }
 
--- the size if it is below the limit
+-- a size below the limit is the result
 pub size_within : (number n : ℕ) → n < size_limit → size_within_limit number n ≡ Ok n
 size_within number n h = cond-true _ _ _ (lt-ltb n size_limit h)
 
--- the error if the size reaches the limit
+-- if a size reaches the limit, the result is the error with the number
 pub size_above : (number n : ℕ) → size_limit ≤ n → size_within_limit number n ≡ Err (exceeded number)
 size_above number n h = cond-false _ _ _ (le-ltb n size_limit h)

@@ -45,11 +45,11 @@ word_below zero bytes small = omega arith
 word_below (suc n) [] small = omega (arith, word_below n [] small, pow-suc 256 n)
 word_below (suc n) (b ∷ bs) small = omega (arith, small.0, word_below n bs small.1, pow-suc 256 n)
 
--- eight bytes have no zeros after them
+-- of eight bytes or more the first eight are taken, with no zeros after them
 whole_word : (bytes : List ℕ) → 8 ≤ length bytes → first_eight bytes ≡ take 8 bytes
 whole_word bytes many = take-append-le 8 bytes (replicate 8 0) many
 
--- eight bytes in a slice fit 64 bits
+-- the number of eight bytes in a slice fits 64 bits, and needs no zeros after them
 pub loaded_eight : (from : ℕ) (bytes : List ℕ) → ((k : ℕ) → Fits w8 (get_or bytes k 0)) → from + 8 ≤ length bytes
     → number_l 256 (take 8 (drop from bytes)) % 2 ^ 64 ≡ number_l 256 (first_eight (drop from bytes))
 loaded_eight from bytes fits inside =
@@ -58,7 +58,7 @@ loaded_eight from bytes fits inside =
     mod-eq_of_lt (omega (arith, word_below 8 rest small))
     ∙ ap (number_l 256) (sym (whole_word rest (omega (arith, inside, length-drop from bytes))))
 
--- four bytes in a slice fit 32 bits
+-- the number of four bytes in a slice fits 32 bits
 pub loaded_four : (from : ℕ) (bytes : List ℕ) → ((k : ℕ) → Fits w8 (get_or bytes k 0)) → from + 4 ≤ length bytes
     → number_l 256 (take 4 (drop from bytes)) % 2 ^ 32 ≡ number_l 256 (take 4 (drop from bytes))
 loaded_four from bytes fits inside =
@@ -75,13 +75,14 @@ padded_word bytes few small =
     ∙ ap (λ zeros. bytes ++ zeros) (take-replicate count 8 0 (omega arith)))
     ∙ sym ((zeros_after bytes count small).1))
 
--- four bytes and those after them are a number
+-- the number of four bytes and that of those after them make the number of all
 four_and_rest : (bytes : List ℕ) → 4 ≤ length bytes
     → number_l 256 (take 4 bytes) + number_l 256 (drop 4 bytes) * 2 ^ 32 ≡ number_l 256 bytes
 four_and_rest (a ∷ b ∷ c ∷ d ∷ rest) many = omega arith
 four_and_rest _ many = absurd (omega (arith, many))
 
--- the last four of fewer than eight bytes, shifted to the right, are those after the first four
+-- the last four of fewer than eight bytes, shifted to the right, are those after the first four: the two numbers fit 32
+-- bits each, and make the number of all
 pub after_four : (bytes : List ℕ) → ((k : ℕ) → Fits w8 (get_or bytes k 0)) → 4 ≤ length bytes → length bytes < 8
     → let last = number_l 256 (take 4 (drop (length bytes - 4) bytes)) / 2 ^ (8 * (8 - length bytes)) in
     (last < 2 ^ 32) × (number_l 256 (take 4 bytes) < 2 ^ 32)
@@ -119,7 +120,7 @@ last_bytes from bytes fits many few inside =
     ∙ (ap (number_l 256) rest ∙ sym (padded_word (drop from bytes)
     (omega (arith, few, length-drop from bytes)) (bytes-drop from bytes small))))
 
--- a line feed is no digit
+-- a line feed, or the end, is no digit, so the run of digits at the start of a line is no longer with what follows it
 line_digits : (ds after : List ℕ) → IsAfterLine after → digits_len (ds ++ after) ≡ digits_len ds
 line_digits [] [] ends = refl
 line_digits [] (b ∷ bs) ends = ap (λ c. digits_len (c ∷ bs)) ends

@@ -1,4 +1,5 @@
--- The name of a unit spells it: its prefix letter, an `i` or nothing, and the letter of its kind.
+-- The name of a unit spells it: its prefix letter, an `i` or nothing, and the letter of its kind. It is ASCII, and has
+-- no white space at its ends.
 use Rattle.std.proofs.Common.{◌≡◌, ℕ, ◌+◌, ◌-◌, ◌<◌, ◌≤◌, Bool, true, false, not, ◌&&◌, eqb, ltb, List, [], ◌∷◌, ◌++◌}
 use Rattle.std.proofs.Common.{length, ⊎_elim, inl, inr, arith, refl, sym, ap, codes, slice_index, if◌then◌else◌, nat_lt}
 use Rattle.std.specs.Char.{is_whitespace, to_ascii_uppercase}

@@ -1,4 +1,4 @@
--- What loops over bytes read: the digits, the number that they make, and the text of a prefix.
+-- What loops over bytes read: a run of digits, and the number that digits make, also if only its last 64 bits are kept.
 use Rattle.std.proofs.Common.{◌≡◌, ℕ, ◌+◌, ◌-◌, ◌*◌, ◌^◌, ◌<◌, ◌≤◌, List, [], ◌∷◌, ◌%◌, length, take, drop, get_or}
 use Rattle.std.proofs.Common.{refl, ap, ◌∙◌, arith, slice_range, take_all, mod-eq_of_lt}
 use Rattle.std.specs.Float.Numeral.{digits_len}
@@ -22,11 +22,11 @@ pub digits_of_run : (bytes : List ℕ) (count : ℕ) → count ≡ 0 + digits_le
     → AllDigits 10 (take count bytes)
 digits_of_run bytes count is = AllDigits-digits_len bytes count (omega (arith, is))
 
--- at most 19 digits have a value that its last 64 bits are
+-- the value of at most 19 digits is that of its last 64 bits
 pub short_digits : (ds : List ℕ) → AllDigits 10 ds → length ds ≤ 19 → digits_value 10 ds % 2 ^ 64 ≡ digits_value 10 ds
 short_digits ds digits few = mod-eq_of_lt (short_fits ds digits few)
 
--- a text of at most 19 digits has the value that std reads modulo 2^64
+-- the value that std reads of at most 19 digits, modulo 2^64, is the value of the digits
 pub short_value :
     (ds : List ℕ) (count value : ℕ) → AllDigits 10 ds → count ≡ 0 + digits_len (drop 0 ds) → length ds ≤ 19
     → value ≡ (0 * 10 ^ (count - 0) + digits_value 10 (slice_range ds 0 count)) % 2 ^ 64 → value ≡ digits_value 10 ds

@@ -75,7 +75,7 @@ places_len bytes end is within few = record {
   next = λ inside _. let none = none_after bytes end is inside in grind (arith, nat_tests, none);
 }
 
--- a digit is missing at the start
+-- if the bytes start with no digit, the parser stops at the start, where a digit is missing
 pub stops_at_start : (bytes : List ℕ) → digits_len bytes ≡ 0 → (flags : Flags) → IsStopAt flags bytes 0 NoDigit
 stops_at_start bytes none flags = record {
   within = omega arith;
@@ -125,7 +125,7 @@ module _ (bytes : List ℕ) (end whole : ℕ) (run_is : end ≡ 0 + digits_len (
         ∙ (ap (λ front. front ++ chars rest) front.text_is ∙ append_assoc front.whole (point ∷ []) (chars rest)))
         ∙ read_point flags front.whole (chars rest) whole front.whole_is
 
-    -- a digit is missing after the point
+    -- if no digit follows the point, the parser stops after it, where a digit is missing
     pub stops_after_point : digits_len rest ≡ 0 → (flags : Flags) → IsStopAt flags bytes (end + 1) NoDigit
     stops_after_point none flags = record {
       within = omega (arith, inside);
@@ -166,12 +166,12 @@ module _ (bytes : List ℕ) (end whole : ℕ) (run_is : end ≡ 0 + digits_len (
       count_is : length digits ≡ places
       count_is = length-take-le places rest places_within
 
-      -- the value of the digits has no more digits
+      -- the value of the digits is below the power of ten with as many zeros
       pub fraction_below : (fraction : ℕ) → fraction ≡ digits_value 10 digits → fraction < 10 ^ places
       fraction_below fraction is =
           omega (arith, is, digits_value-lt 10 digits digits_are, ap (λ n. 10 ^ n) count_is)
 
-      -- the fraction has more than 28 digits
+      -- if the fraction has more than 28 digits, the parser stops, since the number is too long
       pub stops_in_fraction : places_of_decimal < places → (flags : Flags) → IsStopAt flags bytes 0 TooLong
       stops_in_fraction many flags = record {
         within = omega arith;
@@ -206,7 +206,7 @@ too_large_read flags (c ∷ cs) rest digits above =
     read_some (size_scan flags) Beginning (Whole (digit_value c)) c (cs ++ rest) (step_first c digits.0)
     ∙ too_large flags cs rest (digit_value c) digits.1 (omega (arith, digits.0)) (omega (arith, above, value))
 
--- the whole part reaches the limit
+-- if the whole part reaches the limit, the parser stops, since the number is too long
 pub stops_in_whole : (bytes : List ℕ) (end : ℕ) → end ≡ 0 + digits_len (drop 0 bytes)
     → whole_limit ≤ digits_value 10 (take end bytes) → (flags : Flags) → IsStopAt flags bytes 0 TooLong
 stops_in_whole bytes end run_is above flags =
@@ -220,7 +220,7 @@ stops_in_whole bytes end run_is above flags =
       wrong = λ utf8. tt;
     }
 
--- the number is read, and the parser of the unit stops after it
+-- after a number and spaces, the parser stops where that of the unit does, with its error
 pub stops_in_unit : (flags : Flags) (bytes rest : List ℕ) (n end spaces place : ℕ) (kept : UnitStop)
     → IsLeadingNumber bytes n end → drop end bytes ≡ rest → spaces ≤ length rest → take spaces rest ≡ replicate spaces space
     → IsFirst IsNoSpace (drop spaces rest) → IsUnitStop flags (drop (end + spaces) bytes) kept place

@@ -1,4 +1,5 @@
--- A decimal, as it is printed, is a number of the grammar with the same value.
+-- A decimal, as it is printed, is a number of the grammar with the same value. It is ASCII, and does not start with
+-- white space.
 use Rattle.std.proofs.Common.{◌≡◌, ℕ, ◌+◌, ◌-◌, ◌*◌, ◌^◌, ◌<◌, ◌≤◌, inl, inr, List, [], ◌∷◌, ◌++◌, length, refl, sym}
 use Rattle.std.proofs.Common.{ap, ◌∙◌, arith, false, append-nil, fold, All, decimal, IsAscii}
 use Rattle.std.proofs.lemmas.List.{length-map}

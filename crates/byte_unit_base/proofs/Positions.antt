@@ -68,7 +68,7 @@ no_unit : (flags : Flags) (m : Multiple) (w : SuffixPart) → unit_of flags (sca
 no_unit flags m Bi none = refl
 no_unit flags m w none = absurd (let z : ⊥ = cc in z)
 
--- where the parser of a unit stops
+-- where the parser of a unit stops, the bytes are no unit, and are wrong there
 pub stop_place : (flags : Flags) (bytes : List ℕ) (kept : UnitStop) (place : ℕ) → IsUnitStop flags bytes kept place
     → IsUnitPlace bytes (Some place)
 stop_place flags bytes kept place stop =
@@ -76,7 +76,7 @@ stop_place flags bytes kept place stop =
 
 -- the first error after a beginning of ASCII
 
--- the error at the next character, or at the end
+-- there is an error at the next character, and at the end if the parser state has one there
 fault_after : (flags : Flags) (place : ParserState) (rest : List ℕ)
     → (rest ≡ [] → (fault : Fault) × (fault_at_end place ≡ Some fault))
     → (fault : Fault) × IsFaultAfter current flags place rest fault

@@ -13,7 +13,7 @@ use Rattle.byte_unit_base.specs.Parsed.{rounded_up}
 use Rattle.byte_unit_base.proofs.Computed.{rounded_up_is_least}
 use Rattle.byte_unit_base.specs.LeastOfKind.{IsLeastOf, IsAtLeast}
 
--- a number of a unit, rounded up to whole bits, exists
+-- each number of a unit has a least number of bits that holds it
 pub least_bits : (N unit : ℕ) → (b : ℕ) × IsLeastSize N unit b
 least_bits N unit =
     let b = (N * unit + (scale - 1)) / scale in
@@ -49,7 +49,7 @@ pub least_is_unique : (kind : Kind) (N : ℕ) (unit : Shape) (m n : ℕ) → IsL
     → IsLeastOf kind N unit n → m ≡ n
 least_is_unique kind N unit m n a b = omega (arith, a.least n b.has, b.least m a.has)
 
--- a number of a unit, rounded up to whole bytes or bits, exists
+-- each number of a unit has a least size, in whole bytes or bits, that holds it
 pub least_exists : (kind : Kind) (N : ℕ) (unit : Shape) → (n : ℕ) × IsLeastOf kind N unit n
 least_exists kind N unit = (rounded_up kind N unit, rounded_up_is_least kind N unit)
 

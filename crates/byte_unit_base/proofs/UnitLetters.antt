@@ -41,17 +41,17 @@ shape_of_power zero some few _ _ = absurd (omega (arith, some))
 shape_of_power (suc n) some few true bit = refl
 shape_of_power (suc n) some few false bit = refl
 
--- a position is not 0
+-- a number that is one more than another is not 0
 not_zero : (n : ℕ) → eqb (suc n) 0 ≡ false
 not_zero n = grind (arith, nat_tests)
 
--- the prefix at a position is that of the letter which has it
+-- the position of a letter is not 0, so it has a binary and a decimal prefix
 prefix_is : (c p : ℕ) → prefix_at c ≡ Some p
     → (multiple_of p true ≡ Binary p) × (multiple_of p false ≡ Decimal p) × (eqb p 0 ≡ false)
 prefix_is c zero e = absurd (omega (arith, (prefix_found c zero e).0))
 prefix_is c (suc p) e = (refl, refl, not_zero p)
 
--- there is a prefix if its position is not 0
+-- there is a prefix exactly if its position is not 0
 pub prefix_kept : (n : ℕ) (binary : Bool) → has_prefix (multiple_of n binary) ≡ not (eqb n 0)
 prefix_kept zero binary = refl
 prefix_kept (suc n) true = rw (not_zero n) refl
@@ -65,7 +65,7 @@ i_is c = grind (arith, nat_tests)
 b_is : (c : ℕ) → eqb (to_ascii_lowercase c) 98 ≡ (eqb c 66 || eqb c 98)
 b_is c = grind (arith, nat_tests)
 
--- after a prefix the letters of `bits` are read, as many as there are
+-- after a prefix, the letters with which `bits` begins, in either case, are read, as many as there are
 suffix_walk : (m : Multiple) (j w : ℕ) (rest : List ℕ) → multiple_step m (w % 256) ≡ None
     → (u : Bool) → eqb (w % 256) 66 ≡ u → (l : Bool) → eqb (w % 256) 98 ≡ l → (i : Bool) → is_i (w / 256 % 256) ≡ i
     → (t : Bool) → eqb (to_ascii_lowercase (w / 256 / 256 % 256)) 116 ≡ t

@@ -1,4 +1,5 @@
 -- Where the bytes of a string are wrong: the state machine of sizes has a state after those before, and no step there.
+-- The bytes of a number, spaces and a unit are wrong nowhere.
 use Rattle.std.proofs.Common.{◌≡◌, ◌≢◌, ℕ, zero, suc, ◌+◌, ◌*◌, ◌<◌, ◌≤◌, eqb, true, false, inl, inr, List, [], ◌∷◌}
 use Rattle.std.proofs.Common.{◌++◌, Some, None, length, take, drop, get_or, replicate, refl, sym, ap, subst, ◌∙◌, arith}
 use Rattle.std.proofs.Common.{append_assoc, ◌-◌, ◌^◌, ⊎_elim, get_or-drop, take-append-drop, take-add, option_map}
@@ -66,7 +67,7 @@ pub digit_byte : (c : ℕ) → is_ascii_digit c ≡ true → digit_value c + 48 
 digit_byte c digit = grind (arith, nat_tests, digit)
 
 module _ (bytes : List ℕ) where
-  -- no digit is at the start
+  -- if no digit is at the start, the bytes are wrong there
   pub wrong_at_start : IsUtf8 bytes → IsWholeLen bytes 0 → IsWrongAt bytes 0
   unfolding size_step
   wrong_at_start utf8 whole = record {
@@ -81,6 +82,7 @@ module _ (bytes : List ℕ) where
 
   -- the bytes begin with a whole part of the value `value`, which ends at `end`
   module _ (end : ℕ) (len : IsWholeLen bytes end) (some : end ≡ 0 → ⊥) where
+    -- the value of the whole part
     abbrev value : ℕ
     value = len.value
 
@@ -88,10 +90,11 @@ module _ (bytes : List ℕ) where
     pub whole_is : IsWholePart current (take end bytes) value
     whole_is = ((omega (arith, length-take-le end bytes len.within, some), len.digits), len.value_is, len.small)
 
+    -- these bytes are ASCII
     whole_ascii : IsAscii (take end bytes)
     whole_ascii = IsAscii-from_digits (take end bytes) len.digits
 
-    -- one more digit reaches the limit
+    -- if one more digit follows, with which the value reaches the limit, the bytes are wrong at it
     pub wrong_in_whole : IsUtf8 bytes → end < length bytes → digit_value (get_or bytes end 0) < 10 → IsWrongAt bytes end
     unfolding size_step
     wrong_in_whole utf8 inside digit = record {
@@ -104,7 +107,7 @@ module _ (bytes : List ℕ) where
       at_end = λ all. absurd (omega (arith, all, inside));
     }
 
-    -- no digit and no point follows
+    -- if no digit and no point follows, the whole part is the leading number
     pub number_of_whole : (n : ℕ) → value * scale ≡ n → (end < length bytes → IsNoDigit (get_or bytes end 0))
         → (end < length bytes → get_or bytes end 0 ≢ point) → IsLeadingNumber bytes n end
     number_of_whole n at other no_point =
@@ -124,9 +127,11 @@ module _ (bytes : List ℕ) where
 
     -- a point follows: by `pointed` the bytes up to it are a whole part and a point, and those after it are `rest`
     module _ (inside : end < length bytes) (point_is : get_or bytes end 0 ≡ point) where
+      -- the bytes after the point
       abbrev rest : List ℕ
       rest = drop (end + 1) bytes
 
+      -- the bytes up to the point, with it, are a whole part and a point, as the grammar has them
       abbrev pub pointed : IsPointed current (take (end + 1) bytes) value
       pointed = record {
         whole = take end bytes;
@@ -134,11 +139,12 @@ module _ (bytes : List ℕ) where
         whole_is = whole_is;
       }
 
+      -- these bytes are ASCII
       pub pointed_ascii : IsAscii (take (end + 1) bytes)
       pointed_ascii = subst IsAscii (sym pointed.text_is)
           (IsAscii-append (take end bytes) (point ∷ []) whole_ascii (IsAscii-cons point [] (omega arith) IsAscii-nil))
 
-      -- no digit follows the point
+      -- if no digit follows the point, the bytes are wrong after it
       pub wrong_after_point : IsUtf8 bytes → IsPlacesLen rest 0 → IsWrongAt bytes (end + 1)
       unfolding size_step
       wrong_after_point utf8 none =
@@ -157,31 +163,40 @@ module _ (bytes : List ℕ) where
       -- digits of a fraction follow the point, up to `stop`, and their value is `fraction`
       module _ (places : ℕ) {after : List ℕ} (after_is : after ≡ rest) (are_places : IsPlacesLen after places)
           (some_places : places ≡ 0 → ⊥) where
+        -- the digits are those after the point
         count : IsPlacesLen rest places
         count = subst (λ digits. IsPlacesLen digits places) after_is are_places
 
+        -- the digits of the fraction
         abbrev digits : List ℕ
         digits = take places rest
 
+        -- the index after the fraction
         abbrev stop : ℕ
         stop = end + 1 + places
 
+        -- the value of its digits
         abbrev fraction : ℕ
         fraction = digits_value 10 digits
 
+        -- it has `places` digits
         count_is : length digits ≡ places
         count_is = length-take-le places rest count.within
 
+        -- it ends within the bytes
         stop_within : stop ≤ length bytes
         stop_within = omega (arith, count.within, length-drop {A = ℕ} (end + 1) bytes, inside)
 
+        -- the bytes up to its end are whole part, point and digits
         text_is : take stop bytes ≡ take (end + 1) bytes ++ digits
         text_is = take-add (end + 1) places bytes
 
+        -- these bytes are ASCII
         ascii : IsAscii (take stop bytes)
         ascii = subst IsAscii (sym text_is)
             (IsAscii-append (take (end + 1) bytes) digits pointed_ascii (IsAscii-from_digits digits count.digits))
 
+        -- they lead to the state of this fraction
         run_is : run size_step Beginning (take stop bytes) ≡ Some (Fraction value fraction (length digits))
         run_is = ap (run size_step Beginning) text_is
             ∙ (run_through size_step Beginning (Point value) (take (end + 1) bytes) digits
@@ -189,10 +204,11 @@ module _ (bytes : List ℕ) where
             ∙ run_places digits value (omega (arith, count_is, some_places), count.digits)
             (omega (arith, count_is, count.few)))
 
+        -- the byte after the fraction, by its index after the point and by that in all bytes
         first_is : get_or rest places 0 ≡ get_or bytes stop 0
         first_is = get_or-drop (end + 1) bytes places 0
 
-        -- the 29th digit follows
+        -- if a digit follows, it is the 29th, and the bytes are wrong at it
         pub wrong_in_fraction : IsUtf8 bytes → stop < length bytes → digit_value (get_or bytes stop 0) < 10
             → IsWrongAt bytes stop
         unfolding size_step
@@ -212,7 +228,7 @@ module _ (bytes : List ℕ) where
               at_end = λ end. absurd (omega (arith, end, more));
             }
 
-        -- no digit follows
+        -- if no digit follows, whole part, point and fraction are the leading number
         pub number_of_fraction : (n : ℕ) → fixed_point value fraction (length digits) ≡ n
             → (stop < length bytes → IsNoDigit (get_or bytes stop 0)) → IsLeadingNumber bytes n stop
         number_of_fraction n at other =
@@ -314,7 +330,7 @@ after_unit n s (c ∷ cs) rest u ends other run_is next =
       at_end = λ e. e;
     }
 
--- a number, spaces, and the longest beginning of a unit, which is none: the bytes are wrong after it
+-- after a number, spaces and the longest beginning of a unit, the bytes are wrong, unless they end there with a unit
 pub wrong_in_unit : (bytes : List ℕ) → IsUtf8 bytes → (n end spaces place : ℕ) (scan : UnitScan)
     → IsLeadingNumber bytes n end → spaces ≤ length (drop end bytes)
     → take spaces (drop end bytes) ≡ replicate spaces space → IsFirst IsNoSpace (drop spaces (drop end bytes))

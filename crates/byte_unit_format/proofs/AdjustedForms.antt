@@ -1,4 +1,4 @@
--- A size has exactly one text in a given unit by each spec.
+-- A size has exactly one text in a given unit by each spec, and what the code makes of its digits is this text.
 --
 -- Of a text by a rule, as `of_text`, the parts are the expansion or the nearest decimal, that it is this, and that the
 -- text is its. The same holds of `of_other`. A nearest decimal that is `found` is its number, and that it is nearest; a

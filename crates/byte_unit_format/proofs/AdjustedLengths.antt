@@ -76,7 +76,7 @@ full_length num den places number some small exact found =
     let whole = whole_at_most num den found.0 some found.1 in
     omega (arith, ap length found.2, text_length found.0 places (omega (arith, whole, small)) (found.1.least places exact))
 
--- A number of `places` digits after the point that is at most 10^31, as a text with all these digits, or without zeros.
+-- The whole part of a rounded number, which is not above a dividend below 10^31, is below 10^31.
 rounded_whole : (num places q : ℕ) → num < 10 ^ 31 → q ≤ num * 10 ^ places → q / 10 ^ places < 10 ^ 31
 rounded_whole num places q small within = grind (arith, one_le_pow10 places)
 

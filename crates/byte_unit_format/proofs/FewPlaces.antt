@@ -92,7 +92,7 @@ greatest_thousands {size} {whole} {thousandths} {power} divided ends =
           (cases_lt thousandths 1);
     }
 
--- The next division by 1000 leaves as much.
+-- If at least 1000 and no thousandths are left, one more division by 1000 leaves the number in the next prefix.
 pub divided_more : {size whole thousandths power next rest : ℕ} → size < size_limit
     → IsDivided size whole thousandths power → thousandths ≡ 0 → 1000 ≤ whole → next ≡ whole / 1000
     → rest ≡ whole % 1000 → IsDivided size next rest (power + 1)
@@ -111,7 +111,7 @@ divided_more {size} {whole} {thousandths} {power} {next} {rest} small divided no
       few = few_thousands (power + 1) size small (omega (arith, value, mul-le-mul_right prefix some));
     }
 
--- Three digits after the point are as many as `places`, and the rest.
+-- The powers of ten of `places` digits, and of the rest of three digits, make 1000.
 places_and_rest : (places : ℕ) → places ≤ 3 → 10 ^ places * 10 ^ (3 - places) ≡ 1000
 places_and_rest places few = grind (arith, pow-add 10 places (3 - places))
 
@@ -125,7 +125,7 @@ fits_three {places} {size} {prefix} few fits = record {
   not_above = fits.not_above;
 }
 
--- Of thousandths that end in zeros fewer digits are left, and the prefix stays.
+-- If the thousandths end in enough zeros, the largest prefix for three digits is the largest one for fewer, too.
 pub greatest_of_zeros_left : {places size power : ℕ} (whole thousandths : ℕ) → places ≤ 3
     → IsGreatestPower 3 10 3 size power → (whole * 1000 + thousandths) * 10 ^ (3 * power) ≡ size * 1000
     → thousandths % 10 ^ (3 - places) ≡ 0 → IsGreatestPower places 10 3 size power
@@ -149,7 +149,7 @@ greatest_of_zeros_left {places} {size} {power} whole thousandths few greatest va
       greatest = λ other fits. greatest.greatest other (fits_three few fits);
     }
 
--- The size in the prefix before is a whole number.
+-- In the prefix before, the size is a whole number: that of the thousandths here.
 pub value_before : {size power : ℕ} (whole thousandths : ℕ) → 1 ≤ power
     → (whole * 1000 + thousandths) * 10 ^ (3 * power) ≡ size * 1000
     → (whole * 1000 + thousandths) * 10 ^ (3 * (power - 1)) ≡ size
@@ -228,7 +228,7 @@ binary_greatest places size power at_most some small count =
       rw counted (mul-mod_left (left * 2 ^ (twos - eighth)) (2 ^ eighth)),
     )
 
--- The whole part and the eighths of a size that is eighths of a binary prefix.
+-- A size that is eighths of a binary prefix is a whole part and thousandths of it: 125 for each eighth.
 pub eighths_value : (size power : ℕ) → 1 ≤ power → size % 2 ^ (10 * power - 3) ≡ 0
     → let count = size / 2 ^ (10 * power - 3) in (count / 8 * 1000 + 125 * (count % 8)) * 2 ^ (10 * power) ≡ size * 1000
 eighths_value size power some whole_eighths =
@@ -287,7 +287,7 @@ module _ (kind : Kind) (places size : ℕ) (few : places ≤ 3) where
             );
       })
 
-  -- If no decimal prefix of a later position fits the size, the binary prefix is the larger one.
+  -- If no decimal prefix of a later position fits the size, the unit with the largest binary prefix is the exact unit.
   pub recovered_binary : {binary : ℕ} → 1 ≤ binary → binary ≤ 9 → IsGreatestPower places 2 10 size binary
       → ((other : ℕ) → FitsPrefix places size (10 ^ (3 * other)) → other ≤ binary)
       → IsRecoveredIn current kind false size places (shape binary true (counts_bits kind))
@@ -299,7 +299,7 @@ module _ (kind : Kind) (places size : ℕ) (few : places ≤ 3) where
       (λ other fits. raised other (twos.greatest other fits))
       (λ other fits. omega (arith, raised other (later other fits), pow10_le_pow2 other)))
 
-  -- If not, the decimal prefix is the larger one.
+  -- If the largest decimal prefix has a later position than the largest binary one, the unit with it is the exact unit.
   pub recovered_decimal : {decimal binary : ℕ} → 1 ≤ decimal → decimal ≤ 9 → IsGreatestPower places 10 3 size decimal
       → IsGreatestPower places 2 10 size binary → binary < decimal
       → IsRecoveredIn current kind false size places (shape decimal false (counts_bits kind))
@@ -313,7 +313,7 @@ module _ (kind : Kind) (places size : ℕ) (few : places ≤ 3) where
       omega (arith, prefix_lt_next other true (omega (arith, next, known)), raised (other + 1) next))
       (λ other fits. raised other (tens.greatest other fits)))
 
-  -- A size below 1000 is in no unit with a prefix.
+  -- The exact unit of a size below 1000 is the base unit of its kind.
   pub recovered_own : size < 1000 → IsRecoveredIn current kind false size places (own_unit kind)
   recovered_own below =
       inr (
@@ -329,7 +329,7 @@ module _ (kind : Kind) (places size : ℕ) (few : places ≤ 3) where
         refl,
       )
 
-  -- Nor is one that fits none.
+  -- So is that of a size that no prefix fits.
   pub recovered_none : {decimal binary : ℕ} → decimal ≡ 0 → binary ≡ 0 → IsGreatestPower places 10 3 size decimal
       → IsGreatestPower places 2 10 size binary → IsRecoveredIn current kind false size places (own_unit kind)
   recovered_none no_decimal no_binary tens twos =
@@ -343,7 +343,7 @@ module _ (kind : Kind) (places size : ℕ) (few : places ≤ 3) where
         refl,
       )
 
--- The number of units, scaled by 10^28, times the bits of the unit is the size in bits.
+-- The number of units, scaled by 10^28, times the bits of the unit is the size in bits, scaled by 10^28.
 pub number_of_units : (kind : Kind) (size power : ℕ) (binary : Bool) (whole thousandths : ℕ)
     → (whole * 1000 + thousandths) * prefix_of power binary ≡ size * 1000
     → (whole * scale + thousandths * 10 ^ 25) * bits (shape power binary (counts_bits kind))

@@ -40,7 +40,7 @@ abbrev pub prefix_of : ℕ → Bool → ℕ
 prefix_of power true = 2 ^ (10 * power)
 prefix_of power false = 10 ^ (3 * power)
 
--- A unit with a prefix is the prefix times the base unit of the kind.
+-- A unit with a prefix has as many bits as the prefix times the base unit of the kind.
 pub unit_bits : (kind : Kind) (power : ℕ) (binary bit : Bool) → HasKind (own_family kind) bit
     → bits (shape power binary bit) ≡ prefix_of power binary * bits_in kind
 unit_bits Byte power true bit has = rw has (omega (arith, pow-add 2 (10 * power) 3))

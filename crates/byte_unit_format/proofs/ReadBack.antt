@@ -93,7 +93,7 @@ own_says : (kind : Kind) (ignore_case bit : Bool) → HasKind (own_family kind) 
 own_says Byte ignore_case bit has is_bit = absurd (let never : ⊥ = cc in never)
 own_says Bit ignore_case bit has is_bit = refl
 
--- If case is significant, units are read in their kind.
+-- The flags of a kind keep case significant, unless it is to be ignored.
 pub case_counts : (kind : Kind) → (flags_for kind false).ignore_case ≡ false
 case_counts kind = grind arith
 
@@ -275,7 +275,7 @@ digits_are_size kind size spec ignore_case below sign =
       unit_is = no_unit kind ignore_case;
     }
 
--- A size formatted as digits without a plus sign is read as the size, if its own unit means the same unit.
+-- A size formatted as digits without a plus sign is read as the size, if `meant` leaves the base unit as it is.
 pub digits_accepted :
     (meant : Shape → Shape) (kind : Kind) (ignore_case : Bool) (size : ℕ) (spec : FormatSpec)
     → meant (own_unit kind) ≡ own_unit kind → size < current.size_limit → spec.sign ≢ Plus
@@ -321,7 +321,7 @@ form_accepted kind size unit text below form exact =
     (expansion_bounded kind size shape e below form.number_is.1) few (unit_known unit) (λ bit. case_counts kind)
     (expansion_product (size * bits_in kind) (bits shape) e form.number_is.1 few) below)
 
--- Otherwise it is rejected as too long.
+-- An adjusted text whose size is not exact within 28 places is rejected as too long.
 form_rejected : (kind : Kind) (size : ℕ) (unit : UnitName) (text : List ℕ) → size < current.size_limit
     → IsAdjustedForm kind size unit ALTERNATE text
     → ¬ (IsExactAt (size * bits_in kind) (bits (shape_of unit)) places_of_decimal)

@@ -1,4 +1,4 @@
--- A size in a unit takes at most 93 digits after the point, and in bytes at most 90.
+-- A size in a unit takes at most 93 digits after the point, and a size in bytes at most 90.
 use Rattle.std.proofs.Common.{◌≡◌, ◌*◌, ◌/◌, ◌^◌, ℕ, arith, ap, refl}
 use Rattle.byte_unit_math.specs.Exact.{IsExactAt}
 use Rattle.byte_unit_base.specs.Shape.{bits}

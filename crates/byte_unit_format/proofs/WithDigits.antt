@@ -76,7 +76,7 @@ greatest_of_zeros size front zeros len power product odd at_least below power_is
           omega (arith, exponent_below 10 (3 * other) len size (omega arith) fits.not_above below, low, power_is);
     }
 
--- What a list has before an index and from there on is its text up to the end.
+-- A list with one text before an index, and another from there on, begins with both.
 pub text_at : {front : List ℕ} (text list behind : List ℕ) (cut end : ℕ) → take cut list ≡ front
     → drop cut list ≡ text ++ behind → length front + length text ≡ end → take end list ≡ front ++ text
 text_at {front} text list behind cut end front_is text_is end_is =
@@ -101,7 +101,7 @@ cut_some cut used digits more = grind (arith, nat_tests)
 pub cut_none : (cut used : ℕ) (digits : List ℕ) → used ≤ cut → cut_digits cut used digits ≡ []
 cut_none cut used digits few = grind (arith, nat_tests)
 
--- The first of three elements from an index on are the first from there on.
+-- The elements from an index on are the three there, and those after them.
 pub three_elements : (list : List ℕ) (at : ℕ) → at + 3 ≤ length list
     → drop at list ≡ get_or list at 0 ∷ get_or list (at + 1) 0 ∷ get_or list (at + 2) 0 ∷ drop (at + 3) list
 three_elements list at within = grind (arith, drop_more list at 0, drop_more list (at + 1) 0, drop_more list (at + 2) 0)
@@ -143,7 +143,7 @@ power_within size k some small within =
     let rises = pow-le-pow_right {n = 10} (omega arith) {i = k} {j = length (decimal size) - 1} in
     grind (arith, between_powers size some, rises)
 
--- If the digits are zeros from an index on, what is written there is worth nothing.
+-- A size is a multiple of each power of ten with no more zeros than there are digits after the used ones.
 rest_is_zero : (size used k : ℕ) → 1 ≤ size → size < size_limit → IsUsed (padded_digits size) used
     → used + k ≤ length (decimal size) → size % 10 ^ k ≡ 0
 rest_is_zero size used zero some small is_used behind = omega arith

@@ -8,7 +8,7 @@ byte_unit.wasm and aarch64/libbyte_unit.a from a folder; what needs a file that 
 must be empty or missing, then has:
 
     byte-unit-VERSION-linux-x86_64.tar.gz, -linux-aarch64.tar.gz    a prefix, for any place, and install.sh
-    byte_unit-VERSION-cp311-abi3-..whl, byte_unit-VERSION.tar.gz    for pip, which then needs no network; a wheel a processor
+    byte_unit-VERSION-cp311-abi3-..whl, byte_unit-VERSION.tar.gz    for pip without a network; a wheel a processor
     byte-unit-5.2.6-cargo.tar.gz                   a package for a folder of cargo's vendored sources
     byte-unit-VERSION-js.tar.gz, how-a-size-is-read.html             the package for JavaScript, and the page
     lib*.deb, byte-unit_*.deb, python3-*.deb, postgresql-*.deb       the packages for Debian 12
@@ -37,7 +37,9 @@ from ..page import page
 from . import archives, debian
 from .readmes import linked, readme
 
+# The prefix in byte_unit.pc of an archive for any place: pkg-config has the folder of that file as `pcfiledir`.
 RELOCATABLE = "${pcfiledir}/../.."
+# The page RELEASE.md.
 RELEASE = """# byte-unit {version}
 
 Made by `tools/dev make-dist` of commit {commit}, with `{toolchain}`.
@@ -88,6 +90,7 @@ class Parts:
                 archives.stripped(file, prefix)
 
     def copy(self, source):
+        """Takes what is built from a folder, that of --from, and links the shared libraries."""
         names = {ARCHIVE: self.x86, HEADER: self.x86, COMMAND: self.x86, f"aarch64/{ARCHIVE}": self.arm,
                  MODULE: self.wasm}  # fmt: skip
         for name, folder in names.items():
@@ -99,6 +102,7 @@ class Parts:
             libraries.link_shared(self.arm, "aarch64-linux-gnu-gcc")
 
     def build(self, after_ci):
+        """Proves and builds all, or with `after_ci` builds it over what `rt ci` has built."""
         libraries.run(self.x86, after_ci=after_ci)
         # What byte_unit_c needs has been built by now.
         libraries.build_for(libraries.AARCH64, self.arm, True)
@@ -214,6 +218,8 @@ def sources(parts):
     return {f"{top}.tar.gz": archives.tarball(top, files, parts.seconds)}
 
 
+# What is made, by the name that a line `skipped: ` has for it. The wheel comes before Debian's package, which has its
+# files.
 KINDS = {"the archive for x86-64": x86_64, "the archive for aarch64": aarch64, "the packages for pip": python,
          "the wheel for aarch64": python_aarch64,
          "the package for cargo": cargo, "the package for JavaScript": javascript, "the sources": sources,
@@ -224,6 +230,7 @@ def run(folder, *, after_ci=False, from_=None, verdict=""):
     target = Path(folder).resolve()
     if target.exists() and (not target.is_dir() or any(target.iterdir())):
         raise Failure(f"{target} is there already, and is no empty folder")
+    # The copies from which files are packed have modes that do not follow from the user's.
     os.umask(0o022)
     with tempfile.TemporaryDirectory() as work:
         parts, made = Parts(work, from_, after_ci), {}

@@ -11,7 +11,7 @@ import time
 import zipfile
 from pathlib import Path
 
-from ..common import call, output
+from ..common import output
 
 
 def mode_of(place, content):
@@ -49,6 +49,7 @@ def files_of_tar(file):
 
 
 def files_of_zip(file):
+    """Returns the files of a zip archive."""
     with zipfile.ZipFile(file) as archive:
         return {name: archive.read(name) for name in archive.namelist() if not name.endswith("/")}
 
@@ -60,7 +61,7 @@ def zipped(files, seconds):
         for name, content in sorted(files.items()):
             entry = zipfile.ZipInfo(name, time.gmtime(seconds)[:6])
             entry.compress_type, entry.external_attr = zipfile.ZIP_DEFLATED, (0o100000 | mode_of(name, content)) << 16
-            entry.create_system = 3
+            entry.create_system = 3  # Unix: from other systems no modes are read
             archive.writestr(entry, content)
     return made.getvalue()
 

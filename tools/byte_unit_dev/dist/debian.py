@@ -1,4 +1,4 @@
-"""Packages for Debian 12 on x86-64: what each has, needs and says."""
+"""Packages for Debian 12 on x86-64: what each has, needs and says; and the archive of their tests."""
 
 import email.utils
 import functools
@@ -16,6 +16,7 @@ from . import archives
 
 MAINTAINER = "Nedlufa maintainers <maintainers@users.noreply.nedlufa.example>"
 LIB = "usr/lib/x86_64-linux-gnu"
+# The first line of the description of each package, and the lines after it.
 SHORT = {"libbyte-unit3": "exact sizes in bytes and in bits: the library",
          "libbyte-unit-dev": "exact sizes in bytes and in bits: for programs in C",
          "byte-unit": "convert sizes in bytes and in bits, exactly",
@@ -25,12 +26,14 @@ SHORT = {"libbyte-unit3": "exact sizes in bytes and in bits: the library",
 LONG = """ Parses and formats sizes such as 1.5 KiB, and chooses units, exactly. The
  library is written in Rattle, Rust with contracts, and each of its functions
  is proved to meet its contract."""
+# The fields of its control file that only this package has.
 FIELDS = {"libbyte-unit3": {"Section": "libs", "Multi-Arch": "same"},
           "libbyte-unit-dev": {"Section": "libdevel", "Multi-Arch": "same", "Depends": ["libbyte-unit3 (= {version})"]},
           "byte-unit": {"Section": "utils"},
           "libsqlite3-mod-byte-unit": {"Section": "libs", "Multi-Arch": "same", "Suggests": "sqlite3"},
           "python3-byte-unit": {"Section": "python", "Depends": ["python3 (>= 3.11)"]},
           "postgresql-15-byte-unit": {"Section": "database", "Depends": ["postgresql-15"]}}  # fmt: skip
+# When the scripts of the package for Python run, and what: its modules are compiled, and what that made is removed.
 COMPILED = {"postinst": ("configure", "py3compile -p python3-byte-unit"),
             "prerm": ("remove|upgrade|deconfigure", "py3clean -p python3-byte-unit")}  # fmt: skip
 TESTS = Path(__file__).parent / "autopkgtest"
@@ -68,7 +71,7 @@ def installed(parts):
 
 
 def chosen(parts, *patterns):
-    """Returns the installed files whose names match, all of a pattern or it fails."""
+    """Returns the installed files whose names match one of the patterns. Fails if a pattern matches none."""
     found = {name: content for name, content in installed(parts).items()
              if any(re.fullmatch(pattern, name) for pattern in patterns)}
     for pattern in patterns:
@@ -87,7 +90,7 @@ def library(parts):
 
 
 def symbols(parts, soname):
-    """Returns the symbols file of the library."""
+    """Returns the symbols file of the library: the first version with each symbol, here this one."""
     names = re.findall(r"^\w+ \w (\w+)@@?(\w+)$", output("nm", "-D", "--defined-only", parts.x86 / soname), re.M)
     node = names[0][1]
     lines = [f" {name}@{node} {parts.version}\n" for name in sorted([node, *(name for name, _ in names)])]
@@ -109,7 +112,7 @@ def sqlite(parts):
 
 
 def python(parts):
-    """Returns the files of the package for Python, and its control files."""
+    """Returns the files of the package for Python, those of the wheel, and its scripts."""
     if not hasattr(parts, "wheel"):
         raise Failure("there is no wheel")
     dropped = ("/RECORD", "/LICENSE")
@@ -156,6 +159,7 @@ def package(parts, name, contents):
              f"{doc}/examples/try": (TESTS / name).read_bytes()}  # fmt: skip
     own = dict(FIELDS[name])
     depends = ", ".join([*needed_libc(files), *own.pop("Depends", [])]).format(version=version)
+    # In KiB, each file rounded up.
     size = sum(len(content) // 1024 + 1 for content in files.values())
     fields = {"Package": name, "Source": "byte-unit", "Version": version, "Architecture": "amd64",
               "Maintainer": MAINTAINER, "Installed-Size": size, "Depends": depends, **own,
@@ -179,6 +183,7 @@ def tests(parts):
 
 
 def kind(name, contents):
+    """Returns the function that makes the package with these contents, or fails without dpkg-deb."""
     def made(parts):
         if not is_there("dpkg-deb"):
             raise Failure("dpkg-deb is missing")

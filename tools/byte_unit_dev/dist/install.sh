@@ -8,6 +8,7 @@ if [ "${1-}" = --uninstall ]; then
     action=uninstall
     shift
 fi
+# One word at most, and no other option.
 case "$#${1-}" in
 0 | 1[!-]*) prefix=${1-/usr/local} ;;
 *)
@@ -24,6 +25,7 @@ old() {
 
 if [ $action = uninstall ]; then
     [ -f "$prefix/$list" ] || { echo "$prefix/$list is missing: nothing was installed there" >&2; exit 1; }
+    # In reverse order a folder comes after what is in it; `./` is the prefix.
     old | LC_ALL=C sort -r | while read -r name; do
         case "/$name" in
         //* | */../*) echo "$prefix/$list: $name is not below $prefix" >&2; exit 1 ;;
@@ -38,6 +40,7 @@ fi
 cd "$(dirname "$0")"
 files=$(cat $list)
 made=
+# Makes each folder of the files, the outer ones first, and keeps which of them were missing.
 for folder in ./ $(for name in $files; do
     while [ "$name" != "${name%/*}" ]; do name=${name%/*}; echo "$name/"; done
 done | LC_ALL=C sort -u); do
@@ -50,12 +53,14 @@ done
 kept=$(old)
 printf '%s\n' $files $made $kept | LC_ALL=C sort -u > "$prefix/$list.new"
 mv -f "$prefix/$list.new" "$prefix/$list"
+# A file is copied beside its place and then renamed, so that it is never there in part.
 for name in $files; do
     if [ "$name" != $list ]; then
         cp -P "$name" "$prefix/$name.new"
         mv -fT "$prefix/$name.new" "$prefix/$name"
     fi
 done
+# What an earlier version had and this one has not.
 for name in $kept; do
     case "$name" in */) continue ;; esac
     if ! grep -qxF "$name" $list; then rm -f "$prefix/$name"; fi

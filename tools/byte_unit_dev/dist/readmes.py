@@ -6,9 +6,10 @@ from pathlib import Path
 
 from ..common import Failure, path, read
 
-# A link to a file, or an image.
+# A link or an image whose target is a file: not an address, and not a heading of the same page.
 LINK = re.compile(r"!?\[([^\]]*)\]\((?!\w+:|#)([^)#\s]+)(#[^)\s]*)?\)")
 SOURCES = "\nWhat is said to be in the sources is in `byte-unit-{version}-rattle.tar.gz`.\n"
+# The section "Install" of each README, by its binding, with `@NAME@` for what differs among archives.
 INSTALL = {
     "c": """For Linux on @MACHINE@. As root, in this folder:
 

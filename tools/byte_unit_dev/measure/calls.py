@@ -20,6 +20,7 @@ TABLES = {
     "sqlite": ("SQLite, a million rows", ["Seconds"], ".2f"),
     "postgresql": ("PostgreSQL, a million rows", ["Seconds of the server"], ".2f"),
 }
+# A line: the column, the row, what it is of (after the last ` of `), and the figure.
 FIGURE = re.compile(r"^(?:(.*?): )?(.+?)(?: of (?!.* of )(.+?))? +([0-9]+(?:\.[0-9]+)?)$", re.M)
 
 

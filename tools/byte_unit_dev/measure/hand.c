@@ -13,15 +13,21 @@ typedef unsigned char u8;
 typedef struct { u64 limb[5]; } big;
 
 enum { BLOCK = 1 << 16 };
+/* A byte in all eight places of a word. */
 #define ALL(byte) (0x0101010101010101u * (byte))
 #define RARE(x) __builtin_expect(!!(x), 0)
 #define INLINE static inline __attribute__((always_inline))
+/* 10^30, which a size has to be below. */
 static const u128 LIMIT = (u128)1000000000000000 * 1000000000000000;
 static const char LETTERS[] = "\0KMGTPEZYR";
+/* The decimals of eighths, of which three digits are enough, and their lengths. */
 static const char EIGHTHS[8][5] = { "", ".125", ".25", ".375", ".5", ".625", ".75", ".875" };
 static const u8 LENGTHS[8] = { 0, 4, 3, 4, 2, 4, 3, 4 };
 static u64 TEN[20];
-static struct { u64 times, less, inverse; u8 shift, bits; } FIVES[56]; /* to multiply by 5^(e - 28) */
+/* To multiply by 5^(e - 28): by `times`, of `bits` bits, or to divide, rounded up: `less` is added, and the sum times
+ * `inverse` shifted right by 63 + `shift`. */
+static struct { u64 times, less, inverse; u8 shift, bits; } FIVES[56];
+/* The position of a letter in LETTERS, in either case, or 0. */
 static u8 PREFIX[256];
 
 INLINE u64 load(const void *p) { u64 x; memcpy(&x, p, 8); return x; }
@@ -45,7 +51,8 @@ static void make_tables(void)
     for (int k = 1; k < 10; k++) PREFIX[(u8)LETTERS[k]] = PREFIX[LETTERS[k] | 32] = k;
 }
 
-/* The number of the digits at p, at most eight, and how many they are. */
+/* The number of the digits at p, at most eight, and how many they are. Each byte above 9 plus 0x76 is above 0x7f. The
+ * digits become pairs, and these by two products, with 10^6 * 2^32 + 100 and 10^4 * 2^32 + 1, the number. */
 INLINE u64 digits(const u8 *p, unsigned *count)
 {
     u64 t = load(p) ^ ALL('0'), end = ((t + ALL(0x76)) | t) & ALL(0x80);
@@ -54,6 +61,7 @@ INLINE u64 digits(const u8 *p, unsigned *count)
     return ((t & 0xff000000ff) * 0xf424000000064 + (t >> 16 & 0xff000000ff) * 0x271000000001) >> 32;
 }
 
+/* The number with the digits at *p after those of n, at most eight; *p is then after them. */
 INLINE u64 add_digits(u64 n, const u8 **p, unsigned *count)
 {
     u64 group = digits(*p, count);
@@ -61,7 +69,8 @@ INLINE u64 add_digits(u64 n, const u8 **p, unsigned *count)
     return n * TEN[*count] + group;
 }
 
-/* The unit of `len` letters, the low ones of w: 2^twos * 5^fives bytes. */
+/* The unit of `len` letters, the low ones of w: 2^twos * 5^fives bytes. 0x20746962 is `bit` and a space, which here is
+ * the bit that makes letters small, in a byte without one; 0x73746962 is `bits`. */
 INLINE int unit(u64 w, unsigned len, int *twos, int *fives)
 {
     unsigned k = PREFIX[w & 255], binary = k && (w >> 8 & 0xdf) == 'I' && len > 1, used = (k > 0) + binary;
@@ -172,7 +181,8 @@ INLINE const char *read_line(const u8 *p, const u8 **next, u128 *size)
     return read_slowly(p, e, size);
 }
 
-/* Eight digits, the first one in the low byte. */
+/* Eight digits, the first one in the low byte: halves by 10^4, then pairs and digits in each place at once. The factors
+ * are 2^40 / 10^4, 2^20 / 100 and 2^10 / 10, rounded up. */
 INLINE u64 eight(u64 n)
 {
     u64 high = n * 109951163 >> 40, x = high | (n - high * 10000) << 32, t = (x * 10486 >> 20) & 0x7f0000007f;
@@ -206,6 +216,7 @@ INLINE unsigned put(u8 *out, u128 n, int wide, unsigned *zeros)
     return before + after;
 }
 
+/* Writes a space, the name of a unit and a line feed: the low byte of a word is written first, so 0x0a is last. */
 INLINE u8 *put_name(u8 *out, unsigned k, int binary)
 {
     u64 name = k ? binary ? 0x0a426900u | (u8)LETTERS[k] : 0x0a4200u | (u8)LETTERS[k] : 0x0a42;

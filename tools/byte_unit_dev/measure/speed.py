@@ -12,11 +12,14 @@ from .. import builds
 from ..common import Failure, call, output, path, spent, write
 from ..source import copy_crates
 
+# The lines that valgrind counts, few since it is slow; and what the programs are compared with.
 COUNTED, NUMFMT, BY_HAND = 20_000, ["numfmt", "--from=auto"], "C by hand"
 ONE_PROCESSOR = ["taskset", "--cpu-list", str(max(os.sched_getaffinity(0)))]
+# What a unit may begin with, and all units.
 MULTIPLES = ["", *(letter + infix for letter in "KMGTPEZY" for infix in ("", "i"))]
 UNITS = [multiple + own for multiple in MULTIPLES for own in ("B", "bit")]
-LETTERS = MULTIPLES[: MULTIPLES.index("P")]  # `numfmt` prints only numbers below 10^18
+# Prefixes up to T alone: `numfmt` prints only numbers below 10^18.
+LETTERS = MULTIPLES[: MULTIPLES.index("P")]
 # The ends of a line that is rejected after its number, and lines that have no number.
 ENDS = [" byte", " bytes", "byte", " kilobyte", " Kx", " mq", "GC", "T;", "Kix", "giK", "Mi/", " KB/s", " gB/s", " bi",
         " Kbi", " bitz", " Mbity", "bit.", " bits.", " bits/s", " KB # note", "\tKB", " \u00b5B", " K\u0456B"]

@@ -1,1 +1,1 @@
-"""Exact models of the programs, and generated inputs for them."""
+"""The exact model of sizes and of byte_unit_lines, and generated inputs."""

@@ -11,6 +11,7 @@ from collections import namedtuple
 from decimal import Decimal, getcontext
 
 LETTERS = "KMGTPEZYR"
+# What a whole part and a size are below; the digits after the point that a number has at most, and a formatted size.
 WHOLE_LIMIT, SIZE_LIMIT = 2**112, 10**30
 FRACTION_PLACES, FORM_PLACES = 28, 3
 # The bits of one, and the name of the unit without a prefix.
@@ -23,9 +24,11 @@ UNITS = list(BITS)
 # The characters with the Unicode property White_Space: of Python's, all but four separators.
 WHITE_SPACE = "".join(c for c in map(chr, range(0x3001)) if c.isspace() and c not in "\x1c\x1d\x1e\x1f")
 NUMBER = re.compile(r"([0-9]*)(\.([0-9]*))?")
+# The flags `ai` take letters of ASCII in either case, and none else for them, such as the sign of Kelvin for `K`.
 SPELLING = re.compile(r"(?ai:([KMGTPEZYR])(i?))?(B|b|(?ai:bits?))?")
+# The characters that Rust escapes by a letter or as they are.
 SHORT_ESCAPES = {"\0": "\\0", "\t": "\\t", "\n": "\\n", "\r": "\\r", "'": "\\'", "\\": "\\\\"}
-# Parts of random lines.
+# Parts of random lines: ends of units, texts that are mostly no sizes, and bytes that are mostly not UTF-8.
 WORDS = ["", "B", "b", "bit", "bits", "BIT", "bItS", "bi", "bitx", "byte"]
 ODD = ["", " ", "\t", "x", "-1", "+1", ".5", "1.", "1 .5", "1,000", "1_000", "1e3", "\ufeff1",
        "é", "1é", "1 Ké", "1😀"]  # fmt: skip
@@ -43,6 +46,7 @@ def debug_char(c):
     """Returns a character as `{:?}` of Rust quotes it: escaped if it is not printable or extends the one before it."""
     if c in SHORT_ESCAPES:
         return f"'{SHORT_ESCAPES[c]}'"
+    # The two marks of halfwidth Katakana extend a character, though they are letters by their category.
     extends = unicodedata.category(c) in ("Mn", "Me") or c in "\uff9e\uff9f"
     return f"'\\u{{{ord(c):x}}}'" if extends or not c.isprintable() else f"'{c}'"
 
@@ -76,6 +80,7 @@ def read(text, kind, ignore_case=False, quote=debug_char):
     if not text:
         return Rejected("no value", "no value can be found")
     digits, point, fraction = NUMBER.match(text).groups("")
+    # Of a longer whole part 40 digits are enough to be above its limit, which has 34.
     whole = int(digits.lstrip("0")[:40] or "0")
     if digits and (whole >= WHOLE_LIMIT or len(fraction) > FRACTION_PLACES):
         return Rejected("number too long", "value number is too long")

@@ -5,8 +5,9 @@ FOLDER has the sources of the crate: `src/lib.rs` and so on, or files whose name
 the Rust package, which calls the C library, and an exact model take random requests: texts and spellings of units to
 parse, sizes to format, numbers of units. Prints how many results each rule explains.
 
-The status is 1 if a result of the library is not that of the model, if no rule explains a difference, if one of 20,000
-results of the library with one more digit is not found to be wrong, or if docs/DIFFERENCES.md lacks the words of a rule.
+The status is 1 if a result of the library is not that of the model, if no rule explains a difference, if one of the
+first 20,000 results of the library with one more digit is not found to be wrong, or if docs/DIFFERENCES.md lacks the
+words of a rule.
 """
 
 import random

@@ -2,11 +2,15 @@
 
 from ..model.exact import BITS, UNITS, some_line, some_unit
 
+# The limits of the crate and of the library: of the digits of a number, of a whole part, and of a size in bytes and in
+# bits; and that of 64 bits.
 LIMITS = [2**96, 2**112, 10**27, 10**28, 10**30, 2**64, 8 * 10**27, 2**93]
+# Numbers of digits after the point, up to that of the limit, 28, and past it.
 PRECISIONS = [0, 1, 2, 3, 3, 3, 4, 6, 9, 12, 15, 16, 20, 25, 26, 27, 28, 29, 300]
 
 
 def text_near_a_limit(rng):
+    """Returns a size of any unit that is about one of LIMITS, in bytes, in bits or as the number itself."""
     unit = rng.choice(UNITS)
     size = rng.choice(LIMITS) + rng.choice([-1, 0, 1, rng.randrange(-10**6, 10**6)])
     scale = rng.randrange(29)
@@ -35,6 +39,7 @@ def text_with_odd_character(rng):
 
 
 def some_text(rng):
+    """Returns a text to parse: in half of the cases a random line."""
     ways = [text_near_a_limit, text_near_a_limit, text_with_long_digits, text_with_long_digits, text_with_odd_character]
     make = rng.choice([*ways, *[None] * 5])
     return make(rng) if make else some_line(rng).decode(errors="replace")
@@ -51,7 +56,8 @@ def some_unit_text(rng):
 
 
 def some_size(rng):
-    """Returns a size below 10^30: any, in few digits of a unit, or near one."""
+    """Returns a size below 10^30, mostly below 10^27, the crate's limit: any, in few digits of a unit, or near one or a
+    limit."""
     choice, unit = rng.random(), rng.choice(list(BITS.values()))
     if choice < 0.4:
         size = rng.randrange(10 ** rng.choice([*range(1, 28), *range(1, 28), 30]))
@@ -63,6 +69,7 @@ def some_size(rng):
 
 
 def some_spec(rng):
+    """Returns a format: flags after a colon, a width, of which 0 is none, and a precision, of which `-` is none."""
     width, precision = rng.choice([0, 0, rng.randrange(1, 45)]), rng.choice(["-", rng.choice(PRECISIONS)])
     alternate, sign, align = rng.choice(["", "#"]), rng.choice(["", "", "+", "-"]), rng.choice(["", "<", "^", ">"])
     return f":{align}{sign}{alternate} {width} {precision}"

@@ -24,7 +24,9 @@ RULES = {
     "float": ("an adjusted text: the shortest digits of the float", "has the shortest digits of the float"),
     "rounded": ("an adjusted text: a rounded float", "adjusted texts are rounded as floats"),
 }
+# The limits of the crate: of the digits of its decimals, and of its sizes.
 OF_DECIMAL, OF_SIZES = 2**96, 10**27
+# What the crate and the library expect last in place of a prefix; and characters as `{:?}` of Rust escapes them.
 LAST_LETTERS = ("'Z' or 'Y' or no character", "'Z', 'Y' or 'R' or no character")
 ESCAPES = {r"\t": "\t", r"\n": "\n", r"\r": "\r", r"\0": "\0", r"\'": "'", r"\\": "\\"}
 # How the exact messages quote a character: as it is.
@@ -78,13 +80,14 @@ def parsed(theirs, ours, text, kind, ignore_case):
 
 
 def parsed_unit(theirs, ours, text, kind, ignore_case):
+    """The call that parses a unit."""
     text = text.strip(WHITE_SPACE)
     yield unit_of(text, kind, ignore_case) or f"! {unit_message(text, kind, ignore_case, AS_IT_IS)}"
     yield from of_messages(theirs, ours, text[:1])
 
 
 def of_best_unit(size, kind, number, their_unit, value, unit):
-    """Yields the rules of two units that differ, or their numbers."""
+    """Yields the rules by which a number and a unit differ from the exact value and its best unit."""
     is_exact = Decimal(number) == value_of(size, kind, their_unit)
     yield "letter", is_exact and unit[0] == "R"
     yield "quotient", not is_exact or int(f"{value:f}".replace(".", "")) >= OF_DECIMAL
@@ -128,6 +131,7 @@ class Spec:
         if self.precision is not None and (self.alternate or unit not in BASE.values()):
             if not self.alternate:
                 return f"{value:.{self.precision}f}"
+            # The alternate form has at most 16 places: see docs/DIFFERENCES.md.
             scale = type(value)(10) ** min(self.precision, 16)
             whole = math.floor(value * scale)
             value = type(value)(whole + (value * scale - whole >= 0.5)) / scale
@@ -160,12 +164,14 @@ def adjusted(theirs, ours, size, kind, unit, spec):
 
 
 def appropriate(theirs, ours, size, kind, unit_type):
+    """The call that returns the appropriate unit of a size: of binary prefixes, of decimal ones, or of both."""
     is_binary = [(True,), (False,), (True, False)][unit_type]
     yield largest(size, kind, [unit for unit in UNITS[2:] if unit[-1] == BASE[kind] and ("i" in unit) in is_binary])
     yield "limit", size >= OF_SIZES
 
 
 def of_unit(theirs, ours, count, unit, kind):
+    """The call that makes a size of a whole number of units, rounded up."""
     size = -(-count * BITS[unit] // SCALE[kind])
     yield str(size) if size < SIZE_LIMIT else "-"
     yield "letter", theirs == "-" and unit[0] == "R"

@@ -9,6 +9,7 @@ from ..common import ROOT, call, copy_to, output, path, read, write
 from .text import blocks
 
 README, GUIDE, COMMAND = "README.md", "docs/GUIDE.md", "command/README.md"
+# The languages of the blocks of README.md, which `readme` takes in this order.
 KINDS = ["sh", "text", "sh", "sh", "rust", "sh", "text", "rust", "sh", "text"]
 LINES_PROGRAM = "crates/byte_unit_lines/out/byte_unit_lines"
 COMMAND_PROGRAM = "crates/byte_unit_cli/out/byte_unit_cli"

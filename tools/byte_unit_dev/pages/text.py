@@ -10,6 +10,7 @@ from pathlib import Path
 from ..common import Failure, files, path, read
 
 PAGE = re.compile(r"(docs/.*|(.*/)?README|[^/]*)\.md")
+# The words that all pages and each page have at most, so that a reader gets through them.
 TOTAL = 28_000
 WORDS = {
     "README.md": 800, "CALLING.md": 2800, "CONTRIBUTING.md": 900, "CHANGELOG.md": 900, "docs/GUIDE.md": 3600,
@@ -48,6 +49,7 @@ VERSIONS = [
     ("bindings/rust/Cargo.toml", '\nversion = "5.2.6"\n'),
     ("bindings/rust/Cargo.toml", '\nlibrary-version = "{version}"\n'),
 ]
+# A name of code with its path, its arguments or a `!`; a path of files, in which `*` stands for anything; and a link.
 NAME = re.compile(r"[A-Za-z_]\w*(?:(?:::|\.)\w+)*(?:\(.*\))?!?")
 PATH = re.compile(r"\.{0,2}/?[\w.*\-]+(?:/[\w.*\-]+)+/?")
 LINK = re.compile(r"\]\(([^()\s]*)[^()]*\)|^\[[^\]]+\]: *(\S+)", re.M)

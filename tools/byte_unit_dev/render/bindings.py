@@ -35,6 +35,7 @@ def constants():
         found = re.findall(r"/// 1 (\w+) is .*\n *pub const (\w+):", paragraph)
         pairs = ", ".join(f"{name}_{unit}" for unit, name in found)
         if pairs:
+            # 119 columns, for a comma comes after a paragraph.
             indent = " " * 12
             yield textwrap.fill(pairs, 119, initial_indent=indent, subsequent_indent=indent).replace("_", " ")
 

@@ -6,8 +6,11 @@ from .. import tests, verbs
 from ..common import Failure, files, read, reason
 from ..source import line_of, source
 
+# The files of laws, and the crate whose laws are those of bytes once more.
 LAWS, BITS = re.compile(r"crates/(\w+)/src/laws(?:/\w+)?\.rt"), "byte_unit_bit"
+# A block of code, with the comment before it that names its source.
 BLOCK = re.compile(r"(?ms)^((?:<!-- from ([^\s:]+)(?:: ([^\n]+))? -->\n)?```(\w+)\n)(.*?)^```$")
+# A line of a docstring that lists a part: its name, two spaces or more, and what it is.
 PART = re.compile(r"^ +([a-z-]+) {2,}\S", re.M)
 
 
@@ -36,7 +39,7 @@ def statement(comment):
 
 def laws(page="docs/PROVED.md"):
     """The public functions in `laws` of each crate but that of bits, with the first sentence of each comment; below
-    the table, what a file says after its first paragraph."""
+    the table, what a file with laws says after its first paragraph."""
     rows, notes = ["Law | Statement | File, also of the rows below", "---|---|---"], []
     for found in filter(None, map(LAWS.fullmatch, files())):
         file, link = source(found[0]), f"[{found[0].removeprefix('crates/')}](../{found[0]})"

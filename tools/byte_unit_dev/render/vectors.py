@@ -45,13 +45,14 @@ class Name(str):
 
 
 def spec(alternate, sign, precision, width, align):
-    """Returns the format string of the arguments of `spec!`."""
+    """Returns the format string of the arguments of the macro `spec!` of the tests."""
     flags = "".join(FLAGS[flag.last] for flag in (*align.arguments, sign)) + "#" * alternate
     flags += "".join(map(str, width.arguments)) + "".join(f".{places}" for places in precision.arguments)
     return Verbatim("{:%s}" % flags if flags else "{}")
 
 
 def places(alternate):
+    """Returns what `places!` and `precise!` of the tests make of a number of places: its format string."""
     return lambda count: spec(alternate, Name("Unset"), Name("Some")(count), Name("None"), Name("None"))
 
 
@@ -101,7 +102,8 @@ def arrays(name, function):
 
 
 def quoted(text):
-    """Returns a text in printable ASCII: `\\u{..}` for each other character, `\\{N*c}` for N equal ones in a row."""
+    """Returns a text in printable ASCII: `\\u{..}` for each other character, `\\{N*c}` for N equal ones in a row, if N
+    is 100 or more."""
     def one(c):
         return c if " " <= c <= "~" and c not in '\\"' else "\\u{%x}" % ord(c)
 
@@ -151,15 +153,18 @@ class Form(string.Formatter):
 
 
 def rows(table, *forms):
+    """Returns the rows of a table: each of its rows, a tuple or one value, in each form."""
     return [Form().format(form, *(row if isinstance(row, tuple) else [row])) for row in table for form in forms]
 
 
 def long_texts(table):
+    """Returns rows of texts with a part that is there 10,000 times, as the test makes them."""
     return rows([(before + part * 10_000 + after, *sizes) for before, part, after, *sizes in table],
                 "parse byte cased {0} = {1}", "parse bit cased {0} = {2}")  # fmt: skip
 
 
 def strange_in_a_unit(table, strange):
+    """Returns rows of each strange character after each beginning of a unit, alone and after numbers."""
     errors = [(front + c, Name("Unit")(c, expected, or_end)) for front, expected, or_end in table for c, _ in strange]
     numbers = ("1", "1.5", "1.0000000000000000000000000001", "1 ")
     return rows([(number + text, error) for number in numbers for text, error in errors],
@@ -167,6 +172,7 @@ def strange_in_a_unit(table, strange):
 
 
 def widest(table):
+    """Returns rows of the longest texts, which the table has as parts and how often each is there."""
     return [row for of, size, unit, spec, _, parts in table for row in rows(
         [(of, size, unit, spec, "".join(part * count for part, count in parts))],
         "text {0:lower} {1} " + "in {2} " * bool(unit.arguments) + "{3} = {4}")]

@@ -31,7 +31,7 @@ def members(file):
         return archives.files_of_zip(file)
     if file.suffix == ".gz":
         return archives.files_of_tar(file)
-    data = subprocess.run(["dpkg-deb", "--fsys-tarfile", file], stdout=-1, check=True).stdout
+    data = subprocess.run(["dpkg-deb", "--fsys-tarfile", file], stdout=subprocess.PIPE, check=True).stdout
     with tarfile.open(fileobj=io.BytesIO(data)) as archive:
         return {entry.name.removeprefix("./"): archive.extractfile(entry).read() for entry in archive if entry.isfile()}
 
@@ -93,6 +93,7 @@ def test_prefix(unpacked, tmp_path, machine, cc, runs):
     assert [call("sh", top / "install.sh", *words, cwd=tmp_path).returncode for words in (["-x"], ["a", "b"])] == [2, 2]
 
 
+# The first x86-64 processors, without the instructions of later ones.
 OLDER = ["qemu-x86_64", "-cpu", "qemu64"]
 PROBE = "import byte_unit; print(byte_unit.parse('1.5 KiB'), byte_unit.text(1536))"
 

@@ -9,7 +9,7 @@ from trials import ARTEFACTS, PACKAGES, WHOLE
 
 
 def passed(trial):
-    """It passed, and left nothing in the system."""
+    """Checks that a trial passed, and left nothing in the system. Skips the test if it could not begin."""
     try:
         got = trial.result()
     except Failure as why:

@@ -10,6 +10,7 @@ echo "$readme" | first_of rust > src/main.rs
 test "$(cargo run --quiet)" = "$(echo "$readme" | first_of text)"
 sed -i 's/1.5 GiB/1 x/' src/main.rs
 fails_with "character: 'x'" cargo run --quiet
+# Again, as the README says for a program with other packages: cargo vendors those into another folder.
 rm -r .cargo Cargo.lock
 echo "$readme" | sed -n '/^```toml$/,/^```$/{/^```/!p}' | sed -n '/^\[patch/,/^$/p' | head -n 2 >> Cargo.toml
 cargo vendor --quiet --offline others

@@ -19,8 +19,10 @@ printf '1.5 GiB\n20 GB\n' > stdin
 rt run < stdin
 test "$(out/quota < stdin)" = "$(first_of text < "$page")"
 fails_with "the character 'x' is incorrect" sh -c 'echo "1 x" | out/quota'
+# A wrong program is rejected, at its function `left`.
 sed -i 's/quota.subtract(used)/used.subtract(quota)/' src/main.rt
 fails_with "left" rt check
 cd /root
 rm "$page"
+# The last is what `rt` keeps beside its folder.
 rm -rf sizes byte-unit-*-rattle "${KIT%/*}/rattle-kept"

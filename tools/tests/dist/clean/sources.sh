@@ -21,4 +21,5 @@ sed -i '/^byte_unit/d' crates.txt
 test "$(cat crates.txt)" = "quota: byte_unit anyhow"
 cd /root
 rm "$page"
+# The last is what `rt` keeps beside its folder.
 rm -rf sizes byte-unit-*-rattle "${KIT%/*}/rattle-kept"
