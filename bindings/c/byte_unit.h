@@ -114,7 +114,8 @@ enum {
     BYTE_UNIT_INVALID_ARGUMENT /* an unknown flag, or offsets or lengths of many texts that do not fit */
 };
 
-/* The codes of the units. */
+/* First are the units without a prefix. Of each prefix, the units of bits are before those of bytes, and those by 1000
+ * before those by 1024. The codes of the units. */
 enum {
     BYTE_UNIT_BIT, BYTE_UNIT_B,
     BYTE_UNIT_KBIT, BYTE_UNIT_KIBIT, BYTE_UNIT_KB, BYTE_UNIT_KIB,

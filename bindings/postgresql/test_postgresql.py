@@ -10,6 +10,7 @@ from byte_unit_dev.model.exact import Rejected, form, size_of, some_line
 from byte_unit_dev.needs import POSTGRESQL
 
 VERSION = read("VERSION").strip()
+# A function that returns what a query returns, or the SQLSTATE, the message and the detail of its error.
 TRIED = """CREATE FUNCTION tried(query text) RETURNS text LANGUAGE plpgsql AS $$
 DECLARE result text; detail text;
 BEGIN
@@ -35,6 +36,7 @@ def quoted(text):
 
 
 def tried(expression):
+    """Returns a statement that prints what an expression is, or its error."""
     return "SELECT tried(" + quoted(f"SELECT {expression}") + ");"
 
 
@@ -79,6 +81,7 @@ def test_lines(server, check_drawn):
         expression = f"size_parse(t)::numeric || '|' || t::bytesize FROM (SELECT {quoted(text)} AS t) AS line"
         if not isinstance(size, Rejected):
             return expression, re.escape(f"{size}|{form(size, 'byte')}")
+        # The SQLSTATE of a number out of range, or that of an invalid text.
         state = "22003" if size.name == "out of range" else "22P02"
         reason = size.message[0].upper() + size.message[1:]
         return expression, rf'{state} invalid input syntax for type bytesize: ".*": {re.escape(reason)}( \(.*\))?\.'
@@ -113,6 +116,7 @@ def expression_of(words, text):
 
 
 def test_vectors(server):
+    """Compares each test vector of bytes whose call the extension has."""
     rows = []
     for line in read("vectors/byte-unit.txt").split("\n"):
         found = re.fullmatch(r'\S+: ([^"=#]*?) ?("[^"]*")? = (.*)', line)
@@ -126,6 +130,7 @@ def test_vectors(server):
 
 
 def unescaped(text):
+    """Returns a text of the test vectors without their escapes."""
     text = re.sub(r"\\\{(\d+)\*(\\u\{[0-9A-Fa-f]+\}|.)\}", lambda m: m[2] * int(m[1]), text, flags=re.S)
     return re.sub(r"\\u\{([0-9A-Fa-f]+)\}", lambda m: chr(int(m[1], 16)), text)
 
@@ -196,6 +201,7 @@ def test_workers_agree(server):
 
 
 def test_errors_leave_no_memory(server):
+    """A hundred thousand errors in one statement leave less than a megabyte."""
     loop = ("DO $$ BEGIN FOR i IN 1..%d LOOP BEGIN PERFORM ('1 X' || i)::bytesize; EXCEPTION WHEN OTHERS THEN NULL; END;"
             " END LOOP; END $$;")  # fmt: skip
     used = "SELECT sum(total_bytes) FROM pg_backend_memory_contexts;"
@@ -233,6 +239,7 @@ def test_upgrade(server):
     folder = server.folder / "usr/share/postgresql/15/extension"
     write(folder / f"byte_unit--{VERSION}--9.9.9.sql", "COMMENT ON TYPE bytesize IS 'updated';\n")
     server.sql("CREATE DATABASE updated;")
+    # stderr, to which DROP writes a notice, is subprocess.DEVNULL.
     got = server.sql(f"CREATE EXTENSION byte_unit VERSION '{VERSION}'; CREATE TABLE kept AS SELECT '1.5 KiB'::bytesize AS s;",
                      "ALTER EXTENSION byte_unit UPDATE TO '9.9.9';", "SELECT s, obj_description('bytesize'::regtype) FROM kept;",
                      "SELECT extversion FROM pg_extension WHERE extname = 'byte_unit';", "DROP EXTENSION byte_unit CASCADE;",

@@ -1,4 +1,4 @@
-"""Errors: their classes, copies, pickles and pools of processes."""
+"""Errors: their classes, copies, pickles, texts and memory, and pools of processes."""
 
 import concurrent.futures
 import copy
@@ -12,6 +12,7 @@ from decimal import Decimal
 import byte_unit
 from byte_unit import ByteUnitError, SizeError
 
+# A text for each name of an error, and a lone surrogate.
 TEXTS = ["", "x", "1" * 40, "1000.5 RB", "1 Kx", b"\xff", "\ud800"]
 
 

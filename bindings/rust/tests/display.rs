@@ -1,4 +1,4 @@
-//! Texts with each flag of a formatter.
+//! Texts of sizes: by a formatter with each flag, and in a buffer.
 
 use std::fmt::{self, Write};
 
@@ -57,6 +57,7 @@ macro_rules! compare {
     })* };
 }
 
+/// Compares the texts with each combination of flags that the formatter and the library have in common.
 macro_rules! compare_flags {
     ($value:expr, $width:expr, $precision:expr) => {
         compare! { $value, $width, $precision,
@@ -126,6 +127,7 @@ fn an_error_of_the_writer_is_returned() {
     assert_eq!(write!(Limited(7), "{size:#}"), Ok(()));
     for limit in 0..7 {
         assert_eq!(write!(Limited(limit), "{size:#}"), Err(fmt::Error));
+        // The text of 7 characters has 93 spaces in 100 columns.
         assert_eq!(write!(Limited(limit + 93), "{size:#100}"), Err(fmt::Error));
     }
 }
