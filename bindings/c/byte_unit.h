@@ -132,7 +132,7 @@ enum {
 /* The code that no unit has. */
 #define BYTE_UNIT_NO_UNIT UINT32_MAX
 
-/* The codes of the unit types. */
+/* The codes of the unit types: the units by 1024, those by 1000, and both. */
 enum {
     BYTE_UNIT_BINARY,
     BYTE_UNIT_DECIMAL,

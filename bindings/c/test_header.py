@@ -214,6 +214,7 @@ def test_header_and_sys():
 
 @pytest.mark.parametrize("name, old, new", WRONG)
 def test_wrong_declaration_is_seen(name, old, new):
+    """A change of the first such text in the file makes a difference."""
     changed = {file: read(file) for file in (HEADER, SYS)}
     assert old in changed[name]
     changed[name] = changed[name].replace(old, new, 1)

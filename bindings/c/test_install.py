@@ -114,7 +114,7 @@ def test_extension(prefix):
 def fails(folder, reason, *words, **more):
     """Checks that the installation fails with the reason in one line, and leaves the names of files as they were."""
     kept = files_in(folder)
-    got = call(*words, stderr=-1, **more)
+    got = call(*words, stderr=-1, **more)  # subprocess.PIPE
     assert got.returncode == 1 and re.fullmatch(f"tools/dev install: .*{reason}.*\n", got.stderr)
     assert files_in(folder) == kept
 

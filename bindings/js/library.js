@@ -145,7 +145,7 @@ class Memory {
         return [BigInt(room), BigInt(written)];
     }
 
-    /** Writes a size as a byte_unit_number, and returns its address: C passes a struct by value as its address. */
+    /** Writes a size as a byte_unit_number, and returns its address, by which WebAssembly's C passes a struct. */
     writeSize(size) {
         if (typeof size !== "bigint" && !Number.isSafeInteger(size))
             throw new TypeError(`${String(size)} is no BigInt, and no integer that a number holds exactly`);
@@ -162,7 +162,7 @@ class Memory {
         return this.view().getBigUint64(from, true) | this.view().getBigUint64(from + 8, true) << 64n;
     }
 
-    /** Writes options as a byte_unit_spec, and returns its address. */
+    /** Writes options as a byte_unit_spec, in the order of its fields, and returns its address. */
     writeSpec({ precision, width, sign, align, alternate }) {
         const view = this.view(), at = this.at.spec;
         view.setUint32(at, precision === undefined ? 0 : countOf("precision", precision, 0), true);

@@ -30,7 +30,7 @@ def test_types(javascript):
 
 @pytest.mark.parametrize("kind", ["byte", "bit"])
 def test_lines(javascript, check_drawn, kind):
-    """Compares drawn lines with the exact model. A line that is not UTF-8 is no string."""
+    """Compares drawn lines with the exact model. A line that is not UTF-8 is no string. Of differences it shows five."""
 
     def wrong(lines):
         lines = [line for line in lines if getattr(size_of(line, kind), "name", "") != "not text"]
@@ -224,6 +224,7 @@ def typed(browser, text, reading="bytes"):
     ("999.999 RB", "bytes", ["999_999_000_000_000_000_000_000_000_000 bytes"], None),
 ])  # fmt: skip
 def test_page_answers(browser, text, reading, parts, marked):
+    """The result has each part, in which an underscore is the narrow space, and the character that is marked."""
     said, mark = typed(browser, text, reading)
     assert mark == marked and [part for part in parts if part.replace("_", NARROW_SPACE) not in said] == [], said
 

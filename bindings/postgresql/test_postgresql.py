@@ -41,7 +41,7 @@ def tried(expression):
 
 
 def wrong_of(server, rows):
-    """Returns which expressions do not have the result, a pattern, beside them."""
+    """Returns five at most of the expressions that do not have the result, a pattern, beside them."""
     got = server.sql(*[tried(expression) for expression, _ in rows])
     assert len(got) == len(rows)
     return [(*row, found) for row, found in zip(rows, got) if not re.fullmatch(row[1], found)][:5]
@@ -66,11 +66,11 @@ def test_statements_of_the_readme(server):
 def test_shared_rows(server):
     """Compares the rows that SQLite's extension has to answer, too."""
     rows = re.findall(r"^([^#\n].*?) = (.*)$", read("bindings/sqlite/checks/shared.txt"), re.M)
-    sized = [(re.sub(r"\b(size_text|size_in|size_pretty)\((\d+)", r"\1(\2::numeric::bytesize", call), answer)
-             for call, answer in rows]  # fmt: skip
-    sized = [(re.sub(r"^(size_(?:parse|try)\(.*\))$", r"coalesce((\1)::numeric::text, 'NULL')", call), answer)
-             for call, answer in sized]  # fmt: skip
-    assert len(rows) > 20 and wrong_of(server, [(call, re.escape(answer)) for call, answer in sized]) == []
+    sized = [(re.sub(r"\b(size_text|size_in|size_pretty)\((\d+)", r"\1(\2::numeric::bytesize", code), answer)
+             for code, answer in rows]  # fmt: skip
+    sized = [(re.sub(r"^(size_(?:parse|try)\(.*\))$", r"coalesce((\1)::numeric::text, 'NULL')", code), answer)
+             for code, answer in sized]  # fmt: skip
+    assert len(rows) > 20 and wrong_of(server, [(code, re.escape(answer)) for code, answer in sized]) == []
 
 
 def test_lines(server, check_drawn):
@@ -122,10 +122,10 @@ def test_vectors(server):
         found = re.fullmatch(r'\S+: ([^"=#]*?) ?("[^"]*")? = (.*)', line)
         text = found and found[2] and unescaped(found[2][1:-1])
         if found and "\0" not in (text or ""):
-            call = expression_of(found[1].split(), text)
+            code = expression_of(found[1].split(), text)
             answer = unescaped(found[3])
             error = {"ExceededBounds": "22003 .*"}.get(answer.split(" ")[0], "22P02 .*")
-            rows += [(call, re.escape(answer.strip('"')) if answer[0] in '0123456789"' else error)] * bool(call)
+            rows += [(code, re.escape(answer.strip('"')) if answer[0] in '0123456789"' else error)] * bool(code)
     assert len(rows) == 424 and wrong_of(server, rows) == []
 
 

@@ -43,6 +43,7 @@ def sql(library, tmp_path_factory):
 
     def run(script):
         words = ["sqlite3", "-batch", "-cmd", f'.load "{loaded}"', ":memory:"]
+        # -1 is subprocess.PIPE: the program writes errors there.
         got = call(*words, input="\n".join(script) + "\n", stderr=-1, errors="surrogateescape")
         errors = re.findall(r"^.*?near line (\d+): (.*?)(?: \(\d+\))?$", got.stderr, re.M)
         return got.stdout.split("\n")[:-1], {int(line): error for line, error in errors}
@@ -74,7 +75,8 @@ def rows_of(text):
 
 
 def wrong_of(sql, rows):
-    """Returns which statements do not print the lines of the patterns beside them; an error is a line `error: ..`."""
+    """Returns which statements do not print the lines of the patterns beside them; an error is a line `error: ..`.
+    Of these, and of lines that no statement should print, there are five at most."""
     got, errors = sql([statement for statement, _ in rows])
     lines = iter(got)
     seen = [[f"error: {errors[at]}"] if at in errors else list(islice(lines, len(wanted)))
@@ -202,7 +204,7 @@ def test_statements(sql, name):
 
 def test_rows_that_postgresql_shares(sql):
     rows = re.findall(r"^([^#\n].*?) = (.*)$", read("bindings/sqlite/checks/shared.txt"), re.M)
-    calls = [(f"SELECT coalesce({call}, 'NULL');", [re.escape(answer)]) for call, answer in rows]
+    calls = [(f"SELECT coalesce({code}, 'NULL');", [re.escape(answer)]) for code, answer in rows]
     assert len(rows) > 20 and wrong_of(sql, calls) == []
 
 

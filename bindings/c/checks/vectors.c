@@ -20,6 +20,7 @@ static byte_unit_number number(const char *digits)
     return (byte_unit_number){(uint64_t)n, (uint64_t)(n >> 64)};
 }
 
+/* Prints the digits of a number. */
 static void print_number(byte_unit_number number)
 {
     wide n = (wide)number.high << 64 | number.low;
@@ -199,6 +200,7 @@ static void answer(char *record)
         *text++ = 0;
     for (char *word = strtok(record, " "); word && count < 8; word = strtok(NULL, " "))
         words[count++] = word;
+    /* In `unit CASE PREFER` the case is the second word, and else it is the last one, if there is any. */
     uint32_t bits = count > 1 && !strcmp(words[1], "bit") ? BYTE_UNIT_BITS : 0;
     bool is_uncased = count > 1 && (!strcmp(words[count - 1], "uncased") || !strcmp(words[1], "uncased"));
     uint32_t uncased = is_uncased ? BYTE_UNIT_IGNORE_CASE : 0;

@@ -87,7 +87,7 @@ def columns() -> dict[str, float]:
 
 
 def with_pandas(quota: object) -> Callable[[], object]:
-    """Returns the documented way to the sizes of a series."""
+    """Returns the documented way to the sizes of a series, which in a build without byte_unit.pandas is another one."""
     try:
         from byte_unit.pandas import to_sizes
 

@@ -89,7 +89,7 @@ class Errors(unittest.TestCase):
         work(150_000)
         self.assertLess(resource.getrusage(resource.RUSAGE_SELF).ru_maxrss - before, 1024)  # KiB
         for object_, count in zip(kept, references, strict=True):
-            self.assertLess(abs(sys.getrefcount(object_) - count), 50)
+            self.assertLess(abs(sys.getrefcount(object_) - count), 50)  # not one for each error
 
 
 class Renamed(SizeError):

@@ -216,6 +216,7 @@ class Threads(unittest.TestCase):
         self.assertGreater(turns, 9)
 
     def test_lists_release_the_gil(self) -> None:
+        """So does it while another one parses a list with long texts."""
         texts = [b"0" * 30_000_000, b"1"] * 2
         worker = threading.Thread(target=byte_unit.parse_many, args=(texts,))
         turns = 0

@@ -91,6 +91,7 @@ macro_rules! conversions {
     // To integers that may be too narrow.
     (@try_into $Size:ident $($number:ty)*) => { $(
         impl TryFrom<$Size> for $number {
+            // The error of `core`, which the original exports too.
             type Error = $crate::TryFromIntError;
 
             fn try_from(size: $Size) -> Result<Self, Self::Error> {

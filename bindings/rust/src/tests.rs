@@ -128,6 +128,7 @@ fn messages() {
             }
         }
     }
+    // Most calls are errors, and some are not.
     assert!(calls / 2 < errors && errors < calls);
 }
 
@@ -158,6 +159,7 @@ fn messages_of_units() {
             calls += 4;
         }
     }
+    // Most calls are errors, and some are not.
     assert!(calls / 2 < errors && errors < calls);
 }
 

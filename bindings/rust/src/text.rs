@@ -76,7 +76,7 @@ pub(crate) fn written(out: &[u8], len: usize) -> Result<&str, Needed> {
     }
 }
 
-/// Returns the text of a length that a call of the library wrote to the beginning of a buffer.
+/// Returns the text of a length that a call of the library wrote to the beginning of a buffer, if it fits there.
 fn text_in(out: &Buffer, len: usize) -> Result<&str, fmt::Error> {
     let text = out.get(..len).ok_or(fmt::Error)?;
     // SAFETY: the library has written these bytes, since they fit, and they are ASCII.

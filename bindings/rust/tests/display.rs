@@ -51,6 +51,7 @@ macro_rules! compare {
             width: Some($width),
             align: $align,
         };
+        // Longer than each text: 200 columns, or 200 digits after the point and at most 31 before it.
         let mut out = [0; 400];
         let text = format!(concat!("{:", $flags, "width$.precision$}"), $value, width = width, precision = precision);
         assert_eq!(Ok(text.as_str()), $value.write_text(spec, &mut out), "{:?}", spec);
@@ -97,6 +98,7 @@ fn a_size_with_its_unit_has_at_most_28_digits_after_the_point() {
     assert_eq!(format!("{size:#.28}"), "1.0000000037252902984619140625 GiB");
     assert_eq!(format!("{size:#.65535}"), "1.0000000037252902984619140625 GiB");
     assert_eq!(format!("{size:#.27}"), "1.073741828 GB");
+    // In GiB it has 29 digits after the point.
     let smaller = Byte::from_u64((1 << 30) + 2);
     assert_eq!(format!("{smaller:#.65535}"), "1.073741826 GB");
 }

@@ -66,7 +66,7 @@ static sqlite3_stmt *prepare(sqlite3 *db, const char *sql)
  * most, so that it ends. */
 static void with_failures(sqlite3 *db, const char *sql)
 {
-    char wanted[512], got[512];
+    char wanted[512], got[512]; /* longer than each result and error */
     sqlite3_stmt *statement = prepare(db, sql);
     int normal = result_of(statement, wanted, sizeof wanted);
 
