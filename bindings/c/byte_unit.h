@@ -114,7 +114,8 @@ enum {
     BYTE_UNIT_INVALID_ARGUMENT /* an unknown flag, or offsets or lengths of many texts that do not fit */
 };
 
-/* The codes of the units. */
+/* First are the units without a prefix. Of each prefix, the units of bits are before those of bytes, and those by 1000
+ * before those by 1024. The codes of the units. */
 enum {
     BYTE_UNIT_BIT, BYTE_UNIT_B,
     BYTE_UNIT_KBIT, BYTE_UNIT_KIBIT, BYTE_UNIT_KB, BYTE_UNIT_KIB,
@@ -131,7 +132,7 @@ enum {
 /* The code that no unit has. */
 #define BYTE_UNIT_NO_UNIT UINT32_MAX
 
-/* The codes of the unit types. */
+/* The codes of the unit types: the units by 1024, those by 1000, and both. */
 enum {
     BYTE_UNIT_BINARY,
     BYTE_UNIT_DECIMAL,

@@ -17,7 +17,8 @@ TYPES = {"u8": "uint8_t", "u32": "uint32_t", "u64": "uint64_t", "i32": "int32_t"
 # What an inline call passes for the lengths of arrays.
 PASSED = {"error_len": "error ? 1 : 0", "offsets_len": "offsets ? count + 1 : 0", "sizes_len": "count",
           "codes_len": "count"}
-# Enumerators: a file of byte_unit_c, a function of it, what the names begin with, and the form of names and codes.
+# Enumerators with a written code: a file of byte_unit_c, a function of it, what the names begin with, and the form of names
+# and codes.
 CODES = [
     ("flags", "", "", r"^const (?P<name>\w+): u32 = (?P<code>\d+);"),
     ("error", "", "", r"^pub const (?P<name>\w+): u32 = (?P<code>\d+);"),
@@ -77,7 +78,7 @@ def structs(text):
 
 def constants():
     """Returns the enumerators in Rattle and their values."""
-    values = {"BYTES": 0}
+    values = {"BYTES": 0}  # no flag, which Rattle does not name
     for name, function, prefix, form in CODES:
         file = source(f"crates/byte_unit_c/src/{name}.rt")
         for found in re.finditer(form, file.part(function) if function else file.plain, re.M):
@@ -155,6 +156,7 @@ def differences(header, rust):
             *(f"{SYS}: not in Rattle: {line}" for line in sorted(in_sys(rust) - in_package))]
 
 
+# Wrong declarations, each of which has to be seen: the file, a text in it, and what is in its place.
 WRONG = [
     (HEADER, "uint32_t flags, byte_unit_spec spec, char *out", "byte_unit_spec spec, uint32_t flags, char *out"),
     (HEADER, "size_t precision, byte_unit_decimal", "uint32_t precision, byte_unit_decimal"),
@@ -212,6 +214,7 @@ def test_header_and_sys():
 
 @pytest.mark.parametrize("name, old, new", WRONG)
 def test_wrong_declaration_is_seen(name, old, new):
+    """A change of the first such text in the file makes a difference."""
     changed = {file: read(file) for file in (HEADER, SYS)}
     assert old in changed[name]
     changed[name] = changed[name].replace(old, new, 1)

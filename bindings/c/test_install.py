@@ -13,6 +13,7 @@ HEADER, PAGE = "include/byte_unit.h", "share/man/man3/byte_unit.3"
 WARNINGS = ["-Wall", "-Wextra", "-Wpedantic", "-Werror"]
 C = ["c99", "c11", "c17", "c2x"]
 STANDARDS = {"gcc": C, "clang": C, "g++": ["c++17"], "clang++": ["c++17"]}
+# The ways to link with each form of the library, and each way with a compiler to build the program.
 LINKS = {"shared": ["-pie", "-no-pie", "-O2 -flto"], "archive": ["-pie", "-no-pie", "-O2 -flto"],
          "static": ["-static", "-static-pie", "-static -O2 -flto"]}
 WAYS = [(cc, "shared", f"-std={standard}") for cc, standards in STANDARDS.items() for standard in standards]
@@ -21,10 +22,12 @@ WAYS += [("musl-gcc", "archive", "-static"), ("gcc", "archive", "-Os -s -Wl,--gc
 
 
 def files_in(folder):
+    """Returns the paths of all files and folders below a folder."""
     return sorted(str(found.relative_to(folder)) for found in folder.rglob("*"))
 
 
 def flags(prefix, *words):
+    """Returns what pkg-config prints of the library in a prefix."""
     env = {**os.environ, "PKG_CONFIG_PATH": f"{prefix}/lib/pkgconfig"}
     return output("pkg-config", *words, "byte_unit", env=env).split()
 
@@ -109,9 +112,9 @@ def test_extension(prefix):
 
 
 def fails(folder, reason, *words, **more):
-    """The installation fails with the reason in one line, and leaves the files as they were."""
+    """Checks that the installation fails with the reason in one line, and leaves the names of files as they were."""
     kept = files_in(folder)
-    got = call(*words, stderr=-1, **more)
+    got = call(*words, stderr=-1, **more)  # subprocess.PIPE
     assert got.returncode == 1 and re.fullmatch(f"tools/dev install: .*{reason}.*\n", got.stderr)
     assert files_in(folder) == kept
 
@@ -133,7 +136,8 @@ def test_failure(library, tmp_path, there, words, reason):
 
 
 def test_full_disk(library, tmp_path):
-    """On a disk of 90 KB in a name space of its own; if nothing can be mounted, with a limit of 90 KB on each file."""
+    """On a disk of 90 KB in a name space of its own; if nothing can be mounted, with a limit of 90 KB, 180 blocks of 512
+    bytes, on each file."""
     mount, inner = f"mount -t tmpfs -o size=90k none {tmp_path}", ["unshare", "--mount", "--map-root-user", "sh", "-c"]
     words = [*INSTALL, "--from", library, tmp_path / "full"]
     if not shutil.which("unshare") or call(*inner, mount).returncode:

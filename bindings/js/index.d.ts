@@ -1,3 +1,4 @@
+// The types of index.js: the calls of library.js over the module beside it.
 import type { Library } from "./library.js";
 
 export { SizeError, UNITS } from "./library.js";

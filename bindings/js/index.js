@@ -1,6 +1,7 @@
 // Loads byte_unit.wasm beside this file, and exports the calls of the library.
 import { instantiate } from "./library.js";
 
+/** Returns the bytes of the module: a file is read by Node, whose `fetch` takes no `file:` URL; others are fetched. */
 async function bytesBeside() {
     const place = new URL("byte_unit.wasm", import.meta.url);
     if (place.protocol !== "file:")

@@ -1,8 +1,11 @@
-/** Why a string is no size, or no unit. */
+// The types of library.js: its calls, their options and results, and the error of a string.
+
+/** Why a string is no size, or no unit: the names of the codes in byte_unit.h. */
 export type ErrorCode =
     "no_value" | "not_number" | "number_too_long" | "exceeded_bounds" | "unit" | "not_utf8" | "invalid_argument";
 /** The name of a unit, such as `KiB`, `MB` or `Kb`. */
 export type Unit = string;
+/** The units from which one is chosen: by 1024, by 1000, or of both. */
 export type UnitType = "binary" | "decimal" | "both";
 
 /** How a string is read. All are false if they are not given. */
@@ -13,22 +16,32 @@ export interface ReadingOptions {
     ignoreCase?: boolean;
 }
 
+/** How a string is read as a size. */
 export interface SizeReadingOptions extends ReadingOptions {
     /** `K` and `KB` are by 1024, as `Ki` and `KiB` are. */
     binary?: boolean;
 }
 
+/** How a size is formatted. */
 export interface AdjustedTextOptions {
+    /** The size is in bits in place of bytes. */
     bits?: boolean;
     /** The number of digits after the point, from 0 to 65535. */
     precision?: number;
     /** The least number of columns, up to 65535. */
     width?: number;
+    /** `plus`: a plus sign before digits alone; a unit and its spaces take four columns. `minus`: no space there. */
     sign?: "plus" | "minus";
+    /** Where a text is within the width: if it is not given, digits alone on the right, else the number on the left. */
     align?: "left" | "center" | "right";
+    /**
+     * Of `text`: whether there is a unit, true if it is not given. Of the other calls: whether a precision rounds to at
+     * most 16 digits, ties up, without zeros at the end; false if it is not given.
+     */
     alternate?: boolean;
 }
 
+/** How a size is formatted for people. The precision is 1 if it is not given. */
 export interface ApproximateTextOptions extends AdjustedTextOptions {
     /** The units to choose from: `binary` if it is not given. */
     type?: UnitType;
@@ -59,6 +72,7 @@ export class SizeError extends Error {
 /** The names of the 38 units, in the order of their codes. */
 export const UNITS: readonly Unit[];
 
+/** The calls of the library. */
 export interface Library {
     /** The version of the library: 3000000 is 3.0.0. */
     readonly version: number;

@@ -1,13 +1,21 @@
-// The calls of the library over a module of WebAssembly, whose memory is handled here. Sizes are BigInts.
+// The calls of library.d.ts over byte_unit.wasm, the C library as a module of WebAssembly: checks of options, the memory
+// in which arguments and results are passed, and errors. Sizes are BigInts. So are addresses and lengths for the module,
+// since its memory has 64-bit addresses.
 
 const PREFIXES = [..."KMGTPEZYR"];
+/** The names of the units, each at its code in byte_unit.h. */
 export const UNITS = Object.freeze(["b", "B", ...PREFIXES.flatMap(
     prefix => [`${prefix}b`, `${prefix}ib`, `${prefix}B`, `${prefix}iB`])]);
+// The names of the codes that the parsing calls return, each at its code.
 const CODES = ["ok", "no_value", "not_number", "number_too_long", "exceeded_bounds", "unit", "not_utf8",
     "invalid_argument"];
+// The codes of unit types, signs and alignments in byte_unit.h. A sign or an alignment of 0 is unset.
 const TYPES = { binary: 0, decimal: 1, both: 2 };
 const SIGNS = { plus: 1, minus: 2 }, ALIGNS = { left: 1, center: 2, right: 3 };
+// The limit of sizes, and a mask of 64 bits.
 const SIZE_LIMIT = 10n ** 30n, LOW = (1n << 64n) - 1n;
+// The bytes of a page of WebAssembly's memory, and the length of the area that a text is first written to, which is
+// BYTE_UNIT_BUFFER_SIZE: every message fits, and every text without a width and with at most 200 places.
 const PAGE = 65536, FIRST_OUT = 256;
 const encoder = new TextEncoder(), decoder = new TextDecoder();
 
@@ -20,8 +28,12 @@ export class SizeError extends Error {
     }
 }
 
-/** Returns the flags of options. An option of another type than boolean is a mistake, such as `"no"`. */
+/**
+ * Returns the flags of byte_unit.h that options set. Throws a TypeError if a name is not one of `allowed`, or if a flag
+ * is not a boolean, such as `"no"`.
+ */
 function flagsOf(options, ...allowed) {
+    // BYTE_UNIT_BITS, BYTE_UNIT_IGNORE_CASE and BYTE_UNIT_BINARY_PREFIXES.
     const bits = { bits: 1, ignoreCase: 2, binary: 8 };
     let flags = 0;
     for (const [name, value] of Object.entries(options)) {
@@ -36,39 +48,42 @@ function flagsOf(options, ...allowed) {
     return flags;
 }
 
-/** Returns a number of an option that has to be an integer from `least` to 65535. */
+/** Returns the number of an option that has to be an integer from `least` to 65535, the most in a byte_unit_spec. */
 function countOf(name, value, least) {
     if (!Number.isInteger(value) || value < least || value > 65535)
         throw new RangeError(`${name} is ${String(value)}: an integer from ${least} to 65535 is expected`);
     return value;
 }
 
-/** Returns the place of a choice of an option in a table of codes. */
+/** Returns the code of the value of an option that has to be one of the names in a table of codes. */
 function choiceOf(name, value, codes) {
     if (!Object.hasOwn(codes, value))
         throw new RangeError(`${name} is ${String(value)}: one of ${Object.keys(codes).join(", ")} is expected`);
     return codes[value];
 }
 
+/** Returns an argument that has to be a string. */
 function textGiven(value) {
     if (typeof value !== "string")
         throw new TypeError(`${String(value)} is no string`);
     return value;
 }
 
-/** Returns the index in a string, in UTF-16 units, of the byte of its UTF-8 form with an index. */
+/** Returns the index in a string, in UTF-16 units, of the character that begins at a byte of its UTF-8 form. */
 function indexOfByte(string, wanted) {
     let bytes = 0, index = 0;
     for (const character of string) {
         if (bytes >= wanted)
             break;
         const code = character.codePointAt(0);
+        // The length of the character in UTF-8.
         bytes += code < 0x80 ? 1 : code < 0x800 ? 2 : code < 0x10000 ? 3 : 4;
         index += character.length;
     }
     return index;
 }
 
+/** Makes an instance of a module. The error of an engine that cannot compile it says what the engine lacks. */
 async function instanceOf(bytes) {
     try {
         return (await WebAssembly.instantiate(bytes, {})).instance;
@@ -80,11 +95,13 @@ async function instanceOf(bytes) {
     }
 }
 
-/** The memory of the module: the areas of the arguments come after its own, and grow with the texts. */
+/** The memory of the module: the areas of arguments and results come after its own, and grow with the texts. */
 class Memory {
     constructor(memory) {
         this.memory = memory;
         const base = memory.buffer.byteLength;
+        // Fixed areas, each aligned as its type: a byte_unit_number of 16 bytes, a byte_unit_spec of 12, the code of a unit
+        // of 4, a position of 8 and a byte_unit_error of 64. At `room`, texts and columns begin.
         this.at = { size: base, spec: base + 16, unit: base + 32, position: base + 40, error: base + 64, room: base + 256 };
         this.reserve(0);
     }
@@ -108,21 +125,27 @@ class Memory {
         }
     }
 
+    /** Returns a view of the memory. It is a new one each time, since the memory's growth makes a view invalid. */
     view() {
         return new DataView(this.memory.buffer);
     }
 
+    /** Returns the bytes of an area, as new as those of `view`. */
     bytes(from, length) {
         return new Uint8Array(this.memory.buffer, from, length);
     }
 
-    /** Writes a string as UTF-8, and returns its address and length. */
+    /**
+     * Writes a string as UTF-8 at the beginning of the room, and returns its address and length. UTF-8 has at most three
+     * bytes for a UTF-16 unit. FIRST_OUT bytes are for the message that `explained` reads after the string.
+     */
     write(string) {
         const room = this.reserve(3 * string.length + FIRST_OUT);
         const { written } = encoder.encodeInto(string, this.bytes(room, 3 * string.length));
         return [BigInt(room), BigInt(written)];
     }
 
+    /** Writes a size as a byte_unit_number, and returns its address, by which WebAssembly's C passes a struct. */
     writeSize(size) {
         if (typeof size !== "bigint" && !Number.isSafeInteger(size))
             throw new TypeError(`${String(size)} is no BigInt, and no integer that a number holds exactly`);
@@ -134,10 +157,12 @@ class Memory {
         return BigInt(this.at.size);
     }
 
+    /** Returns the size of the byte_unit_number at an address. */
     readSize(from = this.at.size) {
         return this.view().getBigUint64(from, true) | this.view().getBigUint64(from + 8, true) << 64n;
     }
 
+    /** Writes options as a byte_unit_spec, in the order of its fields, and returns its address. */
     writeSpec({ precision, width, sign, align, alternate }) {
         const view = this.view(), at = this.at.spec;
         view.setUint32(at, precision === undefined ? 0 : countOf("precision", precision, 0), true);
@@ -149,7 +174,10 @@ class Memory {
         return BigInt(at);
     }
 
-    /** Returns the text that a call writes to an area and its length, and calls it again if the area is too short. */
+    /**
+     * Returns the text that a call writes to an area, which begins at `from`. The call takes the area's address and
+     * length, and returns the length of the text: if that is greater, it has written nothing, and is made again.
+     */
     readText(call, from = this.at.room) {
         let length = FIRST_OUT, needed = length;
         do {
@@ -165,12 +193,16 @@ class Memory {
 export async function instantiate(bytes) {
     const { exports } = await instanceOf(bytes), memory = new Memory(exports.memory), { at } = memory;
 
+    /** Returns what byte_unit_explain or byte_unit_explain_unit says of a string: nothing if there is no error. */
     function explained(call, string, flags) {
         const [address, length] = memory.write(string);
         return memory.readText((out, room) => call(address, length, flags, out, room), Number(address + length));
     }
 
-    /** Returns the error of a string, with what the library says of it. */
+    /**
+     * Returns the SizeError of a string that the library has just rejected as a size or a unit. In the byte_unit_error,
+     * `character` is at 0, `also_expect_no_character` at 4 and `expected`, 16 bytes with zeros at the end, at 5.
+     */
     function errorOf(string, code, flags, ofUnit) {
         const view = memory.view(), name = CODES[code];
         const fields = { code: name, text: string, character: null, expected: null, position: null };
@@ -188,6 +220,7 @@ export async function instantiate(bytes) {
         return new SizeError(message, fields);
     }
 
+    /** Returns the size of a string, or throws its SizeError. 8 is the flag of binary prefixes, which have a call. */
     function sizeOf(string, flags) {
         const [address, length] = memory.write(string);
         const call = flags & 8 ? exports.byte_unit_parse_binary_to : exports.byte_unit_parse_to;
@@ -197,6 +230,7 @@ export async function instantiate(bytes) {
         return memory.readSize();
     }
 
+    /** Returns the code of the unit that a string spells, or throws its SizeError. */
     function unitOf(string, flags) {
         const [address, length] = memory.write(string);
         const code = exports.byte_unit_parse_unit_to(address, length, flags, BigInt(at.unit), BigInt(at.error), 1n);
@@ -205,6 +239,7 @@ export async function instantiate(bytes) {
         return memory.view().getUint32(at.unit, true);
     }
 
+    /** Returns the code of a unit by its name. */
     function unitCode(unit) {
         const code = UNITS.indexOf(unit);
         if (code < 0)
@@ -212,6 +247,7 @@ export async function instantiate(bytes) {
         return code;
     }
 
+    // The members of Library in library.d.ts, which documents them.
     return {
         version: exports.byte_unit_version(),
 
@@ -227,6 +263,8 @@ export async function instantiate(bytes) {
             const flags = flagsOf(options, "bits", "ignoreCase", "binary"), count = strings.length;
             const encoded = Array.from(strings, string => encoder.encode(textGiven(string)));
             const total = encoded.reduce((sum, bytes) => sum + bytes.length, 0);
+            // A text has 16 bytes for its size, 8 for its offset and 1 for its code. There is one offset of 8 bytes more:
+            // 64 bytes hold it, and the others are to spare.
             const sizesAt = memory.reserve(total + 25 * count + 64), offsetsAt = sizesAt + 16 * count;
             const codesAt = offsetsAt + 8 * (count + 1), dataAt = codesAt + count, view = memory.view();
             let end = 0;
@@ -239,7 +277,7 @@ export async function instantiate(bytes) {
             exports.byte_unit_parse_many_to(BigInt(dataAt), BigInt(end), BigInt(offsetsAt), BigInt(count + 1), flags,
                 BigInt(sizesAt), BigInt(count), BigInt(codesAt), BigInt(count));
             const codes = Array.from(memory.bytes(codesAt, count), code => CODES[code]);
-            return { codes, sizes: codes.map((code, at) => code === "ok" ? memory.readSize(sizesAt + 16 * at) : null) };
+            return { codes, sizes: codes.map((code, row) => code === "ok" ? memory.readSize(sizesAt + 16 * row) : null) };
         },
 
         explain(string, options = {}) {

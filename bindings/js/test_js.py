@@ -16,11 +16,13 @@ from byte_unit_dev.fixtures import NODE, ended, need, output, path, printed, rea
 from byte_unit_dev.model.exact import output_for, size_of, some_line
 from byte_unit_dev.page import page
 
-NARROW_SPACE = "\u202f"
+NARROW_SPACE = "\u202f"  # what the page has between groups of three digits
+# The calls that the package exports.
 CALLS = "parse, parseUnit, parseMany, explain, explainUnit, text, adjustedText, approximateText, appropriateUnit"
 
 
 def test_types(javascript):
+    """Compiles checks/types.ts, which is not run."""
     need("tsc")
     words = ["tsc", "--noEmit", "--strict", "--target", "es2022", "--module", "es2022", "--moduleResolution", "node"]
     output(*words, "--lib", "es2022,dom", javascript / "checks/types.ts")
@@ -28,7 +30,7 @@ def test_types(javascript):
 
 @pytest.mark.parametrize("kind", ["byte", "bit"])
 def test_lines(javascript, check_drawn, kind):
-    """Compares drawn lines with the exact model. A line that is not UTF-8 is no string."""
+    """Compares drawn lines with the exact model. A line that is not UTF-8 is no string. Of differences it shows five."""
 
     def wrong(lines):
         lines = [line for line in lines if getattr(size_of(line, kind), "name", "") != "not text"]
@@ -77,10 +79,12 @@ def evaluated(javascript, code):
     ("parse('0'.repeat(1000000) + '1')", "1n"), ("parseMany(Array(100000).fill('1.5 KiB')).sizes.length", 100000),
 ])  # fmt: skip
 def test_calls(javascript, code, found):
+    """Evaluates expressions: a BigInt has `n` after its digits, an error is its name and its message."""
     assert evaluated(javascript, code) == found
 
 
 def test_code_of_the_readme(javascript):
+    """Compares each call of the page with the result in the comment after it."""
     code = re.search(r"^```js\n(import .*?)^```$", read("bindings/js/README.md"), re.M | re.S)[1]
     rows = re.findall(r"""^([a-z]\w*\(.*\)); +// (\d+n|"(?:[^"]|"(?=\)))*"|\{.*\})""", code, re.M)
     assert len(rows) == code.count(" // ")
@@ -107,6 +111,7 @@ class Browser:
             if found:
                 self.base = f"http://127.0.0.1:{found[1]}"
                 break
+        # Nothing listens on port 9, so no request leaves the machine.
         words = ["--headless=new", "--no-sandbox", f"--user-data-dir={profile}", "--proxy-server=127.0.0.1:9",
                  "--disable-background-networking", *words]  # fmt: skip
         options = {
@@ -118,22 +123,26 @@ class Browser:
         )
 
     def call(self, method, place, body=None):
+        """Makes a request of WebDriver, and returns its value."""
         data = None if body is None else json.dumps(body).encode()
         request = urllib.request.Request(self.base + place, data, {"Content-Type": "application/json"}, method=method)
         with urllib.request.urlopen(request, timeout=60) as answer:
             return json.load(answer)["value"]
 
     def script(self, code, *arguments):
+        """Runs JavaScript in the page, and returns what it returns."""
         return self.call("POST", "/execute/sync", {"script": code, "args": list(arguments)})
 
     def open(self, place):
         self.call("POST", "/url", {"url": place})
 
     def keys(self, *keys):
+        """Presses and releases keys: characters, or WebDriver's code points of others, such as U+E004 for Tab."""
         actions = [{"type": kind, "value": key} for key in keys for kind in ("keyDown", "keyUp")]
         self.call("POST", "/actions", {"actions": [{"type": "key", "id": "keys", "actions": actions}]})
 
     def size(self, width, height):
+        """Sets the size of the window, in pixels."""
         self.call(
             "POST",
             "/goog/cdp/execute",
@@ -144,6 +153,7 @@ class Browser:
         )
 
     def scheme(self, name):
+        """Sets the color scheme that the user prefers, `light` or `dark`."""
         self.call(
             "POST",
             "/goog/cdp/execute",
@@ -196,7 +206,7 @@ def typed(browser, text, reading="bytes"):
     browser.script(
         "document.querySelector(`[value=${arguments[0]}]`).click(); document.getElementById('text').select()", reading
     )
-    browser.keys("\ue003", *text)
+    browser.keys("\ue003", *text)  # Backspace deletes the text that is selected
     return browser.script(
         "return [document.querySelector('#answer').innerText, document.querySelector('mark')?.textContent ?? null]"
     )
@@ -214,6 +224,7 @@ def typed(browser, text, reading="bytes"):
     ("999.999 RB", "bytes", ["999_999_000_000_000_000_000_000_000_000 bytes"], None),
 ])  # fmt: skip
 def test_page_answers(browser, text, reading, parts, marked):
+    """The result has each part, in which an underscore is the narrow space, and the character that is marked."""
     said, mark = typed(browser, text, reading)
     assert mark == marked and [part for part in parts if part.replace("_", NARROW_SPACE) not in said] == [], said
 
@@ -260,7 +271,7 @@ def test_page_for_all(browser, place):
         == 0
     )
     typed(browser, "10m", "binary")
-    time.sleep(0.5)
+    time.sleep(0.5)  # the address has the text after 0.2 s
     link = browser.script("return location.href")
     assert link.endswith("#binary=10m")
     browser.open("about:blank")
@@ -269,14 +280,14 @@ def test_page_for_all(browser, place):
     browser.script("document.getElementById('text').focus()")
     seen = []
     for _ in range(24):
-        browser.keys("\ue004")
+        browser.keys("\ue004")  # Tab
         seen.append(
             browser.script(
                 "return document.activeElement.dataset.copy ?? document.activeElement.ariaLabel ?? document.activeElement.name"
             )
         )
     assert {"reading", "number", "text", "link", "Bytes by 1024", "The text in each reading"} <= set(seen)
-    browser.open(f"{place.as_uri()}#bytes=%E0%A4%A")
+    browser.open(f"{place.as_uri()}#bytes=%E0%A4%A")  # an escape that is cut
     assert browser.script("return document.querySelectorAll('#units tr').length") == 38
     assert browser.call("POST", "/se/log", {"type": "browser"}) == []
 
@@ -312,6 +323,7 @@ def test_contrast(browser):
 
 
 def test_time_of_a_redraw(browser):
+    """A change of the text is shown in less than 50 ms, the mean of 50 changes."""
     took = browser.script(
         "const start = performance.now(); for (let at = 0; at < 50; at++) "
         "document.getElementById('form').dispatchEvent(new Event('input')); return (performance.now() - start) / 50"

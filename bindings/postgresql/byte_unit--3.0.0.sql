@@ -1,4 +1,5 @@
 \echo Use CREATE EXTENSION byte_unit to load this file. \quit
+-- What CREATE EXTENSION runs: the type bytesize, with functions, casts, operators, indexes and aggregates of byte_unit.so.
 
 CREATE TYPE bytesize;
 CREATE FUNCTION bytesize_in(cstring) RETURNS bytesize
@@ -14,7 +15,8 @@ CREATE TYPE bytesize (
     INTERNALLENGTH = 16, ALIGNMENT = double, STORAGE = plain);
 COMMENT ON TYPE bytesize IS 'a number of bytes, less than 10^30, such as 1.5 KiB';
 
--- Functions by the names of SQLite's extension. Only the text or the size may be NULL, and then so is the result.
+-- Functions by the names of SQLite's extension. Only the text or the size may be NULL, and then so is the result. They are
+-- not STRICT, since NULL in another argument is an error.
 CREATE FUNCTION size_parse(text) RETURNS bytesize
     AS 'MODULE_PATHNAME' LANGUAGE C IMMUTABLE PARALLEL SAFE;
 CREATE FUNCTION size_parse(text, flags text) RETURNS bytesize
@@ -63,7 +65,8 @@ CREATE CAST (numeric AS bytesize) WITH FUNCTION bytesize(numeric);
 CREATE CAST (bytesize AS bigint) WITH FUNCTION "int8"(bytesize);
 CREATE CAST (bytesize AS numeric) WITH FUNCTION "numeric"(bytesize) AS ASSIGNMENT;
 
--- Order.
+-- Order. A comparison or a hash tells nothing but its result, so it is LEAKPROOF. The numbers in an operator class are
+-- those by which its kind of index calls operators and functions. Equal sizes have equal bytes: btequalimage.
 CREATE FUNCTION bytesize_eq(bytesize, bytesize) RETURNS boolean
     AS 'MODULE_PATHNAME' LANGUAGE C IMMUTABLE STRICT LEAKPROOF PARALLEL SAFE;
 CREATE FUNCTION bytesize_ne(bytesize, bytesize) RETURNS boolean

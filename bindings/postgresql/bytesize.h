@@ -1,4 +1,5 @@
-/* What the files of the extension share: a value of the type bytesize, and the range of sizes. */
+/* What the files of the extension share: values of the type bytesize as arguments, as results and as numbers, their order
+ * and their range. */
 #ifndef BYTE_UNIT_BYTESIZE_H
 #define BYTE_UNIT_BYTESIZE_H
 
@@ -37,6 +38,7 @@ static inline ByteSize argument(FunctionCallInfo fcinfo, int n)
     return *(const ByteSize *)PG_GETARG_POINTER(n);
 }
 
+/* Returns -1, 0 or 1. */
 static inline int compare(ByteSize a, ByteSize b)
 {
     if (a.high != b.high)

@@ -50,6 +50,7 @@ static Datum from_numeric(Datum number)
     return result_of(size);
 }
 
+/* Returns the numeric of a size: from a number of 64 bits, or else from the digits. A typmod of -1 sets no precision. */
 static Datum to_numeric(ByteSize size)
 {
     if (size.high == 0 && size.low <= PG_INT64_MAX)

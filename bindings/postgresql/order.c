@@ -4,6 +4,7 @@
 #include "common/hashfn.h"
 #include "utils/sortsupport.h"
 
+/* Defines the function of an operator of SQL: the same operator of C compares what `compare` returns with 0. */
 #define COMPARISON(name, operator)                                            \
     PG_FUNCTION_INFO_V1(name);                                                \
                                                                               \
@@ -40,6 +41,7 @@ Datum bytesize_larger(PG_FUNCTION_ARGS)
     return PG_GETARG_DATUM(compare(argument(fcinfo, 0), argument(fcinfo, 1)) >= 0 ? 0 : 1);
 }
 
+/* Hashes the 16 bytes of a size: equal sizes have the same. */
 PG_FUNCTION_INFO_V1(bytesize_hash);
 
 Datum bytesize_hash(PG_FUNCTION_ARGS)
@@ -83,6 +85,7 @@ static bool never_abort(int count, SortSupport unused)
     return false;
 }
 
+/* Sorts by abbreviations, which need no pointer, and by the sizes themselves where two abbreviations are equal. */
 PG_FUNCTION_INFO_V1(bytesize_sortsupport);
 
 Datum bytesize_sortsupport(PG_FUNCTION_ARGS)

@@ -10,6 +10,7 @@ from byte_unit_dev.model.exact import Rejected, form, size_of, some_line
 from byte_unit_dev.needs import POSTGRESQL
 
 VERSION = read("VERSION").strip()
+# A function that returns what a query returns, or the SQLSTATE, the message and the detail of its error.
 TRIED = """CREATE FUNCTION tried(query text) RETURNS text LANGUAGE plpgsql AS $$
 DECLARE result text; detail text;
 BEGIN
@@ -35,11 +36,12 @@ def quoted(text):
 
 
 def tried(expression):
+    """Returns a statement that prints what an expression is, or its error."""
     return "SELECT tried(" + quoted(f"SELECT {expression}") + ");"
 
 
 def wrong_of(server, rows):
-    """Returns which expressions do not have the result, a pattern, beside them."""
+    """Returns five at most of the expressions that do not have the result, a pattern, beside them."""
     got = server.sql(*[tried(expression) for expression, _ in rows])
     assert len(got) == len(rows)
     return [(*row, found) for row, found in zip(rows, got) if not re.fullmatch(row[1], found)][:5]
@@ -64,11 +66,11 @@ def test_statements_of_the_readme(server):
 def test_shared_rows(server):
     """Compares the rows that SQLite's extension has to answer, too."""
     rows = re.findall(r"^([^#\n].*?) = (.*)$", read("bindings/sqlite/checks/shared.txt"), re.M)
-    sized = [(re.sub(r"\b(size_text|size_in|size_pretty)\((\d+)", r"\1(\2::numeric::bytesize", call), answer)
-             for call, answer in rows]  # fmt: skip
-    sized = [(re.sub(r"^(size_(?:parse|try)\(.*\))$", r"coalesce((\1)::numeric::text, 'NULL')", call), answer)
-             for call, answer in sized]  # fmt: skip
-    assert len(rows) > 20 and wrong_of(server, [(call, re.escape(answer)) for call, answer in sized]) == []
+    sized = [(re.sub(r"\b(size_text|size_in|size_pretty)\((\d+)", r"\1(\2::numeric::bytesize", code), answer)
+             for code, answer in rows]  # fmt: skip
+    sized = [(re.sub(r"^(size_(?:parse|try)\(.*\))$", r"coalesce((\1)::numeric::text, 'NULL')", code), answer)
+             for code, answer in sized]  # fmt: skip
+    assert len(rows) > 20 and wrong_of(server, [(code, re.escape(answer)) for code, answer in sized]) == []
 
 
 def test_lines(server, check_drawn):
@@ -79,6 +81,7 @@ def test_lines(server, check_drawn):
         expression = f"size_parse(t)::numeric || '|' || t::bytesize FROM (SELECT {quoted(text)} AS t) AS line"
         if not isinstance(size, Rejected):
             return expression, re.escape(f"{size}|{form(size, 'byte')}")
+        # The SQLSTATE of a number out of range, or that of an invalid text.
         state = "22003" if size.name == "out of range" else "22P02"
         reason = size.message[0].upper() + size.message[1:]
         return expression, rf'{state} invalid input syntax for type bytesize: ".*": {re.escape(reason)}( \(.*\))?\.'
@@ -113,19 +116,21 @@ def expression_of(words, text):
 
 
 def test_vectors(server):
+    """Compares each test vector of bytes whose call the extension has."""
     rows = []
     for line in read("vectors/byte-unit.txt").split("\n"):
         found = re.fullmatch(r'\S+: ([^"=#]*?) ?("[^"]*")? = (.*)', line)
         text = found and found[2] and unescaped(found[2][1:-1])
         if found and "\0" not in (text or ""):
-            call = expression_of(found[1].split(), text)
+            code = expression_of(found[1].split(), text)
             answer = unescaped(found[3])
             error = {"ExceededBounds": "22003 .*"}.get(answer.split(" ")[0], "22P02 .*")
-            rows += [(call, re.escape(answer.strip('"')) if answer[0] in '0123456789"' else error)] * bool(call)
+            rows += [(code, re.escape(answer.strip('"')) if answer[0] in '0123456789"' else error)] * bool(code)
     assert len(rows) == 424 and wrong_of(server, rows) == []
 
 
 def unescaped(text):
+    """Returns a text of the test vectors without their escapes."""
     text = re.sub(r"\\\{(\d+)\*(\\u\{[0-9A-Fa-f]+\}|.)\}", lambda m: m[2] * int(m[1]), text, flags=re.S)
     return re.sub(r"\\u\{([0-9A-Fa-f]+)\}", lambda m: chr(int(m[1], 16)), text)
 
@@ -196,6 +201,7 @@ def test_workers_agree(server):
 
 
 def test_errors_leave_no_memory(server):
+    """A hundred thousand errors in one statement leave less than a megabyte."""
     loop = ("DO $$ BEGIN FOR i IN 1..%d LOOP BEGIN PERFORM ('1 X' || i)::bytesize; EXCEPTION WHEN OTHERS THEN NULL; END;"
             " END LOOP; END $$;")  # fmt: skip
     used = "SELECT sum(total_bytes) FROM pg_backend_memory_contexts;"
@@ -233,6 +239,7 @@ def test_upgrade(server):
     folder = server.folder / "usr/share/postgresql/15/extension"
     write(folder / f"byte_unit--{VERSION}--9.9.9.sql", "COMMENT ON TYPE bytesize IS 'updated';\n")
     server.sql("CREATE DATABASE updated;")
+    # stderr, to which DROP writes a notice, is subprocess.DEVNULL.
     got = server.sql(f"CREATE EXTENSION byte_unit VERSION '{VERSION}'; CREATE TABLE kept AS SELECT '1.5 KiB'::bytesize AS s;",
                      "ALTER EXTENSION byte_unit UPDATE TO '9.9.9';", "SELECT s, obj_description('bytesize'::regtype) FROM kept;",
                      "SELECT extversion FROM pg_extension WHERE extname = 'byte_unit';", "DROP EXTENSION byte_unit CASCADE;",

@@ -18,11 +18,11 @@ PG_MODULE_MAGIC;
 #endif
 
 enum {
-    GREATEST_PRECISION = 65535,
+    GREATEST_PRECISION = 65535, /* of a byte_unit_spec */
     SHOWN = 64 /* bytes of a text that a message repeats */
 };
 
-/* A text and its form in UTF-8, which is the same memory if the two encodings agree. */
+/* A text in the encoding of the database, `shown`, and in UTF-8, `at`: the same memory if the two encodings agree. */
 typedef struct Text {
     const char *shown;
     int shown_len;
@@ -60,7 +60,7 @@ static char *message_of(Text text, uint32 flags, ExplainCall *explain, PositionC
     reason[len] = '\0';
     if (!position_of(text.at, text.len, &position))
         return pg_any_to_server(pstrdup(reason), (int)len, PG_UTF8);
-    for (size_t at = 0; at < position; at++)
+    for (size_t at = 0; at < position; at++) /* counts the first bytes of characters */
         character += ((unsigned char)text.at[at] & 0xC0) != 0x80;
     return psprintf("%s (character %zu)", pg_any_to_server(reason, (int)len, PG_UTF8), character);
 }
@@ -208,6 +208,7 @@ static void reject_null(FunctionCallInfo fcinfo, int n, const char *what)
         ereport(ERROR, (errcode(ERRCODE_NULL_VALUE_NOT_ALLOWED), errmsg("%s cannot be NULL", what)));
 }
 
+/* Returns the flag that a word names, or 0. */
 static uint32 flag_of(const char *word, size_t len)
 {
     if (len == strlen("ignore-case") && memcmp(word, "ignore-case", len) == 0)
@@ -241,6 +242,7 @@ static uint32 flags_argument(FunctionCallInfo fcinfo, int n, uint32 allowed)
     return flags;
 }
 
+/* The flags of the functions that parse a size. */
 static const uint32 READING = BYTE_UNIT_IGNORE_CASE | BYTE_UNIT_BINARY_PREFIXES;
 
 PG_FUNCTION_INFO_V1(size_parse);
@@ -285,6 +287,7 @@ Datum size_explain(PG_FUNCTION_ARGS)
     PG_RETURN_TEXT_P(cstring_to_text(message));
 }
 
+/* Returns the text of a form as a result. */
 static Datum text_result(const Form *form)
 {
     size_t len;
@@ -293,6 +296,7 @@ static Datum text_result(const Form *form)
     PG_RETURN_TEXT_P(cstring_to_text_with_len(text, (int)len));
 }
 
+/* Sets the precision to the n-th argument, if the call has so many. */
 static void set_precision(FunctionCallInfo fcinfo, int n, Form *form)
 {
     int32 precision;
@@ -339,6 +343,7 @@ static uint32 unit_of(Text name, uint32 flags)
     return unit;
 }
 
+/* Returns the result of size_in, of whose arguments the precision and the flags are at these places. */
 static Datum in_unit(FunctionCallInfo fcinfo, int precision_at, int flags_at)
 {
     uint32 flags = flags_argument(fcinfo, flags_at, BYTE_UNIT_IGNORE_CASE);
@@ -365,7 +370,7 @@ PG_FUNCTION_INFO_V1(size_in_with_flags);
 
 Datum size_in_with_flags(PG_FUNCTION_ARGS)
 {
-    return in_unit(fcinfo, PG_NARGS(), 2);
+    return in_unit(fcinfo, PG_NARGS(), 2); /* no argument is the precision */
 }
 
 /* Returns the unit type in an argument, or that of binary units if the call has no such argument. */

@@ -10,6 +10,7 @@ import site
 import sys
 import sysconfig
 
+# The oldest versions that build the package, and the ways in which a Python lays out its folders of packages.
 OLDEST = {"setuptools": 61, "wheel": 0}
 SCHEMES = {"posix_prefix", "deb_system"}.intersection(sysconfig.get_scheme_names())
 
@@ -32,6 +33,9 @@ def missing():
     """Adds these folders to the path, and returns what the build needs beside them."""
     sys.path += [folder for folder in folders() if folder not in sys.path]
     return [f"{name}>={OLDEST[name]}" for name in OLDEST if not is_installed(name)]
+
+
+# The four functions that pip calls, as PEP 517 names them.
 
 
 def get_requires_for_build_wheel(config_settings=None):

@@ -35,6 +35,7 @@ def pair(header, archive):
 
 
 def from_variable():
+    """Returns the paths in the folder BYTE_UNIT_LIBRARY_DIR. One without them is an error."""
     folder = os.environ.get("BYTE_UNIT_LIBRARY_DIR")
     if not folder:
         return None
@@ -48,6 +49,8 @@ def from_variable():
 
 
 def from_pkg_config():
+    """Returns the paths that pkg-config names."""
+
     def variable(name):
         words = ["pkg-config", f"--variable={name}", "byte_unit"]
         return subprocess.run(words, stdout=subprocess.PIPE, stderr=subprocess.DEVNULL, text=True).stdout.strip()
@@ -58,20 +61,24 @@ def from_pkg_config():
 
 
 def from_distribution():
+    """Returns the paths in a source distribution."""
     return pair(os.path.join(HERE, "library", HEADER), os.path.join(HERE, "library", ARCHIVE))
 
 
 def from_repository():
+    """Returns the paths in the repository around this folder."""
     return pair(os.path.join(ROOT, "bindings/c", HEADER), os.path.join(ROOT, "crates/byte_unit_c/out/libbyte_unit_c.a"))
 
 
 def version_of(header):
+    """Returns the version in a header, which is that of the package."""
     with open(header, encoding="utf-8") as file:
         version = re.search(r'^#define BYTE_UNIT_VERSION_STRING "(.+)"$', file.read(), re.MULTILINE)
     return version[1] if version else sys.exit(f"byte_unit: {header} has no version: is it that of an older library?")
 
 
 def extension(header, archive):
+    """Returns how the module is built: for the limited API, so one build is for each Python from 3.11 on."""
     names = ["arguments", "values", "texts", "parse", "format", "columns", "buffers", "results", "module"]
     return Extension(
         "byte_unit._native",

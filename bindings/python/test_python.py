@@ -7,6 +7,7 @@ import shutil
 import pytest
 from byte_unit_dev.fixtures import DEBIAN_PYTHON, call, check_needs, environment, is_there, need, output, path, write
 
+# A file byte_unit.pc, whose header and archive are in one folder.
 PACKAGE_CONFIG = "Name: byte_unit\nDescription: -\nVersion: 0\nincludedir={0}\nlibdir={0}\n"
 EXAMPLE = path("bindings/python/examples/example.py")
 

@@ -73,7 +73,8 @@ fn is_current(archive: &Path) -> bool {
     std::fs::read(archive).map_or(false, |bytes| bytes.windows(name.len()).any(|part| part == name))
 }
 
-/// Sets `core_error` if the compiler has `core::error::Error`.
+/// Sets `core_error` if the compiler has `core::error::Error`, as it has from 1.81 on. From 1.80 on it warns of a `cfg`
+/// that is not declared.
 fn tell_of_core_error() {
     let minor = compiler_minor().unwrap_or(0);
     if minor >= 80 {
@@ -91,6 +92,7 @@ fn compiler_minor() -> Option<u32> {
     version.split('.').nth(1)?.parse().ok()
 }
 
+/// Ends the build with a message.
 fn fail(message: &str) -> ! {
     eprintln!("{message}");
     exit(1)

@@ -8,7 +8,8 @@ import pytest
 from byte_unit_dev.fixtures import CARGOS, SERDE, is_there, need, read, write
 
 FEATURES = ["--features", "serde"] if all(map(is_there, SERDE)) else []
-AS_WRITTEN, CHANGED = 91, 9
+AS_WRITTEN, CHANGED = 91, 9  # the examples of the original that run here as they are, and those that need a change
+# A file byte_unit.pc, and an environment in which no library is found.
 PKG_CONFIG = "Name: byte_unit\nDescription: -\nVersion: 5.2.6\nlibdir={}\n"
 NOWHERE = {"BYTE_UNIT_LIBRARY_DIR": None, "PKG_CONFIG": "/nowhere"}
 

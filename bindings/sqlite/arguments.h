@@ -1,4 +1,5 @@
-/* The messages and the arguments of the functions in byte_unit_sqlite.c, which includes this file once. */
+/* What the functions in byte_unit_sqlite.c, which includes this file once, have in common: texts and numbers, messages,
+ * and arguments. */
 #ifndef BYTE_UNIT_SQLITE_ARGUMENTS_H
 #define BYTE_UNIT_SQLITE_ARGUMENTS_H
 
@@ -10,18 +11,20 @@ SQLITE_EXTENSION_INIT3
 #include <string.h>
 
 enum {
-    GREATEST_PRECISION = 65535,
+    GREATEST_PRECISION = 65535, /* of a byte_unit_spec */
     SHOWN = 64, /* bytes of a text that a message repeats */
+    /* The flags of the functions that take a unit, and of those that parse a size. */
     UNIT_FLAGS = BYTE_UNIT_BITS | BYTE_UNIT_IGNORE_CASE,
     SIZE_FLAGS = UNIT_FLAGS | BYTE_UNIT_BINARY_PREFIXES
 };
 
+/* A text of `len` bytes, which may have zero bytes inside. */
 struct text {
     const char *at;
     size_t len;
 };
 
-/* What is written: a size in the unit, or in one of the type, by this call, or as byte_unit_text does if it is NULL. */
+/* What is written: a size by the call `write`, in a unit or in one of a type, or by byte_unit_text if that is NULL. */
 struct form {
     size_t (*write)(byte_unit_number size, uint32_t flags, uint32_t unit_or_type, byte_unit_spec spec, char *out,
                     size_t out_len);
@@ -57,7 +60,7 @@ static void append_quoted(sqlite3_str *out, struct text text, bool is_utf8)
 {
     size_t shown = text.len;
 
-    if (shown > SHOWN)
+    if (shown > SHOWN) /* a character has at most three bytes after its first */
         for (shown = SHOWN; shown > SHOWN - 3 && ((unsigned char)text.at[shown] & 0xC0) == 0x80;)
             shown--;
     sqlite3_str_appendchar(out, 1, '\'');
@@ -66,7 +69,7 @@ static void append_quoted(sqlite3_str *out, struct text text, bool is_utf8)
         if (byte < 0x20 || byte == 0x7F)
             append_control(out, byte);
         else if (is_utf8 && is_wide_control(text, at))
-            append_control(out, (unsigned char)text.at[++at]);
+            append_control(out, (unsigned char)text.at[++at]); /* after 0xC2 the byte is the code point */
         else if (byte >= 0x80 && !is_utf8)
             sqlite3_str_appendf(out, "\\x%02x", byte);
         else
@@ -84,11 +87,13 @@ static struct text text_of(sqlite3_value *value)
     return text;
 }
 
+/* Parses a size, and returns the code. */
 static uint32_t parse(struct text text, uint32_t flags, byte_unit_number *size)
 {
     return byte_unit_parse(text.at, text.len, flags, size, NULL);
 }
 
+/* Returns -1, 0 or 1. */
 static int compare_numbers(byte_unit_number a, byte_unit_number b)
 {
     if (a.high != b.high)
@@ -96,6 +101,7 @@ static int compare_numbers(byte_unit_number a, byte_unit_number b)
     return (a.low > b.low) - (a.low < b.low);
 }
 
+/* Appends a value for a message: a number, a text in quotes, or what else it is. */
 static void append_value(sqlite3_str *out, sqlite3_value *value)
 {
     int type = sqlite3_value_type(value);
@@ -171,7 +177,7 @@ static void append_reason(sqlite3_str *out, struct text text, uint32_t flags, co
     sqlite3_str_append(out, reason, len <= sizeof reason ? (int)len : 0);
     if (len == 0 || !grammar->error_position(text.at, text.len, &position))
         return;
-    for (size_t at = 0; at < position; at++)
+    for (size_t at = 0; at < position; at++) /* counts the first bytes of characters */
         character += ((unsigned char)text.at[at] & 0xC0) != 0x80;
     sqlite3_str_appendf(out, " (character %llu)", (unsigned long long)character);
 }
@@ -200,6 +206,7 @@ static void append_digits(sqlite3_str *out, byte_unit_number size)
 
 /* ---- Arguments. Each function returns false if the argument is invalid, and then the call has failed. ---- */
 
+/* Gets the text of a value that is not NULL. */
 static bool get_text(sqlite3_context *context, sqlite3_value *value, struct text *text)
 {
     *text = text_of(value);
@@ -238,6 +245,7 @@ static bool flags_in(struct text words, uint32_t allowed, uint32_t *flags)
     return true;
 }
 
+/* Gets the flags in an argument, which has to be TEXT, and adds them. */
 static bool get_flags(sqlite3_context *context, sqlite3_value *value, uint32_t allowed, uint32_t *flags)
 {
     struct text words;
@@ -301,6 +309,7 @@ static bool get_unit(sqlite3_context *context, sqlite3_value *value, uint32_t fl
     return code == BYTE_UNIT_OK;
 }
 
+/* Gets a precision, and sets it in the spec. */
 static bool get_precision(sqlite3_context *context, sqlite3_value *value, byte_unit_spec *spec)
 {
     sqlite3_int64 precision = sqlite3_value_int64(value);

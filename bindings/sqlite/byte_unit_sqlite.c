@@ -27,7 +27,7 @@ enum { OLDEST_SQLITE = 3031000 };
 
 /* ---- From texts to sizes. ---- */
 
-/* The text of an INTEGER is its digits; a REAL may be rounded already, and a BLOB is not text. */
+/* Whether a value is read as a text: that of an INTEGER is its digits; a REAL may be rounded already, a BLOB is none. */
 static bool is_text(sqlite3_value *value)
 {
     int type = sqlite3_value_type(value);
@@ -35,6 +35,7 @@ static bool is_text(sqlite3_value *value)
     return type == SQLITE_TEXT || type == SQLITE_INTEGER;
 }
 
+/* Whether a size fits an INTEGER. */
 static bool is_integer(byte_unit_number size)
 {
     return size.high == 0 && size.low <= INT64_MAX;
@@ -65,7 +66,7 @@ static bool read_text(sqlite3_context *context, int argc, sqlite3_value **argv, 
     return true;
 }
 
-/* The same. Returns false, and the call has failed, also if the argument is not a size. */
+/* The same, but if the argument is not a size, the call has failed, and it returns false. */
 static bool get_reading(sqlite3_context *context, int argc, sqlite3_value **argv, struct reading *reading)
 {
     if (!read_text(context, argc, argv, reading))
@@ -175,6 +176,7 @@ static void subtract(struct total *total, byte_unit_number size)
     total->rest = minus(total->rest, size);
 }
 
+/* Adds the size of a row to the total of the aggregate, or takes it away. NULL changes nothing. */
 static void change_sum(sqlite3_context *context, int argc, sqlite3_value **argv,
                        void (*change)(struct total *total, byte_unit_number size))
 {
@@ -197,7 +199,7 @@ static void sum_inverse(sqlite3_context *context, int argc, sqlite3_value **argv
     change_sum(context, argc, argv, subtract);
 }
 
-/* Returns NULL if there is no size, and an INTEGER, or the digits of a sum that is too large for one. */
+/* Returns NULL if there is no size, else the sum: an INTEGER, or its digits as TEXT if it is too large for one. */
 static void sum_value(sqlite3_context *context)
 {
     const struct total *total = sqlite3_aggregate_context(context, 0);
@@ -217,7 +219,7 @@ static void sum_value(sqlite3_context *context)
 
 /* ---- From sizes to texts. ---- */
 
-/* Writes a text as the calls of byte_unit.h do. */
+/* Writes a text as the calls of byte_unit.h do. The other flags are for the name of the unit, which is read already. */
 static size_t write_form(const struct form *form, char *out, size_t out_len)
 {
     uint32_t flags = form->flags & BYTE_UNIT_BITS;
@@ -227,6 +229,7 @@ static size_t write_form(const struct form *form, char *out, size_t out_len)
     return form->write(form->size, flags, form->unit_or_type, form->spec, out, out_len);
 }
 
+/* Returns the text of a form, by a longer buffer if it needs one. */
 static void return_form(sqlite3_context *context, const struct form *form)
 {
     char buffer[BYTE_UNIT_BUFFER_SIZE];
@@ -262,7 +265,7 @@ static void size_in(sqlite3_context *context, int argc, sqlite3_value **argv)
         return_form(context, &form);
 }
 
-/* Gets the type of the units from which one is chosen. */
+/* Gets the type of the units from which one is chosen. The names are in the order of the codes. */
 static bool get_type(sqlite3_context *context, sqlite3_value *value, uint32_t *type)
 {
     static const char *const names[] = { "binary", "decimal", "both" };
@@ -289,6 +292,7 @@ static void size_pretty(sqlite3_context *context, int argc, sqlite3_value **argv
 
 /* ---- The collation: sizes by their numbers of bytes, then the texts that are not sizes by their bytes. ---- */
 
+/* Returns a negative number, 0 or a positive one. A text is after each beginning of it. */
 static int compare_bytes(struct text a, struct text b)
 {
     size_t shorter = a.len < b.len ? a.len : b.len;
@@ -297,6 +301,7 @@ static int compare_bytes(struct text a, struct text b)
     return order != 0 ? order : (a.len > b.len) - (a.len < b.len);
 }
 
+/* The comparison of the collation, as SQLite calls it. */
 static int compare_texts(void *unused, int a_len, const void *a_at, int b_len, const void *b_at)
 {
     struct text a = { a_at, (size_t)a_len }, b = { b_at, (size_t)b_len };
@@ -309,8 +314,11 @@ static int compare_texts(void *unused, int a_len, const void *a_at, int b_len, c
     return a_is_size ? compare_numbers(a_size, b_size) : compare_bytes(a, b);
 }
 
+/* What each function is: its result depends on its arguments alone, so that indexes and generated columns may call it,
+ * and it has no effects, so that a schema may call it that is not trusted. */
 enum { KIND = SQLITE_UTF8 | SQLITE_DETERMINISTIC | SQLITE_INNOCUOUS };
 
+/* Adds each function once for each number of arguments that it takes. */
 static int add_functions(sqlite3 *db)
 {
     static const struct {
@@ -332,7 +340,8 @@ static int add_functions(sqlite3 *db)
     return status;
 }
 
-/* The only symbol that the compiler exports under -fvisibility=hidden. */
+/* What SQLite calls when it loads the extension: the name is that of the file, byte_unit.so, in letters alone. It is the
+ * only symbol that the compiler exports under -fvisibility=hidden. */
 __attribute__((visibility("default")))
 int sqlite3_byteunit_init(sqlite3 *db, char **error, const sqlite3_api_routines *api);
 

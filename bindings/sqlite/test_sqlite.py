@@ -12,12 +12,13 @@ from byte_unit_dev.model.exact import (SIZE_LIMIT, UNITS, WHITE_SPACE, WHOLE_LIM
 
 WARNINGS = ["-Wall", "-Wextra", "-Wpedantic", "-Wconversion", "-Wshadow", "-Werror"]
 SANITIZED = ["-g", "-fsanitize=address,undefined", "-fno-sanitize-recover=all"]
-GREATEST = 2**63 - 1
+GREATEST = 2**63 - 1  # of an INTEGER
 # The longest beginning of a spelling of a unit.
 BEGINNING = re.compile("(?ai:([KMGTPEZYR]i?)?(b(i(ts?)?)?)?)")
 
 
 def extension(compiler, library, folder, *flags):
+    """Compiles the extension, and returns its path."""
     need("sqlite3ext.h")
     words = ["-std=c99", "-shared", "-fPIC", "-fvisibility=hidden", *WARNINGS, *flags, "-I", library]
     links = [f"{library}/libbyte_unit.a", "-Wl,--exclude-libs,ALL", "-Wl,-z,defs"]
@@ -42,6 +43,7 @@ def sql(library, tmp_path_factory):
 
     def run(script):
         words = ["sqlite3", "-batch", "-cmd", f'.load "{loaded}"', ":memory:"]
+        # -1 is subprocess.PIPE: the program writes errors there.
         got = call(*words, input="\n".join(script) + "\n", stderr=-1, errors="surrogateescape")
         errors = re.findall(r"^.*?near line (\d+): (.*?)(?: \(\d+\))?$", got.stderr, re.M)
         return got.stdout.split("\n")[:-1], {int(line): error for line, error in errors}
@@ -73,7 +75,8 @@ def rows_of(text):
 
 
 def wrong_of(sql, rows):
-    """Returns which statements do not print the lines of the patterns beside them; an error is a line `error: ..`."""
+    """Returns which statements do not print the lines of the patterns beside them; an error is a line `error: ..`.
+    Of these, and of lines that no statement should print, there are five at most."""
     got, errors = sql([statement for statement, _ in rows])
     lines = iter(got)
     seen = [[f"error: {errors[at]}"] if at in errors else list(islice(lines, len(wanted)))
@@ -105,6 +108,8 @@ def explained(line, size):
 
 @pytest.mark.parametrize("kind, flags", [("byte", ""), ("bit", ", 'bits'")])
 def test_lines(sql, check_drawn, kind, flags):
+    """Compares drawn lines with the exact model: sizes and their texts, or messages."""
+
     def row(line):
         size = size_of(line, kind)
         if isinstance(size, Rejected):
@@ -120,6 +125,8 @@ def test_lines(sql, check_drawn, kind, flags):
 
 
 def test_explanations(sql, check_drawn):
+    """Compares what size_explain and size_try return of drawn lines with the exact model."""
+
     def row(line):
         size = size_of(line, "byte")
         shown = explained(line, size) if isinstance(size, Rejected) else ""
@@ -149,6 +156,7 @@ def some_sum(rng):
     greatest = rng.choice([10**6, 2**63, 10**30, 10**30])
     sizes = [rng.choice([None, rng.randrange(rng.choice([2, greatest]))]) for _ in range(rng.randrange(1, 6))]
     rows = ", ".join(f"({at}, {'NULL' if size is None else repr(str(size))})" for at, size in enumerate(sizes))
+    # A frame in SQL, and the rows that it has: from the first, up to one before `past`, counted from the row.
     frames = [(None, 0, 9), ("1 PRECEDING", -1, 1), ("BETWEEN 1 FOLLOWING AND 2 FOLLOWING", 1, 3)]
     frame, first, past = rng.choice(frames)
     parts = [sizes[max(0, at + first) : at + past] for at in range(len(sizes) if frame else 1)]
@@ -186,6 +194,7 @@ def test_order(sql, check_drawn, encoding):
 
 @pytest.mark.parametrize("name", ["README.md", "checks/calls.sql", "checks/tables.sql", "checks/million.sql"])
 def test_statements(sql, name):
+    """Compares what each statement prints with the comments after it."""
     text = read(f"bindings/sqlite/{name}")
     if name == "README.md":
         text = "".join(re.findall(r"^```sql\n\.load [^\n]*\n(.*?)^```$", text, re.M | re.S))
@@ -195,7 +204,7 @@ def test_statements(sql, name):
 
 def test_rows_that_postgresql_shares(sql):
     rows = re.findall(r"^([^#\n].*?) = (.*)$", read("bindings/sqlite/checks/shared.txt"), re.M)
-    calls = [(f"SELECT coalesce({call}, 'NULL');", [re.escape(answer)]) for call, answer in rows]
+    calls = [(f"SELECT coalesce({code}, 'NULL');", [re.escape(answer)]) for code, answer in rows]
     assert len(rows) > 20 and wrong_of(sql, calls) == []
 
 

@@ -1,6 +1,6 @@
 /* Arguments that are at the border of what each call takes, or past it: specs with one field that is invalid, flags
  * that are unknown, null pointers, and offsets that do not fit. Prints the number of checks, and exits with 1 if one
- * is wrong. It is C and C++. */
+ * is wrong. What a call must not write has a 7, a 77 or an `x` before it. It is C and C++. */
 #include "byte_unit.h"
 
 #include <stdio.h>
@@ -71,7 +71,8 @@ static void specs(void)
     }
 }
 
-/* Each call with these flags, by whether it knows them. */
+/* Each call with these flags, by whether it knows them. The lengths are those of the messages "no value can be found",
+ * "a flag is unknown" and "the character 'x' is incorrect ('t' is expected)". */
 static void flags(uint32_t word)
 {
     static const int64_t offsets[] = { 0, 1 };
@@ -115,7 +116,7 @@ static void flags(uint32_t word)
                                   && (decimal.whole.high == 7) == !chooses);
 }
 
-/* NULL with length 0, and without an error. */
+/* NULL with length 0, and without an error. The lengths of messages are those above. */
 static void nulls(void)
 {
     static const int64_t zeros[3] = { 0, 0, 0 };
@@ -168,6 +169,7 @@ static void position_of_size(const char *text, uint32_t code, size_t expected)
                     && position == expected);
 }
 
+/* The position of the error of a unit. */
 static void position_of_unit(const char *text, size_t expected)
 {
     byte_unit_error error;
@@ -217,6 +219,8 @@ static void positions(void)
               && byte_unit_parse("1x", 2, 64, &size, &error) == BYTE_UNIT_INVALID_ARGUMENT && error.position == 0);
 }
 
+/* Sizes of 10^30 or more, and codes past 37, that of the last unit. Less 35, they are past 2, that of the last unit
+ * type. */
 static void out_of_range(void)
 {
     static const uint32_t codes[] = { 38, 39, 255, 256, UINT32_C(65536), UINT32_C(0x80000000), UINT32_MAX };
@@ -267,6 +271,7 @@ static void offsets(bool right, int64_t first, int64_t second, int64_t third)
     check("nothing written", right == (codes[0] != 77));
 }
 
+/* Each list of three borders: from 0, which is the fourth, up to 8, which is the sixth, without a decrease is right. */
 static void many_offsets(void)
 {
     static const int64_t borders[] = { INT64_MIN, INT32_MIN, -1, 0, 4, 8, 9, INT32_MAX, INT64_MAX };
@@ -290,6 +295,7 @@ static void many_offsets(void)
 int main(void)
 {
     specs();
+    /* All sums of the four flags and two unknown ones, and each other bit. */
     for (uint32_t word = 0; word < 64; word++)
         flags(word);
     for (int bit = 6; bit < 32; bit++)

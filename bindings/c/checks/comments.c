@@ -5,6 +5,7 @@
 
 #include <string.h>
 
+/* Whether a spec does not write these texts: of 1536 bytes, and of 1537 bytes in KiB. */
 static int is_wrong(byte_unit_spec spec, const char *text, const char *in_kib)
 {
     byte_unit_number size = { 1536, 0 }, larger = { 1537, 0 };

@@ -8,8 +8,11 @@
 #include <string.h>
 #include <sys/mman.h>
 
+/* The bytes of a page of memory, and a number of pages that is enough for each text: neither a width of 65535 nor 65535
+ * digits after the point make one of 2 * 65536 bytes. */
 enum { PAGE = 4096, PAGES = 32 };
 
+/* Strings at whose end a reader may look for more: within or after a number, a unit or a character of UTF-8. */
 static const char *const texts[] = { "1.5 KiB", "1", "", " ", "9.", "12 Ki", "1 bi", "1000 RB", "\xc3", "\xf0\x9f\x98",
                                      "Ki", "bi", "K\xc3", "Ki\xf0\x9f\x98\x80" };
 enum { TEXTS = sizeof texts / sizeof *texts };
@@ -27,7 +30,8 @@ static char *map_memory(size_t pages)
     return memory + PAGE * pages;
 }
 
-/* Formats a size in each unit, with a precision (none if it is negative) and a width. */
+/* Formats a size in each unit, with a precision (none if it is negative) and a width. Size, kind and the other fields of
+ * the spec change with the unit. BYTE_UNIT_BUFFER_SIZE is enough without a width, up to a precision of 200. */
 static void format_in_each_unit(int precision, uint32_t width)
 {
     for (uint32_t unit = 0; unit <= BYTE_UNIT_RIB; unit++) {
@@ -110,6 +114,7 @@ int main(void)
     end = map_memory(PAGES);
     if (end == NULL || ends[0] == NULL || ends[1] == NULL || ends[2] == NULL)
         return 2;
+    /* Each width below 40, each third precision below 100, and some up to 65535. */
     for (uint32_t width = 0; width < 65536; width += width < 40 ? 1 : 8191)
         for (int precision = -1; precision < 65536; precision += precision < 100 ? 3 : 8191)
             format_in_each_unit(precision, width);

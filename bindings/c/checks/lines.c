@@ -1,4 +1,5 @@
-/* Does what the program byte_unit_lines does, by the C API. */
+/* Does what the program byte_unit_lines does, by the C API: reads lines, and prints for each the size and its text with
+ * a unit, or the error. The argument is `byte` or `bit`. */
 #define _GNU_SOURCE
 #include "byte_unit.h"
 
@@ -6,6 +7,7 @@
 #include <stdlib.h>
 #include <string.h>
 
+/* What that program calls each error. */
 static const char *const words[] = {
     [BYTE_UNIT_NO_VALUE] = "no value",
     [BYTE_UNIT_NOT_NUMBER] = "not a number",

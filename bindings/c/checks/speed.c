@@ -18,6 +18,7 @@ static double now(void)
     return 1e9 * (double)at.tv_sec + (double)at.tv_nsec;
 }
 
+/* Prints the minimum of the runs, in nanoseconds of a call. */
 #define TIMED(what, call)                                                                                              \
     do {                                                                                                               \
         double least = 1e18;                                                                                           \
@@ -46,6 +47,7 @@ int main(void)
     for (size_t at = 0; at < sizeof texts / sizeof *texts; at++) {
         const char *text = texts[at];
         size_t length = strlen(text);
+        /* The last two are errors. */
         snprintf(what, sizeof what, at < 5 ? "`parse` of %s" : "`parse`, an error, of %s", text);
         TIMED(what, byte_unit_parse(text, length, 0, &size, &error));
     }

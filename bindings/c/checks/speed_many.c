@@ -7,7 +7,7 @@
 #include <stdlib.h>
 #include <time.h>
 
-enum { RUNS = 20, COUNT = 1000000, LONGEST = 16 };
+enum { RUNS = 20, COUNT = 1000000, LONGEST = 16 }; /* no text is longer than LONGEST */
 
 static char data[COUNT * LONGEST];
 static int64_t offsets[COUNT + 1];
@@ -54,6 +54,7 @@ static uint32_t many_32(void)
     return byte_unit_parse_many_32(data, data_len, offsets_32, COUNT, 0, sizes, codes);
 }
 
+/* Prints the minimum of the runs, in nanoseconds of a text. Returns 1 if a text is rejected or all sizes are zero. */
 static int measured(const char *what, uint32_t (*parse)(void))
 {
     double least = 1e18;

@@ -9,8 +9,9 @@
 
 __extension__ typedef unsigned __int128 wide;
 
-static char out[1 << 18];
+static char out[1 << 18]; /* longer than each text of the vectors */
 
+/* Returns the number whose digits a text begins with. */
 static byte_unit_number number(const char *digits)
 {
     wide n = 0;
@@ -19,9 +20,11 @@ static byte_unit_number number(const char *digits)
     return (byte_unit_number){(uint64_t)n, (uint64_t)(n >> 64)};
 }
 
+/* Prints the digits of a number. */
 static void print_number(byte_unit_number number)
 {
     wide n = (wide)number.high << 64 | number.low;
+    /* At most 39 digits, and a zero. */
     char digits[40], *at = digits + sizeof digits - 1;
     *at = 0;
     do
@@ -30,7 +33,7 @@ static void print_number(byte_unit_number number)
     printf("%s", at);
 }
 
-/* Prints a decimal without the zeros at its end. */
+/* Prints a decimal without the zeros at its end. The fraction has 28 digits. */
 static void print_decimal(byte_unit_decimal decimal)
 {
     char digits[29] = "0000000000000000000000000000";
@@ -51,6 +54,7 @@ static void print_unit(uint32_t unit)
     printf("%.*s", (int)byte_unit_unit_name(unit, name, sizeof name), name);
 }
 
+/* Returns the code of a unit. */
 static uint32_t unit_of(const char *name)
 {
     uint32_t unit = BYTE_UNIT_NO_UNIT;
@@ -58,6 +62,7 @@ static uint32_t unit_of(const char *name)
     return unit;
 }
 
+/* Prints a character in UTF-8. */
 static void print_character(uint32_t c)
 {
     if (c < 0x80)
@@ -71,6 +76,7 @@ static void print_character(uint32_t c)
                (int)(0x80 | (c & 63)));
 }
 
+/* Prints an error as the vectors have it: the name of the code, and its details. */
 static void print_error(uint32_t code, const byte_unit_error *error)
 {
     static const char *const names[] = {"", "NoValue", "NotNumber", "NumberTooLong", "ExceededBounds", "Unit",
@@ -117,6 +123,7 @@ static byte_unit_spec spec_of(const char *s)
     return spec;
 }
 
+/* Answers `parse KIND CASE TEXT`. */
 static void answer_parse(uint32_t flags, const char *text)
 {
     byte_unit_number size;
@@ -130,6 +137,7 @@ static void answer_parse(uint32_t flags, const char *text)
     }
 }
 
+/* Answers `unit CASE PREFER TEXT`. */
 static void answer_unit(uint32_t flags, const char *text)
 {
     uint32_t unit;
@@ -143,7 +151,7 @@ static void answer_unit(uint32_t flags, const char *text)
     }
 }
 
-/* Answers `text KIND SIZE [in UNIT | by TYPE] SPEC`. */
+/* Answers `text KIND SIZE [in UNIT | by TYPE] SPEC`. The type is binary, decimal or both. */
 static void answer_text(uint32_t flags, char **words)
 {
     byte_unit_number size = number(words[2]);
@@ -173,6 +181,7 @@ static void answer_choice(uint32_t flags, char **words)
     print_unit(unit);
 }
 
+/* Answers `make_in KIND NUMBER UNIT`. */
 static void answer_make_in(uint32_t flags, char **words)
 {
     byte_unit_number size;
@@ -182,6 +191,7 @@ static void answer_make_in(uint32_t flags, char **words)
         printf("none");
 }
 
+/* Answers a record: words, of which no call has more than eight, and a text after a double quote. */
 static void answer(char *record)
 {
     char *words[8] = {0}, *text = strchr(record, '"');
@@ -190,6 +200,7 @@ static void answer(char *record)
         *text++ = 0;
     for (char *word = strtok(record, " "); word && count < 8; word = strtok(NULL, " "))
         words[count++] = word;
+    /* In `unit CASE PREFER` the case is the second word, and else it is the last one, if there is any. */
     uint32_t bits = count > 1 && !strcmp(words[1], "bit") ? BYTE_UNIT_BITS : 0;
     bool is_uncased = count > 1 && (!strcmp(words[count - 1], "uncased") || !strcmp(words[1], "uncased"));
     uint32_t uncased = is_uncased ? BYTE_UNIT_IGNORE_CASE : 0;

@@ -110,6 +110,7 @@ static void details_of_errors(void)
     expect("the details", out, strlen(out), "q, expected one of Bb or the end");
     byte_unit_parse("1x", 2, 0, &size, &error);
     expect("ten characters", error.expected, strlen(error.expected), "BKMGTPEZYR");
+    /* The fraction is 5 * 10^27, and its upper 64 bits are 271050543. */
     code = byte_unit_parse("1000.5 RB", 9, 0, &size, &error);
     expect_true("a number that is too large", code == BYTE_UNIT_EXCEEDED_BOUNDS && error.number.whole.low == 1000
                                                   && error.number.fraction.high == 271050543 && error.character == 0);
@@ -185,7 +186,7 @@ static void many_texts(void)
 
     expect_true("many texts", byte_unit_parse_many(data, 17, offsets, 5, 0, sizes, codes) == BYTE_UNIT_OK);
     snprintf(out, sizeof out, "%d %d %d %d %d", codes[0], codes[1], codes[2], codes[3], codes[4]);
-    expect("their codes", out, strlen(out), "0 5 2 6 0");
+    expect("their codes", out, strlen(out), "0 5 2 6 0"); /* OK, UNIT, NOT_NUMBER, NOT_UTF8, OK */
     snprintf(out, sizeof out, "%d %d %d %d %d", (int)sizes[0].low, (int)sizes[1].low, (int)sizes[2].low,
              (int)sizes[3].low, (int)sizes[4].low);
     expect("their sizes", out, strlen(out), "1536 0 0 0 1");
@@ -239,7 +240,7 @@ static void choose_units(void)
     expect_true("50840 KB exactly", unit == BYTE_UNIT_KB && count.low == 50840 && count.high == 0);
     unit = byte_unit_exact_unit(number(125), BYTE_UNIT_EITHER_KIND, &count);
     expect_true("125 B are 1 Kb", unit == BYTE_UNIT_KBIT && count.low == 1);
-    unit = byte_unit_recoverable_unit(size, 0, 2, &decimal);
+    unit = byte_unit_recoverable_unit(size, 0, 2, &decimal); /* the fraction is 84 * 10^26 */
     expect_true("50.84 MB in two places", unit == BYTE_UNIT_MB && decimal.whole.low == 50 && decimal.whole.high == 0
                                               && decimal.fraction.high == 455364912
                                               && decimal.fraction.low == UINT64_C(8188728514820702208));

@@ -1,4 +1,5 @@
 // Returns, run in the page, up to three elements with text whose contrast is below 4.5, the least of WCAG's level AA.
+// The relative luminance of a color, from 0 to 1, as WCAG defines it.
 const luminance = color => {
     const [red, green, blue] = color.match(/[\d.]+/g).slice(0, 3).map(part => {
         const share = part / 255;
@@ -6,6 +7,7 @@ const luminance = color => {
     });
     return 0.2126 * red + 0.7152 * green + 0.0722 * blue;
 };
+// The color behind an element: that of the nearest one around it whose background is not transparent, or white.
 const background = element => {
     for (let at = element; at; at = at.parentElement) {
         const color = getComputedStyle(at).backgroundColor;
@@ -14,6 +16,7 @@ const background = element => {
     }
     return "rgb(255, 255, 255)";
 };
+// The contrast of an element's text, from 1 to 21, as WCAG defines it.
 const contrast = element => {
     const [less, more] = [luminance(getComputedStyle(element).color), luminance(background(element))].sort((a, b) => a - b);
     return (more + 0.05) / (less + 0.05);

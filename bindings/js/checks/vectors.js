@@ -24,6 +24,7 @@ function errorOf(error) {
     }[error.code] ?? "");
 }
 
+/** Answers `text KIND SIZE [in UNIT | by TYPE] SPEC`. */
 function textOf([, , size, ...more], bits) {
     if (more.length === 1)
         return byteUnit.text(BigInt(size), { bits, ...spec(more[0]) });
@@ -34,6 +35,7 @@ function textOf([, , size, ...more], bits) {
     return byteUnit.adjustedText(BigInt(size), unit, options);
 }
 
+/** Returns the answer to a call, given its words and its text, or throws the SizeError. */
 function answer(words, given) {
     const bits = words[1] === "bit", ignoreCase = words.includes("uncased");
     switch (words[0]) {
@@ -47,6 +49,7 @@ function answer(words, given) {
 
 const records = readFileSync(0, "utf8").split("\0").slice(0, -1);
 writeFileSync(1, records.map(record => {
+    // The words of the call, and what is after the first double quote.
     const [call, text] = record.split(/ ?"(.*)/s), words = call.split(" ");
     try {
         return `${answer(words, text)}\n`;

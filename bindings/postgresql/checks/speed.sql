@@ -1,4 +1,6 @@
 -- Statements on a million rows, which `tools/dev measure calls` times. The comment after each is its title.
+-- Each text is there once, in an order of its own: 7919 and 1000000 have no common factor. No worker helps, and nothing is
+-- compiled.
 CREATE EXTENSION IF NOT EXISTS byte_unit;
 SET jit = off; SET work_mem = '256MB'; SET max_parallel_workers_per_gather = 0;
 CREATE TABLE big AS SELECT t, t::bytesize AS s, (t::bytesize)::numeric AS n, (t::bytesize)::bigint AS b FROM (

@@ -18,8 +18,8 @@ from collections.abc import Callable
 from itertools import accumulate
 from time import process_time
 
-MANY = 200_000
-BARE = "bare Python"
+MANY = 200_000  # the texts of a column
+BARE = "bare Python"  # the line of a process that imports nothing
 
 
 def minimum(call: Callable[[], object], number: int, repeat: int = 5) -> float:
@@ -87,7 +87,7 @@ def columns() -> dict[str, float]:
 
 
 def with_pandas(quota: object) -> Callable[[], object]:
-    """Returns the documented way to the sizes of a series."""
+    """Returns the documented way to the sizes of a series, which in a build without byte_unit.pandas is another one."""
     try:
         from byte_unit.pandas import to_sizes
 
@@ -109,7 +109,7 @@ def milliseconds(code: str, folder: str) -> float:
 
 
 def measured(folder: str) -> dict[str, float]:
-    """Returns the figures of a build."""
+    """Returns the figures of a build: runs this file under the name `measure` in a process that imports it."""
     code = f"import runpy; runpy.run_path({__file__!r}, run_name='measure')"
     env = {**os.environ, "PYTHONPATH": folder}
     figures: dict[str, float] = json.loads(subprocess.check_output([sys.executable, "-c", code], env=env))

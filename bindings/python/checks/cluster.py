@@ -29,7 +29,8 @@ sys.path.insert(0, EXAMPLES)
 os.environ["PYTHONPATH"] = os.pathsep.join([EXAMPLES, os.environ.get("PYTHONPATH", "")])  # for the workers
 import dask_job
 
-PARTS = 40
+PARTS = 40  # the files, each of which is a partition
+# The units of the texts, and the bytes of each: a text in Kx is rejected.
 UNITS = {"B": 1, "KB": 10**3, "KiB": 2**10, "MB": 10**6, "GiB": 2**30, "EB": 10**18, "RB": 10**27, "Kx": None}
 Found = tuple[dict[str, tuple[int, int]], str]  # by owner the number of sizes and their sum; a digest of rejected rows
 MESSAGE = "the character 'x' is incorrect ('B' or 'b' or no character is expected)"
@@ -51,16 +52,19 @@ def make(part: int, count: int) -> Found:
                 table.writerow([name, row, owner, text, "unit", len(text) - 1, MESSAGE])
             else:
                 counted, summed = sums.get(owner, (0, 0))
+                # Thousandths of a unit, rounded up to a byte.
                 sums[owner] = counted + 1, summed - -number * UNITS[unit] // 1000
     return sums, hashlib.sha256(rejected.getvalue().encode()).hexdigest()
 
 
 def digest(name: str) -> str:
+    """Returns a digest of a file."""
     with open(name, "rb") as file:
         return hashlib.sha256(file.read()).hexdigest()
 
 
 def figure(seconds: float, count: int) -> str:
+    """Returns what a run over some texts takes, as it is printed."""
     return f"{seconds:.2f} s, {seconds / count * 1e6:.2f} µs a text"
 
 
@@ -119,6 +123,7 @@ def beside(per_part: int) -> None:
 
 
 def main(count: int, numbers_of_workers: list[int]) -> None:
+    """Makes the files by the first cluster, and runs the job on each."""
     wanted: list[Found] = []
     per_part = count // PARTS
     for workers in numbers_of_workers:

@@ -7,6 +7,7 @@ import sys
 
 import byte_unit
 
+# What byte_unit_lines calls each error.
 WORDS = {"no_value": "no value", "not_number": "not a number", "number_too_long": "number too long",
          "exceeded_bounds": "out of range", "unit": "bad unit", "not_utf8": "not text"}  # fmt: skip
 BITS = sys.argv[1] == "bit"
@@ -27,4 +28,5 @@ lines = sys.stdin.buffer.read().split(b"\n")[:-1]
 column = byte_unit.parse_many(lines, bits=BITS)
 for line, code, size in zip(lines, column.codes, column.ints(), strict=True):
     of_column = WORDS[byte_unit.ERROR_NAMES[code]] if size is None else shown(size)
+    # If the three ways differ, the line has all results, which no other program prints.
     print(" or ".join(sorted({parsed(line), parsed(line.decode("utf-8", "surrogateescape")), of_column})))

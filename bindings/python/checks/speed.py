@@ -31,6 +31,7 @@ def optional(name: str) -> Any:
 
 humanfriendly, humanize, pandas = optional("humanfriendly"), optional("humanize"), optional("pandas")
 
+# The units of the texts, and their bytes.
 NAMES = ["B", "KB", "KiB", "MB", "MiB", "GB", "GiB", "TB", "TiB"]
 UNITS = {name: byte_unit.from_unit(1, name) for name in NAMES}
 
@@ -60,6 +61,7 @@ def nanoseconds(function: Callable[..., object], *arguments: object, number: int
 
 
 def line(name: str, figure: float) -> None:
+    """Prints a figure."""
     print(f"{name:64} {figure:8.0f}")
 
 
@@ -68,6 +70,7 @@ def one(name: str, function: Callable[..., object], *arguments: object) -> None:
 
 
 def single() -> None:
+    """Prints the lines of single calls."""
     print("nanoseconds per call")
     text = "1.5 KiB"
     one("Python: `parse` of 1.5 KiB", byte_unit.parse, text)
@@ -91,6 +94,7 @@ def single() -> None:
 
 
 def some_text(rng: random.Random) -> str:
+    """Returns a random text: at most four digits before the point and three after it, and a unit."""
     whole, places = rng.randrange(10 ** rng.randrange(1, 5)), rng.randrange(4)
     fraction = f".{rng.randrange(10**places):0{places}}" if places else ""
     return f"{whole}{fraction} {rng.choice(NAMES)}"
@@ -109,6 +113,7 @@ def with_numfmt(option: str, texts: list[str]) -> float:
 
 
 def columns(count: int) -> None:
+    """Prints the lines of a column of texts."""
     rng = random.Random(1)
     texts = [some_text(rng) for _ in range(count)]
     data, offsets = "".join(texts).encode(), array("q", accumulate(map(len, texts), initial=0))
@@ -138,7 +143,7 @@ def columns(count: int) -> None:
         spelled = [text.replace(" ", "").removesuffix("B") for text in texts]
         line("A text: `numfmt --from=auto`", with_numfmt("--from=auto", spelled))
     if humanfriendly:
-        few, parse_size = texts[: count // 10], humanfriendly.parse_size
+        few, parse_size = texts[: count // 10], humanfriendly.parse_size  # a tenth, since it is slow
         time = nanoseconds(lambda: [parse_size(text) for text in few]) / len(few)
         line("A text: Python, humanfriendly", time)
 

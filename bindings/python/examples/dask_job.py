@@ -66,6 +66,7 @@ def run(client: Client, files: list[str], folder: str) -> dict[str, tuple[int, i
 
 
 def to_limit(word: str) -> tuple[str, int]:
+    """Returns the owner and the limit of an argument `OWNER=SIZE`."""
     owner, _, text = word.rpartition("=")
     try:
         return owner, byte_unit.parse(text, **FLAGS)
@@ -74,6 +75,7 @@ def to_limit(word: str) -> tuple[str, int]:
 
 
 def main(words: list[str]) -> int:
+    """Runs the job, prints the sums, and returns the exit status."""
     parser = argparse.ArgumentParser(description=__doc__, formatter_class=argparse.RawDescriptionHelpFormatter)
     parser.add_argument("--workers", type=int, default=os.cpu_count())
     parser.add_argument("--scheduler")

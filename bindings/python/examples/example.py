@@ -22,6 +22,7 @@ def look(what: str, got: object, wanted: object) -> None:
     assert got == wanted, wanted
 
 
+# The characters that a unit may begin with, as a message names them.
 TEN = "'B', 'K', 'M', 'G', 'T', 'P', 'E', 'Z', 'Y' or 'R' or no character"
 
 

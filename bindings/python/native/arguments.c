@@ -29,6 +29,7 @@ static int place_of(const signature *signature, PyObject *name)
     return signature->count;
 }
 
+/* Places an argument that is passed by name. */
 static bool place_one(const signature *signature, PyObject *name, PyObject *argument, PyObject **given)
 {
     int i = place_of(signature, name);
@@ -146,7 +147,7 @@ static bool to_number(PyObject *integer, byte_unit_number *number)
     return false;
 }
 
-/* Returns an int for a message: its digits, or their number if there are many. */
+/* Returns an int for a message: its digits, or with more than 256 bits their number, since digits take long to make. */
 static PyObject *shown(PyObject *integer)
 {
     PyObject *bits = PyObject_CallMethod(integer, "bit_length", NULL);
@@ -192,6 +193,7 @@ static bool integer_to_range(PyObject *module, const range *range, PyObject *int
 /* Reads an int, or what `operator.index` makes one of. */
 static bool to_range(PyObject *module, const range *range, PyObject *object, byte_unit_number *number)
 {
+    /* UINT64_MAX is what the function returns with an error, too. */
     *number = (byte_unit_number){PyLong_AsUnsignedLongLong(object), 0};
     if (number->low != UINT64_MAX && is_at_most(*number, range->most)) {
         return true; /* most numbers */
@@ -218,7 +220,7 @@ bool to_count(PyObject *module, PyObject *object, byte_unit_number *count)
 
 bool to_digits(PyObject *module, const char *name, PyObject *object, uint32_t *digits)
 {
-    const range range = {name, {65535, 0}, "65535"};
+    const range range = {name, {65535, 0}, "65535"}; /* the most in a byte_unit_spec */
     byte_unit_number number;
     if (!to_range(module, &range, object, &number)) {
         return false;

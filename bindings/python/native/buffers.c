@@ -9,6 +9,7 @@ static bool is_offsets(const Py_buffer *offsets)
 {
     const char *format = offsets->format ? offsets->format : "B";
     format += strspn(format, "@=<") ? 1 : 0; /* native or little-endian, which is the same on x86-64 */
+    /* The codes of signed integers; how many bytes one of them has is checked, too. */
     bool is_signed = format[0] && strchr("bhilqn", format[0]) && !format[1];
     return offsets->ndim == 1 && is_signed && (offsets->itemsize == 4 || offsets->itemsize == 8);
 }
@@ -204,6 +205,7 @@ static bool copy_validity(PyObject *module, const Py_buffer *bits, size_t count,
     return true;
 }
 
+/* Parses the texts in the buffers, and returns the parts of a column. */
 static PyObject *parse_views(PyObject *module, texts *texts, const Py_buffer *offsets, const Py_buffer *bits,
                              validity *validity)
 {

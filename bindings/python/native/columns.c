@@ -93,6 +93,7 @@ static bool copy_text(const text *text, piece *piece)
 {
     size_t len = (size_t)text->len, needed = piece->len + len;
     if (needed > piece->room) {
+        /* Room for the texts that follow, unless this is the last of the piece. */
         size_t room = needed < PIECE_BYTES ? needed + needed / 2 + 64 : needed;
         char *bytes = PyMem_Realloc(piece->bytes, room);
         if (!bytes) {
@@ -152,6 +153,7 @@ static bool fill_piece(PyObject *module, PyObject *list, size_t first, piece *pi
     return true;
 }
 
+/* Parses the texts of a piece, and marks those that are null. */
 static void parse_texts(const piece *piece, uint32_t flags, byte_unit_number *sizes, uint8_t *codes)
 {
     byte_unit_parse_many(piece->bytes, piece->len, piece->offsets, piece->count, flags, sizes, codes);
@@ -160,6 +162,7 @@ static void parse_texts(const piece *piece, uint32_t flags, byte_unit_number *si
     }
 }
 
+/* Parses the texts of a piece, without the GIL if they are not few. */
 static void parse_piece(const piece *piece, uint32_t flags, byte_unit_number *sizes, uint8_t *codes)
 {
     if (piece->count < FEW && piece->len < FEW_BYTES) {

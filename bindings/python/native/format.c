@@ -1,4 +1,4 @@
-/* Texts of sizes, and units. */
+/* The calls that write the text of a size, choose a unit, or calculate the size of a number of a unit. */
 #include "native.h"
 
 /* A call of the library that writes a text: in a unit, or in one of a unit type. */
@@ -26,6 +26,7 @@ static PyObject *long_text(writer *write, byte_unit_number size, uint32_t flags,
     return string;
 }
 
+/* Returns the text that a call writes. */
 static PyObject *text_with(writer *write, byte_unit_number size, uint32_t flags, uint32_t unit, byte_unit_spec spec)
 {
     char out[BYTE_UNIT_BUFFER_SIZE];
@@ -33,6 +34,7 @@ static PyObject *text_with(writer *write, byte_unit_number size, uint32_t flags,
     return len > sizeof out ? long_text(write, size, flags, unit, spec, len) : from_ascii(out, len);
 }
 
+/* The arguments that are names, with the codes of byte_unit.h. */
 static const choices SIGNS = {
     "sign", "None, 'plus', 'minus'", {{"plus", BYTE_UNIT_SIGN_PLUS}, {"minus", BYTE_UNIT_SIGN_MINUS}}};
 static const choices ALIGNS = {
@@ -42,6 +44,7 @@ static const choices TYPES = {
     "unit_type", "'binary', 'decimal', 'both'",
     {{"binary", BYTE_UNIT_BINARY}, {"decimal", BYTE_UNIT_DECIMAL}, {"both", BYTE_UNIT_BOTH}}};
 
+/* Whether an option was passed, and is not None. */
 static bool is_set(PyObject *object)
 {
     return object && object != Py_None;
@@ -58,7 +61,7 @@ static bool kind_flag(PyObject *object, uint32_t *flags)
 static bool to_options(PyObject *module, PyObject *names, PyObject *const *options, uint32_t *flags,
                        byte_unit_spec *spec)
 {
-    uint32_t alternate = options[5] ? 0 : 1;
+    uint32_t alternate = options[5] ? 0 : 1; /* True if it is not passed; else it is added as a flag is */
     *spec = (byte_unit_spec){.alternate = 1};
     *flags = BYTE_UNIT_BYTES;
     if (!names) {
@@ -198,7 +201,7 @@ PyObject *recoverable_unit(PyObject *module, PyObject *const *args, Py_ssize_t c
     PyObject *given[4] = {NULL};
     byte_unit_number size;
     byte_unit_decimal number = {{0, 0}, {0, 0}};
-    uint32_t flags, precision = 3;
+    uint32_t flags, precision = 3; /* the default */
     if (!place(&SIGNATURE, args, count, names, given) || !choice_arguments(module, given, &size, &flags) ||
         (given[3] && !to_digits(module, "precision", given[3], &precision))) {
         return NULL;

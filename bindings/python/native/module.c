@@ -22,6 +22,7 @@ static PyMethodDef CALLS[] = {
     {NULL, NULL, 0, NULL},
 };
 
+/* The functions that the Python modules of the package call. */
 static PyMethodDef METHODS[] = {
     PRIVATE(position), PRIVATE(parse_many), PRIVATE(parse_buffers), PRIVATE(ints),    PRIVATE(part), PRIVATE(sum),
     PRIVATE(extremum), PRIVATE(first_large), PRIVATE(int64), PRIVATE(float64), PRIVATE(mask),
@@ -48,6 +49,7 @@ static bool add_calls(PyObject *module)
     return added;
 }
 
+/* Returns a dictionary of the place of each name. */
 static PyObject *codes_by_name(PyObject *names)
 {
     PyObject *codes = names ? PyDict_New() : NULL;
@@ -62,6 +64,7 @@ static PyObject *codes_by_name(PyObject *names)
     return codes;
 }
 
+/* Makes the names of the fields, in the order of `enum field`. */
 static bool name_fields(state *state)
 {
     static const char *const NAMES[FIELDS] = {
@@ -90,6 +93,7 @@ static bool fill_state(state *state)
     return state->byte_unit_error && state->size_error && state->codes && state->unit_codes && name_fields(state);
 }
 
+/* Fills the module when it is imported. Rejects a library of another version than the header. */
 static int fill(PyObject *module)
 {
     static const byte_unit_number LIMIT = BYTE_UNIT_SIZE_LIMIT_INIT;
@@ -112,6 +116,7 @@ static PyObject **objects_of(PyObject *module, size_t *count)
     return (PyObject **)(void *)state_of(module);
 }
 
+/* What the garbage collector calls: it visits all objects of the state, or releases them. */
 static int traverse(PyObject *module, visitproc visit, void *arg)
 {
     size_t count;

@@ -25,10 +25,10 @@ __extension__ typedef unsigned __int128 u128;
 /* The code of a text that is null, beside those of the library: that of an invalid argument, which no text has. */
 enum { NULL_TEXT = BYTE_UNIT_INVALID_ARGUMENT };
 
-/* The fields of SizeError, whose class has a None for each that is left out. */
+/* The fields of SizeError, whose class has a None for each that is left out; module.c names them in this order. */
 enum field { NAME, CHARACTER, EXPECTED, ALSO_EXPECT_NO_CHARACTER, NUMBER, TEXT, ROW, OF_UNIT, FIELDS };
 
-/* What the module keeps: objects that are made once. */
+/* What the module keeps: objects that are made once. Each member is a pointer to one, as module.c requires. */
 typedef struct state {
     PyObject *byte_unit_error;
     PyObject *size_error;
@@ -47,7 +47,7 @@ static inline state *state_of(PyObject *module)
 
 /* arguments.c */
 
-/* The parameters of a call. The first ones are required; the others are keyword-only. */
+/* The parameters of a call, eight at most. The first ones, one or two, are required; the others are keyword-only. */
 typedef struct signature {
     const char *name;
     int required;
@@ -61,7 +61,7 @@ typedef struct choice {
     uint8_t code;
 } choice;
 
-/* An argument that is one of a few names. */
+/* An argument that is one of a few names: three at most, or those before a name that is NULL. */
 typedef struct choices {
     const char *argument;
     const char *shown; /* all names, for a message */
@@ -79,7 +79,7 @@ static inline bool place(const signature *signature, PyObject *const *args, Py_s
     if (names || count != signature->required) {
         return place_named(signature, args, count, names, given);
     }
-    given[0] = args[0];
+    given[0] = args[0]; /* one or two */
     given[count - 1] = args[count - 1];
     return true;
 }

@@ -1,4 +1,4 @@
-/* Parsing of one text. */
+/* The calls that parse or explain one text, and the names of the codes. */
 #include "native.h"
 
 /* The names of the codes of texts. */
@@ -117,6 +117,7 @@ PyObject *position(PyObject *module, PyObject *const *args, Py_ssize_t count)
     return is_found ? PyLong_FromSize_t(place) : Py_NewRef(Py_None);
 }
 
+/* Returns the message of the text in the arguments, or None. */
 static PyObject *explained(const signature *signature, PyObject *const *args, Py_ssize_t count,
                            PyObject *names, explainer *explain)
 {

@@ -100,12 +100,13 @@ static PyObject *with_high(PyObject *low, PyObject *high)
     return both;
 }
 
+/* Returns the number as an int. */
 static PyObject *from_wide(u128 number)
 {
     return from_number((byte_unit_number){(uint64_t)number, (uint64_t)(number >> 64)});
 }
 
-/* sum(sizes, codes): both halves of 2^64 sizes have a sum below 2^128 */
+/* sum(sizes, codes): of the lower halves and of the upper ones, since that of 2^64 halves is below 2^128 */
 PyObject *sum(PyObject *module, PyObject *const *args, Py_ssize_t count)
 {
     (void)module;
@@ -145,6 +146,7 @@ PyObject *extremum(PyObject *module, PyObject *const *args, Py_ssize_t count)
     return found ? from_number(*found) : Py_NewRef(Py_None);
 }
 
+/* Whether a row has a size of 2^63 or more. */
 static bool is_large(const view *view, size_t row)
 {
     return !view->codes[row] && (view->sizes[row].high || view->sizes[row].low >> 63);

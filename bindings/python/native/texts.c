@@ -72,7 +72,7 @@ PyObject *message_of(const text *text, uint32_t flags, explainer *explain)
 /* Returns a message that names the place and the text, of which it has the beginning. Releases that without both. */
 static PyObject *with_row(const rejection *rejection, PyObject *message)
 {
-    enum { MOST = 80 };
+    enum { MOST = 80 }; /* the characters or bytes that a message repeats */
     PyObject *begin = message ? PySequence_GetSlice(rejection->object, 0, MOST) : NULL;
     const char *dots = begin && PySequence_Size(rejection->object) > MOST ? ".." : "";
     PyObject *whole = begin ? PyUnicode_FromFormat("texts[%zd]: %R%s: %U", rejection->row, begin, dots, message) : NULL;

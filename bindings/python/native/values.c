@@ -26,7 +26,7 @@ PyObject *from_ascii(const char *text, size_t len)
 /* Writes the digits of a number below 2^112. Returns their number. */
 static int write_whole(u128 whole, char *out, size_t len)
 {
-    const u128 unit = 1000000000000000000;
+    const u128 unit = 1000000000000000000; /* 10^18: both parts have fewer than 64 bits */
     if (whole < unit) {
         return PyOS_snprintf(out, len, "%llu", (unsigned long long)whole);
     }
@@ -37,7 +37,7 @@ static int write_whole(u128 whole, char *out, size_t len)
 /* Writes a point and the digits of a fraction, which is scaled by 10^28, without zeros at the end. */
 static int write_fraction(u128 fraction, char *out, size_t len)
 {
-    const u128 unit = 100000000000000;
+    const u128 unit = 100000000000000; /* 10^14: half of the digits */
     int written = PyOS_snprintf(out, len, ".%014llu%014llu", (unsigned long long)(fraction / unit),
                                 (unsigned long long)(fraction % unit));
     while (out[written - 1] == '0') {
@@ -46,6 +46,7 @@ static int write_fraction(u128 fraction, char *out, size_t len)
     return written;
 }
 
+/* Returns the number as one integer. */
 static u128 wide(byte_unit_number number)
 {
     return (u128)number.high << 64 | number.low;
@@ -64,7 +65,7 @@ static PyObject *decimal_class(state *state)
 
 PyObject *from_decimal(PyObject *module, byte_unit_decimal decimal)
 {
-    char digits[80];
+    char digits[80]; /* at most 34 before a point and 28 after it */
     PyObject *class = decimal_class(state_of(module));
     int len = write_whole(wide(decimal.whole), digits, sizeof digits);
     u128 fraction = wide(decimal.fraction);

@@ -1,4 +1,4 @@
-"""Many texts in one call: lists, buffers, numpy and pandas."""
+"""Many texts in one call: lists, buffers, changes by other threads, results, numpy and pandas."""
 
 import copy
 import faulthandler
@@ -17,6 +17,7 @@ from itertools import accumulate
 import byte_unit
 from byte_unit import ByteUnitError, Column
 
+# Texts, and the code and the size of each.
 TEXTS = ["1 KB", "", "1.5 KiB", "1 x", "999 RB", "é", "1" * 40, "1000 RB", "9 b", "\ud800", "18446744073709551615"]
 CODES = [0, 1, 0, 5, 0, 2, 3, 4, 0, 6, 0]
 SIZES = [1000, None, 1536, None, 999 * 10**27, None, None, None, 2, None, 2**64 - 1]
@@ -31,6 +32,7 @@ def layout(texts: list[bytes], code: str, start: int = 0) -> tuple[bytes, "array
 
 
 def encoded(texts: list[str]) -> list[bytes]:
+    """Returns texts as bytes, also one with a lone surrogate, which is then not UTF-8."""
     return [text.encode("utf-8", "surrogatepass") for text in texts]
 
 
@@ -88,7 +90,7 @@ class Buffers(unittest.TestCase):
                 self.assertEqual(byte_unit.parse_buffers(data, raw).ints(), SIZES)
 
     def test_many_pieces(self) -> None:
-        """More texts than are copied at a time, and texts that are longer than those before them."""
+        """More texts than the 1024 that are copied at a time, and texts that are longer than those before them."""
         for count in (1023, 1024, 1025, 2048, 5000):
             texts = [b" " * (i % 1500 * 9 if i % 100 == 0 else 0) + b"%d KB" % i for i in range(count)]
             for code in "iq":

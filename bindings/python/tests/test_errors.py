@@ -1,4 +1,4 @@
-"""Errors: their classes, copies, pickles and pools of processes."""
+"""Errors: their classes, copies, pickles, texts and memory, and pools of processes."""
 
 import concurrent.futures
 import copy
@@ -12,6 +12,7 @@ from decimal import Decimal
 import byte_unit
 from byte_unit import ByteUnitError, SizeError
 
+# A text for each name of an error, and a lone surrogate.
 TEXTS = ["", "x", "1" * 40, "1000.5 RB", "1 Kx", b"\xff", "\ud800"]
 
 
@@ -88,7 +89,7 @@ class Errors(unittest.TestCase):
         work(150_000)
         self.assertLess(resource.getrusage(resource.RUSAGE_SELF).ru_maxrss - before, 1024)  # KiB
         for object_, count in zip(kept, references, strict=True):
-            self.assertLess(abs(sys.getrefcount(object_) - count), 50)
+            self.assertLess(abs(sys.getrefcount(object_) - count), 50)  # not one for each error
 
 
 class Renamed(SizeError):

@@ -78,6 +78,7 @@ DIGIT_CALLS = [
     lambda number: byte_unit.approximate_text(1, precision=number),
     lambda number: byte_unit.recoverable_unit(1, precision=number),
 ]
+# Names of unit types, numbers that are out of every range, and objects that are no integers.
 TYPES = ["binary", "decimal", "both"]
 FAR = [-1, -(2**31), -(2**32) + 20, -(2**63), -(2**64), -(2**128), -(10**5000), 2**128, 2**128 + 1, 2**192, 10**5000]
 NO_NUMBERS = [1.0, "1", b"1", Decimal(1), [1], object()]

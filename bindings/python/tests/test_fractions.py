@@ -1,4 +1,4 @@
-"""Random sizes against fractions."""
+"""Texts and units of random sizes, compared with Python's fractions. BYTE_UNIT_TEST_LINES says how many sizes."""
 
 import os
 import random
@@ -19,6 +19,7 @@ def unit_in_bits(unit: str) -> int:
 
 
 def some_size(rng: random.Random) -> int:
+    """Returns a random size of any length, often with zeros as its last bits, so that a large unit is exact."""
     size = rng.randrange(10 ** rng.randrange(1, 31))
     return (size >> rng.randrange(99) << rng.randrange(9)) % 10**30
 

@@ -21,6 +21,7 @@ from typing import Any
 import byte_unit
 from byte_unit import _columns, _errors, _native
 
+# The calls of the extension module that the package exports.
 CALLS = [name for name in byte_unit.__all__ if inspect.isbuiltin(getattr(byte_unit, name))]
 HAS_PANDAS = importlib.util.find_spec("pandas") is not None
 # Names of modules that only type checkers see, and a default of typing.Sequence that the stub of Python leaves out.
@@ -34,6 +35,7 @@ HAS_MYPY = importlib.util.find_spec("mypy") is not None
 README = os.path.join(os.path.dirname(os.path.abspath(__file__)), "../README.md")
 
 
+# The function that unittest calls for the tests of a module: it adds the examples of all documentation.
 def load_tests(loader: unittest.TestLoader, tests: unittest.TestSuite, pattern: str | None) -> unittest.TestSuite:
     names = {name: getattr(byte_unit, name) for name in byte_unit.__all__}
     for module in (byte_unit, _columns, _errors):
@@ -214,6 +216,7 @@ class Threads(unittest.TestCase):
         self.assertGreater(turns, 9)
 
     def test_lists_release_the_gil(self) -> None:
+        """So does it while another one parses a list with long texts."""
         texts = [b"0" * 30_000_000, b"1"] * 2
         worker = threading.Thread(target=byte_unit.parse_many, args=(texts,))
         turns = 0

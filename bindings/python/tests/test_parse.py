@@ -8,6 +8,7 @@ from decimal import Decimal
 import byte_unit
 from byte_unit import SizeError
 
+# The characters that a unit may begin with, as a message names them.
 TEN = "'B', 'K', 'M', 'G', 'T', 'P', 'E', 'Z', 'Y' or 'R' or no character"
 
 # text, bits, ignore_case, size

@@ -1,4 +1,4 @@
-"""What a column of many texts gives: nulls, errors, integers of each width, sums, and a sequence."""
+"""What a column of many texts gives: nulls, errors, numbers of each kind, sums, a sequence; with numpy; and memory."""
 
 import copy
 import importlib.util
@@ -17,7 +17,8 @@ import byte_unit
 from byte_unit import ByteUnitError, Column, SizeError
 
 HAS_NUMPY = importlib.util.find_spec("numpy") is not None
-LONG = "0" * 75 + "1 KiB"
+LONG = "0" * 75 + "1 KiB"  # 80 characters, as many as a message repeats
+# Texts, and the code and the size of each; sizes at the ends of the ranges of floats, int64 and 64 bits.
 TEXTS = ["1 KB", "", None, "1 x", b"2 KB", "\ud800", b"\xff", LONG, float("nan"), str(10**30 - 1), "1000 RB"]
 CODES = [0, 1, 7, 5, 0, 6, 6, 0, 7, 0, 4]
 SIZES = [1000, None, None, None, 2000, None, None, 1024, None, 10**30 - 1, None]
@@ -65,7 +66,7 @@ class Nulls(unittest.TestCase):
         self.assertEqual((list(column.errors()), column.int64().tolist()), ([], [0] * 3))
 
     def test_more_than_a_piece(self) -> None:
-        """Texts are copied 65,536 at a time, or 4 MB."""
+        """Texts are copied 65,536 at a time, or 4 MB, and parsed without the GIL if there are 4,096 or more."""
         for count in (4095, 4096, 65535, 65536, 65537, 140_000):
             texts: list[str | None] = [f"{i} B" for i in range(count)]
             for null in {0, 1, 65535, 65536, count - 1} & set(range(count)):

@@ -66,7 +66,7 @@ class Settings(unittest.TestCase):
             self.assertEqual(column.ints(), list(lines.values()))
 
     def test_without_the_flags(self) -> None:
-        """What a reader gets who leaves them out: `10m` is 5 % too small, and `2gb` an eighth of it."""
+        """What a reader gets who leaves them out: `10m` is some 5 % too small, and `2gb` less than an eighth."""
         self.assertEqual((byte_unit.parse("10m"), byte_unit.parse("2gb")), (10**7, 25 * 10**7))
 
 

@@ -14,6 +14,7 @@ use std::io::{self, BufRead, BufWriter, Write};
 
 use byte_unit::{Bit, Byte, Unit, UnitType};
 
+/// Formats a value with flags, a width and a precision, of which a format string has to have the flags.
 macro_rules! formatted {
     ($value:expr, $flags:expr, $width:expr, $precision:expr, $($given:literal)*) => {
         match ($flags, $width, $precision) {
@@ -26,6 +27,7 @@ macro_rules! formatted {
     };
 }
 
+/// Returns the text of a value by the three words of a SPEC.
 fn text(value: impl Display, spec: &[&str]) -> String {
     let (width, precision): (usize, Option<usize>) = (spec[1].parse().unwrap(), spec[2].parse().ok());
     formatted!(
@@ -35,6 +37,7 @@ fn text(value: impl Display, spec: &[&str]) -> String {
     )
 }
 
+/// Returns the text of what was parsed, or the message of the error after `!`.
 fn parsed<T: Display>(found: Result<T, impl Display>) -> String {
     found.map_or_else(|error| format!("! {error}"), |value| value.to_string())
 }
@@ -47,12 +50,14 @@ fn shown(value: Option<impl Display>) -> String {
 macro_rules! of_kind {
     ($kind:ident, $words:expr) => {{
         let number: u128 = $words[1].parse().unwrap();
+        // The fourth word of `n`, and the last of `f`.
         let unit = Unit::parse_str($words[$words.len().min(4) - 1], false, true).ok();
         match ($words[0], $kind::from_u128(number)) {
             ("f", _) => {
                 let size = unit.and_then(|unit| $kind::from_u128_with_unit(number, unit));
                 vec![shown(size.map(|size| size.as_u128()))]
             },
+            // The results of a size are nine: those below.
             (_, None) => vec!["-".to_string(); 9],
             (_, Some(size)) => {
                 let mut results = Vec::new();
@@ -73,6 +78,7 @@ macro_rules! of_kind {
     }};
 }
 
+/// Returns the results for a request.
 fn results(words: &[&str]) -> Vec<String> {
     if !"tu".contains(words[0]) {
         return [of_kind!(Byte, words), of_kind!(Bit, words)].concat();

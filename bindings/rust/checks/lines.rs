@@ -5,6 +5,7 @@ use std::io::{self, BufRead, BufReader, BufWriter, Write};
 
 use byte_unit::Byte;
 
+/// The bytes that are read or written at a time.
 const BUFFER: usize = 128 * 1024;
 
 fn main() -> io::Result<()> {

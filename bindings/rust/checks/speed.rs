@@ -10,6 +10,7 @@ use byte_unit::{Byte, Unit, UnitType};
 const RUNS: usize = 200;
 const CALLS: u32 = 1000;
 
+/// Prints the minimum of the runs, in nanoseconds of a call.
 fn timed(what: &str, mut call: impl FnMut()) {
     let mut least = f64::MAX;
     for _ in 0..RUNS {

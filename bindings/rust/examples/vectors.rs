@@ -5,12 +5,14 @@ use std::io::{self, BufRead, BufWriter, Write};
 
 use byte_unit::{Align, Bit, Byte, FormatSpec, ParseError, Sign, Unit, UnitParseError, UnitType, ValueParseError};
 
+/// Returns the name of a unit's error and its fields, as the vectors have it.
 fn unit_error(error: &UnitParseError) -> String {
     let expected: String = error.expected_characters.iter().collect();
     let end = if error.also_expect_no_character { " end" } else { "" };
     format!("Unit \"{}\" [{expected}]{end}", error.character)
 }
 
+/// Returns the name of an error and its fields, as the vectors have it.
 fn error_of(error: ParseError) -> String {
     match error {
         ParseError::Value(ValueParseError::NoValue) => "NoValue".to_owned(),
@@ -66,6 +68,7 @@ fn type_of(name: &str) -> UnitType {
 macro_rules! answer_of_size {
     ($size:expr, $words:expr) => {{
         let (size, words) = ($size, $words);
+        // Longer than each text of the vectors.
         let mut out = vec![0; 1 << 18];
         let either = words[2] == "any";
         match (words[0], words[3]) {

@@ -1,4 +1,4 @@
-//! Sizes in bits.
+//! Sizes in bits: the types `Bit` and `AdjustedBit`, which macros of other modules define, and how one is parsed.
 
 use crate::errors::ParseError;
 use crate::library::{self, Kind};

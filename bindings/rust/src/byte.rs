@@ -1,4 +1,4 @@
-//! Sizes in bytes.
+//! Sizes in bytes: the types `Byte` and `AdjustedByte`, which macros of other modules define, and how one is parsed.
 
 use crate::errors::ParseError;
 use crate::library::{self, Kind};

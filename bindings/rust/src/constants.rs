@@ -28,7 +28,7 @@ macro_rules! constants {
     };
 
     (@units $Size:ident $kind:expr, $($NAME:ident $unit:ident),*) => {
-        /// One of each unit.
+        /// One of each unit with a prefix. In bytes, too, it is a whole number: 8 divides 1000 and 1024.
         impl $Size { $(
             #[doc = concat!("1 ", stringify!($unit), ".")]
             pub const $NAME: $Size = $Size($crate::Unit::$unit.as_bits_u128() / $kind.bits());

@@ -68,6 +68,7 @@ macro_rules! conversions {
         }
     };
 
+    // From integers of which each is a size.
     (@from $Size:ident $($number:ty)*) => { $(
         impl From<$number> for $Size {
             fn from(size: $number) -> Self {
@@ -76,6 +77,7 @@ macro_rules! conversions {
         }
     )* };
 
+    // From integers that may be negative.
     (@try_from $Size:ident $($number:ty)*) => { $(
         impl TryFrom<$number> for $Size {
             type Error = $crate::ExceededBoundsError;
@@ -86,8 +88,10 @@ macro_rules! conversions {
         }
     )* };
 
+    // To integers that may be too narrow.
     (@try_into $Size:ident $($number:ty)*) => { $(
         impl TryFrom<$Size> for $number {
+            // The error of `core`, which the original exports too.
             type Error = $crate::TryFromIntError;
 
             fn try_from(size: $Size) -> Result<Self, Self::Error> {
@@ -96,6 +100,7 @@ macro_rules! conversions {
         }
     )* };
 
+    // Comparisons with integers, on both sides.
     (@compare $Size:ident $($number:ty)*) => { $(
         impl PartialEq<$number> for $Size {
             fn eq(&self, other: &$number) -> bool {

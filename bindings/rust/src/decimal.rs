@@ -6,7 +6,7 @@ use crate::errors::InexactFloatError;
 use crate::library::{self, Kind};
 use crate::unit::Unit;
 
-/// 10^28.
+/// The scale of fractions, 10^28.
 const SCALE: u128 = 10u128.pow(28);
 
 /// The limit of whole parts, 2^112.
@@ -143,6 +143,7 @@ impl Display for Decimal {
     }
 }
 
+/// Defines the conversions from integers that are below 2^112.
 macro_rules! from_integer {
     ($($integer:ty)*) => { $(
         impl From<$integer> for Decimal {
@@ -165,7 +166,8 @@ impl TryFrom<f64> for Decimal {
     /// Returns an `InexactFloatError` if the float is negative, not a number, 2^112 or more, or has more than 28 digits
     /// after the point, as the float that is nearest to 50.84 has.
     fn try_from(number: f64) -> Result<Self, Self::Error> {
-        // The binary digits after the point: as many as decimal digits.
+        // With at most 28 binary digits after the point, a number has at most 28 decimal ones: n / 2^28 is
+        // n * 5^28 / 10^28.
         const BINARY: f64 = (1u64 << 28) as f64;
         if !(number >= 0.0 && number < WHOLE_LIMIT as f64) {
             return Err(InexactFloatError);

@@ -22,7 +22,7 @@ use crate::decimal::Decimal;
 #[derive(Debug, Clone, Copy, PartialEq, Eq)]
 pub struct ExceededBoundsError;
 
-/// The error of the number of a string.
+/// The error of a string whose number is missing or invalid, or whose size is out of range.
 ///
 /// # Examples
 ///
@@ -65,7 +65,7 @@ pub struct UnitParseError {
     pub character: char,
     /// The characters that are expected in its place. Others may be valid too, such as the other case of a letter.
     pub expected_characters: &'static [char],
-    /// Whether the string could end in its place.
+    /// Whether the string could end there, too.
     pub also_expect_no_character: bool,
 }
 
@@ -195,7 +195,7 @@ impl Display for UnitParseError {
     }
 }
 
-/// Writes the expected characters after the first.
+/// Writes the expected characters after the first, each after a comma but the last, which is after `or`.
 fn write_others(others: &[char], f: &mut Formatter<'_>) -> fmt::Result {
     if let [middle @ .., last] = others {
         for c in middle {
@@ -239,6 +239,7 @@ impl Display for Needed {
     }
 }
 
+/// The trait `Error`, which is in `std`, and in `core` if the build script has found that: then `core_error` is set.
 #[cfg(any(feature = "std", core_error))]
 mod error_trait {
     use super::{

@@ -47,6 +47,7 @@
 #[cfg(any(feature = "std", test))]
 extern crate std;
 
+// Modules of macros are before those that call them.
 #[macro_use]
 mod size;
 #[macro_use]

@@ -1,4 +1,4 @@
-//! The calls of the library, made safe. All `unsafe` of the calls is here.
+//! The calls of the library, made safe, with conversions of arguments and results. All `unsafe` of the calls is here.
 
 use core::mem::MaybeUninit;
 
@@ -151,6 +151,7 @@ pub(crate) fn unit_error_position(text: &str) -> Option<usize> {
     position_by(sys::byte_unit_unit_error_position, text)
 }
 
+/// Returns the index that a call finds.
 fn position_by(call: PositionCall, text: &str) -> Option<usize> {
     let mut position = 0;
     unsafe { call(text.as_ptr(), text.len(), &mut position) }.then_some(position)
@@ -249,6 +250,7 @@ pub(crate) fn recoverable_unit(size: u128, kind: Kind, either: bool, precision: 
     }
 }
 
+/// Returns the flag for `ignore_case`, or none.
 pub(crate) fn case_flag(ignore_case: bool) -> u32 {
     if ignore_case {
         sys::BYTE_UNIT_IGNORE_CASE
@@ -257,12 +259,14 @@ pub(crate) fn case_flag(ignore_case: bool) -> u32 {
     }
 }
 
+/// Returns the character of an error whose code has one.
 fn character_of(error: &sys::Error) -> char {
     debug_assert!(char::from_u32(error.character).is_some());
     // SAFETY: the library is proved to write the code point of a character.
     unsafe { char::from_u32_unchecked(error.character) }
 }
 
+/// Returns the error of a unit from its details.
 fn unit_error(error: &sys::Error) -> UnitParseError {
     UnitParseError {
         character: character_of(error),
@@ -298,7 +302,8 @@ static PLACED: [&[char]; 8] = {
     placed
 };
 
-/// Returns a number below 8: another one for each list, and 0 for the empty list.
+/// Returns a number below 8, the upper three bits of a product: another one for each list, and 0 for the empty list.
+/// The factor was found by trial; `PLACED` does not compile with one that does not fit.
 const fn place_of(first: u8, second: u8) -> usize {
     (u16::from_le_bytes([first, second]).wrapping_mul(1637) >> 13) as usize
 }

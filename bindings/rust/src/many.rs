@@ -1,4 +1,4 @@
-//! Columns of texts.
+//! The parsing of columns of texts: the types of offsets, and the methods of sizes.
 
 use crate::errors::BuffersError;
 use crate::library::{self, Size};
@@ -9,6 +9,7 @@ pub trait Offset: sealed::Offset {}
 impl Offset for i32 {}
 impl Offset for i64 {}
 
+/// Keeps other crates from implementing `Offset` for more types.
 mod sealed {
     use crate::library::ManyCall;
     use crate::sys;
@@ -42,7 +43,8 @@ pub(crate) fn parse<O: Offset, T: Size>(
     }
 }
 
-/// Defines the calls of a type of sizes that parse many texts; `ignore_case` is a parameter of bytes alone.
+/// Defines the calls of a type of sizes that parse many texts; `ignore_case` is a parameter of bytes alone. `$K`, a unit
+/// of 1000, and `$false`, the argument for `ignore_case`, are for the examples.
 macro_rules! column_methods {
     ($Size:ident, $kind:expr, $K:literal $(, $ignore_case:ident, $false:literal)?) => {
         // SAFETY: a size is laid out as its `u128`, whose low half is first on x86-64.

@@ -1,6 +1,6 @@
-//! The methods of sizes: arithmetic, units and texts.
+//! The methods of sizes: arithmetic, units, positions of errors and texts; and the traits `Display` and `FromStr`.
 
-/// Defines the methods of a type of sizes.
+/// Defines the methods of a type of sizes. `$either` names the parameter that allows units of the other kind.
 macro_rules! size_methods {
     ($Size:ident, $Adjusted:ident, $kind:expr, $either:ident) => {
         /// Arithmetic.

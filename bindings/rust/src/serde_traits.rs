@@ -82,6 +82,7 @@ where
     }
 }
 
+/// Defines the traits of a type of sizes and of its adjusted sizes. `$expected` has examples for errors.
 macro_rules! serde_of_size {
     ($Size:ident, $Adjusted:ident, $expected:literal) => {
         impl Parsed for $Size {

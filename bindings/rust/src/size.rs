@@ -1,6 +1,6 @@
 //! The types of sizes, with their constructors and accessors.
 
-/// Defines a type of sizes.
+/// Defines a type of sizes. `$units` and `$unit` are what it counts, for the documentation.
 macro_rules! size_type {
     ($Size:ident, $kind:expr, $units:literal, $unit:literal) => {
         #[doc = concat!("A size in ", $units, ", below 10^30.")]

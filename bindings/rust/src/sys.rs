@@ -40,12 +40,14 @@ pub struct Error {
     pub position: usize,
 }
 
+// Flags, whose sum is an argument.
 pub const BYTE_UNIT_BYTES: u32 = 0;
 pub const BYTE_UNIT_BITS: u32 = 1;
 pub const BYTE_UNIT_IGNORE_CASE: u32 = 2;
 pub const BYTE_UNIT_EITHER_KIND: u32 = 4;
 pub const BYTE_UNIT_BINARY_PREFIXES: u32 = 8;
 
+// Codes that the parsing calls return. Those that the package does not tell apart are left out.
 pub const BYTE_UNIT_OK: u32 = 0;
 pub const BYTE_UNIT_NOT_NUMBER: u32 = 2;
 pub const BYTE_UNIT_NUMBER_TOO_LONG: u32 = 3;

@@ -12,6 +12,7 @@ const KINDS: [Kind; 2] = [Kind::Byte, Kind::Bit];
 
 /// Returns what a call writes, which returns the length.
 fn text_of(call: impl Fn(*mut u8, usize) -> usize) -> String {
+    // No name or message of the library is longer.
     let mut out = [0; 256];
     let len = call(out.as_mut_ptr(), out.len());
     String::from_utf8(out[..len].to_vec()).unwrap()
@@ -42,6 +43,7 @@ fn size_of(count: u128, unit: Unit, kind: Kind) -> Option<u128> {
     found.then(|| size.into())
 }
 
+/// Returns the same as this package calculates it.
 fn size_here(count: u128, unit: Unit, kind: Kind) -> Option<u128> {
     match kind {
         Kind::Byte => Byte::from_u128_with_unit(count, unit).map(Byte::as_u128),
@@ -126,6 +128,7 @@ fn messages() {
             }
         }
     }
+    // Most calls are errors, and some are not.
     assert!(calls / 2 < errors && errors < calls);
 }
 
@@ -156,6 +159,7 @@ fn messages_of_units() {
             calls += 4;
         }
     }
+    // Most calls are errors, and some are not.
     assert!(calls / 2 < errors && errors < calls);
 }
 

@@ -30,7 +30,8 @@ pub(crate) fn format_with_unit(size: u128, kind: Kind, f: &mut Formatter<'_>) ->
     lay_out(text_in(&out, len)?, 0, f)
 }
 
-/// Formats a size in a unit.
+/// Formats a size in a unit. The library is asked for `MOST_PLACES` digits after the point at most: with a greater
+/// precision zeros follow them, but not if it writes fewer, as it does in some units and in the alternate form.
 pub(crate) fn format_adjusted(size: u128, kind: Kind, unit: Unit, f: &mut Formatter<'_>) -> fmt::Result {
     let (spec, left_out) = spec_of(f, MOST_PLACES);
     let mut out = UNWRITTEN;
@@ -75,7 +76,7 @@ pub(crate) fn written(out: &[u8], len: usize) -> Result<&str, Needed> {
     }
 }
 
-/// Returns the text of a length that a call of the library wrote to the beginning of a buffer.
+/// Returns the text of a length that a call of the library wrote to the beginning of a buffer, if it fits there.
 fn text_in(out: &Buffer, len: usize) -> Result<&str, fmt::Error> {
     let text = out.get(..len).ok_or(fmt::Error)?;
     // SAFETY: the library has written these bytes, since they fit, and they are ASCII.
@@ -123,6 +124,7 @@ fn lay_out(text: &str, zeros: usize, f: &mut Formatter<'_>) -> fmt::Result {
     f.write_str(&text[number.len()..])
 }
 
+/// Writes a character some times.
 fn repeat(c: char, count: usize, f: &mut Formatter<'_>) -> fmt::Result {
     (0..count).try_for_each(|_| f.write_char(c))
 }

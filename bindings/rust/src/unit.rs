@@ -16,6 +16,8 @@ use crate::library;
 /// assert_eq!("KiB".parse::<Unit>().unwrap(), Unit::KiB);
 /// assert_eq!(format!("{:>4}", Unit::Mbit), "  Mb");
 /// ```
+// The variants are in the order of their codes in the library: those without a prefix, then of each prefix those of
+// bits, by 1000 and by 1024, and those of bytes.
 #[derive(Clone, Copy, Debug, PartialEq, Eq, Hash)]
 #[rustfmt::skip]
 #[allow(missing_docs)]
@@ -32,7 +34,7 @@ pub enum Unit {
     Rbit, Ribit, RB, RiB,
 }
 
-/// The units, each at its index.
+/// The units, each at its code in the library.
 #[rustfmt::skip]
 pub(crate) const UNITS: [Unit; 38] = [
     Unit::Bit, Unit::B,
@@ -47,7 +49,7 @@ pub(crate) const UNITS: [Unit; 38] = [
     Unit::Rbit, Unit::Ribit, Unit::RB, Unit::RiB,
 ];
 
-/// The names of the units, each at the unit's index.
+/// The names of the units, each at the unit's code.
 #[rustfmt::skip]
 const NAMES: [&str; UNITS.len()] = [
     "b", "B",
@@ -62,7 +64,7 @@ const NAMES: [&str; UNITS.len()] = [
     "Rb", "Rib", "RB", "RiB",
 ];
 
-/// The bits of the units, each at the unit's index.
+/// The numbers of bits in the units, each at the unit's code.
 const BITS: [u128; UNITS.len()] = {
     let mut bits = [0; UNITS.len()];
     let mut code = 0;
@@ -203,11 +205,12 @@ impl Unit {
         matches!(self, Unit::B) || self.is_binary_prefixed()
     }
 
+    /// Returns whether the unit has a binary prefix: after `Bit` and `B`, those with an odd code have one.
     const fn is_binary_prefixed(self) -> bool {
         self as u32 > 1 && self as u32 % 2 == 1
     }
 
-    /// Returns the unit with a code.
+    /// Returns the unit with a code in the library, or `None` for its code of no unit.
     pub(crate) fn at(code: u32) -> Option<Unit> {
         UNITS.get(code as usize).copied()
     }

@@ -1,4 +1,4 @@
-//! Texts with each flag of a formatter.
+//! Texts of sizes: by a formatter with each flag, and in a buffer.
 
 use std::fmt::{self, Write};
 
@@ -51,12 +51,14 @@ macro_rules! compare {
             width: Some($width),
             align: $align,
         };
+        // Longer than each text: 200 columns, or 200 digits after the point and at most 31 before it.
         let mut out = [0; 400];
         let text = format!(concat!("{:", $flags, "width$.precision$}"), $value, width = width, precision = precision);
         assert_eq!(Ok(text.as_str()), $value.write_text(spec, &mut out), "{:?}", spec);
     })* };
 }
 
+/// Compares the texts with each combination of flags that the formatter and the library have in common.
 macro_rules! compare_flags {
     ($value:expr, $width:expr, $precision:expr) => {
         compare! { $value, $width, $precision,
@@ -96,6 +98,7 @@ fn a_size_with_its_unit_has_at_most_28_digits_after_the_point() {
     assert_eq!(format!("{size:#.28}"), "1.0000000037252902984619140625 GiB");
     assert_eq!(format!("{size:#.65535}"), "1.0000000037252902984619140625 GiB");
     assert_eq!(format!("{size:#.27}"), "1.073741828 GB");
+    // In GiB it has 29 digits after the point.
     let smaller = Byte::from_u64((1 << 30) + 2);
     assert_eq!(format!("{smaller:#.65535}"), "1.073741826 GB");
 }
@@ -126,6 +129,7 @@ fn an_error_of_the_writer_is_returned() {
     assert_eq!(write!(Limited(7), "{size:#}"), Ok(()));
     for limit in 0..7 {
         assert_eq!(write!(Limited(limit), "{size:#}"), Err(fmt::Error));
+        // The text of 7 characters has 93 spaces in 100 columns.
         assert_eq!(write!(Limited(limit + 93), "{size:#100}"), Err(fmt::Error));
     }
 }

@@ -1,7 +1,6 @@
-//! Conversions from and to numbers, and comparisons.
+//! Constants, constructors, arithmetic, conversions from and to numbers, comparisons, decimals and adjusted sizes.
 
 use std::collections::HashSet;
-use std::convert::TryFrom;
 
 use byte_unit::{AdjustedBit, AdjustedByte, Bit, Byte, Decimal, ExceededBoundsError, InexactFloatError, Unit};
 
@@ -128,6 +127,7 @@ fn adjusted_sizes_of_sizes_and_of_strings() {
 /// The quotient of two floats is the nearest float if both are exact.
 #[test]
 fn values_of_adjusted_sizes_are_the_nearest_floats() {
+    // Numbers of a linear congruential generator, of which 53 bits are exact in a float.
     let mut size = 1u64;
     for _ in 0..2000 {
         size = size.wrapping_mul(6364136223846793005).wrapping_add(1442695040888963407);

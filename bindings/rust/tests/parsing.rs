@@ -2,6 +2,7 @@
 
 use byte_unit::{Bit, BuffersError, Byte, RowError, Unit, UnitType, ValueParseError};
 
+/// Texts of a column: sizes, and each error that a string can have.
 const TEXTS: [&str; 15] = [
     "",
     "12",

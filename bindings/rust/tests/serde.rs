@@ -1,4 +1,4 @@
-//! The traits of serde, by JSON strings and by a format that is not human-readable.
+//! The traits of serde: by JSON, by TOML, by each type of integer, and by a format that is not human-readable.
 
 use std::collections::HashMap;
 
@@ -147,6 +147,7 @@ fn units_and_adjusted_sizes_are_strings() {
 /// A format that is not human-readable, and shows what it is given.
 struct Binary;
 
+/// Defines the methods of `Binary` that no type of the package calls: each is an error with its name.
 macro_rules! rejected {
     ($($method:ident($($value:ty),*) $(-> $result:ty)?;)*) => { $(
         fn $method(self, $(_: $value),*) -> rejected!(@ $($result)?) {
@@ -157,6 +158,7 @@ macro_rules! rejected {
     (@) => { Result<String, Error> };
 }
 
+/// The serializers of compound values, which are never made.
 type Never = Impossible<String, Error>;
 
 impl Serializer for Binary {

@@ -1,7 +1,7 @@
 /* Makes one allocation of SQLite after another fail while a statement that calls the extension runs: the statement must
  * end with SQLITE_NOMEM, or as it does if none fails. Then binds texts with zero bytes.
  *
- *     sqlite EXTENSION
+ *     checks EXTENSION
  *
  * Prints how many runs there were, and returns 1 if one ended otherwise. */
 #include <sqlite3.h>
@@ -9,11 +9,12 @@
 #include <stdio.h>
 #include <string.h>
 
-static sqlite3_mem_methods real;
+static sqlite3_mem_methods real; /* SQLite's own allocator */
 static long before_failure = -1; /* how many more allocations succeed; no limit if negative */
-static bool failed;
+static bool failed; /* whether an allocation failed in the run */
 static long runs, wrong;
 
+/* Whether the allocation fails that is asked for now. */
 static bool fails(void)
 {
     if (before_failure < 0)
@@ -32,7 +33,8 @@ static void *failing_realloc(void *old, int size)
     return fails() ? NULL : real.xRealloc(old, size);
 }
 
-/* Runs a statement, and writes its result: a value in SQL's notation, or the error. Returns SQLite's status. */
+/* Runs a statement, and writes its result: the beginning of the text of a value, NULL, or the error. Returns SQLite's
+ * status. */
 static int result_of(sqlite3_stmt *statement, char *out, size_t out_len)
 {
     int status = sqlite3_step(statement);
@@ -48,6 +50,7 @@ static int result_of(sqlite3_stmt *statement, char *out, size_t out_len)
     return status;
 }
 
+/* Prepares a statement. If that fails, it counts as wrong. */
 static sqlite3_stmt *prepare(sqlite3 *db, const char *sql)
 {
     sqlite3_stmt *statement = NULL;
@@ -59,10 +62,11 @@ static sqlite3_stmt *prepare(sqlite3 *db, const char *sql)
     return statement;
 }
 
-/* Runs a statement with the allocation of each number failing, until there is no allocation of that number. */
+/* Runs a statement with its first allocation failing, with its second one, and so on, until all succeed: 1000 times at
+ * most, so that it ends. */
 static void with_failures(sqlite3 *db, const char *sql)
 {
-    char wanted[512], got[512];
+    char wanted[512], got[512]; /* longer than each result and error */
     sqlite3_stmt *statement = prepare(db, sql);
     int normal = result_of(statement, wanted, sizeof wanted);
 
@@ -99,6 +103,7 @@ static void with_text(sqlite3 *db, const char *sql, const char *text, int len, c
     sqlite3_finalize(statement);
 }
 
+/* Binds texts that a constant of SQL cannot be: with zero bytes, and white space and control characters of two bytes. */
 static void with_zero_bytes(sqlite3 *db)
 {
     with_text(db, "SELECT size_parse(?)", "12", 2, "12");
@@ -120,6 +125,7 @@ static void with_zero_bytes(sqlite3 *db)
     with_text(db, "SELECT ? < '1.0 KB' COLLATE SIZE", "", 0, "0");
 }
 
+/* Statements in which each function allocates, for results and for errors. */
 static const char *const statements[] = {
     "SELECT size_parse('1.5 KiB')",
     "SELECT size_parse(1536, 'bits')",
@@ -151,6 +157,7 @@ static const char *const statements[] = {
     " ORDER BY t COLLATE SIZE)",
 };
 
+/* Runs all checks in a database of an encoding: in UTF-16, SQLite converts each text. */
 static void in_encoding(const char *extension, const char *encoding)
 {
     sqlite3 *db = NULL;
@@ -163,6 +170,7 @@ static void in_encoding(const char *extension, const char *encoding)
         wrong++;
         return;
     }
+    /* Without the memory that a connection keeps for small objects, each allocation is made by the functions above. */
     sqlite3_db_config(db, SQLITE_DBCONFIG_LOOKASIDE, NULL, 0, 0);
     for (size_t at = 0; at < sizeof statements / sizeof *statements; at++)
         with_failures(db, statements[at]);

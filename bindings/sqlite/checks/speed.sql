@@ -1,4 +1,5 @@
--- Statements on a million rows, which `tools/dev measure calls` times. The comment after each is its title.
+-- Statements on a million rows, which `tools/dev measure calls` times. The comment after each is its title. Each
+-- text is there once, in an order of its own: 7919 and 1000000 have no common factor. A `+` keeps an index from being used.
 CREATE TABLE big AS WITH RECURSIVE i(k) AS (SELECT 0 UNION ALL SELECT k + 1 FROM i WHERE k < 999999)
     SELECT printf('%d.%03d MB', k * 7919 % 1000000 / 1000, k * 7919 % 1000) AS t, k AS n FROM i;
 .timer on

@@ -1,4 +1,4 @@
-"""Parsing of many texts in one call."""
+"""Parsing of many texts in one call, and the column that it gives."""
 
 from _collections_abc import Sequence  # as collections.abc has it, whose import takes longer than all of this package
 from itertools import compress
@@ -6,7 +6,7 @@ from itertools import compress
 from . import _native
 from ._errors import ByteUnitError, SizeError
 
-TYPE_CHECKING = False
+TYPE_CHECKING = False  # true for type checkers: an import of typing takes longer than that of this package
 if TYPE_CHECKING:
     from collections.abc import Iterable, Iterator
     from typing import Final, Literal, SupportsIndex, TypeAlias, overload
@@ -17,6 +17,7 @@ if TYPE_CHECKING:
 #: The names of the codes in `Column.codes`: `ok`, the names of `SizeError`, and `null`.
 ERROR_NAMES: "Final[tuple[str, ...]]" = _native.CODES
 
+# The code of a null, whether each code is that of a rejected text, and the number of rows that an iterator reads at once.
 _NULL = ERROR_NAMES.index("null")
 _REJECTED = bytes(code not in (0, _NULL) for code in range(256))
 _AT_A_TIME = 1024
@@ -32,6 +33,7 @@ def _check(name: str, value: object, names: tuple[str, ...]) -> None:
 
 def _view(data: bytes, code: str) -> memoryview:
     """Returns a view of items of eight bytes."""
+    # A view without an item cannot be cast, so without data it is a part of another.
     return memoryview(data or bytes(8)).cast("B").cast(code)[: len(data) // 8]
 
 
@@ -256,6 +258,7 @@ class Column(Sequence["int | None"]):
         >>> parse_many(["1", "x", "2"]).validity()
         b'\\x05'
         """
+        # The digits of a binary number, the last row first: 1 for the code 0.
         bits = self._codes.translate(b"1" + b"0" * 255)[::-1]
         return int(bits or b"0", 2).to_bytes((len(bits) + 7) // 8, "little")
 

@@ -1,6 +1,6 @@
 """The exceptions."""
 
-TYPE_CHECKING = False
+TYPE_CHECKING = False  # true for type checkers
 if TYPE_CHECKING:
     from decimal import Decimal
 
@@ -54,7 +54,7 @@ class SizeError(ByteUnitError):
     row: "int | None" = None
     character: "str | None" = None
     number: "Decimal | None" = None
-    _of_unit: "bool | None" = None
+    _of_unit: "bool | None" = None  # true if the text was parsed as a unit
 
     def __init__(
         self,

@@ -1,3 +1,5 @@
+//! The examples whose calls compile here and return what is stated, in a file for what they are of.
+
 mod adjusted;
 mod choices;
 mod readme;
