@@ -154,8 +154,10 @@ const LEFT: FormatSpec = spec!(true, Sign::Unset, None, Some(65_535), Some(Align
 
 const CENTER: FormatSpec = spec!(true, Sign::Unset, None, Some(65_535), Some(Align::Center));
 
-/// The text of zero with both specs.
+/// The text of zero with both specs, in bytes and in bits.
 const BETWEEN: Repeated = &[("0", 1), (" ", 65_533), ("B", 1)];
+
+const BETWEEN_BIT: Repeated = &[("0", 1), (" ", 65_533), ("b", 1)];
 
 /// With a unit, the padding of both alignments is between number and unit.
 const MAXIMUM_WIDTH_BETWEEN_NUMBER_AND_UNIT: &[Row] = &[
@@ -163,6 +165,10 @@ const MAXIMUM_WIDTH_BETWEEN_NUMBER_AND_UNIT: &[Row] = &[
     (Kind::Byte, 0, Some(Unit::B), LEFT, 65_535, BETWEEN),
     (Kind::Byte, 0, None, CENTER, 65_535, BETWEEN),
     (Kind::Byte, 0, Some(Unit::B), CENTER, 65_535, BETWEEN),
+    (Kind::Bit, 0, None, LEFT, 65_535, BETWEEN_BIT),
+    (Kind::Bit, 0, Some(Unit::Bit), LEFT, 65_535, BETWEEN_BIT),
+    (Kind::Bit, 0, None, CENTER, 65_535, BETWEEN_BIT),
+    (Kind::Bit, 0, Some(Unit::Bit), CENTER, 65_535, BETWEEN_BIT),
 ];
 
 #[test]
