@@ -1,4 +1,5 @@
-//! Tests of the program with input and output in memory.
+//! Tests of the program with input and output in memory, and what the modules of tests share: they import all names
+//! here, of which some are for them alone.
 
 ghost use Rattle.std.specs.Prelude.{IfOk};
 ghost use Rattle.byte_unit_lines.specs.Report.{IsReport};

@@ -29,6 +29,7 @@ fn each_pace_of_reads(rt: HostRuntime) {
             pace: *pace,
         });
         let mut read = Vec::new(rt.alloc());
+        // Neither one byte nor all of them, so a pace limits some reads and the buffer others.
         let mut buffer = [0u8; 4];
         // As many calls as the slowest pace needs, one a byte; a faster one reads nothing in those that are left.
         for _ in 0..BYTES.len() {
@@ -98,7 +99,7 @@ fn a_failure_is_remembered(rt: HostRuntime) {
     );
 }
 
-/// A writer that fails.
+/// A writer that fails with an error of this kind.
 #[derive(Drop)]
 struct Failing(ErrorKind);
 
@@ -130,6 +131,7 @@ fn only_a_broken_pipe_closes(rt: HostRuntime) {
 
 #[test]
 fn each_place_of_an_end(rt: HostRuntime) {
+    // The ends of records that programs use, and a byte whose highest bit is set.
     for end in [b'\n', 0, 0xFF] {
         // Two bytes with this end, and before it bytes that differ from it in the highest bit.
         let other = end ^ 0x80;

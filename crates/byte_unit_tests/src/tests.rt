@@ -1,4 +1,5 @@
-//! Tests over tables of test vectors.
+//! Tests over tables of test vectors: macros that the tables share, and a module for each subject. The assertions that
+//! several modules call are in `answers`, `asserting`, `command` and `shown`, and in a module whose head says so.
 
 /// Creates a `FormatSpec` from its fields. A macro, so that constants can use it.
 macro_rules! spec {

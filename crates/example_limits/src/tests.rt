@@ -9,8 +9,8 @@ const VALID: &str =
     "file = \"20 MB\"\ntotal = \"1.5 GiB\"\ncache = \"256 MiB\"\ndisk = \"1.75 GiB\"\nrate = \"1 Mbit\"\n";
 
 /// Documents, and the reasons for which they are rejected: the messages of the rules that the limits break, each in a
-/// line, or the error in one line. At `disk = "2 GiB"` and at `450 B` with one bit a second, limits are at the bound
-/// of a rule.
+/// line, or the error in one line. At `disk = "2 GiB"`, and at `450 B` with one bit a second (3,600 bits, an hour),
+/// limits are at the bound of a rule; the next documents exceed it.
 const REASONS: &[(&str, &str)] = &[
     (VALID, ""),
     (
@@ -42,7 +42,8 @@ a file of the size `file` takes more than an hour at `rate`\n",
     ("file = \"B\"\n", "not a number in `file`"),
 ];
 
-/// Texts, and what is printed for each, with the error if the limits are rejected.
+/// Texts, and what is printed for each, with the error if the limits are rejected: the default for an empty text,
+/// limits without a cache and with one of zero, limits that break rules, and documents that are wrong.
 const REPORTS: &[(&str, &str, Option<&str>)] = &[
     ("", DEFAULT_REPORT, None),
     (" \n\t\n", DEFAULT_REPORT, None),

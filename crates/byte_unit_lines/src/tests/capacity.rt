@@ -49,7 +49,8 @@ fn expect(
 const SEVEN: &[u8] =
     b"1536 = 1.5 KiB\n1000 = 1 KB\nno value\nbad unit\nnot a number\nnot text\nout of range\n";
 
-/// A limit, an input, the number of bytes a read, the result, and the report.
+/// A limit, an input, the number of bytes a read, the result, and the report: limits just below a line, and the least
+/// and a large one.
 const LIMITS: &[(usize, &[u8], usize, Result<(), RunError>, &[u8])] = &[
     // If a line is one byte longer, the answers to the lines before it are written.
     (LONGEST - 1, INPUT, 1, Err(RunError::Memory), SEVEN),
@@ -78,7 +79,8 @@ fn lines_and_the_limit(rt: HostRuntime) {
     }
 }
 
-/// The number of zeros before the digit 1, and the result and the report with a limit of 100 bytes.
+/// The number of zeros before the digit 1, and the result and the report with a limit of 100 bytes, which a line of 99
+/// zeros just fits.
 const ROWS: &[(usize, Result<(), RunError>, &[u8])] = &[
     (98, Ok(()), b"1 = 1 B\n"),
     (99, Ok(()), b"1 = 1 B\n"),
@@ -91,6 +93,7 @@ const ROWS: &[(usize, Result<(), RunError>, &[u8])] = &[
 fn a_last_line_and_the_longest_answers(rt: HostRuntime) {
     for (zeros, wanted, report) in ROWS {
         let input = repeated(&rt, b"0", *zeros, b"1");
+        // Short reads, some around the limit, and one of the whole line but the longest.
         for step in [1usize, 2, 3, 7, 64, 99, 100, 101, 4096] {
             expect(&rt, 100, &input, step, *wanted, report);
         }
@@ -131,8 +134,8 @@ fn the_limit_without_capacity(rt: HostRuntime) {
     expect_without_capacity(&rt, 0, Err(RunError::Memory), b"");
 }
 
-/// The number of the allocation that fails, the limit, and the number of allocations. The last two limits exceed every
-/// memory: nothing is allocated.
+/// The number of the allocation that fails, the limit, and the number of allocations. The last two limits, with a read
+/// of 80 bytes, exceed every memory: nothing is allocated.
 const STARTS: &[(u64, usize, u64)] = &[
     (1, LONGEST, 1),
     (2, LONGEST, 2),

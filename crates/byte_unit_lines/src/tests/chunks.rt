@@ -16,7 +16,7 @@ fn long_input(rt: &(impl Abort + AllocGlobal)) -> Vec<u8> {
     repeated(rt, &line, TIMES, b"")
 }
 
-/// The paces of reads and of writes.
+/// The paces of reads and of writes: each slow one of one stream, and the slowest of both.
 const PACES: &[(Pace, Pace)] = &[
     (BYTE_BY_BYTE, AT_ONCE),
     (ALL_BUT_ONE, AT_ONCE),
@@ -67,7 +67,7 @@ fn each_failing_part_of_a_write(rt: HostRuntime) {
     let input = long_input(&rt);
     let report = repeated(&rt, REPORT, TIMES, b"");
     let mut least = 0;
-    // The report has about 300,000 bytes.
+    // The report has 270,900 bytes, so far fewer than 100 writes of 40,000 bytes are enough for a run that succeeds.
     for calls in 0..100 {
         let ended = ran(
             rt.alloc(),

@@ -1,4 +1,4 @@
-//! Runs in memory, and their results.
+//! Runs in memory, their results, and the assertions on them that several tests share.
 ghost use Rattle.std.specs.Prelude.{◌<◌, length};
 
 use super::refusing::Refusing;
@@ -122,6 +122,7 @@ pub fn expect_failed_allocation(
     number: u64,
     report: &[u8],
 ) {
+    // Longer than the inputs of the tests that call this.
     let mut buffer = [0u8; 80];
     for last in [number, u64::MAX] {
         let heap = Refusing::new(rt.alloc(), number, last);

@@ -1,4 +1,4 @@
-//! The endings of calls of the program.
+//! The endings of calls of the program, with their exit statuses and their lines for standard error.
 use super::ended::{Ended, streams};
 use super::*;
 use crate::ending::{Ending, serve};
@@ -52,7 +52,8 @@ const CALLS: &[Call] = &rows! {
     (&["bit"], Some(Kind::Bit), OPEN, Ending::Done, b"8000 = 8 Kb\n", b""),
     (&["bits"], None, OPEN, Ending::Usage, b"", INPUT),
     (&["bit", "bit"], None, OPEN, Ending::Usage, b"", INPUT),
-    // No call of a stream is made after these; then a read fails after the input, and the write of the output fails.
+    // These streams fail at any further call, and none is made. Then a read fails after the input, and the write of the
+    // output fails.
     (&["bit"], Some(Kind::Bit), (READS, WRITES), Ending::Done, b"8000 = 8 Kb\n", b""),
     (&["bit"], Some(Kind::Bit), (Pace { step: 5, calls: 1, then: Then::Fail }, WRITES),
         Ending::Failed(RunError::Read), b"8000 = 8 Kb\n", b""),

@@ -25,8 +25,10 @@ const PAIRS: [(Pace, Pace); 9] = [
     (AT_ONCE, AT_ONCE),
 ];
 
-/// Returns paces by a number: that number of bytes in each call or in the first, and byte by byte after that number of
-/// calls, of reads and then of writes.
+/// Returns pairs of paces by a number. The first three are of reads: that number of bytes in each call; that number in
+/// the first call, and then all; and two bytes in each of that number of calls, and then byte by byte. The others are
+/// of writes: that number of bytes in each call; and one, seven or `len` bytes in each of that number of calls, and
+/// then byte by byte.
 fn paces_by(number: usize, len: usize) -> [(Pace, Pace); 7] {
     let steps = Pace::new(number, usize::MAX, Then::Fail);
     [
@@ -114,7 +116,7 @@ fn each_failing_stream(rt: HostRuntime) {
     each_failing_write(&rt, mixed::INPUT, mixed::REPORT);
 }
 
-/// The answer to the unfinished line after each number of bytes of the input, or nothing if there is none.
+/// The answer to the unfinished line after each number of bytes of the input, from 0 on, or nothing if there is none.
 const LAST: &[&[u8]] = &[
     b"",
     b"1 = 1 B\n",
@@ -172,6 +174,7 @@ fn failing_after_a_piece(rt: HostRuntime) {
 
 #[test]
 fn each_size_of_buffer_and_failed_allocation(rt: HostRuntime) {
+    // Up to a buffer that is longer than the input, which has 19 bytes.
     let mut buffer = [0u8; 32];
     for size in 1..=buffer.len() {
         let buffer = &mut buffer[..size];

@@ -12,8 +12,8 @@ fn expect(rt: &(impl Abort + AllocGlobal), bytes: &str, count: usize, end: &[u8]
     check(rt, &input, &paces, (Ok(()), report), bytes, count);
 }
 
-/// A byte, the number of its repetitions, what follows it, and the report. The first lines are longer than one chunk,
-/// than three and than four. The others end near the end of a chunk.
+/// A byte, the number of its repetitions, what follows it, and the report. The first lines are longer than one chunk of
+/// 65,536 bytes, than three and than four. The others end near the end of a chunk.
 const ROWS: &[(&str, usize, &[u8], &[u8])] = &rows! {
     ("0", 100_000, b"1", b"1 = 1 B\n"),
     ("0", 100_000, b"1.5 KiB\n2KB\n", b"1536 = 1.5 KiB\n2000 = 2 KB\n"),
@@ -56,13 +56,14 @@ fn many_lines(rt: HostRuntime) {
     for shift in 0..9 {
         expect(&rt, " ", shift, &lines, &report);
     }
+    // A thousand short lines, and a long one after them.
     let last = repeated(&rt, b"0", 10_000, b"1\n");
     let report = repeated(&rt, b"1000 = 1 KB\n", 1000, b"1 = 1 B\n");
     expect(&rt, "1KB\n", 1000, &last, &report);
 }
 
 /// The pace of writes of a report of 2,700,000 bytes, all given to one read; the result, and the number of bytes that
-/// are written. All are written in one call, and in several.
+/// are written. All are written in one call, and in three; in the last row the third accepts none.
 const BY_WRITES: &[(Pace, Result<(), RunError>, usize)] = &rows! {
     (Pace { step: usize::MAX, calls: 1, then: Then::Fail }, Ok(()), 2_700_000),
     (Pace { step: 1_000_000, calls: 3, then: Then::Fail }, Ok(()), 2_700_000),

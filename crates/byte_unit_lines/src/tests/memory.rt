@@ -1,4 +1,5 @@
-//! The number of allocations of the calls that format, and their effect if one fails.
+//! The number of allocations of the calls of `byte_unit` that format, and their effect if one fails. These tests are
+//! here since the allocator that counts is.
 use super::refusing::Refusing;
 use super::*;
 use byte_unit::{Bit, Byte, Expansion, FormatSpec, Unit, append_layout, append_plain};
@@ -21,7 +22,7 @@ enum Call {
     Layout,
 }
 
-/// Appends 1536 bytes, 8192 bits or the number ten, formatted.
+/// Appends 1536 bytes, 8192 bits or the number ten, formatted, as the rows of `CALLS` expect.
 fn append<A: Allocator>(call: Call, text: &mut String<A>) -> Result<(), AllocError> {
     let bytes = Byte::from_u64(1536);
     let bits = Bit::from_u64(8192);
@@ -138,7 +139,7 @@ const TYPES: &[(Type, &str, &str)] = &[
     (Type::AdjustedBit, "8.192 Kb", "8.192 Kb"),
 ];
 
-/// The first allocation fails, then the second succeeds, and there is no third.
+/// Asserts that each call makes one allocation: the first fails, then the second succeeds, and there is no third.
 fn expect_one(rt: &(impl Abort + AllocGlobal), of: Type, spec: FormatSpec, whole: &str) {
     let heap = Refusing::new(rt.alloc(), 1, 1);
     let failed = to_new_string(of, &heap, spec).is_err();

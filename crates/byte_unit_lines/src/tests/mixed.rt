@@ -1,4 +1,4 @@
-//! Lines with every kind of answer, and what several tests do with bytes.
+//! Lines with every kind of answer, and functions on lines and bytes that several tests share.
 use super::*;
 
 /// One line or more for each kind of answer, with both line ends; the last line has no line end.

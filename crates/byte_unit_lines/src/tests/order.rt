@@ -1,4 +1,4 @@
-//! The order of reads and writes.
+//! The order of reads and writes: answers are written before the next read, and nothing is read after a failure.
 use super::ended::{ran, ran_in};
 use super::refusing::Refusing;
 use super::*;

@@ -1,4 +1,5 @@
-//! Runs in which each allocation fails in turn.
+//! Runs in which each allocation fails in turn. The buffer of 80 bytes holds the whole input, so the pace alone makes
+//! reads shorter.
 use super::ended::{expect_failed_allocation, ran_in};
 use super::mixed::{INPUT, LINES, REPORT, first_lines};
 use super::refusing::Refusing;

@@ -1,4 +1,4 @@
-//! Tests of adjusted sizes: formatting by each spec, and their accessors.
+//! Tests of adjusted sizes: formatting by each spec, in a given unit and in the appropriate one, and their accessors.
 use super::asserting::assert_is;
 use super::shown::{
     AnySize, assert_displays, assert_row, assert_texts_in, bits_in, bytes_in, great_size_in,
@@ -8,7 +8,9 @@ use byte_unit::{Align, Bit, Byte, FormatSpec, Kind, Sign, Unit, UnitType};
 use std::alloc::Global;
 use std::process::Abort;
 
-/// The size in the kind of the test, the unit, the format and the text; so in the tables below.
+/// A size in bytes or in bits, as the test says, the unit, the spec, and the text; so in each table of
+/// `texts_in_given_units`. Here rounding carries through nines into the integer part; a plain spec keeps the zeros
+/// after the point, and an alternate one drops them.
 const DECIMALS_CARRIED_THROUGH_NINES: &[(u64, Unit, FormatSpec, &str)] = &[
     (9_996_000, Unit::MB, places!(2), "10.00 MB"),
     (9_996_000, Unit::MB, precise!(2), "10 MB"),
@@ -16,6 +18,7 @@ const DECIMALS_CARRIED_THROUGH_NINES: &[(u64, Unit, FormatSpec, &str)] = &[
     (999_999, Unit::MB, precise!(3), "1 MB"),
 ];
 
+/// Sizes halfway between two texts: a plain spec rounds to the even digit, an alternate one up.
 const TIES_TO_EVEN_AND_UP: &[(u64, Unit, FormatSpec, &str)] = &[
     (1005, Unit::KB, places!(2), "1.00 KB"),
     (1005, Unit::KB, precise!(2), "1.01 KB"),
@@ -27,6 +30,7 @@ const TIES_TO_EVEN_AND_UP: &[(u64, Unit, FormatSpec, &str)] = &[
     (1500, Unit::KB, precise!(0), "2 KB"),
 ];
 
+/// One byte in MiB, which has 20 decimals. An alternate spec rounds it to at most 16 places.
 const SMALL_SIZES: &[(u64, Unit, FormatSpec, &str)] = &rows! {
     (1, Unit::MiB, FormatSpec::PLAIN, "0.00000095367431640625 MiB"),
     (1, Unit::MiB, FormatSpec::ALTERNATE, "0.00000095367431640625 MiB"),
@@ -37,6 +41,7 @@ const SMALL_SIZES: &[(u64, Unit, FormatSpec, &str)] = &rows! {
     (1, Unit::MiB, precise!(20), "0.0000009536743164 MiB"),
 };
 
+/// Three bytes in bits, which have no prefix: a precision adds no zeros.
 const SIZES_IN_THEIR_OWN_UNIT: &[(u64, Unit, FormatSpec, &str)] = &[
     (3, Unit::Bit, places!(2), "24 b"),
     (3, Unit::Bit, precise!(2), "24 b"),
@@ -44,6 +49,7 @@ const SIZES_IN_THEIR_OWN_UNIT: &[(u64, Unit, FormatSpec, &str)] = &[
     (3, Unit::Bit, FormatSpec::ALTERNATE, "24 b"),
 ];
 
+/// One byte in GiB and in YiB: without a precision, all 30 and all 80 decimals.
 const WHOLE_EXPANSIONS_OF_BYTES: &[(u64, Unit, FormatSpec, &str)] = &rows! {
     (1, Unit::GiB, FormatSpec::PLAIN, "0.000000000931322574615478515625 GiB"),
     (1, Unit::GiB, FormatSpec::ALTERNATE, "0.000000000931322574615478515625 GiB"),
@@ -51,6 +57,7 @@ const WHOLE_EXPANSIONS_OF_BYTES: &[(u64, Unit, FormatSpec, &str)] = &rows! {
     (1, Unit::YiB, FormatSpec::ALTERNATE, ONE_BYTE_IN_YIB),
 };
 
+/// One bit in YiB and in RiB: all 83 decimals, and one place more than the 83 and the 93 decimals.
 const WHOLE_EXPANSIONS_OF_BITS: &[(u64, Unit, FormatSpec, &str)] = &[
     (1, Unit::YiB, FormatSpec::PLAIN, ONE_BIT_IN_YIB),
     (1, Unit::YiB, FormatSpec::ALTERNATE, ONE_BIT_IN_YIB),
@@ -74,6 +81,7 @@ const ONE_BIT_IN_84_PLACES: &str =
 const ONE_BIT_IN_94_PLACES: &str =
     "0.0000000000000000000000000001009741958682895110927012563561966373981704236939549446105957031250 RiB";
 
+/// Sizes with at most 14 decimals, without a precision: the alternate form is the same.
 const SHORT_EXPANSIONS_OF_BYTES: &[(u64, Unit, FormatSpec, &str)] = &rows! {
     (10_000, Unit::KB, FormatSpec::PLAIN, "10 KB"),
     (10_000, Unit::KiB, FormatSpec::PLAIN, "9.765625 KiB"),
@@ -88,11 +96,13 @@ const SHORT_EXPANSIONS_OF_BYTES: &[(u64, Unit, FormatSpec, &str)] = &rows! {
     (125_952, Unit::KB, FormatSpec::ALTERNATE, "125.952 KB"),
 };
 
+/// The first two sizes of `SHORT_EXPANSIONS_OF_BYTES`, in bits.
 const SHORT_EXPANSIONS_OF_BITS: &[(u64, Unit, FormatSpec, &str)] = &[
     (10_000, Unit::Kbit, FormatSpec::PLAIN, "10 Kb"),
     (10_000, Unit::Kibit, FormatSpec::PLAIN, "9.765625 Kib"),
 ];
 
+/// Two decimals of sizes that have more, or none.
 const EXPANSIONS_BY_PRECISION: &[(u64, Unit, FormatSpec, &str)] = &[
     (10_000, Unit::KiB, places!(2), "9.77 KiB"),
     (10_000, Unit::KB, places!(2), "10.00 KB"),
@@ -102,6 +112,7 @@ const EXPANSIONS_BY_PRECISION: &[(u64, Unit, FormatSpec, &str)] = &[
     (1_500_000, Unit::MiB, precise!(2), "1.43 MiB"),
 ];
 
+/// Two decimals of sizes in bits. In `B`, a unit without a prefix, a plain spec ignores the precision.
 const EXPANSIONS_IN_BITS_BY_PRECISION: &[(u64, Unit, FormatSpec, &str)] = &[
     (13, Unit::B, places!(2), "1.625 B"),
     (13, Unit::B, precise!(2), "1.63 B"),
@@ -112,7 +123,8 @@ const EXPANSIONS_IN_BITS_BY_PRECISION: &[(u64, Unit, FormatSpec, &str)] = &[
     (10_000, Unit::Kbit, precise!(2), "10 Kb"),
 ];
 
-/// At 28, 29 and 40 digits after the point, and at scaled sizes below and above 2^127.
+/// Around the limits up to which one division gives a number: 28 decimals, and a size in bits times 10^decimals below
+/// 2^127. Beyond them there are 29 and 40 decimals.
 const EXPANSIONS_BY_ONE_DIVISION_AND_MORE: &[(u64, Unit, FormatSpec, &str)] = &rows! {
     (4, Unit::GiB, FormatSpec::PLAIN, "0.0000000037252902984619140625 GiB"),
     (2, Unit::GiB, FormatSpec::PLAIN, "0.00000000186264514923095703125 GiB"),
@@ -128,10 +140,13 @@ const EXPANSIONS_BY_ONE_DIVISION_AND_MORE: &[(u64, Unit, FormatSpec, &str)] = &r
     (1, Unit::KB, places!(29), "0.00100000000000000000000000000 KB"),
 };
 
+/// Ten columns, aligned right. With `+`, the unit and the space before it take four columns.
 const WIDE: FormatSpec = spec!(false, Sign::Plus, Some(2), Some(10), Some(Align::Right));
 
+/// With `-` there is no space before a unit.
 const CLOSE: FormatSpec = spec!(false, Sign::Minus, None, None, None);
 
+/// A unit of three letters and one of two, with these specs.
 const LAYOUTS: &[(u64, Unit, FormatSpec, &str)] = &[
     (10_000, Unit::KiB, WIDE, "  9.77 KiB"),
     (10_000, Unit::KB, WIDE, " 10.00  KB"),
@@ -176,6 +191,8 @@ fn assert_texts_by(
     }
 }
 
+/// A size, the type of the unit, the spec, and the text; so in the next two tables. The unit is the largest of its type
+/// that is not above the size, or `B` if there is none.
 const BYTES_IN_APPROPRIATE_UNITS: &[(u64, UnitType, FormatSpec, &str)] = &rows! {
     (10_000, UnitType::Both, FormatSpec::PLAIN, "9.765625 KiB"),
     (1000, UnitType::Both, FormatSpec::PLAIN, "1 KB"),
@@ -187,12 +204,14 @@ const BYTES_IN_APPROPRIATE_UNITS: &[(u64, UnitType, FormatSpec, &str)] = &rows! 
     (1_500_000, UnitType::Binary, places!(2), "1.43 MiB"),
 };
 
+/// Sizes in bits: below and above the smallest unit with a prefix.
 const BITS_IN_APPROPRIATE_UNITS: &[(u64, UnitType, FormatSpec, &str)] = &[
     (1000, UnitType::Binary, FormatSpec::PLAIN, "1000 b"),
     (1030, UnitType::Decimal, FormatSpec::PLAIN, "1.03 Kb"),
     (7, UnitType::Both, FormatSpec::PLAIN, "7 b"),
 ];
 
+/// As `LAYOUTS`, in the appropriate unit.
 const LAYOUTS_IN_APPROPRIATE_UNITS: &[(u64, UnitType, FormatSpec, &str)] = &[
     (10_000, UnitType::Binary, WIDE, "  9.77 KiB"),
     (10_000, UnitType::Decimal, WIDE, " 10.00  KB"),
@@ -245,13 +264,14 @@ fn sizes_and_units() -> [(AnySize, Unit); 11] {
     ]
 }
 
-/// The size, its unit, and the expected result of `get_value`.
+/// The size, its unit, and the expected result of `get_value`: the size in bits, and the bits of the unit.
 const VALUES_OF_BYTES: &[(u64, Unit, (u128, u128))] = &[
     (1_555_000, Unit::MB, (12_440_000, 8_000_000)),
     (1024, Unit::KiB, (8192, 8192)),
     (3, Unit::Bit, (24, 1)),
 ];
 
+/// The same of sizes in bits.
 const VALUES_OF_BITS: &[(u64, Unit, (u128, u128))] = &[
     (1_555_000, Unit::Mbit, (1_555_000, 1_000_000)),
     (24, Unit::B, (24, 8)),

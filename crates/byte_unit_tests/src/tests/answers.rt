@@ -1,4 +1,5 @@
-//! Expected results of parsing, with the fields of each error.
+//! Expected results of parsing, with the fields of each error, and the assertions on them that the tests of parsing
+//! share. A row of their tables is a string and its result.
 
 ghost use Rattle.std.specs.Prelude.{◌≡◌, ◌<◌, length, slice_index};
 
@@ -77,10 +78,11 @@ pub fn assert_result(
     assert!(rt; is_wanted, "{text} is {read:?}");
 }
 
-/// The length of a buffer, more than that of most strings here.
+/// The length of a buffer, more than that of most strings here. A longer string is not parsed as a line.
 const BUFFER: usize = 96;
 
-/// Returns a buffer that begins with a line, after which there are digits.
+/// Returns a buffer that begins with a line, after which there are digits: a parser that read past the line would find
+/// another number.
 fn buffer_with(line: &[u8]) -> [u8; BUFFER]
     requires { length line.now < BUFFER }
     ensures { slice_index result (length line.now) ≡ 10 }

@@ -19,11 +19,11 @@ fn assert_joined(
     assert_bits(rt, text.as_str(), in_bits);
 }
 
-/// The number of repetitions in a long string.
+/// The number of repetitions in a long string: far more than the 63 characters of the longest number.
 const MANY: usize = 10_000;
 
 /// The text before the repetitions, the text that is repeated, and the text after them; then the results in bytes and
-/// in bits.
+/// in bits. Leading zeros and spaces may be of any number, other digits may not.
 const LONG_TEXTS: &[(&str, &str, &str, Expected, Expected)] = &rows! {
     ("", "0", "1", Expected::Size(1), Expected::Size(1)),
     ("", "1", "", Expected::NumberTooLong, Expected::NumberTooLong),
@@ -42,7 +42,8 @@ fn long_texts(rt: HostRuntime) {
     }
 }
 
-/// Characters that no size contains, each with its string.
+/// Characters that no size contains, each with its string: of two and of four bytes in UTF-8, a digit that is not
+/// ASCII, a letter, and a sign.
 const STRANGE: &[(char, &str)] = &[
     ('é', "é"),
     ('\u{1F600}', "\u{1F600}"),
@@ -104,6 +105,7 @@ fn assert_all_invalid_units(rt: &impl Abort, alloc: Global) {
 fn invalid_characters(rt: HostRuntime) {
     let alloc = rt.alloc();
     assert_all_invalid_digits(&rt, alloc);
+    // An integer, a decimal, a number with the most decimals, and one with a space before the unit.
     assert_all_invalid(&rt, alloc, "1");
     assert_all_invalid(&rt, alloc, "1.5");
     assert_all_invalid(&rt, alloc, "1.0000000000000000000000000001");
@@ -128,7 +130,7 @@ const EACH_PREFIX_OF_A_STRING: &[(&str, Expected)] = &[
     ("12.50 Kibits", Expected::Size(1600)),
 ];
 
-/// A string with each kind of white space at both ends.
+/// A size with the same white space at both ends: each of ASCII and of Latin-1, and three characters beyond.
 const WHITE_SPACE_AT_THE_ENDS: &[&str] = &[
     " 1KB ",
     "\t1KB\t",

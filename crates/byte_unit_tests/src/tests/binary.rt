@@ -1,10 +1,11 @@
-//! Tests of the binary reading: a decimal prefix means the binary one.
+//! Tests of the binary reading, in which a decimal prefix means the binary one, and of the binary unit of each unit.
 use super::answers::{Expected, TEN, assert_result};
 use super::asserting::assert_is;
 use byte_unit::{Bit, Byte, Unit};
 use std::process::Abort;
 
-/// Sizes as other programs write them: nginx, docker, PostgreSQL, `du -h`.
+/// Sizes in bytes that are the same with case ignored. The first are as other programs write them: nginx, docker,
+/// PostgreSQL, `du -h`. Binary prefixes and no prefix mean what they always mean.
 const BYTES_BY_1024: &[(&str, Expected)] = &rows! {
     ("10m", Expected::Size(10_485_760)),
     ("512m", Expected::Size(536_870_912)),
@@ -20,6 +21,7 @@ const BYTES_BY_1024: &[(&str, Expected)] = &rows! {
     (" 10m ", Expected::Size(10_485_760)),
 };
 
+/// Sizes in bytes with case respected: `b` means bits.
 const BYTES_BY_CASE: &[(&str, Expected)] = &rows! {
     ("1 kb", Expected::Size(128)),
     ("1 kbit", Expected::Size(128)),
@@ -28,6 +30,7 @@ const BYTES_BY_CASE: &[(&str, Expected)] = &rows! {
     ("1 kx", Expected::Unit('x', &['B', 'b'], true)),
 };
 
+/// The same strings with case ignored: `b` means bytes.
 const BYTES_IGNORING_CASE: &[(&str, Expected)] = &rows! {
     ("1 kb", Expected::Size(1024)),
     ("1 kbit", Expected::Size(128)),
@@ -36,6 +39,7 @@ const BYTES_IGNORING_CASE: &[(&str, Expected)] = &rows! {
     ("1 kx", Expected::Unit('x', &['B'], true)),
 };
 
+/// Sizes in bits: with `b`, with `B`, and without a suffix, which means bits.
 const BITS_BY_1024: &[(&str, Expected)] = &rows! {
     ("10m", Expected::Size(10_485_760)),
     ("1 kb", Expected::Size(1024)),
@@ -47,7 +51,8 @@ const BITS_BY_1024: &[(&str, Expected)] = &rows! {
     ("100", Expected::Size(100)),
 };
 
-/// The greatest size in units of the greatest prefix, and numbers whose size is less than 10^30 only by 1000.
+/// A string for bytes, the one for bits, and the result of both, in the largest unit: the largest whole number in
+/// range, the largest decimal in range and the next one, and numbers that are in range only if the prefix is decimal.
 const AT_THE_LIMIT: &[(&str, &str, Expected)] = &rows! {
     ("807 RB", "807 Rb", Expected::Size(999_017_611_703_301_881_843_593_248_768)),
     (
@@ -64,6 +69,7 @@ const AT_THE_LIMIT: &[(&str, &str, Expected)] = &rows! {
     ("999 R", "999 R", Expected::Exceeded(999, 0)),
 };
 
+/// Strings that are rejected with the same error as bytes and as bits: in the number, and in the unit.
 const ERRORS: &[(&str, Expected)] = &rows! {
     ("", Expected::NoValue),
     (" ", Expected::NoValue),
@@ -168,6 +174,7 @@ fn errors_of_the_binary_reading(rt: HostRuntime) {
         assert_bytes(&rt, text, false, *wanted);
         assert_bits(&rt, text, *wanted);
     }
+    // Bytes that are not UTF-8.
     assert_is(
         &rt,
         Byte::parse_bytes_binary(b"1 K\xFF", false).is_none(),

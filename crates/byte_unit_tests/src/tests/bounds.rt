@@ -1,4 +1,5 @@
-//! Tests of each call that rejects values out of range, negative numbers or division by zero.
+//! Tests of strings at the limits of sizes, those of v2 and of v1, and of arithmetic, which returns `None` if the
+//! result is out of range or the divisor is zero.
 use super::answers::{Expected, assert_all_bits, assert_all_bytes};
 use super::asserting::assert_are;
 use byte_unit::{Bit, Byte};
@@ -9,6 +10,8 @@ const MAX_SIZE: u128 = 999_999_999_999_999_999_999_999_999_999;
 /// The number of bytes in a ronnabyte, the limit of v1.
 const RONNA: u128 = 1_000_000_000_000_000_000_000_000_000;
 
+/// The maximum size in bytes, and sizes that exceed it: by the least fraction, by one, by the most, and by their unit.
+/// Leading zeros count for no limit.
 const BYTES_AT_THE_LIMIT: &[(&str, Expected)] = &rows! {
     ("999999999999999999999999999999", Expected::Size(MAX_SIZE)),
     ("999999999999999999999999999999.0000000000000000000000000001", Expected::Exceeded(MAX_SIZE, 1)),
@@ -21,6 +24,7 @@ const BYTES_AT_THE_LIMIT: &[(&str, Expected)] = &rows! {
     ("0001", Expected::Size(1)),
 };
 
+/// The largest number of `RB` in range, 10^30 - 8 bits; more, which is rounded up to 10^30; and sizes as in bytes.
 const BITS_AT_THE_LIMIT: &[(&str, Expected)] = &rows! {
     ("124.999999999999999999999999999 RB", Expected::Size(999_999_999_999_999_999_999_999_999_992)),
     ("124.9999999999999999999999999999 RB", Expected::Exceeded(124, 9_999_999_999_999_999_999_999_999_999)),
@@ -30,7 +34,8 @@ const BITS_AT_THE_LIMIT: &[(&str, Expected)] = &rows! {
     ("1000000000000000000000000000000", Expected::Exceeded(MAX_SIZE + 1, 0)),
 };
 
-/// Strings that v1 rejected at its limit, and v2 accepts.
+/// Strings at and beyond the limit of v1, of which v2 accepts all. 2^96 - 1 and 2^96 are at the limit of the 96 bits of
+/// the Rust crate's decimals.
 const BYTES_BEYOND_THE_LIMIT_OF_V1: &[(&str, Expected)] = &rows! {
     ("999999999999999999999999999", Expected::Size(RONNA - 1)),
     ("999999999999999999999999999.0000000000000000000000000001", Expected::Size(RONNA)),
@@ -40,6 +45,7 @@ const BYTES_BEYOND_THE_LIMIT_OF_V1: &[(&str, Expected)] = &rows! {
     ("1000 YB", Expected::Size(RONNA)),
 };
 
+/// The same in bits: the limit of v1 is 125 `YB`.
 const BITS_BEYOND_THE_LIMIT_OF_V1: &[(&str, Expected)] = &[
     ("124.999999999999999999999999 YB", Expected::Size(RONNA - 8)),
     ("124.9999999999999999999999999 YB", Expected::Size(RONNA)),
@@ -58,7 +64,8 @@ fn strings_at_the_limits(rt: HostRuntime) {
     assert_all_bits(&rt, BITS_BEYOND_THE_LIMIT_OF_V1);
 }
 
-/// Tests the arithmetic of a type of sizes, with its constant of 1.
+/// Tests the arithmetic of a type of sizes, with its constant of 1: the examples of the documentation, and results that
+/// are out of range. The last product, 2^65 times 2^63, exceeds 128 bits.
 macro_rules! arithmetic {
     ($rt:expr, $size:ident, $one:expr) => {
         let size = $size::from_u64(15_500);

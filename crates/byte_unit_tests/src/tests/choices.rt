@@ -1,9 +1,9 @@
-//! Tests of the choice of a unit from a unit set, and of its step count.
+//! Tests of the choice of a unit from a unit set, of its step count, and of the largest unit not above a size.
 use super::asserting::assert_is;
 use byte_unit::{Decimal, Family, Steps, Unit, UnitType, choose_unit, largest_unit};
 use std::process::Abort;
 
-/// The limit of sizes.
+/// The limit of sizes, below which the choice is defined.
 const LIMIT: u128 = 1_000_000_000_000_000_000_000_000_000_000;
 
 /// Returns the integer part and the fraction (scaled by 10^28) of the number, and the unit.
@@ -14,7 +14,7 @@ fn parts(choice: Option<(Decimal, Unit)>) -> Option<(u128, u128, Unit)> {
     }
 }
 
-/// Returns the unit that is chosen for a size, and the step count.
+/// Returns the unit that is chosen for a size, and the step count. Asserts the preconditions of the choice first.
 fn chosen(
     rt: &impl Abort,
     size: u128,
@@ -28,7 +28,8 @@ fn chosen(
     (parts(choice), steps.count())
 }
 
-/// The size, the units to choose from, the bits of a byte or bit (8 or 1), and the places.
+/// The size, the units to choose from, the bits of a byte or bit (8 or 1), and the places. The sizes are zero, below
+/// each unit of the set, or have more decimals than places in each.
 const SIZES_EXACT_IN_NO_UNIT: &[(u128, Family, u128, usize)] = &[
     (0, Family::All, 8, 28),
     (0, Family::Bits, 1, 0),
@@ -82,7 +83,8 @@ fn steps_of_two_choices(rt: HostRuntime) {
     assert_is(&rt, (once.count(), twice.count()), (11, 22));
 }
 
-/// The size, the units and their type, the bits of a byte or bit (8 or 1); then the largest unit.
+/// The size, the units and their type, the bits of a byte or bit (8 or 1); then the largest unit. The sizes are at a
+/// unit, between two, below all of them, and beyond every unit.
 const LARGEST_UNITS: &[(u128, Family, UnitType, u128, Option<Unit>)] = &rows! {
     (10_000, Family::Bytes, UnitType::Both, 8, Some(Unit::KiB)),
     (1000, Family::Bytes, UnitType::Both, 8, Some(Unit::KB)),

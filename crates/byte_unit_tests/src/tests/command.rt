@@ -1,4 +1,4 @@
-//! Runs of the command `byte-unit` with input and output in memory.
+//! Runs of the command `byte-unit` with input and output in memory: the options and the assertion that its tests share.
 use byte_unit_command::error::RunError;
 use byte_unit_command::options::{FieldRange, Form, Invalid, Kind, Options};
 use byte_unit_command::run::run;
@@ -9,7 +9,7 @@ use byte_unit_stream::{FusedReader, FusedWriter};
 use std::alloc::AllocError;
 use std::process::Abort;
 
-/// The first field.
+/// The first field, which a call without `--field` converts.
 const FIRST: &[FieldRange] = &[FieldRange {
     first: 1,
     last: Some(1),
@@ -37,7 +37,7 @@ pub const PLAIN: Options<'static> = Options {
     min: None,
 };
 
-/// The length of the longest output and of the longest messages, at most. They are allocated before a run.
+/// The capacity of the output and of the messages before a run. It is enough for most; those of a longer run grow.
 const LONGEST: usize = 256;
 
 /// What a run returns, the lines that it writes, and its messages.

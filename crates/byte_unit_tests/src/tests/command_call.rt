@@ -5,7 +5,6 @@ use byte_unit_command::error::RunError;
 use byte_unit_command::field_list::fields_of;
 use byte_unit_command::meaning::options_of;
 use byte_unit_command::operands::joined;
-use byte_unit_command::options::Options;
 use byte_unit_command::tally::Tally;
 use byte_unit_command::values::values_of;
 use byte_unit_command::wrong::{ValueError, Wrong};
@@ -13,7 +12,7 @@ use byte_unit_stream::paced::AT_ONCE;
 use clap::ArgMatches;
 use std::process::Abort;
 
-/// What is counted if a size is beyond a limit, with this sum.
+/// What a run returns in which a size is beyond a limit, with this sum.
 macro_rules! beyond {
     ($total:expr) => {
         Ok(Tally {
@@ -34,8 +33,9 @@ type Row = (
     &'static [u8],
 );
 
+/// Calls that succeed or end at a field, by what they test.
 const ROWS: &[Row] = &rows! {
-    // The kind holds for the form and the limits.
+    // The kind holds for the form and the limits. A limit can be the maximum size.
     (&["", "--bits", "--to=K"], b"1536 B\n", sum!(12_288), b"12.288 Kb\n", b""),
     (&["", "--to=K"], b"1536 B\n", sum!(1536), b"1.536 KB\n", b""),
     (&["", "--bits", "--max=1KB"], b"8000\n", sum!(8000), b"8 Kb\n", b""),
@@ -48,7 +48,7 @@ const ROWS: &[Row] = &rows! {
     (&["", "-i", "--to=kb"], b"8 kb\n", sum!(8000), b"8 KB\n", b""),
     (&["", "-i", "--max=8kb"], b"8001\n", beyond!(8001), b"8.001 KB\n",
         b"byte-unit: line 1: '8001': above the maximum\n"),
-    // The last of an option holds, and nothing as the delimiter is none.
+    // The last of an option holds, and a flag can be repeated.
     (&["", "--from=si", "--from=iec", "--to=plain"], b"1K\n", sum!(1024), b"1024\n", b""),
     (&["", "-H", "-H"], b"123456789\n", sum!(123_456_789), b"117.7 MiB\n", b""),
     // A suffix is taken off and put on, and the number of a unit can be alone.
@@ -56,9 +56,11 @@ const ROWS: &[Row] = &rows! {
     (&["", "--suffix=/s", "--padding=8", "--total"], b"1 K/s\n", sum!(1000), b"  1 KB/s\n  1 KB/s\n", b""),
     (&["", "--no-unit", "--to=MiB", "-p2", "--padding=6"], b"1536K\n", sum!(1_536_000), b"  1.46\n", b""),
     (&["", "--no-unit", "--to=plain"], b"2K\n", sum!(2000), b"2000\n", b""),
+    // An empty delimiter separates no fields. With a comma, there are several in a line.
     (&["", "-d", "", "--field=1"], b"1000\n", sum!(1000), b"1 KB\n", b""),
     (&["", "-d,", "--field", "-2"], b"1000,1024\n", sum!(2024), b"1 KB,1 KiB\n", b""),
-    // Operands: each is one record, they have no header, and their output has lines.
+    // Operands: each is one record, even with a line end inside, and none is a header record. The output has lines, or
+    // ends in zero bytes with `-z`.
     (&["", "1536", "2 KB"], b"", sum!(3536), b"1.5 KiB\n2 KB\n", b""),
     (&["", "-z", "1536", "2 KB"], b"", sum!(3536), b"1.5 KiB\x002 KB\x00", b""),
     (&["", "--header", "4096K"], b"", sum!(4_096_000), b"4.096 MB\n", b""),
@@ -70,7 +72,7 @@ const ROWS: &[Row] = &rows! {
 ('B', 'K', 'M', 'G', 'T', 'P', 'E', 'Z', 'Y' or 'R' or no character is expected) (character 2)
 byte-unit: line 2: 'x': the character 'x' is not a number (character 1)
 byte-unit: line 3: '': no value can be found\n"),
-    // Lists of fields, of which none is lost.
+    // Lists of fields: nine of ten, ranges (one begins at 2^64 - 1, the greatest number), and all fields.
     (&["", "-d,", "--field=1,2,3,4,5,6,7,8,9", "--to=plain"], b"1K,1K,1K,1K,1K,1K,1K,1K,1K,1K\n",
         sum!(9000), b"1000,1000,1000,1000,1000,1000,1000,1000,1000,1K\n", b""),
     (&["", "-d,", "--field=-1,3-4,18446744073709551615-", "--to=plain"],
@@ -79,6 +81,7 @@ byte-unit: line 3: '': no value can be found\n"),
     // The exact form has 28 digits after the point at most; other forms have as many as are asked for.
     (&["", "-p", "28", "1073741825"], b"", sum!(1_073_741_825), b"1.073741825 GB\n", b""),
     (&["", "-p30", "--to=GiB", "1073741825"], b"", sum!(1_073_741_825), b"1.000000000931322574615478515625 GiB\n", b""),
+    // Padding on either side, and the total after two header records.
     (&["", "-p", "0", "--padding", "-8", "--to=si", "1500"], b"", sum!(1500), b"2 KB    \n", b""),
     (&["", "--padding=8", "1500"], b"", sum!(1500), b"  1.5 KB\n", b""),
     (&["", "--header=2", "--total", "--to=plain"], b"a\nb\n1K\n", sum!(1000), b"a\nb\n1000\n1000\n", b""),
@@ -138,7 +141,8 @@ fn what_calls_do(rt: HostRuntime) {
     }
 }
 
-/// The words of a call, and its message.
+/// The words of a call, and its message: options with a wrong value, and options that do not go together. If several
+/// are wrong, as in the last call, the message is on the form.
 const WRONG: &[(&[&str], &str)] = &rows! {
     (&["", "--to=GiBB"],
         "--to: 'GiBB': not a form or a unit: the character 'B' is incorrect ('i' or no character is expected)"),
@@ -182,7 +186,8 @@ fn what_is_wrong_with_calls(rt: HostRuntime) {
     }
 }
 
-/// Lists of fields that are wrong.
+/// Lists of fields that are wrong: empty or with an empty part, with field 0, with a range that ends before it begins,
+/// with other characters, and with 2^64, which is out of range.
 const LISTS: [&str; 14] = [
     "",
     ",",

@@ -13,10 +13,11 @@ use byte_unit_stream::paced::{AT_ONCE, MemoryReader, MemoryWriter};
 use byte_unit_stream::{FusedReader, FusedWriter};
 use std::process::Abort;
 
-/// The length of a buffer that has capacity for the text of any size.
+/// The length of a buffer that has capacity for the text of any size: 65,535 digits after the point, and 65 bytes more,
+/// which are enough for the rest.
 const DIGITS: usize = 65_600;
 
-/// The capacity of the arena.
+/// The capacity of the arena: 64 MiB. The largest buffers here, for records of 512 KiB, take some 34 MB.
 const ARENA: usize = 1 << 26;
 
 /// The options of a call that copies rejected fields without a message.
@@ -116,11 +117,13 @@ type Row = (
     &'static [u8],
 );
 
-/// Records of at most 12 bytes, their output, and what is counted of them.
+/// Records of at most 12 bytes: sizes, rejected fields and empty ones, and no line end after the last.
 const MIXED: &[u8] = b"1000,x,2KB,,\n1KiB\nabc,5\n0,1B,y,\xff,";
 
+/// The output for them with the options `COLUMNS`.
 const CONVERTED: &[u8] = b"1 KB,x,2 KB,,\n1 KiB\nabc,5 B\n0 B,1 B,y,\xff,\n4.03 KB\n";
 
+/// What is counted of them.
 const COUNTED: Result<Tally, RunError> = Ok(Tally {
     total: 4030,
     beyond: false,
@@ -153,7 +156,7 @@ const LIMITS: &[Row] = &[
     // A longer record is converted if one read gives all of it.
     (PLAIN, (3, 5), b"1000\n", sum!(1000), b"1 KB\n"),
     (COLUMNS, (1 << 19, 4096), MIXED, COUNTED, CONVERTED),
-    // Messages are allocated. Without one, a rejected field ends the run as it does with memory.
+    // Messages are allocated, so the first ends the run. Without messages, rejected fields do not.
     (WARN, (4, 8), b"1KB\nx\n", Err(RunError::Memory), b"1 KB\n"),
     (IGNORE, (4, 8), b"1KB\nx\n", ONE_REJECTED, b"1 KB\nx\n"),
 ];
@@ -172,6 +175,8 @@ fn records_and_the_limit(rt: HostRuntime) {
 const BYTE_IN_YIB: &[u8] =
     b"0.00000000000000000000000082718061255302767487140869206996285356581211090087890625 YiB";
 
+/// A record of 1,000 fields whose texts are much longer than they are: 200 columns (197 spaces and `1 B`), or all
+/// decimals of a byte in YiB.
 #[test]
 fn many_long_texts(rt: HostRuntime) {
     let input = repeated(&rt, b"1,", 999, b"1\n");
@@ -216,10 +221,11 @@ fn wide_texts_of_long_reads(rt: HostRuntime) {
 }
 
 /// The capacity of buffers for records of at most 4 bytes and reads of at most 8: for a record and a read; and for 9
-/// texts, a record and a read with a byte after them.
+/// texts of 64 bytes, a record and a read with a byte after them.
 const START: usize = (4 + 8) + (64 * 9 + 4 + 8 + 1);
 
-/// The limit on records, the bytes that can be allocated, and whether the run starts.
+/// The limit on records, the bytes that can be allocated, and whether the run starts: with just enough bytes, with one
+/// fewer, with those of the first buffer alone, and with none. The last two limits need more than `usize::MAX` bytes.
 const STARTS: &[(usize, usize, bool)] = &[
     (4, START, true),
     (4, START - 1, false),
@@ -261,6 +267,7 @@ fn the_start(rt: HostRuntime) {
         } = streams;
         let left = reader.into_inner().rest.len();
         let found = (started.ok(), left, writer.into_inner().len());
+        // A run that starts reads all and writes `1 KB` and `2 KB`. Otherwise all 8 bytes of the input are left.
         let wanted = if *starts {
             (Some(sum!(3000)), 0, 10)
         } else {

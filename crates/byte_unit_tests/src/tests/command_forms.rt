@@ -4,7 +4,8 @@ use byte_unit_command::options::{Form, Options, Unit, UnitType};
 use byte_unit_command::tally::Tally;
 use byte_unit_stream::paced::AT_ONCE;
 
-/// Test vectors: a form, a precision, a size, its number of bytes, and its text.
+/// Test vectors: a form, a precision, a size, its number of bytes, and its text. Each form is without a precision and
+/// with one; in a given unit, ties go to the even digit.
 const ROWS: &[(Form, Option<u16>, &str, u128, &str)] = &rows! {
     (Form::Exact, None, "1536", 1536, "1.5 KiB\n"),
     (Form::Exact, None, "100MB", 100_000_000, "100 MB\n"),

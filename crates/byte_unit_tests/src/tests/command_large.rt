@@ -1,5 +1,5 @@
 //! Tests of the command `byte-unit` with many reads, long records, and long texts of the records of one read. A record
-//! of 17 MB is left to `tools/dev test command`.
+//! of 17 MB is left to `tools/dev test command`. Other tests of the command import `repeated`.
 use super::command::{PLAIN, assert_run};
 use byte_unit_command::error::RunError;
 use byte_unit_command::options::Options;
@@ -45,7 +45,7 @@ fn many_reads(rt: HostRuntime) {
 
 #[test]
 fn long_texts_of_one_read(rt: HostRuntime) {
-    // A read of 65,536 bytes has 21,845 records. Their texts have 2 MB.
+    // A read of 65,536 bytes has 21,845 records. Their texts of 100 columns, with line ends, have 2 MB.
     let input = repeated(&rt, b"12\n", 100_000, b"");
     let line = repeated(&rt, b" ", 96, b"12 B\n");
     let output = repeated(&rt, &line, 100_000, b"");
@@ -63,7 +63,8 @@ fn long_texts_of_one_read(rt: HostRuntime) {
     );
 }
 
-/// Lengths of the beginnings of records: shorter than a read of 65,536 bytes, longer than one, than two and than 30.
+/// Lengths of the beginnings of records. With the rest, a record is shorter than a read of 65,536 bytes, or longer than
+/// one, than two, than three and than 30.
 const LENGTHS: &[usize] = &[65_530, 65_536, 131_072, 200_000, 2_000_000];
 
 #[test]

@@ -17,6 +17,7 @@ fn failure(rt: &impl Abort, alloc: Global, outcome: Result<Option<Byte>, Error>)
     }
 }
 
+/// The message for a size with a wrong unit.
 const REJECTED: &str =
     "error: invalid value '20XB' for '--max-size <max-size>': the character 'X' is incorrect \
 ('B', 'K', 'M', 'G', 'T', 'P', 'E', 'Z', 'Y' or 'R' or no character is expected)
@@ -26,6 +27,7 @@ Usage: copy [OPTIONS]
 For more information, try '--help'.
 ";
 
+/// A size after a space and after `=`, no size, and the exit status: 2 for a wrong size or none, 0 for the help.
 #[test]
 fn sizes_of_an_option(rt: HostRuntime) {
     let alloc = rt.alloc();

@@ -19,7 +19,7 @@ const REJECTED: Tally = Tally {
 };
 
 /// A character, how often a field begins with it, and the rest of the field; and what a message quotes after those
-/// characters.
+/// characters. It quotes at most 80 bytes, none of a character that does not fit whole, and escapes control characters.
 const QUOTED: &[(&str, usize, &str, &str)] = &[
     ("a", 1, "", ""),
     ("a", 80, "", ""),
@@ -67,6 +67,7 @@ fn quoted_fields(rt: HostRuntime) {
     }
 }
 
+/// Header records and converted ones are counted, so a message has the number of the line.
 #[test]
 fn numbers_of_records(rt: HostRuntime) {
     let limited = Options {

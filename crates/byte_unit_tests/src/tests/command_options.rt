@@ -72,6 +72,7 @@ type Row = (
     &'static [u8],
 );
 
+/// Each option alone or with those that it needs; and input that is empty, rejected or beyond a limit.
 const ROWS: &[Row] = &rows! {
     ("no input", PLAIN, b"", sum!(0), b"", b""),
     ("fields", Options { form: Form::Plain, ..FIELDS }, b"1K,1K,1K,1K,1K,1K\n1K\n2K,,3K,\n",

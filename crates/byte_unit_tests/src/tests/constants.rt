@@ -1,4 +1,4 @@
-//! Tests of the constants of both types against literals.
+//! Tests of the constants of both types against literals, and of the calls of `laws` that return them.
 use super::asserting::assert_is;
 use byte_unit::{Bit, Byte, Unit, laws};
 use std::process::Abort;
@@ -37,6 +37,7 @@ fn constants_without_a_prefix(rt: HostRuntime) {
     );
 }
 
+/// A unit that has a constant and one that has none, and the minimum and maximum.
 #[test]
 fn constants_by_their_unit(rt: HostRuntime) {
     assert_is(&rt, laws::byte_constant(Unit::GiB), Some(Byte::GIBIBYTE));
@@ -47,6 +48,8 @@ fn constants_by_their_unit(rt: HostRuntime) {
     assert_is(&rt, laws::bit_bounds(), (Bit::MIN, Bit::MAX));
 }
 
+/// Each constant with a decimal prefix, and its number of bytes; so in the next three tables, by prefix and base unit.
+/// In the last four it is a number of bits.
 const DECIMAL_BYTES: [(Byte, u128); 9] = [
     (Byte::KILOBYTE, 1000),
     (Byte::MEGABYTE, 1_000_000),

@@ -1,4 +1,4 @@
-//! Tests of `Decimal`: its parts, order and text.
+//! Tests of `Decimal`: its parts, order, digits and text. Other tests import `parts_of`.
 use super::asserting::{assert_each, assert_for, assert_is};
 use super::shown::assert_display;
 use byte_unit::Decimal;
@@ -7,7 +7,8 @@ use std::cmp::Ordering;
 use std::hash::{DefaultHasher, Hash, Hasher};
 use std::process::Abort;
 
-/// The mantissa, the scale, and the parts of the decimal.
+/// The mantissa, the scale, and the parts of the decimal: the integer part, and the fraction scaled by 10^28. A scale
+/// above 28 is rejected, and so is an integer part of 2^112 or more, such as that of the last row.
 const DECIMALS_BY_MANTISSA_AND_SCALE: &[(u128, u32, Option<(u128, u128)>)] = &rows! {
     (5084, 2, Some((50, 8_400_000_000_000_000_000_000_000_000))),
     (1000, 2, Some((10, 0))),
@@ -32,7 +33,7 @@ pub fn parts_of(number: Decimal) -> (u128, u128) {
     (number.whole(), number.fraction())
 }
 
-/// The mantissa, the scale, and the text of the decimal.
+/// The mantissa, the scale, and the text of the decimal, which has no zeros at the end.
 const DECIMAL_TEXTS: &[(u128, u32, &str)] = &[
     (5084, 2, "50.84"),
     (1000, 2, "10"),
@@ -74,6 +75,7 @@ fn decimals_are_ordered_by_value(rt: HostRuntime) {
 
 #[test]
 fn decimals_from_integers(rt: HostRuntime) {
+    // A fraction of one (10^28 when scaled), and an integer part of 2^112, are just out of range.
     let one = 10_000_000_000_000_000_000_000_000_000;
     let wholes = 5_192_296_858_534_827_628_530_496_329_220_096;
     let greatest = Decimal::new(wholes - 1, one - 1).expect(&rt, "a decimal");
@@ -98,7 +100,8 @@ fn decimals_from_integers(rt: HostRuntime) {
     assert_is(&rt, whole, 18_446_744_073_709_551_615);
 }
 
-/// The mantissa, the scale, the digits after the decimal point as a number, and the number of these digits.
+/// The mantissa, the scale, the digits after the decimal point as a number, and the number of these digits. Zeros at
+/// their end do not count; those at their beginning do.
 const DIGITS_AFTER_THE_POINT: &[(u128, u32, u128, u32)] = &[
     (5084, 2, 84, 2),
     (50_084, 3, 84, 3),

@@ -61,6 +61,7 @@ fn sizes_in_a_unit(rt: HostRuntime) {
     assert_row(&rt, alloc, &appropriate, places!(2), "1.43 MiB");
 }
 
+/// The port's counterpart of writing a size to a `String`.
 #[test]
 fn append_a_size(rt: HostRuntime) {
     let mut text = String::from_str(rt.alloc(), "used: ").expect(&rt, "memory");

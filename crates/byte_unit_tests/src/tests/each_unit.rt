@@ -7,10 +7,11 @@ use byte_unit::{Kind, Unit};
 use std::alloc::Global;
 use std::process::Abort;
 
-/// A unit as literals: its bits, its name, whether it is a unit of bits, whether its prefix is binary, and the
-/// exponents of 2 and 5 in its bits.
+/// A unit as literals: its bits, its name, whether it is a unit of bits, whether its prefix is binary (as in the Rust
+/// crate, that of `B` is and that of `Bit` is not), and the exponents of 2 and 5 in its bits.
 type Properties = (Unit, u128, &'static str, bool, bool, (u32, u32));
 
+/// The units without a prefix, and those up to tera.
 const TO_TERA: &[Properties] = &[
     (Unit::Bit, 1, "b", true, false, (0, 0)),
     (Unit::B, 8, "B", false, true, (3, 0)),
@@ -32,6 +33,7 @@ const TO_TERA: &[Properties] = &[
     (Unit::TiB, 8_796_093_022_208, "TiB", false, true, (43, 0)),
 ];
 
+/// The units from peta on.
 const FROM_PETA: &[Properties] = &rows! {
     (Unit::Pbit, 1_000_000_000_000_000, "Pb", true, false, (15, 15)),
     (Unit::Pibit, 1_125_899_906_842_624, "Pib", true, true, (50, 0)),

@@ -1,4 +1,5 @@
-//! Tests of sizes, expansions and numbers at the limits of their types.
+//! Tests of sizes, expansions and numbers at the limits of their types, and the assertion on all texts of a size that
+//! `each_unit` imports.
 //!
 //! The contracts of the calls that create a text or a JSON string, and those of `Display`, define the result if the
 //! call returns `Ok`. Here no allocation fails, and each call must return `Ok`.
@@ -28,7 +29,8 @@ fn assert_all_ok_in(rt: &impl Abort, alloc: Global, kind: Kind, rows: &[(u128, U
     }
 }
 
-/// Sizes, each with its digits and its texts with a unit, as bytes and as bits.
+/// Sizes, each with its digits and its texts with a unit, as bytes and as bits: 0, 1, 2^64 - 1 and 2^64, the limit of
+/// v1 (10^27), and the maximum.
 const SIZES: &[(u128, &str, &str, &str)] = &rows! {
     (0, "0", "0 B", "0 b"),
     (1, "1", "1 B", "1 b"),
@@ -39,7 +41,8 @@ const SIZES: &[(u128, &str, &str, &str)] = &rows! {
         "999999999999999999999999999.999 KB", "999999999999999999999999999.999 Kb"),
 };
 
-/// A number of bytes, a unit, and the text in that unit.
+/// A number of bytes, a unit, and the text in that unit: the same sizes in the units without a prefix, in a small unit
+/// and in the largest one. The maximum in other units is in `greatest`.
 const BYTES_IN_UNITS: &[(u128, Unit, &str)] = &rows! {
     (0, Unit::Bit, "0 b"),
     (0, Unit::B, "0 B"),
@@ -66,7 +69,7 @@ const BYTES_IN_UNITS: &[(u128, Unit, &str)] = &rows! {
     (999_999_999_999_999_999_999_999_999_999, Unit::KB, "999999999999999999999999999.999 KB"),
 };
 
-/// A number of bits, a unit, and the text in that unit.
+/// A number of bits, a unit, and the text in that unit, chosen as in `BYTES_IN_UNITS`.
 const BITS_IN_UNITS: &[(u128, Unit, &str)] = &rows! {
     (0, Unit::B, "0 B"),
     (0, Unit::Bit, "0 b"),
@@ -107,7 +110,8 @@ fn sizes(rt: HostRuntime) {
     assert_all_ok_in(&rt, alloc, Kind::Bit, BITS_IN_UNITS);
 }
 
-/// A numerator, the exponents of 2 and 5 in the denominator, the number of decimals, a unit, and the text.
+/// A numerator, the exponents of 2 and 5 in the denominator, the number of decimals, a unit, and the text. The largest
+/// numerator is 8 * 10^30 - 1. The exponents are those of the bits of `RiB` (93) and of `Rbit` (27 each).
 const LAYOUTS: &[(u128, u32, u32, u32, Unit, &str)] = &rows! {
     (0, 0, 0, 0, Unit::B, "0 B"),
     (1, 0, 0, 0, Unit::Bit, "1 b"),

@@ -1,4 +1,4 @@
-//! Tests of the error messages.
+//! Tests of the error messages, and the assertions on them that other tests import.
 use super::answers::TEN;
 use super::flags::assert_printed_with_each_flag;
 use super::shown::assert_display;

@@ -1,10 +1,11 @@
-//! Tests of decimal expansions: their digits, exact and rounded.
+//! Tests of decimal expansions: their digits, exact and rounded, and their text.
 use super::asserting::assert_is;
 use super::shown::assert_display;
 use byte_unit::{Decimal, Expansion, Ties};
 use std::process::Abort;
 
-/// The mantissa, the scale, the integer part, the number of decimals, and the last digit.
+/// The mantissa, the scale, the integer part, the number of decimals, and the last digit: without decimals, with zeros
+/// at the end, with the most decimals, and with nines.
 const DIGITS_OF_DECIMALS: &[(u128, u32, u128, u32, u8)] = &[
     (0, 0, 0, 0, 0),
     (1000, 2, 10, 0, 0),
@@ -45,7 +46,8 @@ fn parts_of(e: &Expansion) -> Rounded {
 /// A rounded expansion: the integer part, the number of decimals, and the first two of them.
 type Rounded = (u128, u32, u8, u8);
 
-/// The mantissa, the scale, the precision, and the results with ties to even and with ties up.
+/// The mantissa, the scale, the precision, and the results with ties to even and with ties up: for ties, and for nines
+/// that are carried into the integer part.
 const ROUNDED_TO_EVEN_AND_UP: &[(u128, u32, u32, Rounded, Rounded)] = &[
     (9996, 3, 2, (10, 0, 0, 0), (10, 0, 0, 0)),
     (1005, 3, 2, (1, 0, 0, 0), (1, 2, 0, 1)),
@@ -74,6 +76,8 @@ fn decimals_and_rounding(rt: HostRuntime) {
     assert_rounded(&rt, ROUNDED_TO_EVEN_AND_UP);
 }
 
+/// One bit in YiB and in RiB, 1 / 2^83 and 1 / 2^93: the 59 digits of 5^83 after 24 zeros, and the 66 digits of 5^93
+/// after 27 zeros.
 #[test]
 fn one_in_yobibytes_and_robibytes(rt: HostRuntime) {
     let e = Expansion::new(1, 83, 0);
@@ -90,6 +94,7 @@ fn one_in_yobibytes_and_robibytes(rt: HostRuntime) {
 }
 
 /// A numerator, the exponents of 2 and 5 in the denominator, the integer part, the number of decimals, and the first.
+/// The last numerator is the maximum.
 const DENOMINATORS_OF_2_AND_5: &[(u128, u32, u32, u128, u32, u8)] = &rows! {
     (13, 3, 0, 1, 3, 6),
     (7, 1, 1, 0, 1, 7),
@@ -98,7 +103,7 @@ const DENOMINATORS_OF_2_AND_5: &[(u128, u32, u32, u128, u32, u8)] = &rows! {
     (7_999_999_999_999_999_999_999_999_999_999, 0, 0, 7_999_999_999_999_999_999_999_999_999_999, 0, 0),
 };
 
-/// A numerator, the exponents of 2 and 5 in the denominator, and the text.
+/// A numerator, the exponents of 2 and 5 in the denominator, and the text, which has no zeros at the end.
 const PRINTED: &[(u128, u32, u32, &str)] = &rows! {
     (13, 3, 0, "1.625"),
     (8, 3, 0, "1"),

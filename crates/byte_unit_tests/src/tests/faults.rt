@@ -1,6 +1,8 @@
 //! Tests of parse errors, with the fields of each.
 use super::answers::{Expected, TEN, assert_all_bits, assert_all_bytes, assert_always};
 
+/// Strings without a value, and those in which another character is where a digit has to be: at the beginning, and
+/// after the decimal point (the point itself, if nothing follows it).
 const NUMBER_ERRORS: &[(&str, Expected)] = &[
     ("", Expected::NoValue),
     ("   ", Expected::NoValue),
@@ -19,6 +21,7 @@ const NUMBER_ERRORS: &[(&str, Expected)] = &[
     ("\u{661}", Expected::NotNumber('\u{661}')),
 ];
 
+/// Numbers with 29 decimals, and with an integer part of 2^112, also before a unit that is wrong.
 const NUMBERS_TOO_LONG: &[(&str, Expected)] = &rows! {
     ("9.00000000000000000000000000001", Expected::NumberTooLong),
     ("1.00000000000000000000000000000", Expected::NumberTooLong),
@@ -26,6 +29,8 @@ const NUMBERS_TOO_LONG: &[(&str, Expected)] = &rows! {
     ("5192296858534827628530496329220096 x", Expected::NumberTooLong),
 };
 
+/// Characters after a number that begin no unit, such as U+212A (the Kelvin sign), which is no `K`. In the last three
+/// rows a unit has begun, and the expected characters do not depend on `ignore_case` either.
 const ERRORS_BEFORE_A_UNIT: &[(&str, Expected)] = &[
     ("1\tKB", Expected::Unit('\t', &TEN, true)),
     ("1\u{A0}KB", Expected::Unit('\u{A0}', &TEN, true)),
@@ -42,6 +47,8 @@ const ERRORS_BEFORE_A_UNIT: &[(&str, Expected)] = &[
     ("12.50 Kbi", Expected::Unit('i', &[], true)),
 ];
 
+/// With case respected, wrong characters after each part of a unit. U+1C, U+1F and U+200B are no white space, and U+17F
+/// (the long s) is no `s`.
 const ERRORS_WITHIN_A_UNIT: &[(&str, Expected)] = &[
     ("1Ké", Expected::Unit('é', &['B', 'b'], true)),
     ("1Kié", Expected::Unit('é', &['B', 'b'], true)),
@@ -56,6 +63,7 @@ const ERRORS_WITHIN_A_UNIT: &[(&str, Expected)] = &[
     ("1bit\u{17F}", Expected::Unit('\u{17F}', &['s'], true)),
 ];
 
+/// With case ignored, only `B` is expected after a prefix, since it has the same meaning as `b`.
 const ERRORS_IGNORING_CASE: &[(&str, Expected)] = &[
     ("1Ké", Expected::Unit('é', &['B'], true)),
     ("1Kié", Expected::Unit('é', &['B'], true)),
@@ -63,6 +71,8 @@ const ERRORS_IGNORING_CASE: &[(&str, Expected)] = &[
     ("1bié", Expected::Unit('é', &['t'], false)),
 ];
 
+/// Strings with two errors: the leftmost is returned. A number out of range, as in the fourth row, is an error only if
+/// its unit is right.
 const LEFTMOST_ERROR: &[(&str, Expected)] = &rows! {
     ("x x", Expected::NotNumber('x')),
     ("1.x KX", Expected::NotNumber('x')),
@@ -71,7 +81,7 @@ const LEFTMOST_ERROR: &[(&str, Expected)] = &rows! {
     ("9999999999999999999999999999 bi", Expected::Unit('i', &[], true)),
 };
 
-/// At each position where the parser switches from bytes to characters.
+/// At each position where the parser switches from bytes to characters; so in the next two tables.
 const NON_ASCII_CHARACTER_IN_A_NUMBER: &[(&str, Expected)] = &[
     ("1.é", Expected::NotNumber('é')),
     ("\u{80}1", Expected::NotNumber('\u{80}')),
@@ -79,6 +89,7 @@ const NON_ASCII_CHARACTER_IN_A_NUMBER: &[(&str, Expected)] = &[
     ("\u{1F600}", Expected::NotNumber('\u{1F600}')),
 ];
 
+/// U+7F is the last character of ASCII. The long numbers have 19 and 20 digits: 20 may exceed 64 bits.
 const NON_ASCII_CHARACTER_AFTER_A_NUMBER: &[(&str, Expected)] = &rows! {
     ("1\u{7F}", Expected::Unit('\u{7F}', &TEN, true)),
     ("1\u{80}", Expected::Unit('\u{80}', &TEN, true)),
@@ -90,6 +101,7 @@ const NON_ASCII_CHARACTER_AFTER_A_NUMBER: &[(&str, Expected)] = &rows! {
     ("1.12345678901234567891\u{80}", Expected::Unit('\u{80}', &TEN, true)),
 };
 
+/// With case respected, after each part of a unit.
 const NON_ASCII_CHARACTER_IN_A_UNIT: &[(&str, Expected)] = &[
     ("1K\u{80}", Expected::Unit('\u{80}', &['B', 'b'], true)),
     ("1Ki\u{80}", Expected::Unit('\u{80}', &['B', 'b'], true)),

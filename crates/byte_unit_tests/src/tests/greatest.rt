@@ -1,4 +1,4 @@
-//! Tests of the `Display` text of the minimum and maximum of each type, and of values with the most decimals.
+//! Tests of the `Display` text of decimals, expansions and sizes at their limits, and of those with the most decimals.
 use super::error_texts::assert_value_text;
 use super::shown::{
     AnySize, assert_display, assert_displays, bits, bytes, great_size, great_size_in,
@@ -13,7 +13,8 @@ const WHOLES: u128 = 5_192_296_858_534_827_628_530_496_329_220_095;
 /// The maximum fraction of a decimal, scaled by 10^28.
 const NINES: u128 = 9_999_999_999_999_999_999_999_999_999;
 
-/// The whole part, the fraction scaled by 10^28, and the text.
+/// The whole part, the fraction scaled by 10^28, and the text: the limits of both parts, and those of 64 bits and of
+/// sizes.
 const DECIMALS: &[(u128, u128, &str)] = &rows! {
     (WHOLES, NINES, "5192296858534827628530496329220095.9999999999999999999999999999"),
     (WHOLES, 0, "5192296858534827628530496329220095"),
@@ -29,7 +30,8 @@ const DECIMALS: &[(u128, u128, &str)] = &rows! {
     (18_446_744_073_709_551_616, 18_446_744_073_709_551_616, "18446744073709551616.0000000018446744073709551616"),
 };
 
-/// A numerator, the exponents of 2 and 5 in the denominator, and the text of the quotient.
+/// A numerator, the exponents of 2 and 5 in the denominator, and the text of the quotient. The largest numerator is `8
+/// * 10^30 - 1`. The exponents are those of the bits of `RiB` (93) and of `Rbit` (27 each).
 const EXPANSIONS: &[(u128, u32, u32, &str)] = &rows! {
     (0, 0, 0, "0"),
     (0, 93, 0, "0"),
@@ -71,6 +73,7 @@ const MAX_SIZE: u128 = 999_999_999_999_999_999_999_999_999_999;
 
 #[test]
 fn sizes(rt: HostRuntime) {
+    // 10^29 has as many digits as the maximum; 2^64 is the first size beyond 64 bits.
     let great = 100_000_000_000_000_000_000_000_000_000;
     let past = 18_446_744_073_709_551_616;
     assert_displays(
@@ -89,7 +92,8 @@ fn sizes(rt: HostRuntime) {
     );
 }
 
-/// The maximum size in units: the kind, the unit, and the text.
+/// The maximum size in units: the kind, the unit, and the text. The units are those without a prefix, the smallest of
+/// bits with one, and the largest.
 const MAXIMUM_SIZE_IN_UNITS: &[(Kind, Unit, &str)] = &rows! {
     (Kind::Byte, Unit::Bit, "7999999999999999999999999999992 b"),
     (Kind::Byte, Unit::B, "999999999999999999999999999999 B"),

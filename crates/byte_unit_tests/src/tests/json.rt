@@ -1,4 +1,5 @@
-//! Tests of sizes and units as JSON strings, and of JSON objects with them.
+//! Tests of sizes and units as JSON strings, of those with too many decimals to be parsed, and of JSON objects with
+//! them.
 use super::answers::Expected;
 use super::asserting::assert_is;
 use super::long_strings::{assert_rejected_by_each, assert_unit, assert_unit_stored};
@@ -36,6 +37,7 @@ fn sizes_and_units_round_trip(rt: HostRuntime) {
         &rt,
         rt.alloc(),
         &rows! {
+            // 28 decimals, the most that are parsed.
             (bytes_in(4, Unit::GiB), "0.0000000037252902984619140625 GiB"),
             (bytes_in(1, Unit::MiB), "0.00000095367431640625 MiB"),
             (bytes_in(1536, Unit::MB), "0.001536 MB"),
@@ -74,6 +76,7 @@ fn adjusted_sizes_with_too_many_decimals(rt: HostRuntime) {
     } {
         assert_too_long(&rt, rt.alloc(), &shown, wanted);
     }
+    // `0.`, the decimals, and a space with the unit.
     assert_is(&rt, ONE_BYTE_IN_RIB.len(), 2 + 90 + 4);
     assert_is(&rt, ONE_BIT_IN_RIB.len(), 2 + 93 + 4);
     // The maximum size of v1: three digits, the decimal point, 80 decimals, a space and the unit.

@@ -10,7 +10,7 @@ const NINES: u128 = 9_999_999_999_999_999_999_999_999_999;
 /// The number of bits in the largest unit.
 const ROBIBYTE: u128 = 9_903_520_314_283_042_199_192_993_792;
 
-/// The limit of sizes in bits.
+/// The limit of sizes in bytes, counted in bits: 8 * 10^30, the greatest limit there is.
 const BITS: u128 = 8_000_000_000_000_000_000_000_000_000_000;
 
 /// The integer part and the fraction of the decimal, the bits of the unit, the limit, and the size rounded up if it is
@@ -28,10 +28,14 @@ fn assert_least(rt: &impl Abort, rows: &[Least]) {
     }
 }
 
+/// The fraction 1/2, scaled by 10^28.
 const HALF: u128 = 5_000_000_000_000_000_000_000_000_000;
 
+/// The fraction 1/10, scaled by 10^28.
 const TENTH: u128 = 1_000_000_000_000_000_000_000_000_000;
 
+/// 9 + 10^-28 and zero, each with the least limit that is above the result and with one that is not; and 1.5 and 0.1 of
+/// a unit of 1024.
 const ROUNDED_UP_BELOW_THE_LIMIT: &[Least] = &[
     (9, 1, 1, 11, Some(10)),
     (9, 1, 1, 10, None),
@@ -57,12 +61,13 @@ fn assert_least_in_four_steps(rt: &impl Abort, rows: &[Least]) {
 /// The number of bits in a yobibyte.
 const YOBIBYTE: u128 = 9_671_406_556_917_033_397_649_408;
 
-/// The limit of sizes of the first version, in bits.
+/// The limit of sizes in bytes of the first version, counted in bits.
 const BITS_OF_THE_FIRST_VERSION: u128 = 8_000_000_000_000_000_000_000_000_000;
 
 /// The fraction 10^-7, scaled by 10^28.
 const TEN_MILLIONTH: u128 = 1_000_000_000_000_000_000_000;
 
+/// Products that are a whole number, just above one and just below one, the least fraction, and zero.
 const FOUR_STEPS_EACH: &[Least] = &rows! {
     (0, TEN_MILLIONTH, 10_000_000, 100, Some(1)),
     (0, TEN_MILLIONTH + 1, 10_000_000, 100, Some(2)),
@@ -72,7 +77,7 @@ const FOUR_STEPS_EACH: &[Least] = &rows! {
     (0, 0, YOBIBYTE, 2, Some(0)),
 };
 
-/// The last two exceed the limit, and 128 bits.
+/// The last two exceed the limit, and the last one 128 bits too.
 const IN_THE_LARGEST_UNIT: &[Least] = &rows! {
     (0, NINES, ROBIBYTE, BITS, Some(ROBIBYTE)),
     (0, 1, ROBIBYTE, BITS, Some(1)),
@@ -84,9 +89,10 @@ const IN_THE_LARGEST_UNIT: &[Least] = &rows! {
 /// The number of bytes in a yobibyte.
 const YOBI: u128 = 1_208_925_819_614_629_174_706_176;
 
-/// The limit of sizes of the first version, in bytes.
+/// The limit of sizes in bytes of the first version.
 const BYTES_OF_THE_FIRST_VERSION: u128 = 1_000_000_000_000_000_000_000_000_000;
 
+/// In the largest unit of the first version, with sizes in bytes.
 const IN_THE_LARGEST_UNIT_OF_BYTES: &[Least] = &[
     (0, NINES, YOBI, BYTES_OF_THE_FIRST_VERSION, Some(YOBI)),
     (0, 1, YOBI, BYTES_OF_THE_FIRST_VERSION, Some(1)),
@@ -101,7 +107,8 @@ fn rounded_up(rt: HostRuntime) {
     assert_least(&rt, IN_THE_LARGEST_UNIT_OF_BYTES);
 }
 
-/// The size, the unit, the precision, the integer part and the fraction of the quotient, and the step count.
+/// The size, the unit, the precision, the integer part and the fraction of the quotient, and the step count: one for
+/// each decimal that is tried.
 type Quotient = (u128, u128, u32, Option<(u128, u128)>, u64);
 
 /// Asserts each quotient and its step count.
@@ -116,6 +123,7 @@ fn assert_quotients(rt: &impl Abort, rows: &[Quotient]) {
     }
 }
 
+/// The largest power of 2 whose inverse has at most 28 decimals.
 const TWO_TO_28: u128 = 268_435_456;
 
 /// 1/8, as a whole part and a fraction scaled by 10^28.
@@ -124,6 +132,7 @@ const EIGHTH: (u128, u128) = (0, 1_250_000_000_000_000_000_000_000_000);
 /// 2^-28, in the same form.
 const POWER: (u128, u128) = (0, 37_252_902_984_619_140_625);
 
+/// Quotients that are exact within the precision, those that are not, and zero. A precision above 28 counts as 28.
 const QUOTIENTS_AND_STEP_COUNTS: &[Quotient] = &[
     (1, 8, 3, Some(EIGHTH), 3),
     (1, 8, 2, None, 2),
@@ -149,7 +158,7 @@ fn assert_powers(rt: &impl Abort, rows: &[(u128, (u32, u32), u64)]) {
     }
 }
 
-/// The size, the exponents of 2 and 5 in it, and the step count.
+/// The size, the exponents of 2 and 5 in it, and the step count: one for each factor 2 or 5, and two more.
 const POWERS_AND_STEP_COUNTS: &[(u128, (u32, u32), u64)] = &[
     (1, (0, 0), 2),
     (7, (0, 0), 2),
@@ -158,7 +167,8 @@ const POWERS_AND_STEP_COUNTS: &[(u128, (u32, u32), u64)] = &[
     (24, (3, 0), 5),
 ];
 
-/// 2^89, 2^99, 5^38, 5^42, 10^24, 27 nines and 30 nines.
+/// The same of 2^89, 2^99, 5^38 and 5^42, the largest powers in range in v1 and in v2, of 10^24, and of 27 nines and 30
+/// nines, their maximum sizes.
 const POWERS_OF_LARGE_SIZES_AND_STEP_COUNTS: &[(u128, (u32, u32), u64)] = &[
     (618_970_019_642_690_137_449_562_112, (89, 0), 91),
     (633_825_300_114_114_700_748_351_602_688, (99, 0), 101),

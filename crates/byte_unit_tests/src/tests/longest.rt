@@ -11,8 +11,10 @@ const LONGEST: usize = 37;
 /// The largest size below 10^30 with five decimals in `KiB`.
 const FIVE_PLACES: u128 = 999_999_999_999_999_999_999_999_999_968;
 
+/// With `+`, the unit and the space before it take four columns, which they take anyway here.
 const FIVE_AND_PLUS: FormatSpec = spec!(true, Sign::Plus, Some(5), None, None);
 
+/// A size, the spec, and the text; so in the next two tables. The precision is the number of decimals.
 const LONGEST_OF_BYTES: &[(u128, FormatSpec, &str)] = &rows! {
     (FIVE_PLACES, precise!(5), "976562499999999999999999999.96875 KiB"),
     (FIVE_PLACES, FIVE_AND_PLUS, "976562499999999999999999999.96875 KiB"),
@@ -25,6 +27,7 @@ const LONGEST_OF_BYTES: &[(u128, FormatSpec, &str)] = &rows! {
     (999_999_999_999_985_101_710_859_173_888, precise!(26), "827180.61255301535129547119140625 YiB"),
 };
 
+/// The same sizes in bits.
 const LONGEST_OF_BITS: &[(u128, FormatSpec, &str)] = &rows! {
     (FIVE_PLACES, precise!(5), "976562499999999999999999999.96875 Kib"),
     (FIVE_PLACES, FIVE_AND_PLUS, "976562499999999999999999999.96875 Kib"),
@@ -44,7 +47,8 @@ fn assert_longest(rt: &impl Abort, rows: &[(u128, FormatSpec, &str)]) {
     }
 }
 
-/// In the last unit 28 decimals are two fewer, and a plain text has at most 30 digits and a sign.
+/// In the last unit 28 decimals are two fewer, and a plain text has at most 30 digits and a sign. In bits these texts
+/// are as long.
 const ALMOST_LONGEST: &[(u128, FormatSpec, &str)] = &rows! {
     (999_999_999_999_534_741_748_122_124_288, precise!(28), "807.7935669459402561187744140625 RiB"),
     (999_999_999_999_999_999_999_999_999_999,
@@ -77,6 +81,7 @@ fn longest_text_in_37_and_36_bytes(rt: HostRuntime) {
         (len, out),
         (LONGEST, *b"976562499999999999999999999.96875 Kib"),
     );
+    // In a buffer that is too short nothing is written.
     let mut out = [7; LONGEST - 1];
     let len = bytes.write_text(precise!(5), &mut out);
     assert_is(&rt, (len, out), (LONGEST, [7; LONGEST - 1]));

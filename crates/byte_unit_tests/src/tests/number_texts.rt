@@ -13,7 +13,8 @@ fn assert_read(rt: &impl Abort, text: &str, flags: (bool, bool), wanted: (u128, 
     assert_is(rt, (text, found), (text, Some(wanted)));
 }
 
-/// The text, `ignore_case` and `prefer_byte`; then the whole part, the fraction scaled by 10^28, and the unit.
+/// The text, `ignore_case` and `prefer_byte`; then the whole part, the fraction scaled by 10^28, and the unit: each
+/// effect of the flags, numbers at the limits, spaces before a unit, and white space at both ends.
 const NUMBERS_AND_UNITS: &[(&str, bool, bool, u128, u128, Unit)] = &rows! {
     ("50.84 MB", true, true, 50, 8_400_000_000_000_000_000_000_000_000, Unit::MB),
     (" 1.5 KiB ", false, true, 1, 5_000_000_000_000_000_000_000_000_000, Unit::KiB),
@@ -37,7 +38,8 @@ const NUMBERS_AND_UNITS: &[(&str, bool, bool, u128, u128, Unit)] = &rows! {
     ("\u{2029}1KB\u{85}", false, true, 1, 0, Unit::KB),
 };
 
-/// The text; then the whole part, and the fraction scaled by 10^28.
+/// The text; then the whole part, and the fraction scaled by 10^28: integer parts of up to 19 digits, which fit 64
+/// bits, and of more; 34 digits and 35, of which zeros at the beginning do not count; and 14 decimals to 28.
 const NUMBERS_AT_THE_LIMITS: &[(&str, u128, u128)] = &rows! {
     ("9999999999999999999", 9_999_999_999_999_999_999u128, 0u128),
     ("10000000000000000000", 10_000_000_000_000_000_000, 0),
@@ -55,6 +57,7 @@ const NUMBERS_AT_THE_LIMITS: &[(&str, u128, u128)] = &rows! {
     (" 1", 1, 0),
 };
 
+/// Strings with the number 1, and their units: `bit`, `bits` and a binary prefix in either case.
 const SUFFIXES_IN_EITHER_CASE: &[(&str, Unit)] = &[
     ("1bit", Unit::Bit),
     ("1 bits", Unit::Bit),

@@ -1,4 +1,5 @@
-//! Tests of conversions between sizes and integers, by method and through trait bounds.
+//! Tests of conversions and comparisons between sizes and integers, by method and through trait bounds. Other tests
+//! import `convert`.
 use super::asserting::{assert_each, assert_for, assert_is};
 use byte_unit::{Bit, Byte, ExceededBoundsError, Kind, TryFromIntError};
 use std::cmp::Ordering;
@@ -72,7 +73,7 @@ const SIZES_IN_64_BITS: &[(u128, Option<(u64, Option<u64>)>)] = &[
 
 #[test]
 fn sizes_in_64_bits(rt: HostRuntime) {
-    // ZETTABIT in bytes, and the bits in ZETTABYTE.
+    // ZETTABIT in bytes, and the bits in ZETTABYTE: both exceed 64 bits.
     let constants = [
         (Byte::ZETTABIT.as_u128(), Some((u64::MAX, None))),
         (Bit::ZETTABYTE.as_u128(), Some((u64::MAX, None))),
@@ -135,6 +136,7 @@ pub fn convert<N, S: From<N>>(number: N) -> S {
     S::from(number)
 }
 
+/// Converts through the bound `TryFrom`.
 fn try_convert<N, S: TryFrom<N>>(number: N) -> Result<S, S::Error> {
     S::try_from(number)
 }
@@ -187,11 +189,13 @@ fn bits_from_integers(rt: HostRuntime) {
     from_integers!(&rt, Bit, Bit::RONNABIT);
 }
 
+/// Returns `true` if a conversion through the bound `TryFrom` fails, with std's error.
 fn rejects<N, S: TryFrom<N, Error = TryFromIntError> + Drop>(size: N) -> bool {
     S::try_from(size).is_err()
 }
 
-/// Tests the conversions of a type of sizes into integers, with its constant of 1024.
+/// Tests the conversions of a type of sizes into integers, with its constant of 1024. A `u64` is cut to its maximum;
+/// `usize` and the smaller types reject a size that exceeds theirs.
 macro_rules! into_integers {
     ($rt:expr, $size:ident, $kibi:expr) => {
         for (number, holds) in rows! {

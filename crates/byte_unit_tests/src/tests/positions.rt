@@ -2,7 +2,8 @@
 use super::asserting::assert_each;
 use byte_unit::{Bit, Byte, Unit};
 
-/// Strings, and the index of their first wrong character as a size: `None` if they are in the grammar.
+/// Strings, and the index of their first wrong character as a size: `None` if they are in the grammar. A number that is
+/// too long is wrong at the digit that makes it so.
 const OF_SIZES: &[(&str, Option<usize>)] = &rows! {
     ("", Some(0)),
     ("   ", Some(3)),

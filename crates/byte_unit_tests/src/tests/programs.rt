@@ -1,4 +1,5 @@
-//! Tests of sizes as other programs write them, and of the calls that read them: the table in docs/GUIDE.md.
+//! Tests of sizes as other programs write them, and of the calls that read them: the table in docs/GUIDE.md, and sizes
+//! that are read otherwise or not at all.
 use super::asserting::assert_for;
 use byte_unit::{Bit, Byte, Unit};
 use std::process::Abort;
@@ -43,6 +44,7 @@ fn read_by(call: &str, text: &str) -> Option<u128> {
         "Byte::parse_str" => Byte::parse_str(text, true).ok().map(Byte::as_u128),
         "Byte::parse_str_binary" => Byte::parse_str_binary(text, true).ok().map(Byte::as_u128),
         "Byte::from_u64_with_unit" => {
+            // The one program that is read by this call, `ps`, writes a number of KiB.
             let number = text.parse::<u64>().ok()?;
             Byte::from_u64_with_unit(number, Unit::KiB).map(Byte::as_u128)
         }

@@ -4,6 +4,9 @@ use byte_unit::{Bit, Byte, Kind, Unit, ValueParseError};
 use std::alloc::Global;
 use std::process::Abort;
 
+/// A character where a digit has to be, and the message. Printable characters, up to four bytes in UTF-8, are as they
+/// are; a single quote, a backslash, control characters, white space, and combining, format and unassigned characters
+/// are escaped as Rust escapes a `char`.
 const CHARACTERS_OF_A_NUMBER: &[(char, &str)] = &[
     ('x', "the character 'x' is not a number"),
     ('"', "the character '\"' is not a number"),
@@ -29,7 +32,8 @@ fn assert_not_number_messages(rt: &impl Abort, alloc: Global, rows: &[(char, &st
     }
 }
 
-/// The character, those expected, whether the end is expected too, and the message.
+/// The character, those expected, whether the end is expected too, and the message. The characters are those of
+/// `CHARACTERS_OF_A_NUMBER`, but for a tab in place of a carriage return.
 const CHARACTERS_OF_A_UNIT: &[(char, &[char], bool, &str)] = &rows! {
     ('x', &['B', 'b'], true, "the character 'x' is incorrect ('B' or 'b' or no character is expected)"),
     ('"', &['B', 'b'], true, "the character '\"' is incorrect ('B' or 'b' or no character is expected)"),
@@ -49,7 +53,8 @@ const CHARACTERS_OF_A_UNIT: &[(char, &[char], bool, &str)] = &rows! {
     ('\'', &['B', 'b'], true, "the character '\\'' is incorrect ('B' or 'b' or no character is expected)"),
 };
 
-/// The columns are as in `CHARACTERS_OF_A_UNIT`.
+/// The columns are as in `CHARACTERS_OF_A_UNIT`. The expected characters are escaped too; they are none, one, two and
+/// more. The parser expects no such characters, but a caller can create the error.
 const EXPECTED_CHARACTERS_IN_MESSAGES: &[(char, &[char], bool, &str)] = &rows! {
     ('x', &['\n', '\'', 'é'], false, "the character 'x' is incorrect ('\\n', '\\'' or 'é' is expected)"),
     ('\u{1F600}', &[], false, "the character '\u{1F600}' is incorrect (no character is expected)"),
@@ -69,6 +74,7 @@ fn assert_rejected(rt: &impl Abort, alloc: Global, kind: Kind, rows: &[(&str, &s
     }
 }
 
+/// A string and its message; so in the next tables. The wrong character is in each part of a number and of a unit.
 const ERRORS_OF_TEXTS: &[(&str, &str)] = &rows! {
     ("\u{1F600}", "the character '\u{1F600}' is not a number"),
     ("1.\u{1F600}", "the character '\u{1F600}' is not a number"),
@@ -77,7 +83,7 @@ const ERRORS_OF_TEXTS: &[(&str, &str)] = &rows! {
     ("1bits\u{1F600}", "the character '\u{1F600}' is incorrect (no character is expected)"),
 };
 
-/// The message for a size out of range contains its number.
+/// The message for a size out of range contains its number, without zeros at the end.
 const ERRORS_OF_BYTES_OUT_OF_RANGE: &[(&str, &str)] = &rows! {
     ("999999999999999999999999999999.0000000000000000000000000001",
         "the value 999999999999999999999999999999.0000000000000000000000000001 exceeds the valid range"),
@@ -88,6 +94,7 @@ const ERRORS_OF_BYTES_OUT_OF_RANGE: &[(&str, &str)] = &rows! {
     ("1000000 YB", "the value 1000000 exceeds the valid range"),
 };
 
+/// The same in bits.
 const ERRORS_OF_BITS_OUT_OF_RANGE: &[(&str, &str)] = &rows! {
     ("124.9999999999999999999999999999 RB", "the value 124.9999999999999999999999999999 exceeds the valid range"),
     ("125 RB", "the value 125 exceeds the valid range"),

@@ -2,8 +2,9 @@
 use super::answers::{Expected, assert_all_bits, assert_all_bytes};
 use super::asserting::{assert_are, assert_is};
 use byte_unit::{Bit, Byte, Decimal, Kind, Unit};
-use std::process::Abort;
 
+/// Sizes in bytes with case respected: in bits, which are rounded up to whole bytes, with a fraction, with small
+/// letters, and the maximum of v1.
 const BYTES_FROM_STRINGS: &[(&str, Expected)] = &rows! {
     ("0001", Expected::Size(1)),
     ("9 b", Expected::Size(2)),
@@ -16,6 +17,7 @@ const BYTES_FROM_STRINGS: &[(&str, Expected)] = &rows! {
     ("999999999999999999999999999", Expected::Size(999_999_999_999_999_999_999_999_999)),
 };
 
+/// Sizes in bytes with case ignored: `b` means bytes, `bits` still means bits.
 const BYTES_IGNORING_CASE: &[(&str, Expected)] = &[
     ("50.84 MB", Expected::Size(50_840_000)),
     ("9.0000000000000000000000000001", Expected::Size(10)),
@@ -25,6 +27,7 @@ const BYTES_IGNORING_CASE: &[(&str, Expected)] = &[
     ("1zb", Expected::Size(1_000_000_000_000_000_000_000)),
 ];
 
+/// White space of ASCII and beyond at both ends, of one character and of several.
 const WHITE_SPACE_AROUND_SIZES_IN_BYTES: &[(&str, Expected)] = &[
     ("\u{3000}1KB\u{a0}", Expected::Size(1000)),
     ("\u{b}\u{c}1KB\u{85}\u{2028}\u{2029}", Expected::Size(1000)),
@@ -32,11 +35,13 @@ const WHITE_SPACE_AROUND_SIZES_IN_BYTES: &[(&str, Expected)] = &[
     ("\u{3000}1 K\u{85}", Expected::Size(1000)),
 ];
 
+/// The same of sizes in bits.
 const WHITE_SPACE_AROUND_SIZES_IN_BITS: &[(&str, Expected)] = &[
     ("\u{2028}1KB\u{b}", Expected::Size(8000)),
     ("\u{b}\u{c}1Kb\u{85}\u{2028}\u{2029}", Expected::Size(1000)),
 ];
 
+/// Sizes in bits: with each suffix and none, with a fraction, and at the limit of v1.
 const BITS_FROM_STRINGS: &[(&str, Expected)] = &rows! {
     ("1KiB", Expected::Size(8192)),
     ("1K", Expected::Size(1000)),
@@ -87,7 +92,8 @@ const YOTTA: u128 = 1_000_000_000_000_000_000_000_000;
 /// The number of bytes in a ronnabyte.
 const RONNA: u128 = 1_000_000_000_000_000_000_000_000_000;
 
-/// The kind, the number and its unit; then the size, rounded up, if it is in range.
+/// The kind, the number and its unit; then the size, rounded up, if it is in range. Most large numbers come in pairs:
+/// the largest that is in range, of v2 or of v1, and the next one.
 const NUMBERS_OF_A_UNIT: &[(Kind, u128, Unit, Option<u128>)] = &rows! {
     (Kind::Byte, 17, Unit::Bit, Some(3)),
     (Kind::Byte, 8 * MAX_SIZE_OF_V1, Unit::Bit, Some(MAX_SIZE_OF_V1)),
@@ -121,7 +127,8 @@ fn decimal_with_unit(kind: Kind, number: Decimal, unit: Unit) -> Option<u128> {
     }
 }
 
-/// The kind, the number as a mantissa and a scale, the unit, and the size.
+/// The kind, the number as a mantissa and a scale, the unit, and the size: almost one of `YiB`, the least fraction of
+/// it, and 50.84, which are all rounded up.
 const DECIMALS_OF_A_UNIT: &[(Kind, u128, u32, Unit, u128)] = &rows! {
     (Kind::Byte, 9_999_999_999_999_999_999_999_999_999, 28, Unit::YiB, 1_208_925_819_614_629_174_706_176),
     (Kind::Byte, 1, 28, Unit::YiB, 1),
@@ -150,6 +157,7 @@ fn numbers_of_a_unit(rt: HostRuntime) {
 
 #[test]
 fn numbers_of_other_types_in_a_unit(rt: HostRuntime) {
+    // 50.84, which is rounded up to 51.
     let price = Decimal::from_u128_with_scale(5084, 2).expect(&rt, "a decimal");
     assert_are(
         &rt,

@@ -2,8 +2,9 @@
 //! allocation each: it returns `AllocError` if the allocation fails, and otherwise the expected result, whether or not
 //! an earlier allocation failed.
 //!
-//! These calls take no allocator, so a test by itself cannot make an allocation fail. `tools/dev test memory` runs
-//! these tests under `rt try --test --fail-alloc N`, which makes the Nth allocation of each test fail, for N = 1, 2, ..
+//! These calls take `Global` and no other allocator, so a test by itself cannot make an allocation fail. The command
+//! `tools/dev test memory` runs these tests under `rt try --test --fail-alloc N`, which makes the Nth allocation of
+//! each test fail, for N = 1, 2, ..
 use super::asserting::{assert_for, assert_is};
 use super::shown::{AnySize, bits, bits_in, bytes, bytes_in, read_like, stored, text_of};
 use byte_unit::{FormatSpec, Unit, unit_from_json, unit_to_json};

@@ -18,7 +18,8 @@ pub struct Settings {
     pub parts: Vec<Byte>,
 }
 
-/// Strings, the numbers of bytes as which they are read, and the strings as which those are written.
+/// Strings, the numbers of bytes as which they are read, and the strings as which those are written. A size with no
+/// exact binary unit is written as digits alone: with a decimal prefix it would be read as another size.
 const SIZES: &[(&str, u64, &str)] = &rows! {
     ("10m", 10_485_760, "10 MiB"),
     ("512m", 536_870_912, "512 MiB"),
@@ -82,6 +83,7 @@ pub struct Server {
     pub largest_heap: Option<Byte>,
 }
 
+/// Such settings as a TOML document, with a comment of PostgreSQL's.
 const SERVER: &str =
     "shared_buffers = '128MB'    # min 128kB\nclient_max_body_size = \"10m\"\nXmx = \"2g\"\n";
 
@@ -91,11 +93,13 @@ pub struct Compose {
     pub services: Services,
 }
 
+/// The services of a compose file: here one.
 #[derive(Drop, Deserialize)]
 pub struct Services {
     pub web: Service,
 }
 
+/// The limits of a service.
 #[derive(Drop, Deserialize)]
 pub struct Service {
     #[serde(with = "byte_unit_serde::byte_binary")]
@@ -104,6 +108,7 @@ pub struct Service {
     pub memswap_limit: Option<Byte>,
 }
 
+/// Such a file, with a member that is ignored.
 const COMPOSE: &str =
     "{\"services\":{\"web\":{\"image\":\"nginx\",\"mem_limit\":\"512m\",\"memswap_limit\":\"1gb\"}}}";
 
@@ -124,6 +129,7 @@ fn settings_of_other_programs(rt: HostRuntime) {
     assert_is(&rt, (web.mem_limit, web.memswap_limit), wanted);
 }
 
+/// An optional size that is absent or `null`, and an empty list.
 #[test]
 fn nothing_with_prefixes_by_1024(rt: HostRuntime) {
     let alloc = rt.alloc();

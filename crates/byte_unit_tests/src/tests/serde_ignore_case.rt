@@ -1,4 +1,5 @@
-//! Tests of sizes that `serde` reads with case ignored, from JSON and from TOML.
+//! Tests of sizes that `serde` reads with case ignored, from JSON and from TOML. `serde_binary` imports the trait and
+//! the assertions, which hold for settings of any such module.
 use super::asserting::assert_is;
 use super::error_texts::assert_error;
 use byte_unit::Byte;
@@ -66,7 +67,8 @@ fn assert_sizes<T: Sizes>(rt: &impl Abort, read: &T, number: u64) {
     assert_is(rt, read.parts(), [size, size].as_slice());
 }
 
-/// Asserts that settings are read in which each size is a string, and returns the settings from JSON and from TOML.
+/// Asserts that settings in which each size is this string are read as this number of bytes, and returns the settings
+/// from JSON and from TOML.
 pub fn assert_read<T: Sizes + DeserializeOwned>(
     rt: &impl Abort,
     alloc: Global,
@@ -83,7 +85,8 @@ pub fn assert_read<T: Sizes + DeserializeOwned>(
     (from_json, from_toml)
 }
 
-/// Asserts that settings are read in which each size is a string, and written with other strings.
+/// Asserts that settings in which each size is the string of the row are read as its number of bytes, and written with
+/// its other string.
 pub fn assert_read_and_written<T: Sizes + Serialize + DeserializeOwned + Drop>(
     rt: &impl Abort,
     alloc: Global,
@@ -106,6 +109,7 @@ fn case_is_ignored(rt: HostRuntime) {
     }
 }
 
+/// An optional size that is absent or `null`, and an empty list.
 #[test]
 fn nothing_with_case_ignored(rt: HostRuntime) {
     let alloc = rt.alloc();

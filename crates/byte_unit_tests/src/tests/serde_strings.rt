@@ -1,4 +1,5 @@
-//! Tests of sizes and units that are stored by `serde`, in JSON and in TOML, and of TOML values.
+//! Tests of sizes and units that are stored by `serde`, in JSON and in TOML, and of TOML values. `stored_limits`
+//! imports the structs and the assertions.
 use super::asserting::{assert_for, assert_is};
 use super::error_texts::assert_error;
 use byte_unit::{Bit, Byte, Unit};
@@ -8,7 +9,8 @@ use std::alloc::Global;
 use std::collections::BTreeMap;
 use std::process::Abort;
 
-/// A string that is rejected as a size, and the reason that both formats give.
+/// A JSON string that is rejected as a size, and the reason that both formats give: each reason once. It is a TOML
+/// string too.
 const REJECTED: &[(&str, &str)] = &[
     ("\"20 XB\"", "bad unit"),
     ("\"much\"", "not a number"),
@@ -17,7 +19,8 @@ const REJECTED: &[(&str, &str)] = &[
     ("\"1000 RB\"", "out of range"),
 ];
 
-/// Reads the value of `limit` from a TOML document.
+/// Reads the value of `limit` from a TOML document. If the document cannot be allocated, an empty one is read, which
+/// fails the test of the caller.
 pub fn toml_limit<T: DeserializeOwned>(
     alloc: Global,
     value: &str,

@@ -59,6 +59,7 @@ pub fn bits_in(size: u64, unit: Unit) -> AnySize {
     AnySize::AdjustedBit(Bit::from_u64(size).get_adjusted_unit(unit))
 }
 
+/// Returns the length of the text by `text_len`.
 fn len_of(shown: &AnySize, spec: FormatSpec) -> usize {
     match shown {
         AnySize::Byte(size) => size.text_len(spec),
@@ -88,6 +89,7 @@ fn text_in(shown: &AnySize, alloc: Global, spec: FormatSpec) -> Result<String, A
     }
 }
 
+/// Appends the text by `append_text`.
 fn append(shown: &AnySize, spec: FormatSpec, text: &mut String) -> Result<(), AllocError> {
     match shown {
         AnySize::Byte(size) => size.append_text(spec, text),
@@ -114,6 +116,7 @@ pub fn assert_same(rt: &impl Abort, text: &str, wanted: &str) {
 
 /// Asserts the length of the text that is written to a buffer, and the text if it fits.
 fn assert_written(rt: &impl Abort, shown: &AnySize, spec: FormatSpec, wanted: &str) {
+    // Longer than all texts but those that are padded, or have zeros, by the tests of `widest`.
     let mut out = [0; 128];
     let len = write(shown, spec, &mut out);
     let is_written = len > 128 || out.starts_with(wanted.as_bytes());
@@ -213,10 +216,12 @@ pub fn read_like(shown: &AnySize, value: &Value) -> Result<u128, JsonSizeError> 
     }
 }
 
+/// Returns the number of bytes of an adjusted size.
 fn bytes_of(adjusted: AdjustedByte) -> u128 {
     adjusted.get_byte().as_u128()
 }
 
+/// Returns the number of bits of an adjusted size.
 fn bits_of(adjusted: AdjustedBit) -> u128 {
     adjusted.get_bit().as_u128()
 }

@@ -25,6 +25,7 @@ fn values_that_are_not_strings(rt: HostRuntime) {
     }
 }
 
+/// A string with each error of parsing: the unit, no value, no digit, too many decimals, and out of range.
 #[test]
 fn strings_that_are_not_sizes(rt: HostRuntime) {
     for (text, wanted) in rows! {

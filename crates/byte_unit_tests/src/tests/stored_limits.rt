@@ -8,7 +8,8 @@ use serde::DeserializeOwned;
 use std::alloc::{AllocError, Global};
 use std::process::Abort;
 
-/// A number, and the strings of the size of that number of bytes and of bits.
+/// A number, and the strings of the size of that number of bytes and of bits: the minimum, the limit of 64 bits and the
+/// next number, and the maximum.
 const SIZES: &[(u128, &str, &str)] = &rows! {
     (0, "0 B", "0 b"),
     (18_446_744_073_709_551_615, "18446744073709551.615 KB", "18446744073709551.615 Kb"),
@@ -40,6 +41,7 @@ fn sizes_at_their_limits(rt: HostRuntime) {
         assert_sizes(&rt, &first, *number);
         assert_sizes(&rt, &second, *number);
     }
+    // 10^30, one more than the maximum.
     let most = "\"1000000000000000000000000000000\"";
     assert_reason::<Stored<Byte>>(&rt, alloc, most, "out of range");
     assert_reason::<Stored<Bit>>(&rt, alloc, most, "out of range");
@@ -63,6 +65,7 @@ fn assert_read<T: DeserializeOwned + PartialEq>(
 #[test]
 fn long_strings(rt: HostRuntime) {
     let alloc = rt.alloc();
+    // 45 spaces three times, or 28 decimals, the most that are read.
     let spaces = " ".repeat(alloc, 45).expect(&rt, "memory");
     let text = format!(in alloc; "{spaces}1.5{spaces}KiB{spaces}").expect(&rt, "memory");
     let zeros = "1.5000000000000000000000000000 KiB";
@@ -117,7 +120,8 @@ fn each_unit_by_name(rt: HostRuntime) {
     }
 }
 
-/// Returns the strings of the sizes from 0 to 1,000, each in a unit, with this text between them.
+/// Returns the strings of the sizes from 0 to 1,000, each in a unit, with this text between them. They are as `serde`
+/// writes them: the last is 1 with the prefix `K`.
 fn thousand_and_one(alloc: Global, unit: &str, between: &str) -> Result<String, AllocError> {
     let mut list = String::new(alloc);
     for number in 0..1000u64 {

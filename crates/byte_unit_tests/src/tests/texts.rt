@@ -1,4 +1,4 @@
-//! Tests of formatting sizes by each spec.
+//! Tests of formatting sizes by each spec, to a new string, appended to one and in a buffer, and of parsing the texts.
 use super::answers::{Expected, assert_bits, assert_bytes};
 use super::asserting::{assert_for, assert_is};
 use super::shown::{assert_same, assert_texts};
@@ -9,10 +9,14 @@ use byte_unit::{
 use std::alloc::{AllocError, Global};
 use std::process::Abort;
 
+/// The maximum size.
 const MAX_SIZE: u128 = 999_999_999_999_999_999_999_999_999_999;
 
+/// A plain spec with the sign `+`.
 const PLUS: FormatSpec = spec!(false, Sign::Plus, None, None, None);
 
+/// A size in bytes or in bits, as the test says, the spec, and the text; so in each table of `texts_of_bytes` and
+/// `texts_of_bits`. Here it is the maximum, in larger units as the precision grows, and small sizes.
 const MINIMUM_AND_MAXIMUM_SIZES: &[(u128, FormatSpec, &str)] = &rows! {
     (MAX_SIZE, FormatSpec::ALTERNATE, "999999999999999999999999999.999 KB"),
     (MAX_SIZE, precise!(9), "999999999999999999999.999999999 GB"),
@@ -34,7 +38,7 @@ const FORMS_BEYOND_64_BITS: &[(u128, FormatSpec, &str)] = &rows! {
 /// The maximum size of v1.
 const OLD: u128 = 999_999_999_999_999_999_999_999_999;
 
-/// As v1 formatted it.
+/// The maximum size of v1, as v1 formatted it.
 const MAXIMUM_SIZE_OF_V1: &[(u128, FormatSpec, &str)] = &rows! {
     (OLD, FormatSpec::PLAIN, "999999999999999999999999999"),
     (OLD, FormatSpec::ALTERNATE, "999999999999999999999999.999 KB"),
@@ -42,7 +46,8 @@ const MAXIMUM_SIZE_OF_V1: &[(u128, FormatSpec, &str)] = &rows! {
     (OLD, precise!(28), "999.999999999999999999999999 YB"),
 };
 
-/// 10^24 + 2^24, 2^89, 5^38, and 2^80 + 2^51, with precisions above 28, which count as 28.
+/// 10^24 + 2^24, 2^89, 5^38, and 2^80 + 2^51, whose unit depends on the factors 2 and 5. A precision above 28 counts as
+/// 28.
 const SIZES_OF_FEW_FACTORS: &[(u128, FormatSpec, &str)] = &rows! {
     (1_000_000_000_000_000_016_777_216, precise!(28), "1.000000000000000016777216 YB"),
     (1_000_000_000_000_000_016_777_216, precise!(10), "931322574615478.53125 GiB"),
@@ -52,6 +57,7 @@ const SIZES_OF_FEW_FACTORS: &[(u128, FormatSpec, &str)] = &rows! {
     (1_208_925_821_866_428_988_391_424, precise!(29), "1.208925821866428988391424 YB"),
 };
 
+/// Alternate specs with a width of ten or five columns and an alignment; that of `TEN_RIGHT` has the sign `+` too.
 const TEN: FormatSpec = spec!(true, Sign::Unset, None, Some(10), None);
 
 const TEN_CENTER: FormatSpec = spec!(true, Sign::Unset, None, Some(10), Some(Align::Center));
@@ -62,6 +68,7 @@ const TEN_RIGHT: FormatSpec = spec!(true, Sign::Plus, None, Some(10), Some(Align
 
 const FIVE_RIGHT: FormatSpec = spec!(true, Sign::Unset, None, Some(5), Some(Align::Right));
 
+/// Texts with a unit in a width: the spaces are before the unit, or on the left if the spec aligns right.
 const PADDED_BYTES: &[(u128, FormatSpec, &str)] = &[
     (10_240, TEN, "10     KiB"),
     (10_240, TEN_CENTER, "10     KiB"),
@@ -71,11 +78,13 @@ const PADDED_BYTES: &[(u128, FormatSpec, &str)] = &[
     (0, FIVE_RIGHT, "  0 B"),
 ];
 
+/// Texts in bits, aligned right.
 const PADDED_BITS: &[(u128, FormatSpec, &str)] = &[
     (10_240, TEN_RIGHT, "    10 Kib"),
     (10_000, TEN_RIGHT, "    10  Kb"),
 ];
 
+/// Plain specs with a width of eight or five columns and an alignment, or with a sign.
 const PLAIN_CENTER: FormatSpec = spec!(false, Sign::Unset, None, Some(8), Some(Align::Center));
 
 const PLAIN_PLUS: FormatSpec = spec!(false, Sign::Plus, None, Some(8), None);
@@ -86,6 +95,7 @@ const PLAIN_LEFT: FormatSpec = spec!(false, Sign::Unset, None, Some(5), Some(Ali
 
 const PLAIN_RIGHT: FormatSpec = spec!(false, Sign::Unset, None, Some(5), Some(Align::Right));
 
+/// Digits alone: each alignment, a sign, and a precision, which they ignore.
 const PLAIN_BYTES: &[(u128, FormatSpec, &str)] = &[
     (10_240, PLAIN_CENTER, " 10240  "),
     (10_240, PLAIN_PLUS, "  +10240"),
@@ -97,23 +107,27 @@ const PLAIN_BYTES: &[(u128, FormatSpec, &str)] = &[
     (3_211_776, FormatSpec::PLAIN, "3211776"),
 ];
 
+/// The last two sizes of `PLAIN_BYTES`, in bits.
 const PLAIN_BITS: &[(u128, FormatSpec, &str)] = &[
     (15_500, FormatSpec::PLAIN, "15500"),
     (3_211_776, FormatSpec::PLAIN, "3211776"),
 ];
 
+/// Alternate specs with a sign, and with a width of 0.
 const MINUS_WITH_UNIT: FormatSpec = spec!(true, Sign::Minus, None, None, None);
 
 const PLUS_WITH_UNIT: FormatSpec = spec!(true, Sign::Plus, None, None, None);
 
 const NO_WIDTH: FormatSpec = spec!(true, Sign::Unset, None, Some(0), None);
 
+/// With a unit, `-` puts no space before it, and `+` makes space and unit four columns. A width of 0 pads nothing.
 const SIZES_BY_SIGN: &[(u128, FormatSpec, &str)] = &[
     (10_000, MINUS_WITH_UNIT, "10KB"),
     (500, PLUS_WITH_UNIT, "500   B"),
     (10_000, NO_WIDTH, "10 KB"),
 ];
 
+/// Sizes in their own unit, which depends on the precision; it is 3 if unset.
 const BYTES_BY_PRECISION: &[(u128, FormatSpec, &str)] = &[
     (3_211_776, FormatSpec::ALTERNATE, "3136.5 KiB"),
     (3_211_776, precise!(6), "3.211776 MB"),
@@ -126,6 +140,7 @@ const BYTES_BY_PRECISION: &[(u128, FormatSpec, &str)] = &[
     (15_500, precise!(0), "15500 B"),
 ];
 
+/// One of these sizes, in bits.
 const BITS_BY_PRECISION: &[(u128, FormatSpec, &str)] = &[
     (3_211_776, FormatSpec::ALTERNATE, "3136.5 Kib"),
     (3_211_776, precise!(6), "3.211776 Mb"),
@@ -154,7 +169,7 @@ fn texts_of_bits(rt: HostRuntime) {
     assert_texts(&rt, alloc, Kind::Bit, BITS_BY_PRECISION);
 }
 
-/// Sizes that round-trip through their texts.
+/// Sizes that round-trip through their texts: their units have no prefix, a decimal one or a binary one.
 const SIZES: &[u64] = &[
     0,
     1,
@@ -233,10 +248,12 @@ fn assert_written(rt: &impl Abort, written: usize, len: usize, out: &[u8], front
     assert_for(rt, out.starts_with(front), "the bytes at the start");
 }
 
+/// An alternate spec that aligns right in nine columns.
 const NINE_RIGHT: FormatSpec = spec!(true, Sign::Unset, None, Some(9), Some(Align::Right));
 
 #[test]
 fn texts_in_buffers(rt: HostRuntime) {
+    // Each text is written over the one before, of which the rest stays; a text that does not fit is not written.
     let mut out = [b'~'; 12];
     let len = Byte::from_u64(1536).write_text(NINE_RIGHT, &mut out);
     assert_written(&rt, len, 9, &out, b"  1.5 KiB~~~");
@@ -270,6 +287,7 @@ fn assert_plain(rt: &impl Abort, alloc: Global, rows: &[(u128, &str)]) {
     }
 }
 
+/// A number and its digits: below and beyond 2^64, with zeros within, and the maximum of 128 bits.
 const DIGITS_BEYOND_64_BITS: &[(u128, &str)] = &rows! {
     (0, "0"),
     (1, "1"),

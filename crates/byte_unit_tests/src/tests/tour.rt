@@ -1,4 +1,5 @@
-//! Examples of parsing, calculating and formatting.
+//! Examples of parsing, calculating and formatting, as a program writes them: with `?`, and with an error type of its
+//! own.
 use super::asserting::{assert_for, assert_is};
 use byte_unit::{Bit, Byte, FormatSpec, ParseError, Unit, UnitType, ValueParseError};
 use std::alloc::AllocError;

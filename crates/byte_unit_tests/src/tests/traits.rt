@@ -11,22 +11,27 @@ use std::hash::Hash;
 use std::process::Abort;
 use std::str::FromStr;
 
+/// Returns the default, through the bound `Default`.
 fn first<S: Default>() -> S {
     S::default()
 }
 
+/// Returns the greater of two values, through the bound `Ord`.
 fn greater<S: Ord + Copy>(left: S, right: S) -> S {
     left.max(right)
 }
 
+/// Compares through the bound `PartialOrd`.
 fn partial_order<S: PartialOrd>(left: &S, right: &S) -> Option<Ordering> {
     left.partial_cmp(right)
 }
 
+/// Parses through the bound `FromStr`.
 fn parsed<S: FromStr>(text: &str) -> Result<S, S::Err> {
     S::from_str(text)
 }
 
+/// The default, the order and parsing of both types. `10 b` is two bytes, rounded up.
 #[test]
 fn sizes_by_their_bounds(rt: HostRuntime) {
     assert_are(
@@ -78,6 +83,7 @@ fn are_equal<S: Eq>(left: &S, right: &S) -> bool {
     left == right
 }
 
+/// Compares through the bound `Ord`.
 fn order<S: Ord>(left: &S, right: &S) -> Ordering {
     left.cmp(right)
 }

@@ -12,6 +12,7 @@ fn assert_result(rt: &impl Abort, text: &str, read: Result<Unit, UnitParseError>
     assert_is(rt, (text, read.ok()), (text, Some(wanted)));
 }
 
+/// Asserts the unit of a string, parsed with the flags `ignore_case` and `prefer_byte`.
 fn assert_unit(rt: &impl Abort, text: &str, flags: (bool, bool), wanted: Unit) {
     let read = Unit::parse_str(text, flags.0, flags.1);
     assert_result(rt, text, read, wanted);
@@ -28,7 +29,8 @@ fn assert_all_rejected(rt: &impl Abort, flags: (bool, bool), rows: &[(&str, Expe
     }
 }
 
-/// The text, `ignore_case` and `prefer_byte`; then the unit.
+/// The text, `ignore_case` and `prefer_byte`; then the unit, which depends on the flags: on the first if the suffix is
+/// `b`, on the second if there is none.
 const SPELLINGS_BY_THEIR_FLAGS: &[(&str, bool, bool, Unit)] = &[
     ("Kb", true, true, Unit::KB),
     ("Kb", false, true, Unit::Kbit),
@@ -51,6 +53,7 @@ const SPELLINGS_BY_THEIR_FLAGS: &[(&str, bool, bool, Unit)] = &[
     ("Mib", true, false, Unit::MiB),
 ];
 
+/// The text, and the unit with any flags: `B`, `bit` and `bits` in any case, and white space at both ends.
 const SPELLINGS_BY_ANY_FLAGS: &[(&str, Unit)] = &[
     ("B", Unit::B),
     ("Bit", Unit::Bit),
@@ -76,6 +79,8 @@ fn spellings(rt: HostRuntime) {
     }
 }
 
+/// Strings and their errors, which are the same with any flags. U+212A and U+17F would be `K` and `s` if case were
+/// folded.
 const UNIT_ERRORS: &[(&str, Expected)] = &[
     ("x", Expected::Unit('x', &TEN, true)),
     ("\u{212A}", Expected::Unit('\u{212A}', &TEN, true)),
@@ -89,17 +94,21 @@ const UNIT_ERRORS: &[(&str, Expected)] = &[
     ("GBI", Expected::Unit('i', &[], true)),
 ];
 
+/// The characters that are expected after a prefix depend on the flags; so in the next three tables. With case
+/// respected, both suffixes are.
 const ERRORS_WITHOUT_FLAGS: &[(&str, Expected)] = &[
     ("Kix", Expected::Unit('x', &['B', 'b'], true)),
     ("kx", Expected::Unit('x', &['B', 'b'], true)),
 ];
 
+/// The same characters are expected: bytes are preferred only if there is no suffix.
 const ERRORS_WITH_PREFER_BYTE: &[(&str, Expected)] = &[
     ("Kix", Expected::Unit('x', &['B', 'b'], true)),
     ("kx", Expected::Unit('x', &['B', 'b'], true)),
     ("K b", Expected::Unit(' ', &['B', 'b'], true)),
 ];
 
+/// With case ignored both suffixes mean the same, and the one that is preferred is expected.
 const ERRORS_WITH_IGNORE_CASE: &[(&str, Expected)] = &[
     ("Kix", Expected::Unit('x', &['b'], true)),
     ("kx", Expected::Unit('x', &['b'], true)),
@@ -121,6 +130,7 @@ fn unit_errors(rt: HostRuntime) {
     assert_all_rejected(&rt, (true, true), ERRORS_WITH_BOTH_FLAGS);
 }
 
+/// Strings and their units by `FromStr`, which respects case and prefers bytes.
 const UNITS_BY_FROM_STR: &[(&str, Unit)] = &[
     ("", Unit::B),
     ("K", Unit::KB),

@@ -30,7 +30,7 @@ const EXACT_UNITS: &[(Kind, u128, bool, u128, Unit)] = &rows! {
     (Kind::Bit, 0, true, 0, Unit::Bit),
     // With units of either kind, it is a whole number of the larger `Rbit`.
     (Kind::Byte, 125_000_000_000_000_000_000_000_000, true, 1, Unit::Rbit),
-    // As in v1.
+    // With units of bytes alone, it is so in `YB`, as in v1.
     (Kind::Byte, 125_000_000_000_000_000_000_000_000, false, 125, Unit::YB),
 };
 
@@ -84,6 +84,7 @@ fn assert_recoverable(rt: &impl Abort, rows: &[RecoverableUnit]) {
     }
 }
 
+/// Sizes in bytes, of which the unit depends on the precision and on whether units of bits are allowed.
 const RECOVERABLE_UNITS: &[RecoverableUnit] = &[
     (Kind::Byte, 50_840_000, false, 2, 5084, 2, Unit::MB),
     (Kind::Byte, 50_840_000, false, 0, 50_840, 0, Unit::KB),
@@ -121,6 +122,7 @@ const FIVES: u128 = 363_797_880_709_171_295_166_015_625;
 /// 5^42.
 const MORE_FIVES: u128 = 227_373_675_443_232_059_478_759_765_625;
 
+/// The maximum sizes, and sizes with few decimals in some unit only. A precision above 28 counts as 28.
 const RECOVERABLE_UNITS_OF_LARGE_SIZES: &[RecoverableUnit] = &rows! {
     (Kind::Byte, MAX_SIZE, true, 3, MAX_SIZE, 3, Unit::KB),
     (Kind::Byte, MAX_SIZE, true, 10, MAX_SIZE, 9, Unit::GB),
@@ -138,7 +140,8 @@ const RECOVERABLE_UNITS_OF_LARGE_SIZES: &[RecoverableUnit] = &rows! {
     (Kind::Byte, MORE_FIVES, false, 28, MORE_FIVES, 27, Unit::RB),
 };
 
-/// The kind, the size, whether units of the other kind are allowed, and the precision; then the step count.
+/// The kind, the size, whether units of the other kind are allowed, and the precision; then the step count. The sizes
+/// are the maximum ones, zero, and powers of 2 and 5, which have the most factors.
 const STEPS_OF_THE_CHOICE: &[(Kind, u128, bool, usize, u64)] = &[
     (Kind::Byte, MAX_SIZE, false, 28, 29),
     (Kind::Byte, MAX_SIZE, true, 28, 29),

@@ -1,4 +1,5 @@
-//! Tests of the functions of `byte_unit_uses`.
+//! Tests of the functions of `byte_unit_uses`, which are typical uses of the library. That on a command line is tested
+//! in `command_line`.
 use super::asserting::{assert_each, assert_for, assert_is};
 use super::error_texts::assert_error;
 use byte_unit::{
@@ -95,6 +96,7 @@ fn literals_and_quotas(rt: HostRuntime) {
 #[test]
 fn log_rotated_by_size(rt: HostRuntime) {
     let mut log = Log::new(Byte::from_u64(65_536));
+    // The bytes of an entry, what is written, and the size of the log afterwards, which is at most 65,536.
     for (entry, wanted, size) in rows! {
         (20_480, Written::Added, 20_480),
         (30_720, Written::Added, 51_200),
@@ -154,7 +156,7 @@ fn assert_formatted<E: Drop>(
     assert_is(rt, text.as_str(), wanted);
 }
 
-/// The name of each entry, and the string of its size.
+/// The name of each entry, and the string of its size: below the limit of the test, above it, and no size.
 const ENTRIES: &[(&str, &str)] = &[("logs", "1.5 KiB"), ("cache", "2 GB"), ("none", "2 X")];
 
 /// Returns the entries whose sizes are below a limit.

@@ -3,10 +3,10 @@ use super::shown::assert_same;
 use byte_unit::{Byte, Kind};
 use byte_unit_format::write_with_digits;
 use std::process::Abort;
-use std::rt::HostRuntime;
 use std::str;
 
-/// The size, and its text in bytes and in bits.
+/// The size, and its text in bytes and in bits: in units without a prefix, by 1000 and by 1024, with up to three
+/// decimals, at the limit of 64 bits, and the maximum.
 const ROWS: &[(u128, &str, &str)] = &rows! {
     (0, "0 = 0 B", "0 = 0 b"),
     (999, "999 = 999 B", "999 = 999 b"),
@@ -31,6 +31,7 @@ const ROWS: &[(u128, &str, &str)] = &rows! {
 fn assert_written(rt: &impl Abort, size: u128, in_bytes: &str, in_bits: &str) {
     let size = Byte::from_u128(size).expect(rt, "a size").as_u128();
     for (kind, wanted) in [(Kind::Byte, in_bytes), (Kind::Bit, in_bits)] {
+        // The call needs 70 bytes, whatever the size.
         let mut out = [b'.'; 70];
         let len = write_with_digits(size, kind, *b" = ", &mut out);
         assert_same(rt, str::from_utf8(&out[..len]).expect(rt, "ASCII"), wanted);

@@ -66,7 +66,8 @@ fn parsing(rt: HostRuntime) {
     assert_is(&rt, stored_bits(&Value::Null), (None, None));
 }
 
-/// Returns the exact unit, the recoverable unit with two decimals, and the appropriate unit of a size in bytes.
+/// Returns the exact unit and the recoverable unit with two decimals, both among units of bytes, and the appropriate
+/// unit of a size in bytes.
 fn units_of_bytes(size: Byte) -> ((u128, Unit), (Decimal, Unit), Unit) {
     let appropriate = size.get_appropriate_unit(UnitType::Both);
     (
@@ -76,7 +77,8 @@ fn units_of_bytes(size: Byte) -> ((u128, Unit), (Decimal, Unit), Unit) {
     )
 }
 
-/// Returns the exact unit, the recoverable unit with two decimals, and the appropriate unit of a size in bits.
+/// Returns the exact unit and the recoverable unit with two decimals, both among all units, and the appropriate unit of
+/// a size in bits.
 fn units_of_bits(size: Bit) -> ((u128, Unit), (Decimal, Unit), Unit) {
     let appropriate = size.get_appropriate_unit(UnitType::Both);
     (

@@ -60,7 +60,7 @@ fn a_failed_allocation_leaves_the_string(rt: HostRuntime) {
     expect(&rt, found, (true, 3, "1.5 KiB and more"), "succeeded again");
 }
 
-/// A capacity that is reserved, the number of allocations so far, and a name.
+/// A capacity that is reserved, the number of allocations so far, and a name: what the string has before.
 const RESERVED: &[(usize, u64, &str)] = &[
     (100, 1, "no capacity"),
     (100, 1, "enough capacity"),
