@@ -30,7 +30,6 @@ static Mean *state_of(FunctionCallInfo fcinfo)
 }
 
 PG_FUNCTION_INFO_V1(bytesize_avg_add);
-
 Datum bytesize_avg_add(PG_FUNCTION_ARGS)
 {
     Mean *mean = state_of(fcinfo);
@@ -41,7 +40,6 @@ Datum bytesize_avg_add(PG_FUNCTION_ARGS)
 }
 
 PG_FUNCTION_INFO_V1(bytesize_avg_combine);
-
 Datum bytesize_avg_combine(PG_FUNCTION_ARGS)
 {
     Mean *mean = state_of(fcinfo);
@@ -52,7 +50,6 @@ Datum bytesize_avg_combine(PG_FUNCTION_ARGS)
 }
 
 PG_FUNCTION_INFO_V1(bytesize_avg_serialize);
-
 Datum bytesize_avg_serialize(PG_FUNCTION_ARGS)
 {
     const Mean *mean = (const Mean *)PG_GETARG_POINTER(0);
@@ -67,7 +64,6 @@ Datum bytesize_avg_serialize(PG_FUNCTION_ARGS)
 }
 
 PG_FUNCTION_INFO_V1(bytesize_avg_deserialize);
-
 Datum bytesize_avg_deserialize(PG_FUNCTION_ARGS)
 {
     bytea *bytes = PG_GETARG_BYTEA_PP(0);
@@ -89,7 +85,6 @@ Datum bytesize_avg_deserialize(PG_FUNCTION_ARGS)
 /* Each size is less than 2^100, so the carry is less than the count, and each step of the long division by it has a
  * quotient of 64 bits. */
 PG_FUNCTION_INFO_V1(bytesize_avg);
-
 Datum bytesize_avg(PG_FUNCTION_ARGS)
 {
     const Mean *mean = PG_ARGISNULL(0) ? NULL : (const Mean *)PG_GETARG_POINTER(0);

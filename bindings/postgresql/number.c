@@ -6,7 +6,6 @@
 #include "utils/numeric.h"
 
 PG_FUNCTION_INFO_V1(bytesize_from_int8);
-
 Datum bytesize_from_int8(PG_FUNCTION_ARGS)
 {
     int64 n = PG_GETARG_INT64(0);
@@ -17,14 +16,12 @@ Datum bytesize_from_int8(PG_FUNCTION_ARGS)
 }
 
 PG_FUNCTION_INFO_V1(bytesize_from_int4);
-
 Datum bytesize_from_int4(PG_FUNCTION_ARGS)
 {
     return DirectFunctionCall1(bytesize_from_int8, Int64GetDatum(PG_GETARG_INT32(0)));
 }
 
 PG_FUNCTION_INFO_V1(bytesize_to_int8);
-
 Datum bytesize_to_int8(PG_FUNCTION_ARGS)
 {
     ByteSize size = argument(fcinfo, 0);
@@ -60,14 +57,12 @@ static Datum to_numeric(ByteSize size)
 }
 
 PG_FUNCTION_INFO_V1(bytesize_from_numeric);
-
 Datum bytesize_from_numeric(PG_FUNCTION_ARGS)
 {
     return from_numeric(PG_GETARG_DATUM(0));
 }
 
 PG_FUNCTION_INFO_V1(bytesize_to_numeric);
-
 Datum bytesize_to_numeric(PG_FUNCTION_ARGS)
 {
     return to_numeric(argument(fcinfo, 0));
@@ -76,7 +71,6 @@ Datum bytesize_to_numeric(PG_FUNCTION_ARGS)
 /* Also the transition and the combination of sum(bytesize), where the first argument is the state, changed in place:
  * sizes are not negative, so a sum is out of range in every order or in none. */
 PG_FUNCTION_INFO_V1(bytesize_add);
-
 Datum bytesize_add(PG_FUNCTION_ARGS)
 {
     uint128_value sum = value_of(argument(fcinfo, 0)) + value_of(argument(fcinfo, 1));
@@ -88,7 +82,6 @@ Datum bytesize_add(PG_FUNCTION_ARGS)
 }
 
 PG_FUNCTION_INFO_V1(bytesize_subtract);
-
 Datum bytesize_subtract(PG_FUNCTION_ARGS)
 {
     ByteSize a = argument(fcinfo, 0), b = argument(fcinfo, 1);
@@ -99,28 +92,24 @@ Datum bytesize_subtract(PG_FUNCTION_ARGS)
 }
 
 PG_FUNCTION_INFO_V1(bytesize_times_numeric);
-
 Datum bytesize_times_numeric(PG_FUNCTION_ARGS)
 {
     return from_numeric(DirectFunctionCall2(numeric_mul, to_numeric(argument(fcinfo, 0)), PG_GETARG_DATUM(1)));
 }
 
 PG_FUNCTION_INFO_V1(numeric_times_bytesize);
-
 Datum numeric_times_bytesize(PG_FUNCTION_ARGS)
 {
     return from_numeric(DirectFunctionCall2(numeric_mul, PG_GETARG_DATUM(0), to_numeric(argument(fcinfo, 1))));
 }
 
 PG_FUNCTION_INFO_V1(bytesize_by_numeric);
-
 Datum bytesize_by_numeric(PG_FUNCTION_ARGS)
 {
     return from_numeric(DirectFunctionCall2(numeric_div_trunc, to_numeric(argument(fcinfo, 0)), PG_GETARG_DATUM(1)));
 }
 
 PG_FUNCTION_INFO_V1(bytesize_by_bytesize);
-
 Datum bytesize_by_bytesize(PG_FUNCTION_ARGS)
 {
     return DirectFunctionCall2(numeric_div, to_numeric(argument(fcinfo, 0)), to_numeric(argument(fcinfo, 1)));

@@ -21,21 +21,18 @@ COMPARISON(bytesize_gt, >)
 COMPARISON(bytesize_ge, >=)
 
 PG_FUNCTION_INFO_V1(bytesize_cmp);
-
 Datum bytesize_cmp(PG_FUNCTION_ARGS)
 {
     PG_RETURN_INT32(compare(argument(fcinfo, 0), argument(fcinfo, 1)));
 }
 
 PG_FUNCTION_INFO_V1(bytesize_smaller);
-
 Datum bytesize_smaller(PG_FUNCTION_ARGS)
 {
     return PG_GETARG_DATUM(compare(argument(fcinfo, 0), argument(fcinfo, 1)) <= 0 ? 0 : 1);
 }
 
 PG_FUNCTION_INFO_V1(bytesize_larger);
-
 Datum bytesize_larger(PG_FUNCTION_ARGS)
 {
     return PG_GETARG_DATUM(compare(argument(fcinfo, 0), argument(fcinfo, 1)) >= 0 ? 0 : 1);
@@ -43,14 +40,12 @@ Datum bytesize_larger(PG_FUNCTION_ARGS)
 
 /* Hashes the 16 bytes of a size: equal sizes have the same. */
 PG_FUNCTION_INFO_V1(bytesize_hash);
-
 Datum bytesize_hash(PG_FUNCTION_ARGS)
 {
     return hash_any((const unsigned char *)PG_GETARG_POINTER(0), sizeof(ByteSize));
 }
 
 PG_FUNCTION_INFO_V1(bytesize_hash_extended);
-
 Datum bytesize_hash_extended(PG_FUNCTION_ARGS)
 {
     return hash_any_extended((const unsigned char *)PG_GETARG_POINTER(0), sizeof(ByteSize), PG_GETARG_INT64(1));
@@ -87,7 +82,6 @@ static bool never_abort(int count, SortSupport unused)
 
 /* Sorts by abbreviations, which need no pointer, and by the sizes themselves where two abbreviations are equal. */
 PG_FUNCTION_INFO_V1(bytesize_sortsupport);
-
 Datum bytesize_sortsupport(PG_FUNCTION_ARGS)
 {
     SortSupport sort = (SortSupport)PG_GETARG_POINTER(0);

@@ -106,14 +106,12 @@ static Datum parsed(Text text, uint32 flags, fmNodePtr soft)
 /* ---- Input and output. ---- */
 
 PG_FUNCTION_INFO_V1(bytesize_in);
-
 Datum bytesize_in(PG_FUNCTION_ARGS)
 {
     const char *text = PG_GETARG_CSTRING(0);
 
     return parsed(text_of(text, (int)strlen(text)), 0, fcinfo->context);
 }
-
 
 /* What to write: a size in `unit`; in the largest unit of `unit_type` not above it, if that is not NO_UNIT; or, if both
  * are, with the unit that states it exactly. */
@@ -166,7 +164,6 @@ char *bytesize_digits(ByteSize size)
 }
 
 PG_FUNCTION_INFO_V1(bytesize_out);
-
 Datum bytesize_out(PG_FUNCTION_ARGS)
 {
     Form form = form_of(argument(fcinfo, 0), true);
@@ -177,7 +174,6 @@ Datum bytesize_out(PG_FUNCTION_ARGS)
 
 /* The binary form: two integers of 64 bits, the high one first. */
 PG_FUNCTION_INFO_V1(bytesize_recv);
-
 Datum bytesize_recv(PG_FUNCTION_ARGS)
 {
     StringInfo message = (StringInfo)PG_GETARG_POINTER(0);
@@ -187,7 +183,6 @@ Datum bytesize_recv(PG_FUNCTION_ARGS)
 }
 
 PG_FUNCTION_INFO_V1(bytesize_send);
-
 Datum bytesize_send(PG_FUNCTION_ARGS)
 {
     ByteSize size = argument(fcinfo, 0);
@@ -246,7 +241,6 @@ static uint32 flags_argument(FunctionCallInfo fcinfo, int n, uint32 allowed)
 static const uint32 READING = BYTE_UNIT_IGNORE_CASE | BYTE_UNIT_BINARY_PREFIXES;
 
 PG_FUNCTION_INFO_V1(size_parse);
-
 Datum size_parse(PG_FUNCTION_ARGS)
 {
     uint32 flags = flags_argument(fcinfo, 1, READING);
@@ -257,7 +251,6 @@ Datum size_parse(PG_FUNCTION_ARGS)
 }
 
 PG_FUNCTION_INFO_V1(size_try);
-
 Datum size_try(PG_FUNCTION_ARGS)
 {
     uint32 flags = flags_argument(fcinfo, 1, READING);
@@ -273,7 +266,6 @@ Datum size_try(PG_FUNCTION_ARGS)
 }
 
 PG_FUNCTION_INFO_V1(size_explain);
-
 Datum size_explain(PG_FUNCTION_ARGS)
 {
     uint32 flags = flags_argument(fcinfo, 1, READING);
@@ -314,7 +306,6 @@ static void set_precision(FunctionCallInfo fcinfo, int n, Form *form)
 }
 
 PG_FUNCTION_INFO_V1(size_text);
-
 Datum size_text(PG_FUNCTION_ARGS)
 {
     Form form;
@@ -359,7 +350,6 @@ static Datum in_unit(FunctionCallInfo fcinfo, int precision_at, int flags_at)
 
 /* size_in(size, unit [, precision [, flags]]) */
 PG_FUNCTION_INFO_V1(size_in);
-
 Datum size_in(PG_FUNCTION_ARGS)
 {
     return in_unit(fcinfo, 2, 3);
@@ -367,7 +357,6 @@ Datum size_in(PG_FUNCTION_ARGS)
 
 /* size_in(size, unit, flags) */
 PG_FUNCTION_INFO_V1(size_in_with_flags);
-
 Datum size_in_with_flags(PG_FUNCTION_ARGS)
 {
     return in_unit(fcinfo, PG_NARGS(), 2); /* no argument is the precision */
@@ -392,7 +381,6 @@ static uint32 unit_type_argument(FunctionCallInfo fcinfo, int n)
 }
 
 PG_FUNCTION_INFO_V1(size_pretty);
-
 Datum size_pretty(PG_FUNCTION_ARGS)
 {
     uint32 unit_type = unit_type_argument(fcinfo, 1);

@@ -90,7 +90,6 @@ module _ (bytes : List ℕ) where
     pub whole_is : IsWholePart current (take end bytes) value
     whole_is = ((omega (arith, length-take-le end bytes len.within, some), len.digits), len.value_is, len.small)
 
-    -- these bytes are ASCII
     whole_ascii : IsAscii (take end bytes)
     whole_ascii = IsAscii-from_digits (take end bytes) len.digits
 
@@ -139,7 +138,6 @@ module _ (bytes : List ℕ) where
         whole_is = whole_is;
       }
 
-      -- these bytes are ASCII
       pub pointed_ascii : IsAscii (take (end + 1) bytes)
       pointed_ascii = subst IsAscii (sym pointed.text_is)
           (IsAscii-append (take end bytes) (point ∷ []) whole_ascii (IsAscii-cons point [] (omega arith) IsAscii-nil))
@@ -191,7 +189,6 @@ module _ (bytes : List ℕ) where
         text_is : take stop bytes ≡ take (end + 1) bytes ++ digits
         text_is = take-add (end + 1) places bytes
 
-        -- these bytes are ASCII
         ascii : IsAscii (take stop bytes)
         ascii = subst IsAscii (sym text_is)
             (IsAscii-append (take (end + 1) bytes) digits pointed_ascii (IsAscii-from_digits digits count.digits))

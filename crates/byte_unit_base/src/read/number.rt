@@ -75,7 +75,6 @@ pub fn leading_spaces(bytes: &[u8]) -> usize
     ensures all { IsFirst IsNoSpace (drop result bytes.now) }
 {
     let mut count = 0;
-    // The goals about the loop have their names from this label.
     'spaces: while count < bytes.len() && bytes[count] == b' ' {
         count += 1;
     }
@@ -177,7 +176,6 @@ fn long_value(digits: &[u8], last_bits: u64) -> u128
     ensures { result ≡ digits_value 10 digits.now }
 {
     let (front, _) = digits.split_at(digits.len() - SHORT_DIGITS);
-    // From the index 0, with no digits before them.
     let (_, high) = read_digits(front, 0, 0);
     let product = u128::from(high) * NINETEEN_DIGITS;
     // The value of the last 19 digits fits 64 bits, so it follows from these bits.
@@ -229,7 +227,6 @@ fn few_digits(line: &[u8], from: usize) -> (usize, u64)
 {
     let mut end = from;
     let mut value = 0u64;
-    // The goals about the loop have their names from this label.
     'digits: while end < line.len() {
         let digit = line[end].wrapping_sub(b'0');
         if digit > 9 {
