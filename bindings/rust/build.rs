@@ -1,4 +1,4 @@
-//! Finds the archive `libbyte_unit.a` and links it.
+//! Finds the archive `libbyte_unit.a`, or `libbyte_unit_c.a`, as `rt lib` names it by its crate, and links it.
 
 use std::env;
 use std::path::{Path, PathBuf};

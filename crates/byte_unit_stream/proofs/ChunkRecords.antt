@@ -86,7 +86,7 @@ module _ (end : ℕ) where
       → records_of end bytes ≡ ended_records end [] bytes ++ nonempty_record (begun_record end [] bytes)
   records_of-ended_records bytes = ap but_empty_last (split_by-ended_records bytes) ∙ but_empty_last-snoc _ _
 
-  -- `part` is the unfinished record after the bytes that were read
+  -- `part` is the unfinished record after the bytes that were read; a piece is the chunk that comes after them
   module _ (read : List ℕ) {part : List ℕ} (begun : part ≡ begun_record end [] read) where
     -- the finished records of what was read, then the records that end in the next piece, are the finished ones of both
     pub finished_records-piece : (piece : List ℕ)

@@ -84,7 +84,10 @@ fn a_failure_is_remembered(rt: HostRuntime) {
     // The reader inside has lost no byte: at another pace it goes on with the next one.
     let mut inner = reader.into_inner();
     inner.pace = BYTE_BY_BYTE;
-    assert_eq!(rt; inner.read(&mut buffer).ok(), Some(1));
+    assert_eq!(rt;
+        (inner.read(&mut buffer).ok(), buffer[0], inner.rest),
+        (Some(1), BYTES[1], &BYTES[2..])
+    );
 
     let mut writer = writer(&rt, Pace::new(usize::MAX, 1, Then::Fail));
     let first = (writer.write(b"12"), writer.failed());

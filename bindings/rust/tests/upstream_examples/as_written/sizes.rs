@@ -2,7 +2,8 @@
 
 use byte_unit::{Bit, Byte, Unit};
 
-/// The examples that the two types have in common, with the unit of 1000 and that of 1000000, and the letter in names.
+/// The examples that the two types have in common, with the names of the module and of the type, the unit of 1000 and
+/// that of 1000000, and the letter in names.
 macro_rules! examples {
     ($size:ident, $Size:ident, $thousand:expr, $million:expr, $letter:literal) => {
         mod $size {
