@@ -7,9 +7,10 @@ nothing that other commands of `rt` read. With --after-ci, as in the gate, uses 
 and does not see what has changed since. With --link proves nothing, and links what is in FOLDER: libbyte_unit.a, with
 byte_unit.h beside it.
 
-With --target, the crate byte_unit_c is proved again for another target, over the same libraries. For
-wasm64-unknown-unknown, FOLDER then has byte_unit.wasm alone, which bindings/js needs; for aarch64-unknown-linux-gnu the
-archive and the header, and the shared library if Debian's aarch64-linux-gnu-gcc is there.
+With --target, the crate byte_unit_c is proved for another target, over the same libraries: what differs, and what was
+not yet proved for a target (crates/byte_unit_c/out/targets keeps it). For wasm64-unknown-unknown, FOLDER then has
+byte_unit.wasm alone, which bindings/js needs; for aarch64-unknown-linux-gnu the archive and the header, and the shared
+library if Debian's aarch64-linux-gnu-gcc is there.
 
 `tools/dev make-dist` builds the command byte-unit by this module, too.
 """
@@ -90,8 +91,12 @@ def build(folder, after_ci=False):
 
 
 def words_after_ci(archive, *target):
-    """Returns the call that `rt lib` makes, with the libraries that `rt ci` built of its dependencies."""
-    return words_to_build("byte_unit_c", "src/lib.rt", archive, "--crate-type", "staticlib", *target)
+    """Returns the call that `rt lib` makes, with the libraries that `rt ci` built of its dependencies. What is proved is
+    kept, so that for another target only what differs is proved again."""
+    kept = Path(path("crates/byte_unit_c/out/targets"))
+    kept.mkdir(parents=True, exist_ok=True)
+    how = ["--crate-type", "staticlib", "--incremental", kept, *target]
+    return words_to_build("byte_unit_c", "src/lib.rt", archive, *how)
 
 
 def words_to_build(crate, root, out, *how):
