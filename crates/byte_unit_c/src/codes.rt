@@ -15,7 +15,7 @@ pub fn unit_at(code: u32) -> Option<Unit>
 }
 
 /// Returns the code of a unit.
-pub fn code_of(unit: Unit) -> u32
+pub fn unit_code(unit: Unit) -> u32
     ensures { unit_at result ≡ Some unit }
 {
     unit as u32

@@ -111,19 +111,19 @@ fn rest_of_message(expected: Expected) -> &'static [u8]
 }
 
 /// The beginning of a message that names a character.
-const BEGINNING: &[u8] = b"the character '";
+const MESSAGE_BEGINNING: &[u8] = b"the character '";
 
-/// Writes `BEGINNING`, a character of ASCII and the rest of a message to the start of `out` if they fit, and returns
-/// their length.
+/// Writes `MESSAGE_BEGINNING`, a character of ASCII and the rest of a message to the start of `out` if they fit, and
+/// returns their length.
 fn write_quoted(character: u8, rest: &[u8], out: &mut [u8]) -> usize
     ensures { WritesForm
         (λ form. form ≡ codes "the character '" ++ character ∷ rest.now) out.old out.new result }
 {
-    let len = BEGINNING.len() + 1 + rest.len();
+    let len = MESSAGE_BEGINNING.len() + 1 + rest.len();
     if len <= out.len() {
-        put(BEGINNING, out, 0);
-        put(&[character], out, BEGINNING.len());
-        put(rest, out, BEGINNING.len() + 1);
+        put(MESSAGE_BEGINNING, out, 0);
+        put(&[character], out, MESSAGE_BEGINNING.len());
+        put(rest, out, MESSAGE_BEGINNING.len() + 1);
     }
     len
 }

@@ -20,7 +20,7 @@ ghost use Rattle.byte_unit_base.specs.declared.kind.Kind.{Kind};
 ghost use Rattle.byte_unit_c.specs.Error.{invalid_argument, code_of, IsWrittenAt, IsErrorWritten, IsUnitStopWritten};
 ghost use Rattle.byte_unit_c.specs.Parse.{IsReturned, IsUnitBytesReading, IsUnitReturned, Parses};
 
-use crate::codes::code_of;
+use crate::codes::unit_code;
 use crate::error::{Error, INVALID_ARGUMENT, NOT_UTF8, OK, UNIT, bytes_of};
 use crate::flags::{ParseFlags, parse_flags_at};
 use crate::position;
@@ -278,7 +278,7 @@ fn parse_unit_as(text: &[u8], asked: ParseFlags, unit: &mut u32, errors: &mut [E
     let flags = unit_flags(asked);
     match read_unit(text, flags) {
         Some(Ok(found)) => {
-            *unit = code_of(found);
+            *unit = unit_code(found);
             OK
         }
         Some(Err(stopped)) => {

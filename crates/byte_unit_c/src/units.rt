@@ -13,7 +13,7 @@ ghost use Rattle.byte_unit_c.specs.Codes.{unit_at, types, CodesUnit};
 ghost use Rattle.byte_unit_c.specs.Flags.{kind_at, choice_flags_at};
 ghost use Rattle.byte_unit_c.specs.Values.{number_of, AreDecimalParts};
 
-use crate::codes::{code_of, type_at, unit_at};
+use crate::codes::{type_at, unit_at, unit_code};
 use crate::flags::{ChoiceFlags, choice_flags_at, kind_at};
 use crate::values::{DecimalParts, Number};
 use byte_unit_base::{Kind, Unit, size};
@@ -56,7 +56,7 @@ fn exact_unit_as(size: Number, asked: ChoiceFlags, count: &mut Number) -> u32
         Some(size) => {
             let (whole, unit) = exact_unit(size, asked.kind, asked.of_either);
             *count = Number::new(whole);
-            code_of(unit)
+            unit_code(unit)
         }
         None => NO_UNIT,
     }
@@ -115,7 +115,7 @@ fn recoverable_unit_as(
                 steps,
             );
             *count = DecimalParts::new(number);
-            code_of(unit)
+            unit_code(unit)
         }
         None => NO_UNIT,
     }
@@ -137,7 +137,7 @@ pub extern "C" fn byte_unit_appropriate_unit(size: Number, flags: u32, unit_type
         → result ≡ u32.MAX }
 {
     match (kind_at(flags), type_at(unit_type)) {
-        (Some(kind), Some(unit_type)) => code_of(appropriate_unit(size.get(), kind, unit_type)),
+        (Some(kind), Some(unit_type)) => unit_code(appropriate_unit(size.get(), kind, unit_type)),
         _ => NO_UNIT,
     }
 }

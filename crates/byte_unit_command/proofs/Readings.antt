@@ -8,7 +8,7 @@ use Rattle.byte_unit_base.specs.Accepted.{as_written}
 use Rattle.byte_unit_base.specs.BinaryReading.{binary_of}
 use Rattle.byte_unit_base.proofs.SizeOrFault.{accepted_or_refused}
 use Rattle.byte_unit_command.specs.Laws.{TextsAreSizesOrNot}
-use Rattle.byte_unit_command.specs.Field.{IsNoSizeText, ignores_case}
+use Rattle.byte_unit_command.specs.Field.{IsNoSizeBy, ignores_case}
 use Rattle.byte_unit_command.specs.declared.options.Options.{Options}
 use Rattle.byte_unit_command.specs.Prefixes.{IsAcceptedBy, IsRejectedBy, IsReadingBy, IsBytesReadingBy}
 
@@ -47,7 +47,7 @@ fault-of false kind ignore_case field error reading = reading.fault
 pub no-size-of : (options : Options) (field : List ℕ) (binary : Bool) (kind : Kind)
     {answer : Option (Result ℕ ParseError)} {found : Result ℕ ParseError} {error : ParseError}
     → options.binary ≡ binary → options.kind ≡ kind → answer ≡ Some found → found ≡ Err error
-    → IsBytesReadingBy binary kind (ignores_case kind options.ignore_case) field answer → IsNoSizeText options field
+    → IsBytesReadingBy binary kind (ignores_case kind options.ignore_case) field answer → IsNoSizeBy options field
 no-size-of options field binary kind {error} binary_is kind_is answer_is found_is reading =
     let case : Kind → Bool = λ kind. ignores_case kind options.ignore_case in
     let read = reading-of binary kind (case kind) field answer_is found_is reading in

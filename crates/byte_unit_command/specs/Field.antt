@@ -27,17 +27,17 @@ ignores_case Byte ignore_case = ignore_case
 ignores_case Bit ignore_case = false
 
 -- the text is a size
-abbrev pub IsSizeText : Options → List ℕ → ℕ → Type 0
-IsSizeText options text size =
+abbrev pub IsSizeBy : Options → List ℕ → ℕ → Type 0
+IsSizeBy options text size =
     IsUtf8 text × IsAcceptedBy options.binary options.kind (ignores_case options.kind options.ignore_case) text size
 
 -- the field is a size, without the suffix of the options if it ends with that
 abbrev pub IsSize : Options → List ℕ → ℕ → Type 0
-IsSize options field = IsSizeText options (without_suffix options.suffix.now field)
+IsSize options field = IsSizeBy options (without_suffix options.suffix.now field)
 
 -- the text is not a size: it is not UTF-8, or it is rejected
-abbrev pub IsNoSizeText : Options → List ℕ → Type 0
-IsNoSizeText options text =
+abbrev pub IsNoSizeBy : Options → List ℕ → Type 0
+IsNoSizeBy options text =
     ¬ IsUtf8 text
     ⊎ IsUtf8 text
     × ((fault : Fault)
@@ -45,7 +45,7 @@ IsNoSizeText options text =
 
 -- the field, without the suffix of the options, is not a size
 abbrev pub IsNoSize : Options → List ℕ → Type 0
-IsNoSize options field = IsNoSizeText options (without_suffix options.suffix.now field)
+IsNoSize options field = IsNoSizeBy options (without_suffix options.suffix.now field)
 
 -- what is found in a field that is to be converted: its size, or `None` if it is not a size
 abbrev pub Found : Type 0

@@ -1,7 +1,7 @@
 //! Reads one size of either kind.
 
 ghost use Rattle.std.specs.Prelude.{◌≡◌, ◌<◌, ◌≤◌, false, IfSome, IfNone};
-ghost use Rattle.byte_unit_command.specs.Field.{IsSize, IsNoSize, IsSizeText, IsNoSizeText, ignores_case};
+ghost use Rattle.byte_unit_command.specs.Field.{IsSize, IsNoSize, IsSizeBy, IsNoSizeBy, ignores_case};
 ghost use Rattle.byte_unit_command.specs.Field.{without_suffix};
 ghost use Rattle.byte_unit_command.specs.Prefixes.{IsBytesReadingBy};
 
@@ -50,8 +50,8 @@ pub(crate) fn without_suffix<'a>(suffix: &[u8], text: &'a [u8]) -> &'a [u8]
     }
 }
 
-/// Stands for no size, as each number of 2^127 or more does, so that the first bit tells: sizes are below 10^30. A
-/// number in registers takes fewer instructions than an `Option`.
+/// What is returned in place of a size if there is none. Each number of 2^127 or more says so, since sizes are below
+/// 10^30, so the first bit tells. A number in registers takes fewer instructions than an `Option`.
 const NO_SIZE: u128 = 1 << 127;
 
 /// Returns the size that a field represents, or `None` if it is not a size.
@@ -77,8 +77,8 @@ pub(crate) fn accepted(options: &Options, field: &[u8]) -> Option<u128>
 #[inline(never)]
 fn plain_size(options: &Options, text: &[u8]) -> u128
     requires { options.now.binary ≡ false }
-    ensures some { result < NO_SIZE → IsSizeText options.now text.now result }
-    ensures none { NO_SIZE ≤ result → IsNoSizeText options.now text.now }
+    ensures some { result < NO_SIZE → IsSizeBy options.now text.now result }
+    ensures none { NO_SIZE ≤ result → IsNoSizeBy options.now text.now }
 {
     match options.kind {
         Kind::Byte => match size::parse_bytes(text, options.ignore_case, Kind::Byte) {

@@ -11,7 +11,7 @@ use crate::tens::POWERS_OF_FIVE;
 use std::simd::prelude::*;
 
 /// The number of digits that one product gives: as many as `last_16_values` returns.
-const GROUP: u32 = 16;
+const DIGITS_AT_ONCE: u32 = 16;
 
 /// The length of an array of seven groups, from which 93 digits are copied: they begin within the first group, at the
 /// index 15 or before it, and so end at 108 or before it.
@@ -34,7 +34,7 @@ pub(crate) fn binary_digits(numerator: u128, places: u32) -> [u8; EXPANSION_PLAC
     let mut end: usize = 0;
     while left > 0 {
         // The first group may have fewer digits, with zeros before them.
-        let count = (left - 1) % GROUP + 1;
+        let count = (left - 1) % DIGITS_AT_ONCE + 1;
         left -= count;
         let product = rest * POWERS_OF_FIVE[count as usize];
         rest = product & ((1 << left) - 1);

@@ -49,7 +49,7 @@ VERSIONS = [
     ("bindings/rust/Cargo.toml", '\nversion = "5.2.6"\n'),
     ("bindings/rust/Cargo.toml", '\nlibrary-version = "{version}"\n'),
 ]
-# A name of code with its path, its arguments or a `!`; a path of files, in which `*` stands for anything; and a link.
+# A name of code with its path, its arguments or a `!`; a path of files, where `*` matches any characters; and a link.
 NAME = re.compile(r"[A-Za-z_]\w*(?:(?:::|\.)\w+)*(?:\(.*\))?!?")
 PATH = re.compile(r"\.{0,2}/?[\w.*\-]+(?:/[\w.*\-]+)+/?")
 LINK = re.compile(r"\]\(([^()\s]*)[^()]*\)|^\[[^\]]+\]: *(\S+)", re.M)

@@ -10,7 +10,7 @@ returns-in-Some-Ok c =
     let read = subst (IsUnitOrStop c.unit_flags-flags.result c.args.text.now) c.in-Some-Ok.field-0-is
     c.in-Some-Ok.ensures.1 in
     let reading = rw c.unit_flags-flags.ensures at read in
-    (Some (Ok c.in-Some-Ok.found), (c.in-Some-Ok.ensures.0, reading), (refl, c.code_of.ensures, refl))
+    (Some (Ok c.in-Some-Ok.found), (c.in-Some-Ok.ensures.0, reading), (refl, c.unit_code.ensures, refl))
 
 -- the string is rejected: the details of its error are written
 pub returns-in-Some-Err : goal.returns-in-Some-Err

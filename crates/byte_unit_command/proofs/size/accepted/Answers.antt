@@ -1,6 +1,6 @@
 -- Without a suffix, the text is the field.
 use Rattle.std.proofs.Common.{ℕ, List, length, refl, sym, subst, arith}
-use Rattle.byte_unit_command.specs.Field.{IsNoSizeText, without_suffix}
+use Rattle.byte_unit_command.specs.Field.{IsNoSizeBy, without_suffix}
 use Rattle.byte_unit_stream.proofs.ChunkRecords.{empty_from_length}
 use Rattle.byte_unit_command.proofs.size.accepted.Goals.{else-is_empty, then-is_empty+then-not-options}
 use Rattle.byte_unit_command.proofs.size.accepted.Goals as goal
@@ -13,7 +13,7 @@ returns-then-size-ge-NO_SIZE-clause-none c =
     elim c.if-is_empty.branch [
       | then-is_empty+then-not-options w ↦
           let none = empty_from_length suffix (length suffix) refl w.if-is_empty.ensures in
-          subst (λ (suffix : List ℕ). IsNoSizeText options (without_suffix suffix c.args.field.now)) (sym none)
+          subst (λ (suffix : List ℕ). IsNoSizeBy options (without_suffix suffix c.args.field.now)) (sym none)
           (w.plain_size-size.ensures.none (omega (arith, w.size-is, c.if-size-ge-NO_SIZE.true)))
       | else-is_empty w ↦ w.special_size-size.ensures.none (omega (arith, w.size-is, c.if-size-ge-NO_SIZE.true))
     ]
