@@ -153,21 +153,27 @@ const LAYOUTS: &[(u64, Unit, FormatSpec, &str)] = &[
     (10_000, Unit::KiB, CLOSE, "9.765625KiB"),
 ];
 
+/// Each of these tables, with the kind of its sizes: one constant, since a call for each costs the proof of a test more.
+const TABLES_IN_GIVEN_UNITS: &[(Kind, &[(u64, Unit, FormatSpec, &str)])] = &[
+    (Kind::Byte, DECIMALS_CARRIED_THROUGH_NINES),
+    (Kind::Byte, TIES_TO_EVEN_AND_UP),
+    (Kind::Byte, SMALL_SIZES),
+    (Kind::Byte, SIZES_IN_THEIR_OWN_UNIT),
+    (Kind::Byte, WHOLE_EXPANSIONS_OF_BYTES),
+    (Kind::Bit, WHOLE_EXPANSIONS_OF_BITS),
+    (Kind::Byte, SHORT_EXPANSIONS_OF_BYTES),
+    (Kind::Bit, SHORT_EXPANSIONS_OF_BITS),
+    (Kind::Byte, EXPANSIONS_BY_PRECISION),
+    (Kind::Bit, EXPANSIONS_IN_BITS_BY_PRECISION),
+    (Kind::Byte, EXPANSIONS_BY_ONE_DIVISION_AND_MORE),
+    (Kind::Byte, LAYOUTS),
+];
+
 #[test]
 fn texts_in_given_units(rt: HostRuntime) {
-    let alloc = rt.alloc();
-    assert_texts_in(&rt, alloc, Kind::Byte, DECIMALS_CARRIED_THROUGH_NINES);
-    assert_texts_in(&rt, alloc, Kind::Byte, TIES_TO_EVEN_AND_UP);
-    assert_texts_in(&rt, alloc, Kind::Byte, SMALL_SIZES);
-    assert_texts_in(&rt, alloc, Kind::Byte, SIZES_IN_THEIR_OWN_UNIT);
-    assert_texts_in(&rt, alloc, Kind::Byte, WHOLE_EXPANSIONS_OF_BYTES);
-    assert_texts_in(&rt, alloc, Kind::Bit, WHOLE_EXPANSIONS_OF_BITS);
-    assert_texts_in(&rt, alloc, Kind::Byte, SHORT_EXPANSIONS_OF_BYTES);
-    assert_texts_in(&rt, alloc, Kind::Bit, SHORT_EXPANSIONS_OF_BITS);
-    assert_texts_in(&rt, alloc, Kind::Byte, EXPANSIONS_BY_PRECISION);
-    assert_texts_in(&rt, alloc, Kind::Bit, EXPANSIONS_IN_BITS_BY_PRECISION);
-    assert_texts_in(&rt, alloc, Kind::Byte, EXPANSIONS_BY_ONE_DIVISION_AND_MORE);
-    assert_texts_in(&rt, alloc, Kind::Byte, LAYOUTS);
+    for (kind, rows) in TABLES_IN_GIVEN_UNITS {
+        assert_texts_in(&rt, rt.alloc(), *kind, rows);
+    }
 }
 
 /// Returns a size in its appropriate unit.

@@ -88,7 +88,11 @@ macro_rules! arithmetic {
 }
 
 #[test]
-fn arithmetic(rt: HostRuntime) {
+fn arithmetic_of_bytes(rt: HostRuntime) {
     arithmetic!(&rt, Byte, Byte::BYTE);
+}
+
+#[test]
+fn arithmetic_of_bits(rt: HostRuntime) {
     arithmetic!(&rt, Bit, Bit::BIT);
 }

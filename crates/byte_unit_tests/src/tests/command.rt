@@ -43,38 +43,56 @@ const LONGEST: usize = 256;
 /// What a run returns, the lines that it writes, and its messages.
 type Ended<'a> = (Result<Tally, RunError>, &'a [u8], &'a [u8]);
 
-/// Asserts what a run over an input in memory does, with reads and writes at these paces. The name and the number tell
-/// which of a table's rows it is.
-pub fn assert_run(
+/// Streams in memory: the input, the output, and the messages.
+pub type MemoryStreams<'a> = Streams<MemoryReader<'a>, MemoryWriter, Vec<u8>>;
+
+/// Returns streams over an input in memory, with reads and writes at these paces.
+pub fn streams_of<'a>(
     rt: &(impl Abort + AllocGlobal),
-    options: &Options,
-    input: &[u8],
+    input: &'a [u8],
     (reads, writes): (Pace, Pace),
-    wanted: Ended<'_>,
-    (name, number): (&str, usize),
-) {
-    let alloc = rt.alloc();
-    let mut streams = Streams {
+) -> MemoryStreams<'a> {
+    let taken = Vec::with_capacity(rt.alloc(), LONGEST).expect(rt, "memory");
+    let messages = Vec::with_capacity(rt.alloc(), LONGEST).expect(rt, "memory");
+    Streams {
         reader: FusedReader::new(MemoryReader {
             rest: input,
             pace: reads,
         }),
         word: "line",
         writer: FusedWriter::new(MemoryWriter {
-            taken: Vec::with_capacity(alloc, LONGEST).expect(rt, "memory"),
+            taken,
             pace: writes,
         }),
-        errors: FusedWriter::new(Vec::with_capacity(alloc, LONGEST).expect(rt, "memory")),
-    };
-    let result = run(alloc, options, &mut streams);
-    allocated(result).expect(rt, "memory");
+        errors: FusedWriter::new(messages),
+    }
+}
+
+/// Returns what was written, and the messages.
+pub fn output_of(streams: MemoryStreams<'_>) -> (Vec<u8>, Vec<u8>) {
     let Streams {
         reader: _reader,
         word: _,
         writer,
         errors,
     } = streams;
-    let (written, told) = (writer.into_inner().taken, errors.into_inner());
+    (writer.into_inner().taken, errors.into_inner())
+}
+
+/// Asserts what a run over an input in memory does, with reads and writes at these paces. The name and the number tell
+/// which of a table's rows it is.
+pub fn assert_run(
+    rt: &(impl Abort + AllocGlobal),
+    options: &Options,
+    input: &[u8],
+    paces: (Pace, Pace),
+    wanted: Ended<'_>,
+    (name, number): (&str, usize),
+) {
+    let mut streams = streams_of(rt, input, paces);
+    let result = run(rt.alloc(), options, &mut streams);
+    allocated(result).expect(rt, "memory");
+    let (written, told) = output_of(streams);
     let found = (result, written.as_slice(), told.as_slice());
     assert_eq!(rt; found, wanted, "{name} {number}");
 }

@@ -1,5 +1,7 @@
 //! Tests of calls of the command `byte-unit`: what the words of a command line ask for, and what is wrong with them.
+use super::asserting::assert_for;
 use super::command::assert_run;
+use super::shown::assert_same;
 use byte_unit_command::arguments::command;
 use byte_unit_command::error::RunError;
 use byte_unit_command::field_list::fields_of;
@@ -172,17 +174,25 @@ the character '\\u{1b}' is incorrect ('B', 'K', 'M', 'G', 'T', 'P', 'E', 'Z', 'Y
 the character ' ' is incorrect ('B' or 'b' or no character is expected)"),
 };
 
+/// Asserts the message on what is wrong.
+fn assert_message(rt: &(impl Abort + AllocGlobal), wrong: &Wrong, wanted: &str) {
+    let message = wrong.message(rt.alloc()).expect(rt, "memory");
+    assert_same(rt, message.as_str(), wanted);
+}
+
+/// Asserts that a call is wrong, and the message.
+fn assert_wrong(rt: &(impl Abort + AllocGlobal), words: &'static [&'static str], wanted: &str) {
+    let matches = matches_of(rt, words);
+    match options_of(&values_of(&matches), &[]) {
+        Ok(_) => panic!(rt; "{wanted}"),
+        Err(wrong) => assert_message(rt, &wrong, wanted),
+    }
+}
+
 #[test]
 fn what_is_wrong_with_calls(rt: HostRuntime) {
     for (words, wanted) in WRONG {
-        let matches = matches_of(&rt, words);
-        match options_of(&values_of(&matches), &[]) {
-            Ok(_) => panic!(rt; "{wanted}"),
-            Err(wrong) => {
-                let message = wrong.message(rt.alloc()).expect(&rt, "memory");
-                assert_eq!(rt; message.as_str(), *wanted);
-            }
-        }
+        assert_wrong(&rt, words, wanted);
     }
 }
 
@@ -205,20 +215,24 @@ const LISTS: [&str; 14] = [
     "1 ",
 ];
 
+/// Asserts that a list of fields is wrong, and the message.
+fn assert_wrong_list(rt: &(impl Abort + AllocGlobal), list: &str) {
+    let fields = fields_of(rt.alloc(), Some(list)).expect(rt, "memory");
+    assert_for(rt, fields.is_none(), list);
+    let wrong = Wrong {
+        option: "--field",
+        value: Some(list),
+        reason: ValueError::Fields,
+    };
+    let wanted = format!(in rt.alloc(); "--field: '{list}': not a list of fields").expect(
+        rt, "memory",
+    );
+    assert_message(rt, &wrong, wanted.as_str());
+}
+
 #[test]
 fn wrong_lists_of_fields(rt: HostRuntime) {
     for list in LISTS {
-        let fields = fields_of(rt.alloc(), Some(list)).expect(&rt, "memory");
-        assert!(rt; fields.is_none(), "{list}");
-        let wrong = Wrong {
-            option: "--field",
-            value: Some(list),
-            reason: ValueError::Fields,
-        };
-        let message = wrong.message(rt.alloc()).expect(&rt, "memory");
-        let wanted = format!(in rt.alloc(); "--field: '{list}': not a list of fields").expect(
-            &rt, "memory",
-        );
-        assert_eq!(rt; message.as_str(), wanted.as_str());
+        assert_wrong_list(&rt, list);
     }
 }

@@ -1,6 +1,6 @@
 //! Runs of the command `byte-unit` in buffers with capacity, in an arena where each allocation after the start fails.
 use super::asserting::assert_is;
-use super::command::PLAIN;
+use super::command::{MemoryStreams, PLAIN, output_of, streams_of};
 use super::command_large::repeated;
 use bumpalo::Bump;
 use byte_unit::Unit;
@@ -9,8 +9,7 @@ use byte_unit_command::options::{FieldRange, Form, Invalid, Options};
 use byte_unit_command::run::{Buffers, run_with_buffers, run_with_capacity};
 use byte_unit_command::streams::Streams;
 use byte_unit_command::tally::Tally;
-use byte_unit_stream::paced::{AT_ONCE, MemoryReader, MemoryWriter};
-use byte_unit_stream::{FusedReader, FusedWriter};
+use byte_unit_stream::paced::AT_ONCE;
 use std::process::Abort;
 
 /// The length of a buffer that has capacity for the text of any size: 65,535 digits after the point, and 65 bytes more,
@@ -73,18 +72,7 @@ fn expect(
     let mut buffers = Buffers::with_capacity(&arena, options, longest, step).expect(rt, "memory");
     let _rest = filled(rt, &arena, 0);
     let mut buffer = b" ".repeat(alloc, step.max(1)).expect(rt, "memory");
-    let mut streams = Streams {
-        reader: FusedReader::new(MemoryReader {
-            rest: input,
-            pace: AT_ONCE,
-        }),
-        word: "line",
-        writer: FusedWriter::new(MemoryWriter {
-            taken: Vec::new(alloc),
-            pace: AT_ONCE,
-        }),
-        errors: FusedWriter::new(Vec::new(alloc)),
-    };
+    let mut streams = streams_of(rt, input, (AT_ONCE, AT_ONCE));
     let result = run_with_buffers(
         &mut buffers,
         options,
@@ -93,13 +81,7 @@ fn expect(
         &mut [0u8; DIGITS],
         &mut streams,
     );
-    let Streams {
-        reader: _reader,
-        word: _,
-        writer,
-        errors: _errors,
-    } = streams;
-    let written = writer.into_inner().taken;
+    let (written, _messages) = output_of(streams);
     let found = (result, written.as_slice());
     assert_eq!(rt;
         found,
@@ -175,36 +157,33 @@ fn records_and_the_limit(rt: HostRuntime) {
 const BYTE_IN_YIB: &[u8] =
     b"0.00000000000000000000000082718061255302767487140869206996285356581211090087890625 YiB";
 
-/// A record of 1,000 fields whose texts are much longer than they are: 200 columns (197 spaces and `1 B`), or all
-/// decimals of a byte in YiB.
+/// Asserts the output for a record of 1,000 fields `1` whose texts, with the options, are each `text`.
+fn expect_texts(rt: &(impl Abort + AllocGlobal), options: &Options, text: &[u8]) {
+    let input = repeated(rt, b"1,", 999, b"1\n");
+    let front = repeated(rt, text, 1, b",");
+    let last = repeated(rt, text, 1, b"\n");
+    let output = repeated(rt, &front, 999, &last);
+    for step in [1, 7, 4096] {
+        let limits = (input.len(), step);
+        expect(rt, options, limits, &input, sum!(1000), &output);
+    }
+}
+
+/// Texts that are much longer than their fields: 200 columns (197 spaces and `1 B`), or all decimals of a byte in YiB.
 #[test]
 fn many_long_texts(rt: HostRuntime) {
-    let input = repeated(&rt, b"1,", 999, b"1\n");
     let wide = Options {
         width: 200,
+        total: false,
         ..COLUMNS
     };
     let column = repeated(&rt, b" ", 197, b"1 B");
-    let rows = [(wide, column.as_slice()), (IN_UNIT, BYTE_IN_YIB)];
-    for (options, text) in &rows {
-        let options = Options {
-            total: false,
-            ..*options
-        };
-        let front = repeated(&rt, text, 1, b",");
-        let last = repeated(&rt, text, 1, b"\n");
-        let output = repeated(&rt, &front, 999, &last);
-        for step in [1, 7, 4096] {
-            expect(
-                &rt,
-                &options,
-                (input.len(), step),
-                &input,
-                sum!(1000),
-                &output,
-            );
-        }
-    }
+    expect_texts(&rt, &wide, &column);
+    let in_unit = Options {
+        total: false,
+        ..IN_UNIT
+    };
+    expect_texts(&rt, &in_unit, BYTE_IN_YIB);
 }
 
 /// The texts of a read of 64 KiB would take 4 GB here: it takes fewer bytes.
@@ -235,44 +214,45 @@ const STARTS: &[(usize, usize, bool)] = &[
     (usize::MAX - 8, START, false),
 ];
 
+/// Asserts whether a run with a limit on records starts if this number of bytes can be allocated. A run that starts
+/// reads all and writes `1 KB` and `2 KB`. Otherwise all 8 bytes of the input are left.
+fn expect_start(rt: &(impl Abort + AllocGlobal), (longest, bytes, starts): (usize, usize, bool)) {
+    let arena = Bump::try_with_capacity(rt.alloc(), ARENA).expect(rt, "memory");
+    arena.set_allocation_limit(Some(0));
+    let _rest = filled(rt, &arena, bytes);
+    let mut streams = streams_of(rt, b"1000\n2KB", (AT_ONCE, AT_ONCE));
+    let started = run_with_capacity(
+        &arena,
+        &PLAIN,
+        longest,
+        &mut [0u8; 8],
+        &mut [0u8; DIGITS],
+        &mut streams,
+    );
+    let (left, written) = left_and_written(streams);
+    let wanted = if starts {
+        (Some(sum!(3000)), 0, 10)
+    } else {
+        (None, 8, 0)
+    };
+    assert_is(rt, (started.ok(), left, written), wanted);
+}
+
+/// Returns the numbers of bytes that are left of the input, and that were written.
+fn left_and_written(streams: MemoryStreams<'_>) -> (usize, usize) {
+    let Streams {
+        reader,
+        word: _,
+        writer,
+        errors: _errors,
+    } = streams;
+    let left = reader.into_inner().rest.len();
+    (left, writer.into_inner().taken.len())
+}
+
 #[test]
 fn the_start(rt: HostRuntime) {
-    let alloc = rt.alloc();
-    for (longest, bytes, starts) in STARTS {
-        let arena = Bump::try_with_capacity(alloc, ARENA).expect(&rt, "memory");
-        arena.set_allocation_limit(Some(0));
-        let _rest = filled(&rt, &arena, *bytes);
-        let mut streams = Streams {
-            reader: FusedReader::new(MemoryReader {
-                rest: b"1000\n2KB",
-                pace: AT_ONCE,
-            }),
-            word: "line",
-            writer: FusedWriter::new(Vec::new(alloc)),
-            errors: FusedWriter::new(Vec::new(alloc)),
-        };
-        let started = run_with_capacity(
-            &arena,
-            &PLAIN,
-            *longest,
-            &mut [0u8; 8],
-            &mut [0u8; DIGITS],
-            &mut streams,
-        );
-        let Streams {
-            reader,
-            word: _,
-            writer,
-            errors: _errors,
-        } = streams;
-        let left = reader.into_inner().rest.len();
-        let found = (started.ok(), left, writer.into_inner().len());
-        // A run that starts reads all and writes `1 KB` and `2 KB`. Otherwise all 8 bytes of the input are left.
-        let wanted = if *starts {
-            (Some(sum!(3000)), 0, 10)
-        } else {
-            (None, 8, 0)
-        };
-        assert_is(&rt, found, wanted);
+    for row in STARTS {
+        expect_start(&rt, *row);
     }
 }

@@ -5,6 +5,7 @@ use super::serde_ignore_case::{Sizes, assert_read, assert_read_and_written};
 use byte_unit::Byte;
 use serde::{Deserialize, Serialize};
 use std::alloc::Global;
+use std::collections::BTreeMap;
 use std::process::Abort;
 
 /// A struct with a size, an optional size and a list, each with prefixes by 1024.
@@ -87,19 +88,7 @@ pub struct Server {
 const SERVER: &str =
     "shared_buffers = '128MB'    # min 128kB\nclient_max_body_size = \"10m\"\nXmx = \"2g\"\n";
 
-/// A file of docker compose in JSON, which is YAML too.
-#[derive(Drop, Deserialize)]
-pub struct Compose {
-    pub services: Services,
-}
-
-/// The services of a compose file: here one.
-#[derive(Drop, Deserialize)]
-pub struct Services {
-    pub web: Service,
-}
-
-/// The limits of a service.
+/// The limits of a service in a file of docker compose.
 #[derive(Drop, Deserialize)]
 pub struct Service {
     #[serde(with = "byte_unit_serde::byte_binary")]
@@ -108,7 +97,10 @@ pub struct Service {
     pub memswap_limit: Option<Byte>,
 }
 
-/// Such a file, with a member that is ignored.
+/// Such a file, which has the services by their names.
+type Compose = BTreeMap<String, BTreeMap<String, Service>>;
+
+/// A compose file in JSON, which is YAML too, with a member of a service that is ignored.
 const COMPOSE: &str =
     "{\"services\":{\"web\":{\"image\":\"nginx\",\"mem_limit\":\"512m\",\"memswap_limit\":\"1gb\"}}}";
 
@@ -124,7 +116,8 @@ fn settings_of_other_programs(rt: HostRuntime) {
     );
     assert_is(&rt, server.largest_heap, Some(Byte::from_u64(2 << 30)));
     let compose: Compose = serde_json::from_str(alloc, COMPOSE).expect(&rt, "JSON");
-    let web = compose.services.web;
+    let services = compose.get("services").expect(&rt, "services");
+    let web = services.get("web").expect(&rt, "a service");
     let wanted = (Byte::from_u64(512 << 20), Some(Byte::GIBIBYTE));
     assert_is(&rt, (web.mem_limit, web.memswap_limit), wanted);
 }
