@@ -14,6 +14,9 @@ LANES = int(os.environ.get("RT_JOBS") or min(4, os.cpu_count()))
 # What a test may end with: the error itself, or the message of an `expect` with the error.
 FAILURE = re.compile(r"(?:[\w ]+: )?(?:AllocError|Error\(out of memory\))")
 TESTS = "crates/byte_unit_tests/src/tests"
+# The line of crates.txt for the tests in refused.rt.
+USED = "byte_unit_tests: byte_unit byte_unit_bit byte_unit_byte byte_unit_format byte_unit_choice byte_unit_base " \
+    "byte_unit_math serde_json"
 MANY = b"".join(b"%d.5 KiB\n" % number for number in range(12_000))
 # Calls of the command: their words, and standard input. A run reads 65,536 bytes at once.
 CALLS = [
@@ -51,7 +54,9 @@ def wrong_endings(root, last):
 
 def test_calls_without_allocator(tmp_path):
     """A test in refused.rt makes at most three allocations: in the fourth run none of them fails."""
-    copy_to(tmp_path, "crates", "crates.txt")
+    copy_to(tmp_path, "crates")
+    # Without the crates that only other tests use, which would be compiled in each run.
+    write(tmp_path / "crates.txt", re.sub(r"(?m)^byte_unit_tests: .*$", USED, read("crates.txt")))
     others = re.findall(r"^mod (?!refused;|asserting;|shown;)(\w+);\n", read(f"{TESTS}.rt"), re.M)
     for name in others:
         os.remove(tmp_path / TESTS / f"{name}.rt")
