@@ -26,8 +26,8 @@ def wrong_of(program, calls):
     return ""
 
 
-def test_random_calls(program, pytestconfig, check_drawn):
-    check_drawn(some_call, lambda calls: wrong_of(program, calls), 5 * pytestconfig.getoption("lines"))
+def test_random_calls(program, check_drawn):
+    check_drawn(some_call, lambda calls: wrong_of(program, calls))
 
 
 @pytest.mark.parametrize("call, wanted", MODELLED + OTHERS)

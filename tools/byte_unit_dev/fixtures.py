@@ -34,7 +34,7 @@ SERDE = [f"{DEBIAN_RUST}/{name}-*" for name in ("serde", "serde_json", "toml")]
 
 def pytest_addoption(parser):
     parser.addoption("--after-ci", action="store_true", help="use the libraries and programs that rt ci has built")
-    parser.addoption("--lines", type=int, default=4000, help="the number of generated lines; five times as many calls")
+    parser.addoption("--lines", type=int, default=4000, help="the number of generated lines, and of generated calls")
     parser.addoption("--seed", type=int, default=1, help="chooses what is generated")
 
 
