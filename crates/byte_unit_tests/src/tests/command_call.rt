@@ -7,6 +7,7 @@ use byte_unit_command::error::RunError;
 use byte_unit_command::field_list::fields_of;
 use byte_unit_command::meaning::options_of;
 use byte_unit_command::operands::joined;
+use byte_unit_command::options::FieldRange;
 use byte_unit_command::tally::Tally;
 use byte_unit_command::values::values_of;
 use byte_unit_command::wrong::{ValueError, Wrong};
@@ -101,39 +102,41 @@ fn matches_of(
     }
 }
 
+/// Returns the chosen fields of a call.
+fn chosen_fields(rt: &(impl Abort + AllocGlobal), matches: &ArgMatches) -> Vec<FieldRange> {
+    match fields_of(rt.alloc(), matches.get_str("field")).expect(rt, "memory") {
+        Some(fields) => fields,
+        None => panic!(rt; "fields"),
+    }
+}
+
+/// Returns the input of a call: the operands, or without them these bytes.
+fn input_of(rt: &(impl Abort + AllocGlobal), matches: &ArgMatches, bytes: &[u8]) -> Vec<u8> {
+    let input = match matches.get_strs("SIZE") {
+        Some(operands) => joined(rt.alloc(), operands),
+        None => bytes.to_vec(rt.alloc()),
+    };
+    input.expect(rt, "memory")
+}
+
 /// Asserts what a call does. The number tells which of a table's rows it is.
 fn assert_call(rt: &(impl Abort + AllocGlobal), row: &Row, number: usize) {
     let (words, input, result, written, messages) = row;
-    let alloc = rt.alloc();
     let matches = matches_of(rt, words);
-    let Some(fields) = fields_of(alloc, matches.get_str("field")).expect(rt, "memory") else {
-        panic!(rt; "fields");
-    };
+    let fields = chosen_fields(rt, &matches);
     let Ok(options) = options_of(&values_of(&matches), fields.as_slice()) else {
         panic!(rt; "options");
     };
+    let input = input_of(rt, &matches, input);
     let wanted = (*result, *written, *messages);
-    match matches.get_strs("SIZE") {
-        Some(operands) => {
-            let input = joined(alloc, operands).expect(rt, "memory");
-            assert_run(
-                rt,
-                &options,
-                input.as_slice(),
-                (AT_ONCE, AT_ONCE),
-                wanted,
-                ("operands", number),
-            );
-        }
-        None => assert_run(
-            rt,
-            &options,
-            input,
-            (AT_ONCE, AT_ONCE),
-            wanted,
-            ("input", number),
-        ),
-    }
+    assert_run(
+        rt,
+        &options,
+        input.as_slice(),
+        (AT_ONCE, AT_ONCE),
+        wanted,
+        ("call", number),
+    );
 }
 
 #[test]
