@@ -5,7 +5,6 @@ use super::serde_ignore_case::{Sizes, assert_read, assert_read_and_written};
 use byte_unit::Byte;
 use serde::{Deserialize, Serialize};
 use std::alloc::Global;
-use std::collections::BTreeMap;
 use std::process::Abort;
 
 /// A struct with a size, an optional size and a list, each with prefixes by 1024.
@@ -19,11 +18,13 @@ pub struct Settings {
     pub parts: Vec<Byte>,
 }
 
-/// Strings, the numbers of bytes as which they are read, and the strings as which those are written. A size with no
-/// exact binary unit is written as digits alone: with a decimal prefix it would be read as another size.
+/// Strings, the numbers of bytes as which they are read, and the strings as which those are written. The first five are
+/// as settings of nginx, docker compose, the JVM and PostgreSQL have them. A size with no exact binary unit is written
+/// as digits alone: with a decimal prefix it would be read as another size.
 const SIZES: &[(&str, u64, &str)] = &rows! {
     ("10m", 10_485_760, "10 MiB"),
     ("512m", 536_870_912, "512 MiB"),
+    ("1gb", 1_073_741_824, "1 GiB"),
     ("2g", 2_147_483_648, "2 GiB"),
     ("128MB", 134_217_728, "128 MiB"),
     ("1.5g", 1_610_612_736, "1.5 GiB"),
@@ -71,55 +72,6 @@ fn what_is_stored_is_read_by_all_types(rt: HostRuntime) {
             assert_for(&rt, read == Some(Byte::from_u64(*number)), shown);
         }
     }
-}
-
-/// Sizes as settings of other programs write them: PostgreSQL, nginx, and the JVM.
-#[derive(Drop, Deserialize)]
-pub struct Server {
-    #[serde(with = "byte_unit_serde::byte_binary")]
-    pub shared_buffers: Byte,
-    #[serde(with = "byte_unit_serde::byte_binary")]
-    pub client_max_body_size: Byte,
-    #[serde(rename = "Xmx", with = "byte_unit_serde::optional_byte_binary", default)]
-    pub largest_heap: Option<Byte>,
-}
-
-/// Such settings as a TOML document, with a comment of PostgreSQL's.
-const SERVER: &str =
-    "shared_buffers = '128MB'    # min 128kB\nclient_max_body_size = \"10m\"\nXmx = \"2g\"\n";
-
-/// The limits of a service in a file of docker compose.
-#[derive(Drop, Deserialize)]
-pub struct Service {
-    #[serde(with = "byte_unit_serde::byte_binary")]
-    pub mem_limit: Byte,
-    #[serde(with = "byte_unit_serde::optional_byte_binary", default)]
-    pub memswap_limit: Option<Byte>,
-}
-
-/// Such a file, which has the services by their names.
-type Compose = BTreeMap<String, BTreeMap<String, Service>>;
-
-/// A compose file in JSON, which is YAML too, with a member of a service that is ignored.
-const COMPOSE: &str =
-    "{\"services\":{\"web\":{\"image\":\"nginx\",\"mem_limit\":\"512m\",\"memswap_limit\":\"1gb\"}}}";
-
-#[test]
-fn settings_of_other_programs(rt: HostRuntime) {
-    let alloc = rt.alloc();
-    let server: Server = toml::from_str(alloc, SERVER).expect(&rt, "TOML");
-    let sizes = (server.shared_buffers, server.client_max_body_size);
-    assert_is(
-        &rt,
-        sizes,
-        (Byte::from_u64(128 << 20), Byte::from_u64(10 << 20)),
-    );
-    assert_is(&rt, server.largest_heap, Some(Byte::from_u64(2 << 30)));
-    let compose: Compose = serde_json::from_str(alloc, COMPOSE).expect(&rt, "JSON");
-    let services = compose.get("services").expect(&rt, "services");
-    let web = services.get("web").expect(&rt, "a service");
-    let wanted = (Byte::from_u64(512 << 20), Some(Byte::GIBIBYTE));
-    assert_is(&rt, (web.mem_limit, web.memswap_limit), wanted);
 }
 
 /// An optional size that is absent or `null`, and an empty list.
