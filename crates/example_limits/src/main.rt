@@ -6,8 +6,6 @@ ghost use Rattle.std.specs.Prelude.{◌↔◌, IsTrue};
 ghost use Rattle.example_limits.specs.Rules.{IsBroken};
 
 mod defaults;
-#[cfg(test)]
-mod tests;
 
 use anyhow::{Result, anyhow};
 use byte_unit::{Bit, Byte, FormatSpec};
