@@ -153,7 +153,7 @@ const LAYOUTS: &[(u64, Unit, FormatSpec, &str)] = &[
     (10_000, Unit::KiB, CLOSE, "9.765625KiB"),
 ];
 
-/// Each of these tables, with the kind of its sizes: one constant, since a call for each costs the proof of a test more.
+/// Each of these tables, with the kind of its sizes, in one constant: a call for each takes longer to prove.
 const TABLES_IN_GIVEN_UNITS: &[(Kind, &[(u64, Unit, FormatSpec, &str)])] = &[
     (Kind::Byte, DECIMALS_CARRIED_THROUGH_NINES),
     (Kind::Byte, TIES_TO_EVEN_AND_UP),
