@@ -91,8 +91,8 @@ def build(folder, after_ci=False):
 
 
 def words_after_ci(archive, *target):
-    """Returns the call that `rt lib` makes, with the libraries that `rt ci` built of its dependencies. What it proves is
-    kept, and taken by the call for another target, which proves only what differs."""
+    """Returns the call that `rt lib` makes, with the libraries that `rt ci` built of its dependencies. It keeps what it
+    proves, and the call for another target takes that, and proves only what differs."""
     kept = Path(path("crates/byte_unit_c/out/targets"))
     kept.mkdir(parents=True, exist_ok=True)
     how = ["--crate-type", "staticlib", "--incremental", kept, *target]
