@@ -7,10 +7,10 @@ nothing that other commands of `rt` read. With --after-ci, as in the gate, uses 
 and does not see what has changed since. With --link proves nothing, and links what is in FOLDER: libbyte_unit.a, with
 byte_unit.h beside it.
 
-With --target, the crate byte_unit_c is proved for another target, over the same libraries: what differs, and what was
-not yet proved for a target (crates/byte_unit_c/out/targets keeps it). For wasm64-unknown-unknown, FOLDER then has
-byte_unit.wasm alone, which bindings/js needs; for aarch64-unknown-linux-gnu the archive and the header, and the shared
-library if Debian's aarch64-linux-gnu-gcc is there.
+With --target, the crate byte_unit_c is proved for another target, over the same libraries. What a call proves is kept
+in crates/byte_unit_c/out/targets, and the next takes it. For wasm64-unknown-unknown, FOLDER then has byte_unit.wasm
+alone, which bindings/js needs; for aarch64-unknown-linux-gnu the archive and the header, and the shared library if
+Debian's aarch64-linux-gnu-gcc is there.
 
 `tools/dev make-dist` builds the command byte-unit by this module, too.
 """

@@ -1,6 +1,7 @@
 //! The examples of `AdjustedByte` and `AdjustedBit`, and of the methods that return them.
 
-/// The examples, with the names of the module and of the type, its units `K`, `M` and `Mi`, its parser, its accessor and the letter in names.
+/// The examples, with the names of the module and of the type, its units `K`, `M` and `Mi`, its parser, its accessor
+/// and the letter in names.
 macro_rules! examples {
     ($size:ident, $Size:ident, $k:expr, $m:expr, $mi:expr, $parse:expr, $get:ident, $letter:literal) => {
         mod $size {
