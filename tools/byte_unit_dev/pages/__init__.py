@@ -1,6 +1,7 @@
 """Checks the pages: their words, links and names, and that their commands and examples print what they say.
 
-    words     each page keeps its limit of words, has one date at most, and its links lead to a file and a heading
+    words     README.md and all pages together keep their limits of words; a page has one date at most; links lead to a
+              file and a heading
     names     the names in backticks exist: identifiers, paths, files and modules
     version   each place that says the version says that of the file VERSION
     readme    the commands of README.md print what is below them; its promise, literal and program are as their sources

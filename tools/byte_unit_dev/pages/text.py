@@ -10,15 +10,8 @@ from pathlib import Path
 from ..common import Failure, files, path, read
 
 PAGE = re.compile(r"(docs/.*|(.*/)?README|[^/]*)\.md")
-# The words that all pages and each page have at most, so that a reader gets through them.
-TOTAL = 28_000
-WORDS = {
-    "README.md": 800, "CALLING.md": 2800, "CONTRIBUTING.md": 900, "CHANGELOG.md": 900, "docs/GUIDE.md": 3600,
-    "docs/PROVED.md": 3000, "docs/DEFINITIONS.md": 2800, "docs/ARCHITECTURE.md": 2000, "docs/DECISIONS.md": 2000,
-    "docs/DIFFERENCES.md": 2400, "docs/SPEED.md": 1000, "docs/LINES.md": 900, "vectors/README.md": 300,
-    **{f"{name}/README.md": 700 for name in (
-        "command bindings/c bindings/python bindings/rust bindings/sqlite bindings/postgresql bindings/js".split())},
-}
+# The words that all pages, and README.md, have at most.
+TOTAL, README = 36_000, 1_500
 # Names of std, the kit, the original crate and other programs, and what programs make.
 OTHERS = set("""
 axioms Env CowStr rattle_alloc rattle_realloc rattle_dealloc rattle_arg rattle_errno rattle_set_errno rattle_env
@@ -106,19 +99,17 @@ def wrong_links(page):
 
 
 def words():
-    wrong, total = [], len(" ".join(pages().values()).split())
+    wrong = []
+    counts = {"README.md": len(pages()["README.md"].split()), "all pages": len(" ".join(pages().values()).split())}
+    for what, most in (("README.md", README), ("all pages", TOTAL)):
+        if counts[what] > most:
+            wrong.append(f"{what}: {counts[what]} words, at most {most}")
     for page, text in pages().items():
-        count, dates = len(text.split()), sorted(set(re.findall(r"\b\d{4}-\d\d-\d\d\b", text)))
-        if page not in WORDS:
-            wrong.append(f"{page}: a page without a limit of words in tools/byte_unit_dev/pages/text.py")
-        elif count > WORDS[page]:
-            wrong.append(f"{page}: {count} words, at most {WORDS[page]}")
+        dates = sorted(set(re.findall(r"\b\d{4}-\d\d-\d\d\b", text)))
         if len(dates) > 1 and page != "CHANGELOG.md":
             wrong.append(f"{page}: {len(dates)} dates, at most one: {', '.join(dates)}")
         wrong += wrong_links(page)
-    if total > TOTAL:
-        wrong.append(f"all pages: {total} words, at most {TOTAL}")
-    return wrong, f"{len(pages())} pages keep their limits; each link leads somewhere"
+    return wrong, f"{len(pages())} pages have {counts['all pages']} words; each link leads somewhere"
 
 
 def known_words():
