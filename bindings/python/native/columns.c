@@ -56,7 +56,7 @@ bool reject_row(PyObject *module, PyObject *object, uint32_t flags, size_t row)
     return false;
 }
 
-/* A piece of a list: copies of the texts, one after the other, which are parsed while the GIL is released. */
+/* A piece of the items: copies of their texts, one after the other, which are parsed while the GIL is released. */
 typedef struct piece {
     size_t count;
     char *bytes;
@@ -118,11 +118,11 @@ static bool wrong_item(PyObject *item, size_t i)
     return !PyErr_Occurred() && wrong_type(name, "str, bytes or null", item);
 }
 
-/* Adds a text of the list, or an empty one if it is null. */
-static bool add_item(PyObject *module, PyObject *list, size_t i, piece *piece)
+/* Adds the text of an item, or an empty one if it is null. */
+static bool add_item(PyObject *module, PyObject *items, size_t i, piece *piece)
 {
     text text;
-    PyObject *item = PyList_GetItem(list, (Py_ssize_t)i);
+    PyObject *item = PyTuple_GetItem(items, (Py_ssize_t)i);
     bool is_text = borrow_text(item, &text);
     if (!is_text && (PyErr_Occurred() || !is_null(module, item))) {
         return wrong_item(item, i);
@@ -138,15 +138,15 @@ static bool add_item(PyObject *module, PyObject *list, size_t i, piece *piece)
     return true;
 }
 
-/* Copies the texts of the list from the first on. */
-static bool fill_piece(PyObject *module, PyObject *list, size_t first, piece *piece)
+/* Copies the texts of the items from the first on. */
+static bool fill_piece(PyObject *module, PyObject *items, size_t first, piece *piece)
 {
-    size_t left = (size_t)PyList_Size(list) - first;
+    size_t left = (size_t)PyTuple_Size(items) - first;
     piece->count = piece->len = 0;
     piece->has_null = false;
     piece->offsets[0] = 0;
     while (piece->count < left && piece->count < PIECE && piece->len < PIECE_BYTES) {
-        if (!add_item(module, list, first + piece->count, piece)) {
+        if (!add_item(module, items, first + piece->count, piece)) {
             return false;
         }
     }
@@ -174,16 +174,16 @@ static void parse_piece(const piece *piece, uint32_t flags, byte_unit_number *si
     Py_END_ALLOW_THREADS
 }
 
-/* Parses the texts of a list. Returns false, with an error set, if there is no memory, an item is no text or, if it is
+/* Parses the texts of a tuple. Returns false, with an error set, if there is no memory, an item is no text or, if it is
  * strict, a text is rejected: `rejected` is the row of the first of these, or `count`. */
-static bool parse_list(PyObject *module, PyObject *list, uint32_t flags, bool is_strict, column *column)
+static bool parse_items(PyObject *module, PyObject *items, uint32_t flags, bool is_strict, column *column)
 {
-    size_t first = 0, count = (size_t)PyList_Size(list), rejected = count;
+    size_t first = 0, count = (size_t)PyTuple_Size(items), rejected = count;
     piece piece;
     bool holds = new_piece(count, &piece);
     while (holds && first < count && rejected == count) {
         uint8_t *codes = codes_of(column) + first;
-        holds = fill_piece(module, list, first, &piece);
+        holds = fill_piece(module, items, first, &piece);
         if (holds) {
             parse_piece(&piece, flags, sizes_of(column) + first, codes);
             size_t place = is_strict ? first_rejected(codes, piece.count) : piece.count;
@@ -193,7 +193,17 @@ static bool parse_list(PyObject *module, PyObject *list, uint32_t flags, bool is
     }
     free_piece(&piece);
     return holds && (rejected == count ||
-                     reject_row(module, PyList_GetItem(list, (Py_ssize_t)rejected), flags, rejected));
+                     reject_row(module, PyTuple_GetItem(items, (Py_ssize_t)rejected), flags, rejected));
+}
+
+/* Returns the items of an iterable as a tuple, which no other thread can change: a list it could, by the module gc. The
+ * tuple is made of a list, since one that grows raises an error if another thread has it from there. */
+static PyObject *to_items(PyObject *iterable)
+{
+    PyObject *list = PySequence_Fast(iterable, "texts must be an iterable of texts");
+    PyObject *items = list ? PySequence_Tuple(list) : NULL;
+    Py_XDECREF(list);
+    return items;
 }
 
 /* parse_many(texts, bits, ignore_case, binary, is_strict) */
@@ -203,12 +213,12 @@ PyObject *parse_many(PyObject *module, PyObject *const *args, Py_ssize_t count)
     if (!has_arguments(count, 5) || !parse_flags(args + 1, &flags) || !add_flag(args[4], "is_strict", 1, &is_strict)) {
         return NULL;
     }
-    PyObject *list = PySequence_List(args[0]); /* a new list, which no other thread can change */
-    if (!list) {
+    PyObject *items = to_items(args[0]);
+    if (!items) {
         return NULL;
     }
     column column;
-    bool holds = new_column(PyList_Size(list), &column) && parse_list(module, list, flags, is_strict, &column);
-    Py_DECREF(list);
+    bool holds = new_column(PyTuple_Size(items), &column) && parse_items(module, items, flags, is_strict, &column);
+    Py_DECREF(items);
     return from_column(&column, holds);
 }

@@ -2,10 +2,12 @@
 
 import copy
 import faulthandler
+import gc
 import importlib.util
 import mmap
 import pickle
 import random
+import sys
 import tempfile
 import threading
 import time
@@ -229,6 +231,31 @@ class Changes(unittest.TestCase):
         seen = self.call_while(change, lambda: byte_unit.parse_many(changing))
         self.assertTrue(all(column in (wanted, byte_unit.parse_many([])) for column in seen))
         self.assertIn(wanted, seen)
+
+    def test_lists_that_gc_shows(self) -> None:
+        """What the call keeps of a list is no list that another thread could find and clear."""
+        texts = ["1.5 KiB"] * 100_000
+        wanted = byte_unit.parse_many(texts)
+
+        def change() -> None:
+            for found in gc.get_objects():
+                if type(found) is list and len(found) == len(texts) and found is not texts:
+                    found.clear()
+
+        seen = self.call_while(change, lambda: byte_unit.parse_many(texts))
+        self.assertEqual(set(seen), {wanted})
+
+    def test_objects_that_gc_shows(self) -> None:
+        """Another thread may keep all objects, as profilers of memory do."""
+        kept: list[object] = []
+        self.addCleanup(sys.setswitchinterval, sys.getswitchinterval())
+        sys.setswitchinterval(1e-5)
+
+        def change() -> None:
+            kept[:] = gc.get_objects()
+
+        seen = self.call_while(change, lambda: byte_unit.parse_many("1.5 KiB" for _ in range(1000)))
+        self.assertEqual({column.sum() for column in seen}, {1000 * 1536})
 
     def test_offsets(self) -> None:
         for code, huge in (("q", 2**63 - 1), ("q", -(2**63)), ("i", 2**31 - 1)):
