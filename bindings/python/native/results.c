@@ -72,7 +72,7 @@ PyObject *part(PyObject *module, PyObject *const *args, Py_ssize_t count)
         !to_row(args[2], view.count, &row)) {
         return NULL;
     }
-    Py_ssize_t step = PyLong_AsSsize_t(args[3]);
+    Py_ssize_t step = PyNumber_AsSsize_t(args[3], NULL); /* clipped if it is so large that one row has no next */
     bool holds = !PyErr_Occurred() && new_column((Py_ssize_t)rows, &part);
     for (size_t i = 0; holds && i < rows; i++, row += (size_t)step) { /* backwards, too: the sum wraps */
         holds = row < view.count;
@@ -204,19 +204,19 @@ PyObject *float64(PyObject *module, PyObject *const *args, Py_ssize_t count)
     return result;
 }
 
-/* mask(sizes, codes, hides_large): 1 for each row without a size, and if it hides them for one of 2^63 or more */
+/* mask(sizes, codes, hide_large): 1 for each row without a size, and if it hides them for one of 2^63 or more */
 PyObject *mask(PyObject *module, PyObject *const *args, Py_ssize_t count)
 {
     (void)module;
     view view;
-    uint32_t hides_large = 0;
-    if (!read_view(args, count, 3, &view) || !add_flag(args[2], "hides_large", 1, &hides_large)) {
+    uint32_t hide_large = 0;
+    if (!read_view(args, count, 3, &view) || !add_flag(args[2], "hide_large", 1, &hide_large)) {
         return NULL;
     }
     PyObject *result = PyBytes_FromStringAndSize(NULL, (Py_ssize_t)view.count);
     uint8_t *bits = result ? (uint8_t *)PyBytes_AsString(result) : NULL;
     for (size_t row = 0; result && row < view.count; row++) {
-        bits[row] = view.codes[row] || (hides_large && is_large(&view, row));
+        bits[row] = view.codes[row] || (hide_large && is_large(&view, row));
     }
     return result;
 }

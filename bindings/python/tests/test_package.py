@@ -177,7 +177,7 @@ class Arguments(unittest.TestCase):
         for rows in [(0, 2), (2, 1), (2, 2), (-1, 1), (0, 2**64)]:
             with self.subTest(rows), self.assertRaises((IndexError, OverflowError)):
                 _native.ints(bytes(16), bytes(1), *rows)
-        for part in [(0, 1, 2), (1, 1, 1), (1, -1, 1), (0, 2**62, 2), (1, -(2**63), 1), (2**64, 1, 0), (0, 2**63, 1)]:
+        for part in [(0, 1, 2), (1, 1, 1), (1, -1, 1), (0, 2**62, 2), (1, -(2**63), 1), (2**64, 1, 0), (0, 2**70, 2)]:
             with self.subTest(part), self.assertRaises((IndexError, OverflowError)):
                 _native.part(bytes(16), bytes(1), *part)
 

@@ -235,7 +235,7 @@ class Numbers(unittest.TestCase):
         for wrong, error in [("coerce", ByteUnitError), ("", ByteUnitError), (None, TypeError), (1, TypeError)]:
             with self.subTest(wrong), self.assertRaises(error):
                 column_of([1]).int64(overflow=wrong)
-        with self.assertRaises(TypeError):
+        with self.assertRaisesRegex(TypeError, "^hide_large must be a bool, not int$"):
             column_of([1]).mask(hide_large=1)
 
     def test_halves_and_floats(self) -> None:
@@ -269,7 +269,7 @@ class Sequences(unittest.TestCase):
     def test_slices(self) -> None:
         column = byte_unit.parse_many(TEXTS)
         ends = [None, *range(-13, 14)]
-        for step in (None, 1, 2, 3, 20, -1, -2, -20):
+        for step in (None, 1, 2, 3, 20, 2**63, 2**70, -1, -2, -20, -(2**63), -(2**70)):
             for start in ends:
                 for stop in ends:
                     part = column[start:stop:step]
