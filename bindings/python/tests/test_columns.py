@@ -1,5 +1,6 @@
 """Many texts in one call: lists, buffers, changes by other threads, results, numpy and pandas."""
 
+import collections
 import copy
 import faulthandler
 import gc
@@ -11,6 +12,7 @@ import sys
 import tempfile
 import threading
 import time
+import types
 import unittest
 from array import array
 from collections.abc import Callable, Iterator
@@ -40,7 +42,7 @@ def encoded(texts: list[str]) -> list[bytes]:
 
 class Lists(unittest.TestCase):
     def test_codes_and_sizes(self) -> None:
-        for texts in (TEXTS, tuple(TEXTS), iter(TEXTS), dict.fromkeys(TEXTS), encoded(TEXTS)):
+        for texts in (TEXTS, tuple(TEXTS), iter(TEXTS), dict.fromkeys(TEXTS).keys(), encoded(TEXTS)):
             column = byte_unit.parse_many(texts)
             self.assertEqual(list(column.codes), CODES)
             self.assertEqual(column.ints(), SIZES)
@@ -65,6 +67,10 @@ class Lists(unittest.TestCase):
             message = rf"texts\[1\] must be str, bytes or null, not {type(wrong).__name__}$"
             with self.subTest(wrong=wrong), self.assertRaisesRegex(TypeError, message):
                 byte_unit.parse_many(["1", wrong])
+        for mapping in ({"1 KB": "2 KB"}, types.MappingProxyType({}), collections.UserDict()):
+            message = rf"not {type(mapping).__name__}: pass its keys\(\) or its values\(\)$"
+            with self.subTest(mapping), self.assertRaisesRegex(TypeError, message):
+                byte_unit.parse_many(mapping)
 
     def test_an_error_of_the_iterable(self) -> None:
         def texts() -> "Iterator[str]":
@@ -383,6 +389,10 @@ class Pandas(unittest.TestCase):
         self.assertEqual(sizes.sum(), 3048)
         self.assertEqual(sizes.isna().tolist(), [False, True, False])
         self.assertEqual(list(byte_unit.parse_many(pandas.Series(["1 KB", None])).codes), [0, 7])
+        with self.assertRaisesRegex(TypeError, "not DataFrame: pass one of its columns$"):
+            byte_unit.parse_many(pandas.DataFrame({"1 KB": ["2 KB"]}))
+        named = pandas.Series(["1 KB"], ["columns"])  # whose attribute `columns` is the text
+        self.assertEqual(byte_unit.parse_many(named).ints(), [1000])
 
 
 if __name__ == "__main__":

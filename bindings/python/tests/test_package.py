@@ -24,10 +24,10 @@ from byte_unit import _columns, _errors, _native
 # The calls of the extension module that the package exports.
 CALLS = [name for name in byte_unit.__all__ if inspect.isbuiltin(getattr(byte_unit, name))]
 HAS_PANDAS = importlib.util.find_spec("pandas") is not None
-# Names of modules that only type checkers see, and a default of typing.Sequence that the stub of Python leaves out.
+# Names of modules that only type checkers see, and members of two classes of which the stubs of Python say less.
 ONLY_TYPES = [
     r"byte_unit\._columns\.(Errors|Final|Iterable|Iterator|Literal|Overflow|SupportsIndex|TypeAlias|overload)",
-    r"byte_unit\._columns\.Sequence\.index",
+    r"byte_unit\._columns\.(Mapping|Sequence)\..*",
     r"byte_unit\._errors\.Decimal",
     r"byte_unit\.pandas\.Callable",
 ]

@@ -1,6 +1,7 @@
 """Parsing of many texts in one call, and the column that it gives."""
 
-from _collections_abc import Sequence  # as collections.abc has it, whose import takes longer than all of this package
+# As collections.abc has them, whose import takes longer than all of this package.
+from _collections_abc import Mapping, Sequence
 from itertools import compress
 
 from . import _native
@@ -17,7 +18,7 @@ if TYPE_CHECKING:
 #: The names of the codes in `Column.codes`: `ok`, the names of `SizeError`, and `null`.
 ERROR_NAMES: "Final[tuple[str, ...]]" = _native.CODES
 
-# The code of a null, whether each code is that of a rejected text, and the number of rows that an iterator reads at once.
+# The code of a null, whether each code is that of a rejected text, and how many rows an iterator reads at once.
 _NULL = ERROR_NAMES.index("null")
 _REJECTED = bytes(code not in (0, _NULL) for code in range(256))
 _AT_A_TIME = 1024
@@ -263,6 +264,22 @@ class Column(Sequence["int | None"]):
         return int(bits or b"0", 2).to_bytes((len(bits) + 7) // 8, "little")
 
 
+def _items(texts: "Iterable[str | bytes | None]") -> "Iterable[str | bytes | None]":
+    """Returns what the texts are read from. Raises `TypeError` if its items are parts of a text, or names."""
+    kind = type(texts).__name__
+    if isinstance(texts, (str, bytes)):
+        raise TypeError(f"texts must be an iterable of texts, not one {kind}")
+    if isinstance(texts, Mapping):
+        raise TypeError(f"texts must be an iterable of texts, not {kind}: pass its keys() or its values()")
+    if hasattr(type(texts), "columns"):  # not of the object: a series has its labels as attributes
+        raise TypeError(f"texts must be an iterable of texts, not {kind}: pass one of its columns")
+    tolist = getattr(texts, "tolist", None)  # of an array: faster than to iterate over it
+    many: Iterable[str | bytes | None] = texts if tolist is None else tolist()
+    if isinstance(many, (str, bytes)):
+        raise TypeError("texts must be an iterable of texts, not an array without a dimension")
+    return many
+
+
 def parse_many(
     texts: "Iterable[str | bytes | None]",
     *,
@@ -275,7 +292,8 @@ def parse_many(
 
     A null is null in the column: `None`, a float NaN, and `NA` and `NaT` of pandas. A text that is not a size has its
     code in `Column.codes`, and raises nothing; with `errors="raise"` the first one raises `SizeError`, whose message
-    names the row, the text and the reason. Raises `TypeError` if one of `texts` is anything else.
+    has the row, the text and the reason. Raises `TypeError` if one of `texts` is anything else, or if `texts` is a
+    mapping or a frame, whose items are keys or names of columns.
 
     From some thousand texts on, the GIL is released while copies of the texts are parsed.
 
@@ -285,14 +303,8 @@ def parse_many(
     Traceback (most recent call last):
     byte_unit.SizeError: texts[1]: '1.5 Kx': the character 'x' is incorrect ('B' or 'b' or no character is expected)
     """
-    if isinstance(texts, (str, bytes)):
-        raise TypeError(f"texts must be an iterable of texts, not one {type(texts).__name__}")
     _check("errors", errors, ("coerce", "raise"))
-    tolist = getattr(texts, "tolist", None)  # of an array: faster than to iterate over it
-    many = texts if tolist is None else tolist()
-    if isinstance(many, (str, bytes)):
-        raise TypeError("texts must be an iterable of texts, not an array without a dimension")
-    return Column(*_native.parse_many(many, bits, ignore_case, binary, errors == "raise"))
+    return Column(*_native.parse_many(_items(texts), bits, ignore_case, binary, errors == "raise"))
 
 
 def parse_buffers(
