@@ -63,6 +63,7 @@ def formatting() -> None:
     look("in KiB", byte_unit.adjusted_text(123456, "KiB"), "120.5625 KiB")
     look("to two places", byte_unit.adjusted_text(123456, "KiB", precision=2), "120.56 KiB")
     look("approximately", byte_unit.approximate_text(123456789), "117.7 MiB")
+    look("to no zeros", byte_unit.approximate_text(2048, alternate=True), "2 KiB")
     look("of decimal units", byte_unit.approximate_text(123456789, unit_type="decimal", precision=2), "123.46 MB")
     look("in twelve columns", byte_unit.text(123456, width=12, align="right"), "  123.456 KB")
     look("in 300 columns", len(byte_unit.text(123456, width=300)), 300)

@@ -98,30 +98,31 @@
 
 #define ADJUSTED_TEXT_DOC \
     "adjusted_text($module, size, unit, *, bits=False, precision=None, width=None, align=None, " \
-    "sign=None, alternate=True)\n" \
+    "sign=None, alternate=False)\n" \
     "--\n" \
     "\n" \
     "Formats a size in a unit, which is one of `UNITS`.\n" \
     "\n" \
-    "Without a precision all digits are shown. With one, the number is rounded to at most `precision` digits\n" \
-    "after the point, 16 at most and none that are zeros at the end, where ties go up. With `alternate=False`\n" \
-    "it is rounded to exactly `precision` digits, where ties go to the even digit; but in `b` and `B` all\n" \
-    "digits are shown, with a precision too. The other arguments are those of `text`.\n" \
+    "Without a precision all digits are shown. With one, the number is rounded to exactly `precision` digits\n" \
+    "after the point, where ties go to the even digit; but in `b` and `B` all digits are shown. With\n" \
+    "`alternate=True` it is rounded to at most `precision` digits, 16 at most and none that are zeros at the\n" \
+    "end, where ties go up, in `b` and `B` too. The other arguments are those of `text`.\n" \
     "\n" \
     "Raises `ByteUnitError` if an argument is out of range.\n" \
     "\n" \
     ">>> adjusted_text(123456, \"KiB\"), adjusted_text(123456, \"KiB\", precision=2)\n" \
     "('120.5625 KiB', '120.56 KiB')\n" \
-    ">>> adjusted_text(1536000, \"KB\", precision=2), adjusted_text(1536000, \"KB\", precision=2, " \
-    "alternate=False)\n" \
-    "('1536 KB', '1536.00 KB')\n" \
-    ">>> adjusted_text(3, \"B\", bits=True, precision=1), adjusted_text(3, \"B\", bits=True, " \
-    "precision=1, alternate=False)\n" \
-    "('0.4 B', '0.375 B')"
+    ">>> adjusted_text(1280, \"KiB\", precision=1), adjusted_text(1280, \"KiB\", precision=1, alternate=True)\n" \
+    "('1.2 KiB', '1.3 KiB')\n" \
+    ">>> adjusted_text(1536000, \"KB\", precision=2), adjusted_text(1536000, \"KB\", precision=2, alternate=True)\n" \
+    "('1536.00 KB', '1536 KB')\n" \
+    ">>> adjusted_text(3, \"B\", bits=True, precision=1), adjusted_text(3, \"B\", bits=True, precision=1, " \
+    "alternate=True)\n" \
+    "('0.375 B', '0.4 B')"
 
 #define APPROXIMATE_TEXT_DOC \
     "approximate_text($module, size, *, bits=False, unit_type='binary', precision=1, width=None, align=None, " \
-    "sign=None, alternate=True)\n" \
+    "sign=None, alternate=False)\n" \
     "--\n" \
     "\n" \
     "Formats a size for people, rounded in the largest unit of its kind and of a type that is not above it.\n" \
@@ -135,10 +136,10 @@
     ">>> approximate_text(123456789), approximate_text(123456789, unit_type=\"decimal\", precision=2)\n" \
     "('117.7 MiB', '123.46 MB')\n" \
     ">>> approximate_text(1023), approximate_text(2**20 - 1), approximate_text(1500, bits=True)\n" \
-    "('1023 B', '1024 KiB', '1.5 Kib')"
+    "('1023 B', '1024.0 KiB', '1.5 Kib')"
 
 #define APPROPRIATE_UNIT_DOC \
-    "appropriate_unit($module, size, *, bits=False, unit_type='both')\n" \
+    "appropriate_unit($module, size, *, bits=False, unit_type='binary')\n" \
     "--\n" \
     "\n" \
     "Returns the largest unit of the kind and of the type that is not above the size, or `B` or `b` if there is\n" \

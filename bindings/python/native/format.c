@@ -57,22 +57,19 @@ static bool kind_flag(PyObject *object, uint32_t *flags)
     return add_flag(object, "bits", BYTE_UNIT_BITS, flags);
 }
 
-/* Reads the options bits, precision, width, align, sign and alternate, if there are names of arguments. */
-static bool to_options(PyObject *module, PyObject *names, PyObject *const *options, uint32_t *flags,
-                       byte_unit_spec *spec)
+/* Reads the options bits, precision, width, align, sign and alternate into a spec, which has their defaults. */
+static bool to_options(PyObject *module, PyObject *const *options, uint32_t *flags, byte_unit_spec *spec)
 {
-    uint32_t alternate = options[5] ? 0 : 1; /* True if it is not passed; else it is added as a flag is */
-    *spec = (byte_unit_spec){.alternate = 1};
-    *flags = BYTE_UNIT_BYTES;
-    if (!names) {
-        return true;
+    uint32_t alternate = options[5] ? 0 : spec->alternate; /* if it is passed, it is added as a flag is */
+    if (options[1]) {
+        spec->has_precision = is_set(options[1]);
+        spec->precision = 0;
     }
     bool read = kind_flag(options[0], flags) && add_flag(options[5], "alternate", 1, &alternate) &&
                 (!is_set(options[1]) || to_digits(module, "precision", options[1], &spec->precision)) &&
                 (!is_set(options[2]) || to_digits(module, "width", options[2], &spec->width)) &&
                 (!is_set(options[3]) || to_choice(module, &ALIGNS, options[3], &spec->align)) &&
                 (!is_set(options[4]) || to_choice(module, &SIGNS, options[4], &spec->sign));
-    spec->has_precision = is_set(options[1]);
     spec->alternate = (uint8_t)alternate;
     return read;
 }
@@ -84,9 +81,9 @@ PyObject *text_of(PyObject *module, PyObject *const *args, Py_ssize_t count, PyO
     PyObject *given[7] = {NULL};
     byte_unit_number size;
     uint32_t flags;
-    byte_unit_spec spec;
+    byte_unit_spec spec = {.alternate = 1};
     if (!place(&SIGNATURE, args, count, names, given) || !to_size(module, given[0], &size) ||
-        !to_options(module, names, given + 1, &flags, &spec)) {
+        !to_options(module, given + 1, &flags, &spec)) {
         return NULL;
     }
     return text_with(write_text, size, flags, BYTE_UNIT_NO_UNIT, spec);
@@ -99,9 +96,9 @@ PyObject *adjusted_text(PyObject *module, PyObject *const *args, Py_ssize_t coun
     PyObject *given[8] = {NULL};
     byte_unit_number size;
     uint32_t flags, unit;
-    byte_unit_spec spec;
+    byte_unit_spec spec = {0};
     if (!place(&SIGNATURE, args, count, names, given) || !to_size(module, given[0], &size) ||
-        !to_unit(module, given[1], &unit) || !to_options(module, names, given + 2, &flags, &spec)) {
+        !to_unit(module, given[1], &unit) || !to_options(module, given + 2, &flags, &spec)) {
         return NULL;
     }
     return text_with(byte_unit_adjusted_text, size, flags, unit, spec);
@@ -115,15 +112,11 @@ PyObject *approximate_text(PyObject *module, PyObject *const *args, Py_ssize_t c
     byte_unit_number size;
     uint32_t flags;
     uint8_t unit_type = BYTE_UNIT_BINARY;
-    byte_unit_spec spec;
+    byte_unit_spec spec = {.has_precision = 1, .precision = 1};
     if (!place(&SIGNATURE, args, count, names, given) || !to_size(module, given[0], &size) ||
         (given[1] && !to_choice(module, &TYPES, given[1], &unit_type)) ||
-        !to_options(module, names, given + 2, &flags, &spec)) {
+        !to_options(module, given + 2, &flags, &spec)) {
         return NULL;
-    }
-    if (!given[3]) { /* the precision */
-        spec.has_precision = 1;
-        spec.precision = 1;
     }
     return text_with(byte_unit_approximate_text, size, flags, unit_type, spec);
 }
@@ -167,7 +160,7 @@ PyObject *appropriate_unit(PyObject *module, PyObject *const *args, Py_ssize_t c
     PyObject *given[3] = {NULL};
     byte_unit_number size;
     uint32_t flags;
-    uint8_t unit_type = BYTE_UNIT_BOTH;
+    uint8_t unit_type = BYTE_UNIT_BINARY;
     if (!place(&SIGNATURE, args, count, names, given) || !to_size(module, given[0], &size) ||
         !kind_flag(given[1], &flags) || (given[2] && !to_choice(module, &TYPES, given[2], &unit_type))) {
         return NULL;

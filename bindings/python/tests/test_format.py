@@ -34,31 +34,40 @@ TEXTS = [
 ADJUSTED = [
     (123456, "KiB", {}, "120.5625 KiB"),
     (123456, "KiB", {"precision": 2}, "120.56 KiB"),
-    (1536000, "KB", {"precision": 2}, "1536 KB"),
-    (1536000, "KB", {"precision": 2, "alternate": False}, "1536.00 KB"),
+    (1536000, "KB", {"precision": 2}, "1536.00 KB"),
+    (1536000, "KB", {"precision": 2, "alternate": True}, "1536 KB"),
+    (1280, "KiB", {"precision": 1}, "1.2 KiB"),
+    (1280, "KiB", {"precision": 1, "alternate": True}, "1.3 KiB"),
+    (1536, "MB", {"precision": 2}, "0.00 MB"),
+    (1, "GiB", {"precision": 28}, "0.0000000009313225746154785156 GiB"),
     (10**29 + 1, "RB", {}, "100.000000000000000000000000001 RB"),
     (1, "b", {}, "8 b"),
-    (1, "KB", {"precision": 300, "alternate": False}, "0.001" + "0" * 297 + " KB"),
+    (1, "KB", {"precision": 300}, "0.001" + "0" * 297 + " KB"),
 ]
 
 # size, arguments, text
 APPROXIMATE = [
     (0, {}, "0 B"),
     (1023, {}, "1023 B"),
-    (1024, {}, "1 KiB"),
+    (1024, {}, "1.0 KiB"),
+    (1024, {"alternate": True}, "1 KiB"),
+    (1280, {}, "1.2 KiB"),
+    (1280, {"alternate": True}, "1.3 KiB"),
+    (2048, {}, "2.0 KiB"),
     (123456789, {}, "117.7 MiB"),
     (123456789, {"unit_type": "decimal"}, "123.5 MB"),
     (123456789, {"unit_type": "both", "precision": 2}, "117.74 MiB"),
-    (1000, {"unit_type": "both"}, "1 KB"),
+    (1000, {"unit_type": "both"}, "1.0 KB"),
+    (1000, {}, "1000 B"),
     (123456789, {"precision": None}, "117.73756885528564453125 MiB"),
     (123456789, {"precision": 0}, "118 MiB"),
-    (123456789, {"precision": 3, "alternate": False}, "117.738 MiB"),
-    (2**20 - 1, {}, "1024 KiB"),
+    (123456789, {"precision": 3}, "117.738 MiB"),
+    (2**20 - 1, {}, "1024.0 KiB"),
     (1500, {"bits": True}, "1.5 Kib"),
     (1536, {"width": 12}, "1.5      KiB"),
     (1536, {"width": 12, "align": "right", "sign": "minus"}, "      1.5KiB"),
     (1536, {"width": 300, "align": "left"}, "1.5" + " " * 294 + "KiB"),
-    (10**30 - 1, {"unit_type": "decimal"}, "1000 RB"),
+    (10**30 - 1, {"unit_type": "decimal"}, "1000.0 RB"),
 ]
 
 SIZE_CALLS = [
@@ -116,12 +125,14 @@ class Texts(unittest.TestCase):
         for _ in range(2000):
             size, bits, unit_type = rng.randrange(10 ** rng.randrange(1, 31)), rng.random() < 0.5, rng.choice(TYPES)
             unit = byte_unit.appropriate_unit(size, bits=bits, unit_type=unit_type)
-            options = {"bits": bits, "precision": rng.choice([None, 0, 1, 2, 30]), "width": rng.choice([None, 20])}
+            options = {"bits": bits, "precision": rng.choice([None, 0, 1, 2, 30]), "width": rng.choice([None, 20]),
+                       "alternate": rng.random() < 0.5}  # fmt: skip
             text = byte_unit.adjusted_text(size, unit, **options)
             self.assertEqual(byte_unit.approximate_text(size, unit_type=unit_type, **options), text)
 
     def test_units(self) -> None:
-        self.assertEqual(byte_unit.appropriate_unit(10000, unit_type="binary"), "KiB")
+        units = [byte_unit.appropriate_unit(1000), byte_unit.appropriate_unit(1024), byte_unit.appropriate_unit(2**20)]
+        self.assertEqual(units, ["B", "KiB", "MiB"])
         self.assertEqual(byte_unit.appropriate_unit(10000, unit_type="decimal", bits=True), "Kb")
         self.assertEqual(byte_unit.exact_unit(50840000), (50840, "KB"))
         self.assertEqual(byte_unit.exact_unit(10**29), (100, "RB"))

@@ -62,10 +62,9 @@ class Package(unittest.TestCase):
 
     def test_arguments(self) -> None:
         """Flags and options are keyword-only, and have one default each, but for those in `own`."""
-        defaults = {"bits": False, "ignore_case": False, "binary": False, "either_kind": False, "alternate": True,
-                    "unit_type": "both", "errors": "coerce", "validity_offset": 0}  # fmt: skip
-        own = {("recoverable_unit", "precision"): 3, ("approximate_text", "precision"): 1,
-               ("approximate_text", "unit_type"): "binary"}  # fmt: skip
+        defaults = {"bits": False, "ignore_case": False, "binary": False, "either_kind": False, "alternate": False,
+                    "unit_type": "binary", "errors": "coerce", "validity_offset": 0}  # fmt: skip
+        own = {("recoverable_unit", "precision"): 3, ("approximate_text", "precision"): 1, ("text", "alternate"): True}
         for name in byte_unit.__all__:
             value = getattr(byte_unit, name)
             if not inspect.isroutine(value):

@@ -37,7 +37,7 @@ def adjusted_text(
     width: SupportsIndex | None = None,
     align: _Align | None = None,
     sign: _Sign | None = None,
-    alternate: bool = True,
+    alternate: bool = False,
 ) -> str: ...
 def approximate_text(
     size: SupportsIndex,
@@ -48,9 +48,9 @@ def approximate_text(
     width: SupportsIndex | None = None,
     align: _Align | None = None,
     sign: _Sign | None = None,
-    alternate: bool = True,
+    alternate: bool = False,
 ) -> str: ...
-def appropriate_unit(size: SupportsIndex, *, bits: bool = False, unit_type: _UnitType = "both") -> str: ...
+def appropriate_unit(size: SupportsIndex, *, bits: bool = False, unit_type: _UnitType = "binary") -> str: ...
 def exact_unit(size: SupportsIndex, *, bits: bool = False, either_kind: bool = False) -> tuple[int, str]: ...
 def recoverable_unit(
     size: SupportsIndex, *, bits: bool = False, either_kind: bool = False, precision: SupportsIndex = 3
