@@ -33,7 +33,7 @@ PARTS = 40  # the files, each of which is a partition
 # The units of the texts, and the bytes of each: a text in Kx is rejected.
 UNITS = {"B": 1, "KB": 10**3, "KiB": 2**10, "MB": 10**6, "GiB": 2**30, "EB": 10**18, "RB": 10**27, "Kx": None}
 Found = tuple[dict[str, tuple[int, int]], str]  # by owner the number of sizes and their sum; a digest of rejected rows
-MESSAGE = "the character 'x' is incorrect ('B' or 'b' or no character is expected)"
+MESSAGE = "{!r} is not a size: the character 'x' is incorrect ('B' or 'b' or no character is expected) (character {})"
 
 
 def make(part: int, count: int) -> Found:
@@ -49,7 +49,8 @@ def make(part: int, count: int) -> Found:
             text = f"{number / 1000} {unit}"
             file.write(f"{owner},{text}\n")
             if UNITS[unit] is None:
-                table.writerow([name, row, owner, text, "unit", len(text) - 1, MESSAGE])
+                message = MESSAGE.format(text, len(text))
+                table.writerow([name, row, owner, text, "unit", len(text) - 1, message])
             else:
                 counted, summed = sums.get(owner, (0, 0))
                 # Thousandths of a unit, rounded up to a byte.

@@ -71,7 +71,7 @@ def to_limit(word: str) -> tuple[str, int]:
     try:
         return owner, byte_unit.parse(text, **FLAGS)
     except byte_unit.SizeError as error:
-        raise argparse.ArgumentTypeError(f"{text!r}: {error}") from None
+        raise argparse.ArgumentTypeError(str(error)) from None
 
 
 def main(words: list[str]) -> int:

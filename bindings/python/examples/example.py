@@ -34,16 +34,18 @@ def parsing() -> None:
     look("10m by 1024", byte_unit.parse("10m", binary=True), 10485760)
     look("100 mb by 1024", byte_unit.parse("100 mb", binary=True, ignore_case=True), 104857600)
     look("999 RB", line("999 RB"), "999000000000000000000000000000 = 999 RB")
-    look("1 byte", line("1 byte"), "unit: the character 'y' is incorrect ('i' or no character is expected)")
-    look("1 KÖB", line("1 KÖB"), "unit: the character 'Ö' is incorrect ('B' or 'b' or no character is expected)")
-    look("-1", line("-1"), "not_number: the character '-' is not a number")
-    look("1.é", line("1.é", bits=True), "not_number: the character 'é' is not a number")
-    look("1é", line("1é"), f"unit: the character 'é' is incorrect ({TEN} is expected)")
-    message = "unit: the character '😀' is incorrect ('B' or no character is expected)"
-    look("1K😀", line("1K😀", ignore_case=True), message)
-    look("", line(""), "no_value: no value can be found")
-    look("not UTF-8", line(b"\xff"), "not_utf8: the text is not UTF-8")
-    look("a lone surrogate", line("\ud800"), "not_utf8: the text is not UTF-8")
+    message = "the character 'Ö' is incorrect ('B' or 'b' or no character is expected) (character 4)"
+    look("1 KÖB", line("1 KÖB"), f"unit: '1 KÖB' is not a size: {message}")
+    look("-1", line("-1"), "not_number: '-1' is not a size: the character '-' is not a number (character 1)")
+    message = "the character 'é' is not a number (character 3)"
+    look("1.é", line("1.é", bits=True), f"not_number: '1.é' is not a size: {message}")
+    message = f"the character 'é' is incorrect ({TEN} is expected) (character 2)"
+    look("1é", line("1é"), f"unit: '1é' is not a size: {message}")
+    message = "the character '😀' is incorrect ('B' or no character is expected) (character 3)"
+    look("1K😀", line("1K😀", ignore_case=True), f"unit: '1K😀' is not a size: {message}")
+    look("", line(""), "no_value: '' is not a size: no value can be found (character 1)")
+    look("not UTF-8", line(b"\xff"), "not_utf8: b'\\xff' is not a size: the text is not UTF-8")
+    look("a lone surrogate", line("\ud800"), "not_utf8: '\\ud800' is not a size: the text is not UTF-8")
     look("explained", byte_unit.explain("1 byte"), "the character 'y' is incorrect ('i' or no character is expected)")
     look("a unit", byte_unit.parse_unit("kibits"), "Kib")
     look("no unit", byte_unit.explain_unit("kbitx"), "the character 'x' is incorrect ('s' or no character is expected)")

@@ -28,13 +28,14 @@
     "(10485760, 134217728)\n" \
     ">>> parse(\"1 KX\")\n" \
     "Traceback (most recent call last):\n" \
-    "byte_unit.SizeError: the character 'X' is incorrect ('B' or 'b' or no character is expected)"
+    "byte_unit.SizeError: '1 KX' is not a size: the character 'X' is incorrect ('B' or 'b' or no character is " \
+    "expected) (character 4)"
 
 #define EXPLAIN_DOC \
     "explain($module, text, *, bits=False, ignore_case=False, binary=False)\n" \
     "--\n" \
     "\n" \
-    "Returns the message of the error that `parse` raises, or `None` if the text is a size.\n" \
+    "Returns the reason in the message of the error that `parse` raises, or `None` if the text is a size.\n" \
     "\n" \
     ">>> explain(\"one KB\")\n" \
     "\"the character 'o' is not a number\"\n" \
@@ -58,13 +59,14 @@
     "('Kb', 'KB')\n" \
     ">>> parse_unit(\"Kx\")\n" \
     "Traceback (most recent call last):\n" \
-    "byte_unit.SizeError: the character 'x' is incorrect ('B' or 'b' or no character is expected)"
+    "byte_unit.SizeError: 'Kx' is not a unit: the character 'x' is incorrect ('B' or 'b' or no character is " \
+    "expected) (character 2)"
 
 #define EXPLAIN_UNIT_DOC \
     "explain_unit($module, text, *, bits=False, ignore_case=False)\n" \
     "--\n" \
     "\n" \
-    "Returns the message of the error that `parse_unit` raises, or `None` if the text is a unit.\n" \
+    "Returns the reason in the message of the error that `parse_unit` raises, or `None` if the text is a unit.\n" \
     "\n" \
     ">>> explain_unit(\"Kbitx\")\n" \
     "\"the character 'x' is incorrect ('s' or no character is expected)\"\n" \

@@ -69,18 +69,6 @@ PyObject *message_of(const text *text, uint32_t flags, explainer *explain)
     return len ? PyUnicode_DecodeUTF8(out, (Py_ssize_t)len, "replace") : Py_NewRef(Py_None);
 }
 
-/* Returns a message that names the place and the text, of which it has the beginning. Releases that without both. */
-static PyObject *with_row(const rejection *rejection, PyObject *message)
-{
-    enum { MOST = 80 }; /* the characters or bytes that a message repeats */
-    PyObject *begin = message ? PySequence_GetSlice(rejection->object, 0, MOST) : NULL;
-    const char *dots = begin && PySequence_Size(rejection->object) > MOST ? ".." : "";
-    PyObject *whole = begin ? PyUnicode_FromFormat("texts[%zd]: %R%s: %U", rejection->row, begin, dots, message) : NULL;
-    Py_XDECREF(begin);
-    Py_XDECREF(message);
-    return whole;
-}
-
 /* Fills the values of the fields. One that the code does not use is None, an empty str or False. */
 static bool fill(PyObject *module, const rejection *rejection, bool of_unit, PyObject **values)
 {
@@ -135,9 +123,6 @@ PyObject *reject(PyObject *module, const rejection *rejection, explainer *explai
     state *state = state_of(module);
     PyObject *values[FIELDS] = {NULL};
     PyObject *message = message_of(&rejection->text, rejection->flags, explain);
-    if (rejection->row >= 0) {
-        message = with_row(rejection, message);
-    }
     bool is_filled = message && fill(module, rejection, explain == byte_unit_explain_unit, values);
     PyObject *error = is_filled ? size_error(state, message, values) : NULL;
     if (error) {

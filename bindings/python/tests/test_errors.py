@@ -16,6 +16,26 @@ from byte_unit import ByteUnitError, SizeError
 TEXTS = ["", "x", "1" * 40, "1000.5 RB", "1 Kx", b"\xff", "\ud800"]
 
 
+# A text, and the message of its error, with the characters that a unit may begin with.
+TEN = "'B', 'K', 'M', 'G', 'T', 'P', 'E', 'Z', 'Y' or 'R' or no character"
+MESSAGES = [
+    ("1,5 GB", f"'1,5 GB' is not a size: the character ',' is incorrect ({TEN} is expected) (character 2)"),
+    (b"1,5 GB", f"b'1,5 GB' is not a size: the character ',' is incorrect ({TEN} is expected) (character 2)"),
+    ("", "'' is not a size: no value can be found (character 1)"),
+    ("\u3000-1", "'\\u3000-1' is not a size: the character '-' is not a number (character 2)"),
+    ("\u3000-1".encode(), "b'\\xe3\\x80\\x80-1' is not a size: the character '-' is not a number (character 2)"),
+    ("1.\n", "'1.\\n' is not a size: the character '.' is not a number (character 3)"),
+    ("1\u202eBK",
+     f"'1\\u202eBK' is not a size: the character '\\u{{202e}}' is incorrect ({TEN} is expected) (character 2)"),
+    ("1000 RB", "'1000 RB' is not a size: the value 1000 exceeds the valid range"),
+    (b"\xff", "b'\\xff' is not a size: the text is not UTF-8"),
+    ("\ud800", "'\\ud800' is not a size: the text is not UTF-8"),
+    ("1." + "0" * 62, f"'1.{'0' * 62}' is not a size: value number is too long (character 31)"),
+    ("1." + "0" * 63, f"'1.{'0' * 62}'.. is not a size: value number is too long (character 31)"),
+    (b"1." + b"0" * 63, f"b'1.{'0' * 62}'.. is not a size: value number is too long (character 31)"),
+]
+
+
 def caught(text: str | bytes) -> SizeError:
     try:
         byte_unit.parse(text)
@@ -35,6 +55,17 @@ class Errors(unittest.TestCase):
         self.assertTrue(issubclass(ByteUnitError, ValueError))
         self.assertEqual([cls.__module__ for cls in (SizeError, ByteUnitError)], ["byte_unit"] * 2)
 
+    def test_messages(self) -> None:
+        for text, message in MESSAGES:
+            with self.subTest(text):
+                self.assertEqual(str(caught(text)), message)
+                self.assertIn(f": {byte_unit.explain(text)}", message)
+        with self.assertRaises(SizeError) as unit:
+            byte_unit.parse_unit(" Kix")
+        reason = "the character 'x' is incorrect ('B' or 'b' or no character is expected)"
+        self.assertEqual(str(unit.exception), f"' Kix' is not a unit: {reason} (character 4)")
+        self.assertEqual(str(SizeError("a message", "unit")), "a message")
+
     def test_copies(self) -> None:
         for text in TEXTS:
             error = caught(text)
@@ -52,14 +83,13 @@ class Errors(unittest.TestCase):
         error = copy.copy(Renamed("a message", "unit", "x"))
         self.assertEqual((type(error), error.character), (Renamed, "x"))
 
-
     def test_text(self) -> None:
         for text in [*TEXTS, b"1 x", "x" * 100_000]:
             self.assertIs(caught(text).text, text)
             self.assertIsNone(caught(text).row)
         with self.assertRaises(SizeError) as unit:
             byte_unit.parse_unit("Kx")
-        self.assertEqual((unit.exception.text, unit.exception.args[0]), ("Kx", str(unit.exception)))
+        self.assertEqual((unit.exception.text, unit.exception.args[0]), ("Kx", byte_unit.explain_unit("Kx")))
         plain = SizeError("a message", name="unit", expected="Bb")
         self.assertEqual((plain.text, plain.row, plain.expected, plain.args[3]), (None, None, "Bb", "Bb"))
         self.assertEqual((plain.position, pickle.loads(pickle.dumps(unit.exception)).position), (None, 1))

@@ -50,7 +50,7 @@ class ToSizes(unittest.TestCase):
 
     def test_errors(self) -> None:
         quota = pandas.Series(["1", None, "1 x"], ["a", "b", "c"])
-        with self.assertRaisesRegex(SizeError, r"^texts\[2\]: '1 x': the character 'x'") as caught:
+        with self.assertRaisesRegex(SizeError, r"^texts\[2\]: '1 x' is not a size: the character 'x'") as caught:
             to_sizes(quota, errors="raise")
         self.assertEqual((caught.exception.row, caught.exception.text), (2, "1 x"))
         self.assertEqual(to_sizes(quota[:2], errors="raise").tolist(), [1, pandas.NA])

@@ -157,7 +157,7 @@ class Parse(unittest.TestCase):
                 error = caught.exception
                 seen = [error.name, error.character, error.expected, error.also_expect_no_character, error.number]
                 self.assertEqual(seen, fields)
-                self.assertEqual(str(error), message)
+                self.assertEqual(error.args[0], message)
                 self.assertEqual(byte_unit.explain(text, **flags), message)
                 self.assertIn(error.name, byte_unit.ERROR_NAMES)
 
@@ -232,7 +232,7 @@ class Parse(unittest.TestCase):
             message = f"the character {character} is incorrect ({expected} is expected)"
             with self.subTest(text, **flags), self.assertRaises(SizeError) as caught:
                 byte_unit.parse_unit(text, **flags)
-            self.assertEqual(str(caught.exception), message)
+            self.assertEqual(caught.exception.args[0], message)
             self.assertEqual(byte_unit.explain_unit(text, **flags), message)
         for text, bits, ignore_case, _ in UNITS:
             self.assertIsNone(byte_unit.explain_unit(text, bits=bits, ignore_case=ignore_case))
@@ -250,7 +250,7 @@ class Parse(unittest.TestCase):
         for text in (b"\xff", "\ud800"):
             with self.assertRaises(SizeError) as caught:
                 byte_unit.parse_unit(text)
-            self.assertEqual((caught.exception.name, str(caught.exception)), ("not_utf8", "the text is not UTF-8"))
+            self.assertEqual(caught.exception.args[:2], ("the text is not UTF-8", "not_utf8"))
 
 
 if __name__ == "__main__":

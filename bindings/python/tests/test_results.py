@@ -17,7 +17,7 @@ import byte_unit
 from byte_unit import ByteUnitError, Column, SizeError
 
 HAS_NUMPY = importlib.util.find_spec("numpy") is not None
-LONG = "0" * 75 + "1 KiB"  # 80 characters, as many as a message repeats
+LONG = "0" * 59 + "1 KiB"  # 64 characters, as many as a message repeats
 # Texts, and the code and the size of each; sizes at the ends of the ranges of floats, int64 and 64 bits.
 TEXTS = ["1 KB", "", None, "1 x", b"2 KB", "\ud800", b"\xff", LONG, float("nan"), str(10**30 - 1), "1000 RB"]
 CODES = [0, 1, 7, 5, 0, 6, 6, 0, 7, 0, 4]
@@ -116,17 +116,16 @@ class Raised(unittest.TestCase):
         return caught.exception
 
     def test_row_text_and_reason(self) -> None:
-        rows = [(0, "1 x"), (2, ""), (1, b"\xff"), (1, "\ud800"), (1, "x" * 80), (1, "x" * 81), (0, b"x" * 99)]
+        rows = [(0, "1 x"), (2, ""), (1, b"\xff"), (1, "\ud800"), (1, "x" * 64), (1, "x" * 65), (0, b"x" * 99)]
         for row, wrong in [*rows, (70_000, "1000.5 RB")]:
             texts: list[Any] = ["1", None, "2", *["3"] * 70_000]
             texts[row] = wrong
             error = self.caught(byte_unit.parse_many, [*texts, "y"])
             with self.subTest(wrong), self.assertRaises(SizeError) as single:
                 byte_unit.parse(wrong)
-            shown = repr(wrong[:80]) + ".." * (len(wrong) > 80)
-            self.assertEqual(str(error), f"texts[{row}]: {shown}: {single.exception}")
+            self.assertEqual(str(error), f"texts[{row}]: {single.exception}")
             self.assertEqual((error.row, error.text, error.name), (row, wrong, single.exception.name))
-            self.assertEqual(error.args[1:], single.exception.args[1:])
+            self.assertEqual(error.args, single.exception.args)
             self.assertEqual((single.exception.row, single.exception.text), (None, wrong))
 
     def test_buffers(self) -> None:
@@ -137,7 +136,7 @@ class Raised(unittest.TestCase):
             data, offsets = b"##" + b"".join(many), array("q", accumulate(map(len, many), initial=2))
             error = self.caught(byte_unit.parse_buffers, data, offsets)
             self.assertEqual((error.row, error.text), (row, text))
-            self.assertTrue(str(error).startswith(f"texts[{row}]: {text[:80]!r}"))
+            self.assertTrue(str(error).startswith(f"texts[{row}]: {text[:64]!r}"))
             bits = ((1 << len(many)) - 1 ^ 1 << row).to_bytes(400, "little")
             error = self.caught(byte_unit.parse_buffers, data, offsets, validity=bits)
             self.assertEqual((error.row, error.text), (len(many) - 1, "later"))
@@ -181,7 +180,7 @@ class Errors(unittest.TestCase):
         rejected = list(column.errors(TEXTS))
         self.assertEqual([(row, error.name) for row, error in rejected], list(column.errors()))
         for row, error in rejected:
-            self.assertEqual((error.text, str(error)), (TEXTS[row], byte_unit.explain(error.text)))
+            self.assertEqual((error.text, error.args[0]), (TEXTS[row], byte_unit.explain(TEXTS[row])))
         texts = ["1Kx", "9 b"]
         column = byte_unit.parse_many(iter(texts), ignore_case=True)
         self.assertEqual([error.expected for _, error in column.errors(iter(texts), ignore_case=True)], ["B"])

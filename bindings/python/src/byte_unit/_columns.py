@@ -152,16 +152,15 @@ class Column(Sequence["int | None"]):
         """Returns an iterator over the row of each text that is rejected, and the reason.
 
         The reason is the name of the error. With the texts and the flags that were parsed, it is the `SizeError` that
-        `parse` raises: its `text` is the text, its message says why it is rejected, and its `position` where. A null is
-        not rejected.
+        `parse` raises, whose message says which text is rejected, why, and where. A null is not rejected.
 
         >>> texts = ["1 KB", "", None, "1 Kx"]
         >>> list(parse_many(texts).errors())
         [(1, 'no_value'), (3, 'unit')]
         >>> for row, error in parse_many(texts).errors(texts):
-        ...     print(row, repr(error.text), error.position, error)
-        1 '' 0 no value can be found
-        3 '1 Kx' 3 the character 'x' is incorrect ('B' or 'b' or no character is expected)
+        ...     print(row, error)
+        1 '' is not a size: no value can be found (character 1)
+        3 '1 Kx' is not a size: the character 'x' is incorrect ('B' or 'b' or no character is expected) (character 4)
         """
         if texts is None:
             rows = compress(range(len(self._codes)), self._codes.translate(_REJECTED))
@@ -299,9 +298,9 @@ def parse_many(
 
     >>> parse_many(["1.5 KiB", None, b"9 b"]).ints()
     [1536, None, 2]
-    >>> parse_many(["1.5 KiB", "1.5 Kx"], errors="raise")
+    >>> parse_many(["1.5 KiB", "-1"], errors="raise")
     Traceback (most recent call last):
-    byte_unit.SizeError: texts[1]: '1.5 Kx': the character 'x' is incorrect ('B' or 'b' or no character is expected)
+    byte_unit.SizeError: texts[1]: '-1' is not a size: the character '-' is not a number (character 1)
     """
     _check("errors", errors, ("coerce", "raise"))
     return Column(*_native.parse_many(_items(texts), bits, ignore_case, binary, errors == "raise"))

@@ -4,6 +4,13 @@ TYPE_CHECKING = False  # true for type checkers
 if TYPE_CHECKING:
     from decimal import Decimal
 
+_SHOWN = 64  # the characters, or bytes, of a text that a message repeats
+
+
+def quoted(text: "str | bytes") -> str:
+    """Returns a text between quotes, with what cannot be printed escaped. Of a long one it is the beginning."""
+    return repr(text[:_SHOWN]) + ".." * (len(text) > _SHOWN)
+
 
 class ByteUnitError(ValueError):
     """The base class of this package's errors.
@@ -27,9 +34,12 @@ class SizeError(ByteUnitError):
     ...     print(error)
     ...     print(error.text, error.name, error.character, error.expected, error.also_expect_no_character)
     ...     print(error.position, error.text[error.position])
-    the character 'x' is incorrect ('B' or 'b' or no character is expected)
+    '1 Kx' is not a size: the character 'x' is incorrect ('B' or 'b' or no character is expected) (character 4)
     1 Kx unit x Bb True
     3 x
+
+    The message has the text, the reason that `explain` returns, and the number of the first wrong character, from 1.
+    Of a long text it has the first 64 characters, or bytes.
 
     `text` is the text. The names are those of the codes in byte_unit.h:
 
@@ -42,7 +52,7 @@ class SizeError(ByteUnitError):
     - `not_utf8`: the text has bytes that are not UTF-8, or a lone surrogate.
 
     `character` and `number` are `None` if the name does not use them. `row` is the place of the text in a column, if
-    `parse_many` or `parse_buffers` raises the error; then the message has the row and the text too.
+    `parse_many` or `parse_buffers` raises the error; then the message has it too.
 
     An instance can be pickled and copied.
     """
@@ -58,7 +68,7 @@ class SizeError(ByteUnitError):
 
     def __init__(
         self,
-        message: str,
+        reason: str,
         name: str,
         character: "str | None" = None,
         expected: str = "",
@@ -66,7 +76,7 @@ class SizeError(ByteUnitError):
         number: "Decimal | None" = None,
     ) -> None:
         """Creates the error. All arguments are in `args`, from which it is pickled and copied."""
-        super().__init__(message, name, character, expected, also_expect_no_character, number)
+        super().__init__(reason, name, character, expected, also_expect_no_character, number)
         self.name = name
         self.character = character
         self.expected = expected
@@ -85,5 +95,14 @@ class SizeError(ByteUnitError):
         return None if self.text is None else byte_unit._native.position(self.text, bool(self._of_unit))
 
     def __str__(self) -> str:
-        """Returns the message."""
-        return str(self.args[0])
+        """Returns the message, which is the reason alone if there is no text."""
+        text, position, reason = self.text, self.position, str(self.args[0])
+        if text is None:
+            return reason
+        row = "" if self.row is None else f"texts[{self.row}]: "
+        what = "unit" if self._of_unit else "size"
+        message = f"{row}{quoted(text)} is not a {what}: {reason}"
+        if position is None:
+            return message
+        before = text[:position] if isinstance(text, str) else text[:position].decode()
+        return f"{message} (character {len(before) + 1})"
