@@ -25,7 +25,7 @@ def with_pandas() -> None:
     from byte_unit.pandas import format_sizes, to_sizes
 
     quota = pandas.Series(["1 KB", None, "1 x", "2 KiB"], ["a", "b", "c", "d"])
-    sizes = to_sizes(quota)
+    sizes = to_sizes(quota, errors="coerce")  # the default raises an error with row, text and reason
     assert sizes.dropna().to_dict() == {"a": 1000, "d": 2048}
     assert sizes.dtype == "Int64"
     assert format_sizes(sizes).dropna().to_dict() == {"a": "1 KB", "d": "2 KiB"}

@@ -1,6 +1,7 @@
 """Series of pandas, if it is installed: texts to sizes, and sizes to texts."""
 
 import importlib.util
+import itertools
 import subprocess
 import sys
 import unittest
@@ -31,7 +32,7 @@ class ToSizes(unittest.TestCase):
         for dtype in DTYPES:
             with self.subTest(dtype):
                 quota = pandas.Series(["1 KB", None, "1 x", "", "2 KiB"], list("abcde"), dtype, "quota")
-                sizes = to_sizes(quota)
+                sizes = to_sizes(quota, errors="coerce")
                 self.assertEqual((str(sizes.dtype), sizes.name, list(sizes.index)), ("Int64", "quota", list("abcde")))
                 self.assertEqual(sizes.dropna().to_dict(), {"a": 1000, "e": 2048})
                 self.assertEqual(list(byte_unit.parse_many(quota).codes), [0, 7, 5, 1, 0])
@@ -47,13 +48,22 @@ class ToSizes(unittest.TestCase):
         for wrong in ([1], [1.5], ["1", 2], [pandas.Timestamp(0)]):
             with self.assertRaises(TypeError):
                 to_sizes(pandas.Series(wrong))
+        for other in (["1"], numpy.array(["1"]), pandas.Index(["1"]), pandas.DataFrame({"1": ["2"]}), "1", None):
+            message = rf"^texts must be a Series of pandas, .*, not [a-z.]*{type(other).__name__}$"
+            with self.assertRaisesRegex(TypeError, message):
+                to_sizes(other)
 
     def test_errors(self) -> None:
         quota = pandas.Series(["1", None, "1 x"], ["a", "b", "c"])
-        with self.assertRaisesRegex(SizeError, r"^texts\[2\]: '1 x' is not a size: the character 'x'") as caught:
-            to_sizes(quota, errors="raise")
-        self.assertEqual((caught.exception.row, caught.exception.text), (2, "1 x"))
-        self.assertEqual(to_sizes(quota[:2], errors="raise").tolist(), [1, pandas.NA])
+        for errors in ({}, {"errors": "raise"}):
+            with self.assertRaisesRegex(SizeError, r"^texts\[2\]: '1 x' is not a size: the character 'x'") as caught:
+                to_sizes(quota, **errors)
+            self.assertEqual((caught.exception.row, caught.exception.text), (2, "1 x"))
+            self.assertEqual(to_sizes(quota[:2], **errors).tolist(), [1, pandas.NA])
+        for text in ("1,5 GB", "x", ""):
+            with self.assertRaisesRegex(SizeError, rf"^texts\[0\]: '{text}' is not a size: "):
+                to_sizes(pandas.Series([text]))
+            self.assertEqual(to_sizes(pandas.Series([text, None]), errors="coerce").tolist(), [pandas.NA] * 2)
         reasons = list(byte_unit.parse_many(quota).errors(quota))
         self.assertEqual([(row, error.text) for row, error in reasons], [(2, "1 x")])
 
@@ -70,9 +80,12 @@ class ToSizes(unittest.TestCase):
                 null = to_sizes(quota, overflow="null").tolist()
                 self.assertEqual(null, [1, pandas.NA, pandas.NA if large else size])
                 self.assertEqual(to_sizes(quota, overflow="saturate").tolist(), [1, pandas.NA, min(size, 2**63 - 1)])
-                if large:
-                    with self.assertRaisesRegex(ByteUnitError, r"^column\[2\]: the size"):
-                        to_sizes(quota)
+                for errors, bits in itertools.product(("raise", "coerce"), (False, True) if large else ()):
+                    with self.assertRaises(ByteUnitError) as caught:
+                        to_sizes(quota, errors=errors, bits=bits)
+                    kind = "bits" if bits else "bytes"
+                    message = f"texts[2]: '{size}' is {size} {kind}, which is 2**63 or more"
+                    self.assertEqual(str(caught.exception), message)
         self.assertEqual(byte_unit.parse_many(pandas.Series(["1 EB"] * 20)).sum(), 20 * 10**18)
 
 
@@ -95,9 +108,16 @@ class FormatSizes(unittest.TestCase):
         self.assertEqual(format_sizes(sizes, alternate=False, width=8, sign="plus").tolist(), [" +123456", "   +1536"])
         self.assertEqual(format_sizes(sizes, bits=True, align="right", width=9)[1], "  1.5 Kib")
         self.assertEqual(format_sizes(sizes, unit_type="binary").tolist(), ["120.6 KiB", "1.5 KiB"])
+        ties = pandas.Series([1280, 2**20 - 1])
+        self.assertEqual(format_sizes(ties, unit_type="binary").tolist(), ["1.2 KiB", "1024.0 KiB"])
+        self.assertEqual(format_sizes(ties, unit_type="binary", alternate=True).tolist(), ["1.3 KiB", "1024 KiB"])
+        self.assertEqual(format_sizes(ties, unit_type="binary", precision=None)[1], "1023.9990234375 KiB")
+        self.assertEqual(format_sizes(ties, unit="KiB", precision=1)[0], "1.2 KiB")
         self.assertEqual(format_sizes(sizes, unit_type="decimal", precision=2, bits=True)[0], "123.46 Kb")
-        with self.assertRaises(TypeError):
-            format_sizes(sizes, unit="KiB", unit_type="binary")
+        for wrong in ({"unit": "KiB", "unit_type": "binary"}, {"precison": 1}, {"alternate": None}):
+            for of in (sizes, sizes[:0]):
+                with self.assertRaises(TypeError):
+                    format_sizes(of, **wrong)
         for wrong in ({"unit_type": "iec"}, {"unit": "kib"}, {"precision": -1}, {"sign": "+"}):
             with self.assertRaises(ByteUnitError):
                 format_sizes(sizes, **wrong)
@@ -109,10 +129,14 @@ class FormatSizes(unittest.TestCase):
         for other in ([1.5], ["1"]):
             with self.assertRaises(TypeError):
                 format_sizes(pandas.Series(other))
+        for other in ([1], numpy.array([1]), pandas.DataFrame({"1": [2]}), 1):
+            message = rf"^sizes must be a Series of pandas, .*, not [a-z.]*{type(other).__name__}$"
+            with self.assertRaisesRegex(TypeError, message):
+                format_sizes(other)
 
     def test_round_trip(self) -> None:
         sizes = pandas.Series([0, 1, 1536, 10**18 + 1, None], dtype="Int64")
-        pandas.testing.assert_series_equal(to_sizes(format_sizes(sizes), errors="raise"), sizes)
+        pandas.testing.assert_series_equal(to_sizes(format_sizes(sizes)), sizes)
 
 
 if __name__ == "__main__":

@@ -2,20 +2,37 @@
 
 >>> import pandas
 >>> from byte_unit.pandas import format_sizes, to_sizes
->>> to_sizes(pandas.Series(["1.5 KiB", None, "1 x"])).tolist()
-[1536, <NA>, <NA>]
+>>> to_sizes(pandas.Series(["1.5 KiB", None, "2 KB"])).tolist()
+[1536, <NA>, 2000]
 >>> format_sizes(pandas.Series([1536, None], dtype="Int64")).tolist()
 ['1.5 KiB', <NA>]
 """
 
 from collections.abc import Callable
 from functools import partial
-from typing import Literal, SupportsIndex
+from typing import Any, Literal
 
 import numpy
 import pandas  # type: ignore[import]
 
-from . import adjusted_text, approximate_text, parse_many, text
+from . import ByteUnitError, Column, adjusted_text, approximate_text, parse_many, text
+from ._errors import quoted
+from ._native import first_large
+
+
+def _check_series(name: str, series: "pandas.Series") -> None:
+    """Raises an error if an argument is not a series."""
+    if not isinstance(series, pandas.Series):
+        kind = f"{type(series).__module__}.{type(series).__qualname__}".removeprefix("builtins.")
+        raise TypeError(f"{name} must be a Series of pandas, such as a column of a DataFrame, not {kind}")
+
+
+def _reject_large(column: Column, texts: Any, bits: bool) -> None:
+    """Raises an error that has the row and the text of the first size of 2^63 or more, if there is one."""
+    row = first_large(column.sizes, column.codes)
+    if row < len(column):
+        kind = "bits" if bits else "bytes"
+        raise ByteUnitError(f"texts[{row}]: {quoted(texts[row])} is {column[row]} {kind}, which is 2**63 or more")
 
 
 def to_sizes(
@@ -24,23 +41,31 @@ def to_sizes(
     bits: bool = False,
     ignore_case: bool = False,
     binary: bool = False,
-    errors: Literal["coerce", "raise"] = "coerce",
+    errors: Literal["coerce", "raise"] = "raise",
     overflow: Literal["raise", "null", "saturate"] = "raise",
 ) -> "pandas.Series":
     """Returns the sizes of a series of texts as nullable integers, `Int64`, with its index and name.
 
-    A null is `NA`. So is a text that is not a size; with `errors="raise"` the first one raises `SizeError`, which names
-    the row. If a size is 2^63 or more, `overflow` decides: `"raise"` raises `ByteUnitError`, `"null"` makes it `NA`,
-    and `"saturate"` makes it 2^63 - 1. The series may be of objects, of strings, or backed by Arrow. The flags are
-    those of `parse`.
+    A null is `NA`. The first text that is not a size, or is empty, raises `SizeError`, whose message has the row,
+    counted from 0, the text and the reason; with `errors="coerce"` each is `NA`. If a size is 2^63 or more, `overflow`
+    decides: `"raise"` raises `ByteUnitError` with the row and the text of the first one, `"null"` makes it `NA`, and
+    `"saturate"` makes it 2^63 - 1. The series may be of objects, of strings, or backed by Arrow. The flags are those of
+    `parse`. Raises `TypeError` if `texts` is not a series.
 
     The sum of an `Int64` series wraps past 2^63, in pandas; `parse_many(texts).sum()` is exact.
 
     >>> quota = pandas.Series(["1 KB", "", "1 RB"], ["a", "b", "c"])
-    >>> to_sizes(quota, overflow="null").to_dict()
+    >>> to_sizes(quota, errors="coerce", overflow="null").to_dict()
     {'a': 1000, 'b': <NA>, 'c': <NA>}
+    >>> to_sizes(quota)
+    Traceback (most recent call last):
+    byte_unit.SizeError: texts[1]: '' is not a size: no value can be found (character 1)
     """
-    column = parse_many(texts.to_numpy(object), bits=bits, ignore_case=ignore_case, binary=binary, errors=errors)
+    _check_series("texts", texts)
+    many = texts.to_numpy(object)
+    column = parse_many(many, bits=bits, ignore_case=ignore_case, binary=binary, errors=errors)
+    if overflow == "raise":
+        _reject_large(column, many, bits)
     numbers = numpy.array(column.int64(overflow=overflow))
     mask = numpy.array(column.mask(hide_large=overflow == "null"))
     return pandas.Series(pandas.arrays.IntegerArray(numbers, mask), texts.index, name=texts.name)
@@ -51,33 +76,27 @@ def format_sizes(
     *,
     unit: str | None = None,
     unit_type: Literal["binary", "decimal", "both"] | None = None,
-    bits: bool = False,
-    precision: SupportsIndex | None = None,
-    width: SupportsIndex | None = None,
-    align: Literal["left", "center", "right"] | None = None,
-    sign: Literal["plus", "minus"] | None = None,
-    alternate: bool = True,
+    **options: Any,
 ) -> "pandas.Series":
     """Returns the texts of a series of integers as strings, with its index and name.
 
     Each is what `text` returns, with `unit` what `adjusted_text` does, or with `unit_type` what `approximate_text`
-    does, with the same arguments, defaults and errors. A null is `NA`. Raises `TypeError` if both are given, or if the
-    series is of floats, which are not exact: make it `Int64` first.
+    does. The options are the other arguments of that call, with its defaults and errors. A null is `NA`. Raises
+    `TypeError` if both are given, or if the series is of floats, which are not exact: make it `Int64` first.
 
     >>> format_sizes(pandas.Series([1536, 123456]), unit="KiB", precision=1).tolist()
     ['1.5 KiB', '120.6 KiB']
     >>> format_sizes(pandas.Series([1536, 123456789]), unit_type="binary").tolist()
     ['1.5 KiB', '117.7 MiB']
     """
+    _check_series("sizes", sizes)
     function: Callable[..., str] = text
     if unit is not None:
-        function = adjusted_text
+        function, options["unit"] = adjusted_text, unit
     if unit_type is not None:
-        function = approximate_text
-    options = {"unit": unit, "unit_type": unit_type, "precision": precision, "width": width, "align": align,
-               "sign": sign}  # fmt: skip
-    given = {name: value for name, value in options.items() if value is not None}
-    call = partial(function, bits=bits, alternate=alternate, **given)
+        function, options["unit_type"] = approximate_text, unit_type
+    call = partial(function, **options)
+    call(0)  # wrong options raise an error for a series without a size, too
     rows = zip(sizes.to_numpy(object), sizes.isna(), strict=True)
     texts = [pandas.NA if is_null else call(size) for size, is_null in rows]
     return pandas.Series(pandas.array(texts, "string"), sizes.index, name=sizes.name)
