@@ -156,6 +156,8 @@ class Texts(unittest.TestCase):
                 count, seen = byte_unit.recoverable_unit(size, precision=precision)
                 self.assertEqual((type(count), str(count), seen), (Decimal, number, unit))
         self.assertIs(type(byte_unit.exact_unit(1000)[0]), int)
+        self.assertEqual(byte_unit.recoverable_unit(1001000), (Decimal("1.001"), "MB"))
+        self.assertEqual(byte_unit.recoverable_unit(1000100), (Decimal("1000.1"), "KB"))
 
     def test_either_kind(self) -> None:
         self.assertEqual(byte_unit.exact_unit(125), (125, "B"))
@@ -179,6 +181,15 @@ class Ranges(unittest.TestCase):
             for number in (65536, 2**16 + 2, 2**31, 2**32, 2**32 + 2, 2**64 + 1, *FAR):
                 with self.assertRaises(ByteUnitError):
                     call(number)
+
+    def test_numbers_in_messages(self) -> None:
+        """A number of at most 256 bits is shown whole."""
+        shown = {10**30: str(10**30), 2**256 - 1: str(2**256 - 1), 2**256: "an integer of 257 bits", -1: "-1",
+                 1 - 2**256: str(1 - 2**256), -(2**256): "an integer of 257 bits"}  # fmt: skip
+        for number, text in shown.items():
+            with self.assertRaises(ByteUnitError) as caught:
+                byte_unit.text(number)
+            self.assertEqual(str(caught.exception), f"size must be from 0 to 10**30 - 1, not {text}")
 
     def test_counts(self) -> None:
         self.assertEqual(byte_unit.from_unit(10**30 - 1, "B"), 10**30 - 1)

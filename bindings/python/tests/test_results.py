@@ -3,6 +3,7 @@
 import copy
 import importlib.util
 import math
+import mmap
 import pickle
 import random
 import sys
@@ -294,6 +295,7 @@ class Sequences(unittest.TestCase):
         self.assertEqual((column, hash(column)), (other, hash(other)))
         self.assertNotEqual(column, byte_unit.parse_many(["", *TEXTS[1:]]))
         self.assertNotEqual(byte_unit.parse_many([None]), byte_unit.parse_many([""]))
+        self.assertNotEqual(byte_unit.parse_many(["1 KB"]), byte_unit.parse_many(["2 KB"]))
         self.assertNotEqual(column, column.ints())
         for version in range(pickle.HIGHEST_PROTOCOL + 1):
             self.assertEqual(pickle.loads(pickle.dumps(column, version)), column)
@@ -348,6 +350,27 @@ class Numpy(unittest.TestCase):
 
 
 class Memory(unittest.TestCase):
+    def test_copies_are_freed(self) -> None:
+        """Copies of half a megabyte or more. tracemalloc does not count those of the bytes of a buffer."""
+        text, zeros = b"0" * 1_000_000, bytes(1_000_000)
+        # Two pieces, of 1,024 texts and of one, which is longer than these.
+        offsets, many = array("q", [*range(0, 488 * 1024 + 1, 488), len(text)]), array("q", zeros)
+
+        def resident() -> int:
+            with open("/proc/self/statm", encoding="ascii") as file:
+                return int(file.read().split()[1]) * mmap.PAGESIZE
+
+        before = resident()
+        for _ in range(100):
+            self.assertEqual(byte_unit.parse_buffers(text, offsets).codes, bytes(1025))
+            self.assertEqual(byte_unit.parse_buffers(b"", many, validity=zeros).codes.count(7), len(many) - 1)
+            self.assertEqual(byte_unit.parse_many([text, text.decode()]).ints(), [0, 0])
+            with self.assertRaises(SizeError):
+                byte_unit.parse_buffers(text[:-1] + b"x", offsets, errors="raise")
+            with self.assertRaises(ByteUnitError):
+                byte_unit.parse_buffers(text, array("q", [0, len(text), 0]))
+        self.assertLess(resident() - before, 30_000_000)
+
     def test_nothing_is_kept(self) -> None:
         column, offsets = byte_unit.parse_many(TEXTS), array("q", [0, 1, 2])
 
