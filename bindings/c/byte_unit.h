@@ -95,11 +95,12 @@ enum {
 
 /* The details of a parse error. A field that the error's code does not use is zero. */
 typedef struct byte_unit_error {
-    uint32_t character;               /* NOT_NUMBER, UNIT: the character that is rejected; the last, if the end is */
+    uint32_t character;               /* NOT_NUMBER, UNIT: the character that is rejected; if the string ends too early,
+                                       * the point at its end, or `i` if it ends in `bi` or `bI` */
     uint8_t also_expect_no_character; /* UNIT: 1 if the string could end before that character */
     char expected[16];                /* UNIT: the characters that are expected in its place, zero-terminated */
     byte_unit_decimal number;         /* EXCEEDED_BOUNDS: the number as it was written, without its unit */
-    size_t position;                  /* all but EXCEEDED_BOUNDS: its index, as the calls for positions write it */
+    size_t position;                  /* all but EXCEEDED_BOUNDS: the index that the calls for positions write */
 } byte_unit_error;
 
 /* The codes that the parsing calls return. */
@@ -217,12 +218,12 @@ bool byte_unit_unit_error_position(const char *text, size_t len, size_t *positio
  * write no terminating zero, and leave the bytes after the text as they are. */
 
 /* Writes the error message for a string that byte_unit_parse rejects, at most 256 bytes of UTF-8. Returns 0 if and
- * only if the string represents a size: an unknown flag has a message too.
+ * only if all flags are known and the string represents a size: an unknown flag has a message too.
  * Flags: BITS, IGNORE_CASE, BINARY_PREFIXES. */
 size_t byte_unit_explain(const char *text, size_t len, uint32_t flags, char *out, size_t out_len);
 
 /* Writes the error message for a string that byte_unit_parse_unit rejects, at most 256 bytes of UTF-8. Returns 0 if and
- * only if the string is a unit: an unknown flag has a message too.
+ * only if all flags are known and the string is a unit: an unknown flag has a message too.
  * Flags: BITS, IGNORE_CASE. */
 size_t byte_unit_explain_unit(const char *text, size_t len, uint32_t flags, char *out, size_t out_len);
 
@@ -262,8 +263,8 @@ uint32_t byte_unit_appropriate_unit(byte_unit_number size, uint32_t flags, uint3
  * Flags: BITS, EITHER_KIND. */
 uint32_t byte_unit_exact_unit(byte_unit_number size, uint32_t flags, byte_unit_number *count);
 
-/* The same, with the largest unit that represents the size exactly within `precision` digits after the decimal
- * point, 28 at most.
+/* The same, with the largest unit, not above the size, that represents it exactly within `precision` digits after the
+ * decimal point, 28 at most.
  * Flags: BITS, EITHER_KIND. */
 uint32_t byte_unit_recoverable_unit(byte_unit_number size, uint32_t flags, size_t precision, byte_unit_decimal *count);
 

@@ -135,7 +135,8 @@ static void nulls(void)
               && byte_unit_parse("1000 RB", 7, 0, &size, NULL) == BYTE_UNIT_EXCEEDED_BOUNDS
               && byte_unit_parse("\xff", 1, 0, &size, NULL) == BYTE_UNIT_NOT_UTF8);
     check("parse_unit", byte_unit_parse_unit(NULL, 0, 0, &unit, NULL) == BYTE_UNIT_OK && unit == BYTE_UNIT_B);
-    check("explain", byte_unit_explain(NULL, 0, 0, NULL, 0) == 21 && byte_unit_explain("1", 1, 0, NULL, 0) == 0);
+    check("explain", byte_unit_explain(NULL, 0, 0, NULL, 0) == 21 && byte_unit_explain("1", 1, 0, NULL, 0) == 0
+                         && byte_unit_explain("1", 1, BYTE_UNIT_EITHER_KIND, NULL, 0) == 17);
     check("explain_unit", byte_unit_explain_unit(NULL, 0, 0, NULL, 0) == 0
                               && byte_unit_explain_unit("bix", 3, 0, NULL, 0) == 48);
     check("error_position", byte_unit_error_position(NULL, 0, &position) && position == 0);

@@ -114,6 +114,8 @@ static void details_of_errors(void)
     code = byte_unit_parse("1000.5 RB", 9, 0, &size, &error);
     expect_true("a number that is too large", code == BYTE_UNIT_EXCEEDED_BOUNDS && error.number.whole.low == 1000
                                                   && error.number.fraction.high == 271050543 && error.character == 0);
+    byte_unit_parse("1 bI", 4, 0, &size, &error); /* too early: a unit goes on with `t` there */
+    expect_true("a unit that ends too early", error.character == 'i' && error.position == 4);
     expect_true("the position", byte_unit_error_position("12 Kiq", 6, &position) && position == 5);
     expect_true("the end", byte_unit_error_position("  1. ", 5, &position) && position == 4);
     expect_true("no position", !byte_unit_error_position("1000.5 RB", 9, &position) && position == 4);

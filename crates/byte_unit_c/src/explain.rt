@@ -19,9 +19,9 @@ use byte_unit_base::size::Outcome;
 use byte_unit_base::{Flags, ParseError, Reason, error_at, size};
 
 /// Writes the error message for a string that is rejected to the start of `out`, and returns its length, at most 256
-/// bytes. Returns the length and writes nothing if `out` is shorter. Returns 0 if and only if the string represents a
-/// size, and then writes nothing. The flags are those of `byte_unit_parse_to`; for another, the message is
-/// `a flag is unknown`.
+/// bytes. Returns the length and writes nothing if `out` is shorter. Returns 0 if and only if all flags are known and
+/// the string represents a size, and then writes nothing. The flags are those of `byte_unit_parse_to`; for another, the
+/// message is `a flag is unknown`.
 ///
 /// For example, `-1` gives 33, the length of `the character '-' is not a number`.
 #[unsafe(no_mangle)]
@@ -123,9 +123,9 @@ fn explain_size(answer: Result<u128, ParseError>, out: &mut [u8]) -> usize
 }
 
 /// Writes the error message for a string that is not a unit to the start of `out`, and returns its length, at most 256
-/// bytes. Returns the length and writes nothing if `out` is shorter. Returns 0 if and only if the string spells a unit,
-/// and then writes nothing. The flags are those of `byte_unit_parse_unit_to`; for another, the message is
-/// `a flag is unknown`.
+/// bytes. Returns the length and writes nothing if `out` is shorter. Returns 0 if and only if all flags are known and
+/// the string spells a unit, and then writes nothing. The flags are those of `byte_unit_parse_unit_to`; for another,
+/// the message is `a flag is unknown`.
 ///
 /// For example, `Kx` gives 71, the length of `the character 'x' is incorrect ('B' or 'b' or no character is expected)`.
 #[unsafe(no_mangle)]
