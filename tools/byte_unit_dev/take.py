@@ -69,7 +69,7 @@ def take(named, is_update, more=(), with_proofs=False):
     ignored = bytes_of(there / ".gitignore")
     if b"out/" not in map(bytes.rstrip, ignored.splitlines()):
         changes.append(".gitignore: added `out/`")
-        ignored = ended(ignored) + b"out/\n"
+        ignored = with_line(ignored, b"out/")
     files.update({"crates.txt": rows, ".gitignore": ignored})
     places = {(there / name).resolve(): content for name, content in files.items()}
     written = {place: content for place, content in places.items()
@@ -200,9 +200,10 @@ def commit(crates):
     return name + " (modified)" * bool(first_line("git", "status", "--porcelain", "--", *ours))
 
 
-def ended(text):
-    """Returns the text, with a newline at its end unless it is empty."""
-    return text if text.endswith(b"\n") else text and text + b"\n"
+def with_line(text, line):
+    """Returns the text with one line more, which ends as the others do."""
+    end = b"\r\n" if b"\r\n" in text else b"\n"
+    return (text if text.endswith(b"\n") else text and text + end) + line + end
 
 
 def row_of(crate):
@@ -217,7 +218,7 @@ def with_rows(text, crates):
         ours = row_of(crate).search(bytes_of(HERE / "crates.txt"))[2]
         theirs = row_of(crate).search(text)
         if not theirs:
-            text = ended(text) + ours + b"\n"
+            text = with_line(text, ours)
             changes.append(f"crates.txt: added `{ours.decode()}`")
         elif theirs[2] != ours:
             text = text[:theirs.start(2)] + ours + text[theirs.end(2):]

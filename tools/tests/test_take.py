@@ -5,10 +5,11 @@ import shutil
 import subprocess
 from functools import partial
 from hashlib import sha256
+from pathlib import Path
 
 import pytest
 from byte_unit_dev import replace, take
-from byte_unit_dev.fixtures import ROOT, call, need, output
+from byte_unit_dev.fixtures import ROOT, Failure, call, need, output
 from byte_unit_dev.source import library
 
 CRATES = library()
@@ -22,11 +23,17 @@ def write(top, files):
         (top / name).write_text(text)
 
 
-def contents(top, times=False):
-    """Returns the checksum of each file, and None of each empty folder, by its path; with `times`, also the time."""
-    found = [path for path in top.rglob("*") if not path.is_dir() or not os.listdir(path)]
-    sums = {path: None if path.is_dir() else sha256(path.read_bytes()).hexdigest() for path in found}
-    return {str(path.relative_to(top)): (sums[path], times and path.stat().st_mtime_ns) for path in found}
+def contents(top, whole=False):
+    """Returns the checksum of each file, the target of each link, and None of each empty folder, by its path; with
+    `whole`, also its mode and time."""
+    def content(path):
+        if path.is_symlink():
+            return path.readlink()
+        return None if path.is_dir() else sha256(path.read_bytes()).hexdigest()
+
+    found = [path for path in top.rglob("*") if path.is_symlink() or not path.is_dir() or not os.listdir(path)]
+    more = {path: whole and (path.lstat().st_mode, path.lstat().st_mtime_ns) for path in found}
+    return {str(path.relative_to(top)): (content(path), more[path]) for path in found}
 
 
 @pytest.fixture
@@ -62,18 +69,18 @@ def copied(here, there):
 
 def run(here, *words, status=0):
     """Calls `tools/dev take`, and returns what it prints. If it fails, that is one line, and nothing changes."""
-    before = contents(here.parent, times=True)
+    before = contents(here.parent, whole=True)
     ran = call(here / "tools/dev", "take", *words, stderr=subprocess.PIPE, cwd=here)
     assert ran.returncode == status and bool(ran.stderr) == bool(status) != bool(ran.stdout)
     if status:
-        assert contents(here.parent, times=True) == before and (status == 2 or ran.stderr.count("\n") == 1)
+        assert contents(here.parent, whole=True) == before and (status == 2 or ran.stderr.count("\n") == 1)
     return ran.stdout + ran.stderr
 
 
 def change(here):
     """Makes the next version: edits files, adds one, removes all of a folder, and changes the line of a crate."""
     lines = (here / "crates.txt").read_text().replace("byte_unit_math:\n", "byte_unit_math: core\n", 1)
-    write(here, {"crates.txt": lines, "VERSION": "2.0.0\n", f"{MATH}/specs/New.antt": "-- New.\n"})
+    write(here, {"crates.txt": lines, "VERSION": "2.0.0\n", f"{MATH}/specs/new/in/New.antt": "-- New.\n"})
     write(here, {f"crates/{crate}/src/lib.rt": "// The next version.\n" for crate in CRATES})
     shutil.rmtree(here / "crates/byte_unit/specs")
 
@@ -102,8 +109,9 @@ def test_wrong_calls(here, copied):
     for missing in (f"{copied}/x", "", f"{copied}/crates.txt"):
         assert f"{missing}: there is no such folder" in run(here, missing, status=1)
     here.with_name("link").symlink_to(here)
-    assert "this repository" in run(here, here.with_name("link"), status=1)
-    assert "this repository" in run(here, "--update", here, status=1)
+    for inside in (here.with_name("link"), here / "crates", here.with_name("link") / "tools"):
+        for words in ([inside], ["--update", inside]):
+            assert "this repository, or in it" in run(here, *words, status=1)
     for words in ([], [copied, here], ["--force", copied]):
         assert "usage:" in run(here, *words, status=2)
     assert run(here, "--help").startswith("usage:")
@@ -118,9 +126,9 @@ def test_not_free(here, there):
 
 
 def test_changes_there(here, copied):
-    before = contents(copied, times=True)
+    before = contents(copied, whole=True)
     assert "up to date: 1.0.0" in run(here, "--update", copied)
-    assert contents(copied, times=True) == before
+    assert contents(copied, whole=True) == before
     write(copied / MATH, {"src/lib.rt": "// Edited.\n", "must-fail/own.edit": ""})
     (copied / "crates/byte_unit/LICENSE").unlink()
     found = f"crates/byte_unit/LICENSE was removed; {MATH}/must-fail/own.edit was added; {MATH}/src/lib.rt was edited"
@@ -128,19 +136,59 @@ def test_changes_there(here, copied):
 
 
 def test_update(here, copied):
-    lines, kept = (copied / "crates.txt").read_text(), contents(copied, times=True)
+    lines, kept = (copied / "crates.txt").read_text(), contents(copied, whole=True)
+    write(copied, {".crates.txt.new": "", ".crates.txt.old": ""})  # left by an update that was killed
+    modes = {"crates.txt": 0o600, f"{MATH}/src/lib.rt": 0o640}
+    for name, mode in modes.items():
+        (copied / name).chmod(mode)
     change(here)
     said = run(here, "--update", copied)
     assert "updated from 1.0.0, commit unknown to 2.0.0, commit unknown" in said
     assert "crates.txt: `byte_unit_math:` is now `byte_unit_math: core`" in said
     assert (copied / "crates.txt").read_text() == lines.replace("byte_unit_math:\n", "byte_unit_math: core\n", 1)
-    now, anew = contents(copied, times=True), here.with_name("anew")
+    assert not list(copied.glob(".crates.txt.*"))
+    modes[f"{MATH}/specs/new/in/New.antt"] = 0o644
+    assert {name: (copied / name).stat().st_mode & 0o777 for name in modes} == modes
+    now, anew = contents(copied, whole=True), here.with_name("anew")
     stay = [path for path in kept if "/out/" in path or path.startswith("crates/quota") or path == ".gitignore"]
     assert len(stay) == len(CRATES) + 2 and all(now[path] == kept[path] for path in stay)
     anew.mkdir()
     run(here, anew)
     now = {path: row for path, row in contents(copied).items() if path.startswith("crates/") and path not in stay}
     assert now == {path: row for path, row in contents(anew).items() if path.startswith("crates/")}
+
+
+def test_links(here, there):
+    """Writes through the links of the other repository, but updates no copy with a link in place of a file."""
+    links = {there / "crates.txt": there / "rows", there / "crates": there.with_name("packages")}
+    for link, place in links.items():
+        link.rename(place)
+        link.symlink_to(place)
+    run(here, there)
+    change(here)
+    run(here, "--update", there)
+    assert {link: link.readlink() for link in links} == links
+    assert "byte_unit_math: core\n" in (there / "rows").read_text()
+    assert (there.with_name("packages") / "byte_unit_math/specs/new/in/New.antt").read_text() == "-- New.\n"
+    source = there / MATH / "src/lib.rt"
+    source.rename(there / "lib.rt")
+    source.symlink_to(there / "lib.rt")
+    (there / MATH / "specs/more").symlink_to(there / MATH / "specs/new")
+    found = f"{MATH}/specs/more was added; {MATH}/src/lib.rt was edited"
+    assert f": {found}; nothing was changed\n" in run(here, "--update", there, status=1)
+
+
+def test_line_ends(here, there):
+    """In a file whose lines end in CR LF, the added and the changed lines do."""
+    (there / "crates.txt").write_bytes(b"example: core\r\nquota: byte_unit")
+    (there / ".gitignore").write_bytes(b"*.log\r\n")
+    run(here, there)
+    change(here)
+    run(here, "--update", there)
+    lines = (there / "crates.txt").read_bytes().split(b"\r\n")
+    assert lines[1] == b"quota: byte_unit" and b"byte_unit_math: core" in lines
+    assert len(lines) == 3 + len(CRATES) and not lines[-1] and not any(b"\n" in line for line in lines)
+    assert (there / ".gitignore").read_bytes() == b"*.log\r\nout/\r\n"
 
 
 def test_serde(here, there, copied):
@@ -187,30 +235,53 @@ def test_proofs(here, there, copied, monkeypatch):
 
 @pytest.mark.parametrize("error", [OSError(28, "No space left on device"), KeyboardInterrupt()])
 def test_each_failure(here, copied, monkeypatch, error):
-    """If one of the moves of an update fails, or a signal comes there, nothing changes."""
+    """If a call of an update that changes the other repository fails, or a signal comes after it, nothing changes."""
     change(here)
-    # A file of each crate, crates.txt, the record, the file that is new, and the one that is removed.
-    before, left, moves = contents(copied), [], len(CRATES) + 4
+    before, left = contents(copied, whole=True), [0]
+    # What was changed: a file of each crate, crates.txt, the record. Two folders and a file are new, a file is removed.
+    changed = len(CRATES) + 2
+    calls = {"mkdir": 2, "copy2": changed + 1, "fsync": changed + 1, "replace": changed + 1, "remove": 1}
     monkeypatch.setattr(take, "HERE", here)
     monkeypatch.setattr(take, "first_line", lambda *words: None)
     monkeypatch.setattr(replace, "on_signals", lambda handler: None)
 
-    def counted(move, *words):
+    def counted(made, *words, **more):
         left[0] -= 1
+        if left[0] == -1 and isinstance(error, OSError):
+            raise error
+        value = made(*words, **more)
         if left[0] == -1:
             raise error
-        move(*words)
+        return value
 
-    for name in ("replace", "remove"):
-        monkeypatch.setattr(os, name, partial(counted, getattr(os, name)))
-    for tried in range(moves):
+    for name in calls:
+        module = shutil if name == "copy2" else os
+        monkeypatch.setattr(module, name, partial(counted, getattr(module, name)))
+    for tried in range(sum(calls.values())):
         left[:] = [tried]
         with pytest.raises(type(error)):
             take.take(str(copied), True)
-        assert contents(copied) == before
-    left[:] = [moves]
+        assert contents(copied, whole=True) == before
+    left[:] = [sum(calls.values())]
     take.take(str(copied), True)
-    assert left == [0] and contents(copied) != before
+    assert left == [0] and contents(copied, whole=True) != before
+
+
+def test_replaced_links(tmp_path, monkeypatch):
+    """A link is replaced, not what it leads to, but not a link to a folder. If another file cannot be replaced, the link
+    is there again."""
+    monkeypatch.setattr(replace, "on_signals", lambda handler: None)
+    write(tmp_path, {"file": "Its own."})
+    (tmp_path / "link").symlink_to("file")
+    before, files = contents(tmp_path, whole=True), {tmp_path / "link": "elsewhere", tmp_path / "new/in/file": b""}
+    with pytest.raises(FileNotFoundError):
+        replace.replace({**files, tmp_path / "none": None}, {})
+    assert contents(tmp_path, whole=True) == before
+    replace.replace(files, {})
+    (tmp_path / "folder").symlink_to("new")
+    with pytest.raises(Failure, match="folder is a folder"):
+        replace.replace({tmp_path / "folder": b""}, {})
+    assert contents(tmp_path)["link"] == (Path("elsewhere"), False) and (tmp_path / "file").read_text() == "Its own."
 
 
 def test_commit(here, copied):
