@@ -8,11 +8,10 @@ import shutil
 from pathlib import Path
 
 from .common import Failure, output, path, write
-from .needs import DEBIAN_PYTHON, DEBIAN_RUST, is_there
+from .needs import DEBIAN_PYTHON, DEBIAN_RUST, SERDE, is_there
 
-# The crates that the original, the package and their programs need, as Debian installs them.
-CRATES = ("rust_decimal", "utf8-width", "serde", "serde_json", "toml")
-NEEDS = ["cargo", *(f"{DEBIAN_RUST}/{name}-*" for name in CRATES)]
+# What the original, the package and their programs need, with the crates as Debian installs them.
+NEEDS = ["cargo", *(f"{DEBIAN_RUST}/{name}-*" for name in ("rust_decimal", "utf8-width")), *SERDE]
 # The crates that Debian installs take the place of the registry.
 CONFIG = f"""[source.crates-io]
 replace-with = "debian"

@@ -20,7 +20,7 @@ from .builds import CONFIG, copied, environment, wheel
 from .common import ROOT, Failure, call, copy_to, output, path, read, write
 from .libraries import AARCH64, WASM
 from .model.exact import output_for, some_line
-from .needs import DEBIAN_PYTHON, DEBIAN_RUST, PACKAGES, PYTHON_PACKAGE, is_there
+from .needs import DEBIAN_PYTHON, PACKAGES, PYTHON_PACKAGE, SERDE, is_there
 
 # The first cargo of the path, and Debian's.
 CARGOS = list(dict.fromkeys([shutil.which("cargo") or "cargo", "/usr/bin/cargo"]))
@@ -28,8 +28,6 @@ CARGOS = list(dict.fromkeys([shutil.which("cargo") or "cargo", "/usr/bin/cargo"]
 AARCH64_CC, AARCH64_RUN = "aarch64-linux-gnu-gcc", ["qemu-aarch64", "-L", "/usr/aarch64-linux-gnu"]
 # Node 18 and 20 have 64-bit memory only with this option.
 NODE = ["node", "--experimental-wasm-memory64"]
-# The crates by which the feature `serde` of the Rust package is built and tested.
-SERDE = [f"{DEBIAN_RUST}/{name}-*" for name in ("serde", "serde_json", "toml")]
 
 
 def pytest_addoption(parser):
@@ -279,7 +277,7 @@ def rust_package(tmp_path_factory):
     if all(map(is_there, SERDE)):
         write(f"{package}/.cargo/config.toml", CONFIG)
         return package
-    text = re.sub(r'^serde = {.*\n|^(serde_json|toml) = .*\n', "", read(f"{package}/Cargo.toml"), flags=re.M)
+    text = re.sub(r"^serde = {.*\n|^\[dev-dependencies\]\n(.+\n)+", "", read(f"{package}/Cargo.toml"), flags=re.M)
     write(f"{package}/Cargo.toml", text.replace('serde = ["dep:serde"]', "serde = []"))
     return package
 

@@ -19,6 +19,9 @@ POSTGRES_H = "/usr/include/postgresql/15/server/postgres.h"
 # By which the kernel runs programs for aarch64.
 QEMU_AARCH64 = "/usr/lib/binfmt.d/qemu-aarch64.conf"
 DEBIAN_PYTHON, PYTHON_H = "/usr/bin/python3", "/usr/include/python3.*/Python.h"
+# The crates with which the feature `serde` of the Rust package is tested.
+SERDE = {f"{DEBIAN_RUST}/{name}-[0-9]*": f"librust-{name.replace('_', '-')}-dev"
+         for name in ("serde", "serde_derive", "serde_json", "toml", "quick-xml", "serde-xml-rs")}  # fmt: skip
 # What tests need, and the package that has it. A need is a program; a file, if it begins with a slash; a C header; or a
 # module of Debian's Python.
 PACKAGES = {
@@ -32,8 +35,7 @@ PACKAGES = {
     "import dask.dataframe": "python3-dask", "import distributed": "python3-distributed", "cargo": "cargo",
     "rustc": "rustc", "/usr/bin/cargo": "cargo", "/usr/bin/rustc": "rustc", "/usr/bin/time": "time",
     "cargo-clippy": "rust-clippy", "cargo-fmt": "rustfmt",
-    f"{DEBIAN_RUST}/serde_json-*": "librust-serde-json-dev", f"{DEBIAN_RUST}/serde-*": "librust-serde-dev",
-    f"{DEBIAN_RUST}/toml-*": "librust-toml-dev", "git": "git", f"{POSTGRESQL_15}/bin/initdb": "postgresql-15",
+    **SERDE, "git": "git", f"{POSTGRESQL_15}/bin/initdb": "postgresql-15",
     "node": "nodejs", "tsc": "node-typescript", "chromium": "chromium", "chromedriver": "chromium-driver",
     "aarch64-linux-gnu-gcc": "gcc-aarch64-linux-gnu", "qemu-aarch64": "qemu-user",
     "/usr/aarch64-linux-gnu/include/stdio.h": "libc6-dev-arm64-cross",

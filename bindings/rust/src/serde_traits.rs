@@ -1,11 +1,12 @@
 //! The traits of serde: a size is written as a string with its unit, or in a binary format as a number, and read from a
-//! string or an integer; an adjusted size and a unit are strings.
+//! string, an integer or the text of an XML element; an adjusted size and a unit are strings.
 
+use core::convert::Infallible;
 use core::fmt::{self, Display, Formatter};
 use core::marker::PhantomData;
 use core::str::FromStr;
 
-use serde::de::{Error, Visitor};
+use serde::de::{DeserializeSeed, Error, IgnoredAny, MapAccess, Unexpected, Visitor};
 use serde::{Deserialize, Deserializer, Serialize, Serializer};
 
 use crate::{AdjustedBit, AdjustedByte, Bit, Byte, Unit};
@@ -34,13 +35,40 @@ where
     }
 }
 
+impl<'de, T: Parsed> DeserializeSeed<'de> for Parser<T>
+where
+    T::Err: Display,
+{
+    type Value = T;
+
+    fn deserialize<D: Deserializer<'de>>(self, deserializer: D) -> Result<T, D::Error> {
+        deserializer.deserialize_str(self)
+    }
+}
+
+/// Whether the key of a map is that of the text of an XML element, by `quick_xml` or `serde_xml_rs`.
+struct IsText(bool);
+
+impl FromStr for IsText {
+    type Err = Infallible;
+
+    fn from_str(key: &str) -> Result<Self, Infallible> {
+        Ok(IsText(key == "$text" || key == "$value"))
+    }
+}
+
+impl Parsed for IsText {
+    const EXPECTED: &'static str = "a key";
+}
+
 /// What is also converted from a number.
 trait Converted: Parsed {
     /// Converts a number, or returns `None` if it is too large.
     fn from_number(number: u128) -> Option<Self>;
 }
 
-/// Parses a string, or converts an integer. A number with a point or an exponent is an error.
+/// Parses a string or the text of an XML element, or converts an integer. A number with a point or an exponent is
+/// an error.
 struct Converter<T>(PhantomData<T>);
 
 /// Returns the error for an integer that is negative or too large.
@@ -79,6 +107,19 @@ where
             Ok(number) => self.visit_u128(number),
             Err(_) => Err(out_of_range::<T, E, _>(number)),
         }
+    }
+
+    /// Reads an XML element, which is a map of its attributes and its text.
+    fn visit_map<A: MapAccess<'de>>(self, mut map: A) -> Result<T, A::Error> {
+        let mut size = None;
+        while let Some(IsText(is_text)) = map.next_key_seed(Parser(PhantomData))? {
+            if !is_text {
+                map.next_value::<IgnoredAny>()?;
+            } else if size.replace(map.next_value_seed(Parser(PhantomData))?).is_some() {
+                return Err(A::Error::duplicate_field("$text"));
+            }
+        }
+        size.ok_or_else(|| A::Error::invalid_type(Unexpected::Map, &self))
     }
 }
 

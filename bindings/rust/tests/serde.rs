@@ -1,10 +1,11 @@
-//! The traits of serde: by JSON, by TOML, by each type of integer, and by a format that is not human-readable.
+//! The traits of serde: by JSON, TOML and XML, by each type of integer, and by a format that is not human-readable.
 
 use std::collections::HashMap;
+use std::fmt::Debug;
 
 use byte_unit::{AdjustedBit, AdjustedByte, Bit, Byte, Unit};
-use serde::de::value::Error;
-use serde::de::{Deserialize, Deserializer, Error as _, IntoDeserializer, Visitor};
+use serde::de::value::{Error, MapDeserializer};
+use serde::de::{Deserialize, DeserializeOwned, Deserializer, Error as _, IntoDeserializer, Visitor};
 use serde::ser::{Impossible, Serialize, Serializer};
 use serde_json::{from_str, from_value, to_string};
 
@@ -128,6 +129,46 @@ fn each_type_of_integer_is_read() {
     let error = from_number::<Byte, _>(1.5f64).unwrap_err().to_string();
     assert_eq!(error, format!("invalid type: floating point `1.5`, {EXPECTED}"));
     assert!(from_number::<Bit, _>(2.0f32).is_err());
+}
+
+#[test]
+fn an_xml_element_is_read_by_its_text() {
+    let read = |entries: &[(&'static str, &'static str)]| {
+        let map = || MapDeserializer::<_, Error>::new(entries.iter().copied());
+        (Byte::deserialize(map()), Bit::deserialize(map()))
+    };
+    for entries in [&[("$text", "1.5 KiB")][..], &[("$value", "1.5 KiB")], &[("@id", "7"), ("$text", "1.5 KiB")]] {
+        assert_eq!(read(entries), (Ok(Byte::from_u64(1536)), Ok(Bit::from_u64(12288))));
+    }
+    for (entries, reason) in [
+        (&[("$text", "x")][..], "the character 'x' is not a number"),
+        (&[("$text", "1"), ("$text", "0 KB")], "duplicate field `$text`"),
+        (&[("@id", "7")], "invalid type: map"),
+    ] {
+        let error = read(entries).0.unwrap_err().to_string();
+        assert!(error.starts_with(reason), "{error}");
+    }
+}
+
+/// Reads a document by `quick_xml`, and by `serde_xml_rs` the same.
+fn from_xml<T: DeserializeOwned + PartialEq + Debug>(document: &str) -> T {
+    let value = quick_xml::de::from_str(document).unwrap();
+    assert_eq!(serde_xml_rs::from_str::<T>(document).unwrap(), value);
+    value
+}
+
+#[test]
+fn sizes_in_xml() {
+    let document = "<config cache=\"1 KB\"><limit id=\"7\">\n 1.5 KiB </limit><most>12</most></config>";
+    let bytes = from_xml::<HashMap<String, Byte>>(document);
+    let bits = from_xml::<HashMap<String, Option<Bit>>>(document);
+    for (name, bytes_of, bits_of) in [("cache", 1000, 8000), ("limit", 1536, 12288), ("most", 12, 12)] {
+        assert_eq!((bytes[name], bits[name]), (Byte::from_u64(bytes_of), Some(Bit::from_u64(bits_of))));
+    }
+    let lists = from_xml::<HashMap<String, Vec<Byte>>>("<config><limit>1 KB</limit><limit>2</limit></config>");
+    assert_eq!(lists["limit"], [Byte::KILOBYTE, Byte::from_u64(2)]);
+    let written = serde_xml_rs::to_string(&HashMap::from([("limit", Bit::from_u64(1536))])).unwrap();
+    assert_eq!((written.as_str(), from_xml(&written)), ("<limit>1.5 Kib</limit>", Bit::from_u64(1536)));
 }
 
 #[test]
