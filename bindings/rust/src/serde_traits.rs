@@ -9,7 +9,8 @@ use core::str::FromStr;
 use serde::de::{DeserializeSeed, Error, IgnoredAny, MapAccess, Unexpected, Visitor};
 use serde::{Deserialize, Deserializer, Serialize, Serializer};
 
-use crate::{AdjustedBit, AdjustedByte, Bit, Byte, Unit};
+use crate::text::TEXT_LEN;
+use crate::{AdjustedBit, AdjustedByte, Bit, Byte, FormatSpec, Sign, Unit};
 
 /// What is parsed from a string.
 trait Parsed: FromStr {
@@ -164,14 +165,16 @@ macro_rules! serde_of_size {
         }
 
         impl Serialize for $Adjusted {
-            /// The greatest size has its own text, since its digits in a unit may be more than are parsed.
+            /// Writes the size in its unit, or as a size alone is written, if it is the greatest one or has more digits in
+            /// its unit than are parsed.
             fn serialize<S: Serializer>(&self, serializer: S) -> Result<S::Ok, S::Error> {
-                let size = $Size::from(*self);
-                match (size == $Size::MAX, serializer.is_human_readable()) {
-                    (true, true) => serializer.collect_str(&format_args!("{size:#}")),
-                    (true, false) => serializer.collect_str(&format_args!("{size:-#}")),
-                    (false, true) => serializer.collect_str(&format_args!("{self:#}")),
-                    (false, false) => serializer.collect_str(&format_args!("{self:-#}")),
+                let (size, readable) = ($Size::from(*self), serializer.is_human_readable());
+                let sign = if readable { Sign::Unset } else { Sign::Minus };
+                let mut out = [0; TEXT_LEN];
+                match self.write_text(FormatSpec { sign, ..FormatSpec::ALTERNATE }, &mut out) {
+                    Ok(text) if size != $Size::MAX && text.parse() == Ok(size) => serializer.serialize_str(text),
+                    _ if readable => serializer.collect_str(&format_args!("{size:#}")),
+                    _ => serializer.collect_str(&format_args!("{size:-#}")),
                 }
             }
         }

@@ -13,7 +13,7 @@ use crate::unit::Unit;
 const MOST_PLACES: usize = 93;
 
 /// More than the length of each text without a width, with at most `MOST_PLACES` digits after the point.
-const TEXT_LEN: usize = 160;
+pub(crate) const TEXT_LEN: usize = 160;
 
 /// A buffer for such a text, which only the library writes.
 type Buffer = [MaybeUninit<u8>; TEXT_LEN];

@@ -3,7 +3,7 @@
 use std::collections::HashMap;
 use std::fmt::Debug;
 
-use byte_unit::{AdjustedBit, AdjustedByte, Bit, Byte, Unit};
+use byte_unit::{AdjustedBit, AdjustedByte, Bit, Byte, Unit, UnitType};
 use serde::de::value::{Error, MapDeserializer};
 use serde::de::{Deserialize, DeserializeOwned, Deserializer, Error as _, IntoDeserializer, Visitor};
 use serde::ser::{Impossible, Serialize, Serializer};
@@ -183,6 +183,27 @@ fn units_and_adjusted_sizes_are_strings() {
     assert_eq!(from_str::<AdjustedByte>(&to_string(&greatest).unwrap()).unwrap(), greatest);
     let bit = Bit::from_u64(12).get_adjusted_unit(Unit::B);
     assert_eq!(from_str::<AdjustedBit>(&to_string(&bit).unwrap()).unwrap(), bit);
+    // 2^-28 has 28 digits after the point, and 2^-29 one more than is parsed.
+    for (number, text) in [(4, "\"3.0000000037252902984619140625 GiB\""), (2, "\"3221225.474 KB\"")] {
+        let size = Byte::from_u64((3 << 30) + number);
+        assert_eq!(to_string(&size.get_adjusted_unit(Unit::GiB)).unwrap(), text);
+    }
+}
+
+#[test]
+fn each_stored_adjusted_size_is_read() {
+    let mut state = 1u128;
+    for at in 0..20_000 {
+        // A linear congruential generator, for numbers of any length up to 30 digits.
+        state = state.wrapping_mul(0x2360_ed05_1fc6_5da4_4385_df64_9fcc_f645).wrapping_add(1);
+        let number = (state >> 27) % 10u128.pow(at % 31);
+        let (byte, bit) = (Byte::from_u128(number).unwrap(), Bit::from_u128(number).unwrap());
+        for unit_type in [UnitType::Binary, UnitType::Decimal, UnitType::Both] {
+            let (byte, bit) = (byte.get_appropriate_unit(unit_type), bit.get_appropriate_unit(unit_type));
+            assert_eq!(from_str::<AdjustedByte>(&to_string(&byte).unwrap()).unwrap(), byte);
+            assert_eq!(from_str::<AdjustedBit>(&to_string(&bit).unwrap()).unwrap(), bit);
+        }
+    }
 }
 
 /// A format that is not human-readable, and shows what it is given.
@@ -298,6 +319,8 @@ fn in_a_binary_format_sizes_are_numbers() {
     assert_eq!(Unit::KiB.serialize(Binary).unwrap(), "text KiB");
     let adjusted = Byte::from_u64(1536).get_adjusted_unit(Unit::KB);
     assert_eq!(adjusted.serialize(Binary).unwrap(), "text 1.536KB");
+    let long = Byte::from_u64((3 << 30) + 2).get_adjusted_unit(Unit::GiB);
+    assert_eq!(long.serialize(Binary).unwrap(), "text 3221225.474KB");
     assert_eq!(Byte::deserialize(Number(7)).unwrap().as_u64(), 7);
     assert_eq!(Bit::deserialize(Number(10u128.pow(30) - 1)).unwrap(), Bit::MAX);
     let error = Byte::deserialize(Number(10u128.pow(30))).unwrap_err().to_string();
