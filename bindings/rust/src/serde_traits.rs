@@ -68,8 +68,7 @@ trait Converted: Parsed {
     fn from_number(number: u128) -> Option<Self>;
 }
 
-/// Parses a string or the text of an XML element, or converts an integer. A number with a point or an exponent is
-/// an error.
+/// Parses a string or the text of an XML element, or converts an integer. A float is an error.
 struct Converter<T>(PhantomData<T>);
 
 /// Returns the error for an integer that is negative or too large.
@@ -108,6 +107,11 @@ where
             Ok(number) => self.visit_u128(number),
             Err(_) => Err(out_of_range::<T, E, _>(number)),
         }
+    }
+
+    fn visit_f64<E: Error>(self, number: f64) -> Result<T, E> {
+        let why = "the format hands over a float, which may be rounded: write the number with a unit, as a string";
+        Err(E::custom(format_args!("invalid type: floating point `{number}`, expected {}; {why}", T::EXPECTED)))
     }
 
     /// Reads an XML element, which is a map of its attributes and its text.

@@ -35,6 +35,9 @@ fn errors_name_the_reason() {
 const EXPECTED: &str =
     "expected a string such as \"123\", \"123KiB\", \"50.84 MB\", or a non-negative integer smaller than 10^30";
 
+/// What follows it in the error for a float.
+const FLOAT: &str = "; the format hands over a float, which may be rounded: write the number with a unit, as a string";
+
 #[test]
 fn integers_are_numbers_of_bytes_or_bits() {
     for number in [0, 123456, i64::MAX as u64, u64::MAX] {
@@ -70,6 +73,7 @@ fn other_numbers_are_rejected() {
     ] {
         let error = from_str::<Byte>(text).unwrap_err().to_string();
         assert!(error.starts_with(reason) && error.contains(EXPECTED), "{text}: {error}");
+        assert_eq!(error.contains(FLOAT), reason.contains("floating point"), "{text}: {error}");
         assert!(from_str::<Bit>(text).is_err(), "{text}");
     }
     for text in ["7", "-1", "1.5"] {
@@ -127,7 +131,7 @@ fn each_type_of_integer_is_read() {
         assert_eq!(result.unwrap_err().to_string(), format!("invalid value: integer `{number}`, {EXPECTED}"));
     }
     let error = from_number::<Byte, _>(1.5f64).unwrap_err().to_string();
-    assert_eq!(error, format!("invalid type: floating point `1.5`, {EXPECTED}"));
+    assert_eq!(error, format!("invalid type: floating point `1.5`, {EXPECTED}{FLOAT}"));
     assert!(from_number::<Bit, _>(2.0f32).is_err());
 }
 
