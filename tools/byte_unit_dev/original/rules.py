@@ -18,7 +18,6 @@ RULES = {
     "limit": ("a size of 10^27 or more", "sizes below 10^27"),
     "letter": ("the letter `R`, and its units", "34 units, up to `YiB`"),
     "message": ("the number in the message of `ExceededBounds`", "the message of `ExceededBounds` shows the number"),
-    "quoted": ("how a message quotes a character", "a message quotes a character by the tables of Unicode of"),
     "quotient": ("the unit or its number, from the rounded quotient", "tests on a rounded quotient whether a unit"),
     "zeros": ("trailing zeros of a decimal alone", "keeps trailing zeros"),
     "float": ("an adjusted text: the shortest digits of the float", "has the shortest digits of the float"),
@@ -53,10 +52,9 @@ def unescaped(result):
 
 
 def of_messages(theirs, ours, first):
-    """Yields the rules of two messages about a unit, whose first character is given."""
+    """Yields the rule of two messages about a unit, whose first character is given."""
     of_letter = first and first in "Rr" and theirs.startswith(f"! the character '{first}' is incorrect ('B', 'K', ")
     yield "letter", of_letter or theirs.replace(*LAST_LETTERS) == ours
-    yield "quoted", unescaped(theirs).replace(*LAST_LETTERS) == unescaped(ours)
 
 
 def parsed(theirs, ours, text, kind, ignore_case):
