@@ -279,12 +279,16 @@ Datum size_explain(PG_FUNCTION_ARGS)
     PG_RETURN_TEXT_P(cstring_to_text(message));
 }
 
-/* Returns the text of a form as a result. */
-static Datum text_result(const Form *form)
+/* Returns the text of the first argument in a form, or NULL if that is NULL. */
+static Datum text_result(FunctionCallInfo fcinfo, Form form)
 {
     size_t len;
-    char *text = written(form, &len);
+    char *text;
 
+    if (PG_ARGISNULL(0))
+        PG_RETURN_NULL();
+    form.size = argument(fcinfo, 0);
+    text = written(&form, &len);
     PG_RETURN_TEXT_P(cstring_to_text_with_len(text, (int)len));
 }
 
@@ -308,13 +312,10 @@ static void set_precision(FunctionCallInfo fcinfo, int n, Form *form)
 PG_FUNCTION_INFO_V1(size_text);
 Datum size_text(PG_FUNCTION_ARGS)
 {
-    Form form;
+    Form form = form_of((ByteSize){ 0 }, true);
 
-    if (PG_ARGISNULL(0))
-        PG_RETURN_NULL();
-    form = form_of(argument(fcinfo, 0), true);
     set_precision(fcinfo, 1, &form);
-    return text_result(&form);
+    return text_result(fcinfo, form);
 }
 
 /* Returns the unit of a name. A blank name, which byte_unit_parse_unit takes for B, names none. */
@@ -338,14 +339,13 @@ static uint32 unit_of(Text name, uint32 flags)
 static Datum in_unit(FunctionCallInfo fcinfo, int precision_at, int flags_at)
 {
     uint32 flags = flags_argument(fcinfo, flags_at, BYTE_UNIT_IGNORE_CASE);
-    Form form;
+    Form form = form_of((ByteSize){ 0 }, false);
 
+    set_precision(fcinfo, precision_at, &form);
     if (PG_ARGISNULL(0) || PG_ARGISNULL(1))
         PG_RETURN_NULL();
-    form = form_of(argument(fcinfo, 0), false);
-    set_precision(fcinfo, precision_at, &form);
     form.unit = unit_of(text_argument(fcinfo, 1), flags);
-    return text_result(&form);
+    return text_result(fcinfo, form);
 }
 
 /* size_in(size, unit [, precision [, flags]]) */
@@ -383,15 +383,11 @@ static uint32 unit_type_argument(FunctionCallInfo fcinfo, int n)
 PG_FUNCTION_INFO_V1(size_pretty);
 Datum size_pretty(PG_FUNCTION_ARGS)
 {
-    uint32 unit_type = unit_type_argument(fcinfo, 1);
-    Form form;
+    Form form = form_of((ByteSize){ 0 }, false);
 
-    if (PG_ARGISNULL(0))
-        PG_RETURN_NULL();
-    form = form_of(argument(fcinfo, 0), false);
+    form.unit_type = unit_type_argument(fcinfo, 1);
     form.spec.has_precision = 1;
     form.spec.precision = 1;
     set_precision(fcinfo, 2, &form);
-    form.unit_type = unit_type;
-    return text_result(&form);
+    return text_result(fcinfo, form);
 }

@@ -55,8 +55,8 @@ static bool read_text(sqlite3_context *context, int argc, sqlite3_value **argv, 
     reading->text.at = NULL;
     reading->flags = 0;
     reading->code = BYTE_UNIT_INVALID_ARGUMENT;
-    if (sqlite3_value_type(argv[0]) == SQLITE_NULL
-        || (argc > 1 && !get_flags(context, argv[1], SIZE_FLAGS, &reading->flags)))
+    if ((argc > 1 && !get_flags(context, argv[1], SIZE_FLAGS, &reading->flags))
+        || sqlite3_value_type(argv[0]) == SQLITE_NULL)
         return false;
     if (!is_text(argv[0]))
         return true;
@@ -250,8 +250,8 @@ static void size_text(sqlite3_context *context, int argc, sqlite3_value **argv)
 {
     struct form form = { .spec = { .alternate = 1 } };
 
-    if (sqlite3_value_type(argv[0]) != SQLITE_NULL && get_size(context, argv[0], &form.size)
-        && get_options(context, argc - 1, argv + 1, BYTE_UNIT_BITS, &form))
+    if (get_options(context, argc - 1, argv + 1, BYTE_UNIT_BITS, &form)
+        && sqlite3_value_type(argv[0]) != SQLITE_NULL && get_size(context, argv[0], &form.size))
         return_form(context, &form);
 }
 
@@ -259,8 +259,8 @@ static void size_in(sqlite3_context *context, int argc, sqlite3_value **argv)
 {
     struct form form = { .write = byte_unit_adjusted_text };
 
-    if (sqlite3_value_type(argv[0]) != SQLITE_NULL && sqlite3_value_type(argv[1]) != SQLITE_NULL
-        && get_size(context, argv[0], &form.size) && get_options(context, argc - 2, argv + 2, UNIT_FLAGS, &form)
+    if (get_options(context, argc - 2, argv + 2, UNIT_FLAGS, &form) && sqlite3_value_type(argv[0]) != SQLITE_NULL
+        && sqlite3_value_type(argv[1]) != SQLITE_NULL && get_size(context, argv[0], &form.size)
         && get_unit(context, argv[1], form.flags, &form.unit_or_type))
         return_form(context, &form);
 }
@@ -283,10 +283,10 @@ static void size_pretty(sqlite3_context *context, int argc, sqlite3_value **argv
 {
     struct form form = { .write = byte_unit_approximate_text, .spec = { .precision = 1, .has_precision = 1 } };
 
-    if (sqlite3_value_type(argv[0]) != SQLITE_NULL && get_size(context, argv[0], &form.size)
-        && (argc < 2 || get_type(context, argv[1], &form.unit_or_type))
+    if ((argc < 2 || get_type(context, argv[1], &form.unit_or_type))
         && (argc < 3 || get_precision(context, argv[2], &form.spec))
-        && (argc < 4 || get_flags(context, argv[3], BYTE_UNIT_BITS, &form.flags)))
+        && (argc < 4 || get_flags(context, argv[3], BYTE_UNIT_BITS, &form.flags))
+        && sqlite3_value_type(argv[0]) != SQLITE_NULL && get_size(context, argv[0], &form.size))
         return_form(context, &form);
 }
 

@@ -23,6 +23,10 @@ SELECT size_in('1'::bytesize, 'KiX');
 SELECT size_in('1'::bytesize, ' ');
 SELECT size_pretty('123456789'), size_pretty('123456789', 'decimal'), size_pretty('123456789', 'both', 3), size_pretty('0'), size_pretty(NULL) IS NULL;
 SELECT size_pretty('1', 'bits');
+SELECT size_explain(NULL, NULL);
+SELECT size_parse(NULL, 'bogus');
+SELECT size_text(NULL, -1);
+SELECT size_pretty(NULL, 'both', NULL);
 -- Casts.
 SELECT 1536::bytesize, 9223372036854775807::bytesize, 1.2::bytesize, 99999999999999999999.5::bytesize, '1 KiB'::bytesize::numeric, '1 KiB'::bytesize::bigint;
 SELECT (-1)::bytesize;

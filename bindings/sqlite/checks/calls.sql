@@ -7,7 +7,15 @@ SELECT size_parse('1 Kb', 'ignore-case'); -- 1000
 SELECT size_parse('1 K', 'bits'); -- 1000
 SELECT size_parse('1 KB', ' bits  ignore-case '); -- 8000
 SELECT size_parse('1', ''); -- 1
-SELECT size_parse(NULL) IS NULL; -- 1
+SELECT size_parse(NULL) IS NULL, size_parse(NULL, 'binary') IS NULL, size_text(NULL, 3, 'bits') IS NULL; -- 1|1|1
+SELECT size_parse(NULL, 'bogus'); -- error: 'bogus' has flags other than 'bits', 'ignore-case' and 'binary'
+SELECT size_try(NULL, NULL); -- error: NULL is not a text of flags
+SELECT size_explain(NULL, NULL); -- error: NULL is not a text of flags
+SELECT size_sum(NULL, 'bogus'); -- error: 'bogus' has flags other than 'bits', 'ignore-case' and 'binary'
+SELECT size_text(NULL, -1); -- error: -1 is not a precision: an INTEGER from 0 to 65535 is expected
+SELECT size_in(NULL, 'KiB', 'binary'); -- error: 'binary' has flags other than 'bits' and 'ignore-case'
+SELECT size_in(1, NULL, -1); -- error: -1 is not a precision: an INTEGER from 0 to 65535 is expected
+SELECT size_pretty(NULL, 'iec'); -- error: 'iec' is not a type of units: 'binary', 'decimal' or 'both' is expected
 SELECT size_explain(NULL) IS NULL; -- 1
 SELECT size_explain(1536) IS NULL; -- 1
 SELECT size_explain('10 EB') IS NULL; -- 1
