@@ -36,26 +36,19 @@ struct form {
 
 /* ---- Messages: each names the value and the reason. ---- */
 
-/* Appends a control character as the library's messages have it: \n, or \u{1f}. */
-static void append_control(sqlite3_str *out, unsigned code)
+/* Appends a character as the library's message about it has it between quotes: escaped if it is not printable. */
+static void append_character(sqlite3_str *out, const char *character, size_t len)
 {
-    static const char names[] = "\0\t\n\r", letters[] = "0tnr";
-    const char *name = memchr(names, (int)code, sizeof names - 1);
+    char text[6] = "1", message[BYTE_UNIT_BUFFER_SIZE + 1] = "", *shown = message + strlen("the character '");
 
-    if (name != NULL)
-        sqlite3_str_appendf(out, "\\%c", letters[name - names]);
-    else
-        sqlite3_str_appendf(out, "\\u{%x}", code);
+    memcpy(text + 1, character, len);
+    text[len + 1] = '1';
+    byte_unit_explain(text, len + 2, 0, message, BYTE_UNIT_BUFFER_SIZE);
+    sqlite3_str_append(out, shown, (int)strcspn(shown, "'"));
 }
 
-/* Returns whether a control character past ASCII, U+0080 to U+009F, is at this place of UTF-8. */
-static bool is_wide_control(struct text text, size_t at)
-{
-    return text.len - at >= 2 && (unsigned char)text.at[at] == 0xC2 && (unsigned char)text.at[at + 1] < 0xA0;
-}
-
-/* Appends at most SHOWN bytes of a text between quotes, in whole characters. Control characters are escaped, and so
- * is, as \xff, each byte that is not ASCII if the text is not UTF-8. */
+/* Appends at most SHOWN bytes of a text between quotes, in whole characters. Those that are not printable are escaped,
+ * and so is, as \xff, each byte that is not ASCII if the text is not UTF-8. */
 static void append_quoted(sqlite3_str *out, struct text text, bool is_utf8)
 {
     size_t shown = text.len;
@@ -64,16 +57,15 @@ static void append_quoted(sqlite3_str *out, struct text text, bool is_utf8)
         for (shown = SHOWN; shown > SHOWN - 3 && ((unsigned char)text.at[shown] & 0xC0) == 0x80;)
             shown--;
     sqlite3_str_appendchar(out, 1, '\'');
-    for (size_t at = 0; at < shown; at++) {
+    for (size_t at = 0, len; at < shown; at += len) {
         unsigned char byte = (unsigned char)text.at[at];
-        if (byte < 0x20 || byte == 0x7F)
-            append_control(out, byte);
-        else if (is_utf8 && is_wide_control(text, at))
-            append_control(out, (unsigned char)text.at[++at]); /* after 0xC2 the byte is the code point */
-        else if (byte >= 0x80 && !is_utf8)
+        len = byte < 0x80 || !is_utf8 ? 1 : byte < 0xE0 ? 2 : byte < 0xF0 ? 3 : 4;
+        if (byte >= 0x80 && !is_utf8)
             sqlite3_str_appendf(out, "\\x%02x", byte);
-        else
+        else if (byte >= 0x20 && byte < 0x7F)
             sqlite3_str_appendchar(out, 1, text.at[at]);
+        else
+            append_character(out, text.at + at, len);
     }
     sqlite3_str_appendall(out, shown < text.len ? "'.." : "'");
 }

@@ -6,7 +6,7 @@ import sys
 from itertools import islice
 
 import pytest
-from byte_unit_dev.fixtures import call, compiled, need, output, path, read
+from byte_unit_dev.fixtures import call, compiled, need, output, path, quoted_characters, read
 from byte_unit_dev.model.exact import (SIZE_LIMIT, UNITS, WHITE_SPACE, WHOLE_LIMIT, Rejected, form, size_of, some_line,
                                        value_of)  # fmt: skip
 
@@ -84,6 +84,12 @@ def wrong_of(sql, rows):
     differing = [(*row, found) for row, found in zip(rows, seen)
                  if len(found) != len(row[1]) or not all(map(re.fullmatch, row[1], found))]  # fmt: skip
     return differing[:5] + list(lines)[:5]
+
+
+def test_characters_that_are_escaped(sql):
+    rows = [(f"SELECT size_parse('x' || char({ord(char)}));", [rf"error: 'x{re.escape(shown)}' is not a size: .*"])
+            for char, shown in quoted_characters()]  # fmt: skip
+    assert wrong_of(sql, rows) == []
 
 
 def wrong_place(text):

@@ -9,6 +9,7 @@ import re
 import shutil
 import subprocess
 import types
+import unicodedata
 from pathlib import Path
 
 import hypothesis
@@ -58,6 +59,14 @@ def ended(*words, **how):
     how = {"stdout": subprocess.PIPE, "stderr": subprocess.PIPE, "timeout": 600, **how}
     got = subprocess.run(words, check=False, **how)
     return got.returncode, got.stdout, got.stderr
+
+
+def quoted_characters():
+    """Returns characters, and what the quoted texts of messages have for each: all control and format characters and
+    separators of lines and paragraphs, but for U+0000, with their escapes, and some others, as they are."""
+    escaped = [char for char in map(chr, range(1, 0x110000)) if unicodedata.category(char) in ("Cc", "Cf", "Zl", "Zp")]
+    short = {"\t": "\\t", "\n": "\\n", "\r": "\\r"}
+    return [(c, short.get(c, f"\\u{{{ord(c):x}}}")) for c in escaped] + [(c, c) for c in " é¬ß字😀"]
 
 
 def redirected(how, *words, data=b"1 KB\n"):

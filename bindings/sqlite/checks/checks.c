@@ -116,9 +116,9 @@ static void with_zero_bytes(sqlite3 *db)
               " (character 3)");
     with_text(db, "SELECT size_in(1, ?)", "", 0, "'' is not a unit such as 'KiB' or 'MB'");
     with_text(db, "SELECT size_in(1, ?)", "\xc2\x85\xe3\x80\x80", 5,
-              "'\\u{85}\xe3\x80\x80' is not a unit such as 'KiB' or 'MB'");
+              "'\\u{85}\\u{3000}' is not a unit such as 'KiB' or 'MB'");
     with_text(db, "SELECT size_text(1, ?)", "\xc2\x80\xc2\x9f\xc2\xa0", 6,
-              "'\\u{80}\\u{9f}\xc2\xa0' has flags other than 'bits'");
+              "'\\u{80}\\u{9f}\\u{a0}' has flags other than 'bits'");
     with_text(db, "SELECT ? = '1' COLLATE SIZE", "1\0", 2, "0");
     with_text(db, "SELECT ? > '2' COLLATE SIZE", "1\0", 2, "1");
     with_text(db, "SELECT ? = '1.0 KB' COLLATE SIZE", "1000", 4, "1");
