@@ -5,7 +5,7 @@ import shutil
 
 import pytest
 from byte_unit_dev import postgresql
-from byte_unit_dev.fixtures import call, environment, need, output, path, read, write
+from byte_unit_dev.fixtures import call, environment, need, output, path, quoted_characters, read, write
 from byte_unit_dev.model.exact import Rejected, form, size_of, some_line
 from byte_unit_dev.needs import POSTGRESQL
 
@@ -209,20 +209,51 @@ def test_errors_leave_no_memory(server):
     assert int(after) - int(before) < 1 << 20
 
 
-@pytest.mark.parametrize("encoding", ["UTF8", "LATIN1", "SQL_ASCII"])
-def test_encodings(server, encoding):
-    name = f"in_{encoding.lower()}"
+def in_encoding(server, encoding, data, *statements):
+    """Returns the lines of statements in a database of an encoding, in which a row of `texts` has bytes as its text."""
+    name = f"in_{encoding.lower()}_{data.hex()}"
     server.sql(f"CREATE DATABASE {name} ENCODING '{encoding}' TEMPLATE template0;")
-    server.sql("CREATE EXTENSION byte_unit;", TRIED, database=name)
-    text = (
-        "convert_from('\\x%s', getdatabaseencoding())"
-        % "1 Ké".encode("latin1" if encoding == "LATIN1" else "utf8").hex()
-    )
-    got = server.sql("SET client_encoding = 'UTF8';" * (encoding != "SQL_ASCII"),
-                     f"SELECT size_explain({text});", "SELECT '1.5 KiB'::bytesize;", database=name)  # fmt: skip
-    assert got == ["the character 'é' is incorrect ('B' or 'b' or no character is expected) (character 4)", "1.5 KiB"]
-    if encoding == "SQL_ASCII":
-        assert server.sql("SELECT tried($$SELECT size_parse(E'1 \\xff')$$);", database=name)[0].startswith("22021")
+    return server.sql("CREATE EXTENSION byte_unit;", TRIED, "CREATE TABLE texts(size text);",
+                      f"INSERT INTO texts VALUES (convert_from('\\x{data.hex()}', '{encoding}'));",
+                      *statements, database=name)  # fmt: skip
+
+
+@pytest.mark.parametrize("encoding, data, char", [
+    ("UTF8", b"1 K\xc3\xa9", "é"), ("SQL_ASCII", b"1 K\xc3\xa9", "é"), ("LATIN1", b"1 K\xe9", "é"),
+    ("WIN1252", b"1 K\x80", "€"), ("WIN1251", b"1 K\xe6", "ж"), ("MULE_INTERNAL", b"1 Ke", "e"),
+])  # fmt: skip
+def test_encodings(server, encoding, data, char):
+    """Names a character that is converted from and to the encoding of the database."""
+    got = in_encoding(server, encoding, data, "SET client_encoding = 'UTF8';" * (encoding != "MULE_INTERNAL"),
+                      "SELECT size_explain(size) FROM texts;", "SELECT '1.5 KiB'::bytesize;")  # fmt: skip
+    reason = f"the character '{char}' is incorrect ('B' or 'b' or no character is expected) (character 4)"
+    assert got == [reason, "1.5 KiB"]
+
+
+@pytest.mark.parametrize("encoding, data", [
+    ("SQL_ASCII", b"1 \xe9"), ("WIN1252", b"1 \x81"), ("WIN1252", b"\xc2\x81"), ("WIN1251", b"1 \x98"),
+    ("MULE_INTERNAL", b"1 \x81\xe9"),
+])  # fmt: skip
+def test_texts_without_utf8(server, encoding, data):
+    """A text that has no UTF-8 is not a size, and does not end a statement by an error of its encoding."""
+    shown = "".join(chr(byte) if byte < 128 else f"\\x{byte:02x}" for byte in data)
+    invalid = f'22P02 invalid input syntax for type bytesize: "{shown}": The text is not UTF-8.'
+    answers = {"size_parse(size)": invalid, "size::bytesize": invalid, "size_explain(size)": "the text is not UTF-8",
+               "coalesce(size_try(size), '7 B')": "7 B",
+               "size_in(0::bytesize, size)": f'22023 "{shown}" is not a unit: The text is not UTF-8.',
+               "size_try('0', size)": f'22023 "{shown}" has flags other than ignore-case and binary: ',
+               "size_pretty('0', size)": f'22023 "{shown}" is not a unit type: binary, decimal or both is expected: ',
+               }  # fmt: skip
+    got = in_encoding(server, encoding, data, *[f"SELECT tried($$SELECT {call} FROM texts$$);" for call in answers],
+                      "ALTER TABLE texts ALTER size TYPE bytesize USING size_try(size);",
+                      "SELECT count(*), count(size) FROM texts;")  # fmt: skip
+    assert got == [*answers.values(), "1|0"]
+
+
+def test_characters_that_are_escaped(server):
+    rows = [(f"size_parse({quoted('x' + char)})", rf'22P02 .* type bytesize: "x{re.escape(shown)}": .*')
+            for char, shown in quoted_characters()]  # fmt: skip
+    assert wrong_of(server, rows) == []
 
 
 def test_compiled_expressions(server):

@@ -1,13 +1,12 @@
 /* Texts of the type bytesize: input, output, and the functions of SQLite's extension by the same names.
  *
- * The library reads UTF-8 and writes ASCII but for the character that a message repeats, so texts are converted from
- * and to the encoding of the database. Its calls do not allocate, keep no state and never jump: an error of the server
- * is raised between them alone, and memory of the server is all that a longjmp has to give back.
+ * The calls of the library do not allocate, keep no state and never jump: an error of the server is raised between them
+ * alone, and memory of the server is all that a longjmp has to give back.
  */
 #include "bytesize.h"
 
 #include "libpq/pqformat.h"
-#include "mb/pg_wchar.h"
+#include "message.h"
 #include "utils/builtins.h"
 
 PG_MODULE_MAGIC;
@@ -17,70 +16,7 @@ PG_MODULE_MAGIC;
 #define ereturn(context, result, ...) ereport(ERROR, __VA_ARGS__)
 #endif
 
-enum {
-    GREATEST_PRECISION = 65535, /* of a byte_unit_spec */
-    SHOWN = 64 /* bytes of a text that a message repeats */
-};
-
-/* A text in the encoding of the database, `shown`, and in UTF-8, `at`: the same memory if the two encodings agree. */
-typedef struct Text {
-    const char *shown;
-    int shown_len;
-    const char *at;
-    size_t len;
-} Text;
-
-static Text text_of(const char *shown, int shown_len)
-{
-    const char *at = pg_server_to_any(shown, shown_len, PG_UTF8);
-
-    return (Text){ shown, shown_len, at, at == shown ? (size_t)shown_len : strlen(at) };
-}
-
-static Text text_argument(FunctionCallInfo fcinfo, int n)
-{
-    text *value = PG_GETARG_TEXT_PP(n);
-
-    return text_of(VARDATA_ANY(value), VARSIZE_ANY_EXHDR(value));
-}
-
-/* byte_unit_explain or byte_unit_explain_unit, and the call that says where the error is. */
-typedef size_t ExplainCall(const char *text, size_t len, uint32 flags, char *out, size_t out_len);
-typedef bool PositionCall(const char *text, size_t len, size_t *position);
-
-/* Returns the message of a text that is rejected, as SQLite's size_explain has it: the reason, and the number, from 1,
- * of the wrong character, one past the last if the text ends too early. NULL if the text is not rejected. */
-static char *message_of(Text text, uint32 flags, ExplainCall *explain, PositionCall *position_of)
-{
-    char reason[BYTE_UNIT_BUFFER_SIZE + 1];
-    size_t len = explain(text.at, text.len, flags, reason, BYTE_UNIT_BUFFER_SIZE), position, character = 1;
-
-    if (len == 0 || len > BYTE_UNIT_BUFFER_SIZE)
-        return NULL;
-    reason[len] = '\0';
-    if (!position_of(text.at, text.len, &position))
-        return pg_any_to_server(pstrdup(reason), (int)len, PG_UTF8);
-    for (size_t at = 0; at < position; at++) /* counts the first bytes of characters */
-        character += ((unsigned char)text.at[at] & 0xC0) != 0x80;
-    return psprintf("%s (character %zu)", pg_any_to_server(reason, (int)len, PG_UTF8), character);
-}
-
-/* Returns a sentence: the message with a capital letter and a full stop. */
-static char *sentence_of(const char *message)
-{
-    char *sentence = psprintf("%s.", message == NULL ? "the text is not a size" : message);
-
-    sentence[0] = pg_toupper((unsigned char)sentence[0]);
-    return sentence;
-}
-
-/* Returns the text as it was given, cut after SHOWN bytes, in whole characters. */
-static char *shortened(Text text)
-{
-    if (text.shown_len <= SHOWN)
-        return pnstrdup(text.shown, text.shown_len);
-    return psprintf("%.*s..", pg_mbcliplen(text.shown, text.shown_len, SHOWN), text.shown);
-}
+enum { GREATEST_PRECISION = 65535 }; /* of a byte_unit_spec */
 
 /* Returns the SQLSTATE of an error of parsing. */
 static int sqlstate_of(uint32 code)
@@ -99,7 +35,7 @@ static Datum parsed(Text text, uint32 flags, fmNodePtr soft)
         return result_of(size);
     ereturn(soft, (Datum)0,
             (errcode(sqlstate_of(code)),
-             errmsg("invalid input syntax for type %s: \"%s\"", "bytesize", shortened(text)),
+             errmsg("invalid input syntax for type %s: \"%s\"", "bytesize", quoted(text)),
              errdetail("%s", sentence_of(message_of(text, flags, byte_unit_explain, byte_unit_error_position)))));
 }
 
@@ -110,7 +46,7 @@ Datum bytesize_in(PG_FUNCTION_ARGS)
 {
     const char *text = PG_GETARG_CSTRING(0);
 
-    return parsed(text_of(text, (int)strlen(text)), 0, fcinfo->context);
+    return parsed(text_of(text, strlen(text)), 0, fcinfo->context);
 }
 
 /* What to write: a size in `unit`; in the largest unit of `unit_type` not above it, if that is not NO_UNIT; or, if both
@@ -229,7 +165,7 @@ static uint32 flags_argument(FunctionCallInfo fcinfo, int n, uint32 allowed)
 
         if (flag == 0 && len > 0)
             ereport(ERROR, (errcode(ERRCODE_INVALID_PARAMETER_VALUE),
-                            errmsg("\"%s\" has flags other than %s", words,
+                            errmsg("\"%s\" has flags other than %s", quoted(text_argument(fcinfo, n)),
                                    allowed & BYTE_UNIT_BINARY_PREFIXES ? "ignore-case and binary" : "ignore-case")));
         flags |= flag;
         word += len + (word[len] == ' ');
@@ -326,10 +262,10 @@ static uint32 unit_of(Text name, uint32 flags)
 
     if (byte_unit_parse(name.at, name.len, 0, &unused, NULL) == BYTE_UNIT_NO_VALUE)
         ereport(ERROR, (errcode(ERRCODE_INVALID_PARAMETER_VALUE),
-                        errmsg("\"%s\" is not a unit such as KiB or MB", shortened(name))));
+                        errmsg("\"%s\" is not a unit such as KiB or MB", quoted(name))));
     if (code != BYTE_UNIT_OK)
         ereport(ERROR,
-                (errcode(ERRCODE_INVALID_PARAMETER_VALUE), errmsg("\"%s\" is not a unit", shortened(name)),
+                (errcode(ERRCODE_INVALID_PARAMETER_VALUE), errmsg("\"%s\" is not a unit", quoted(name)),
                  errdetail("%s", sentence_of(message_of(name, flags, byte_unit_explain_unit,
                                                         byte_unit_unit_error_position)))));
     return unit;
@@ -377,7 +313,8 @@ static uint32 unit_type_argument(FunctionCallInfo fcinfo, int n)
         if (strcmp(name, names[at]) == 0)
             return types[at];
     ereport(ERROR, (errcode(ERRCODE_INVALID_PARAMETER_VALUE),
-                    errmsg("\"%s\" is not a unit type: binary, decimal or both is expected", name)));
+                    errmsg("\"%s\" is not a unit type: binary, decimal or both is expected",
+                           quoted(text_argument(fcinfo, n)))));
 }
 
 PG_FUNCTION_INFO_V1(size_pretty);
