@@ -48,20 +48,27 @@ CREATE FUNCTION size_pretty(bytesize, unit_type text) RETURNS text
 CREATE FUNCTION size_pretty(bytesize, unit_type text, places integer) RETURNS text
     AS 'MODULE_PATHNAME' LANGUAGE C IMMUTABLE PARALLEL SAFE;
 
--- Casts: on assignment where no size changes, explicit where one may be rounded up or out of range.
+-- Casts: on assignment where no size changes, explicit where one may be rounded up or out of range. None is implicit:
+-- with one from integer, `integer * numeric` would be ambiguous.
+CREATE FUNCTION bytesize(smallint) RETURNS bytesize
+    AS 'MODULE_PATHNAME', 'bytesize_from_int2' LANGUAGE C IMMUTABLE STRICT PARALLEL SAFE;
 CREATE FUNCTION bytesize(integer) RETURNS bytesize
     AS 'MODULE_PATHNAME', 'bytesize_from_int4' LANGUAGE C IMMUTABLE STRICT PARALLEL SAFE;
 CREATE FUNCTION bytesize(bigint) RETURNS bytesize
     AS 'MODULE_PATHNAME', 'bytesize_from_int8' LANGUAGE C IMMUTABLE STRICT PARALLEL SAFE;
 CREATE FUNCTION bytesize(numeric) RETURNS bytesize
     AS 'MODULE_PATHNAME', 'bytesize_from_numeric' LANGUAGE C IMMUTABLE STRICT PARALLEL SAFE;
+CREATE FUNCTION "int4"(bytesize) RETURNS integer
+    AS 'MODULE_PATHNAME', 'bytesize_to_int4' LANGUAGE C IMMUTABLE STRICT PARALLEL SAFE;
 CREATE FUNCTION "int8"(bytesize) RETURNS bigint
     AS 'MODULE_PATHNAME', 'bytesize_to_int8' LANGUAGE C IMMUTABLE STRICT PARALLEL SAFE;
 CREATE FUNCTION "numeric"(bytesize) RETURNS numeric
     AS 'MODULE_PATHNAME', 'bytesize_to_numeric' LANGUAGE C IMMUTABLE STRICT PARALLEL SAFE;
+CREATE CAST (smallint AS bytesize) WITH FUNCTION bytesize(smallint) AS ASSIGNMENT;
 CREATE CAST (integer AS bytesize) WITH FUNCTION bytesize(integer) AS ASSIGNMENT;
 CREATE CAST (bigint AS bytesize) WITH FUNCTION bytesize(bigint) AS ASSIGNMENT;
 CREATE CAST (numeric AS bytesize) WITH FUNCTION bytesize(numeric);
+CREATE CAST (bytesize AS integer) WITH FUNCTION "int4"(bytesize);
 CREATE CAST (bytesize AS bigint) WITH FUNCTION "int8"(bytesize);
 CREATE CAST (bytesize AS numeric) WITH FUNCTION "numeric"(bytesize) AS ASSIGNMENT;
 
@@ -115,6 +122,41 @@ CREATE OPERATOR CLASS bytesize_minmax_ops DEFAULT FOR TYPE bytesize USING brin A
     FUNCTION 2 brin_minmax_add_value(internal, internal, internal, internal),
     FUNCTION 3 brin_minmax_consistent(internal, internal, internal),
     FUNCTION 4 brin_minmax_union(internal, internal, internal);
+
+-- Comparisons with numbers, exact also if the number is negative or has a fraction. The planner replaces a call by its
+-- body, so a comparison with a constant that is a size becomes one of two sizes, for which an index can be used.
+CREATE FUNCTION bytesize_holds(numeric) RETURNS boolean LANGUAGE SQL IMMUTABLE PARALLEL SAFE
+    RETURN $1 >= 0 AND $1 < 1e30 AND $1 = trunc($1);
+CREATE FUNCTION bytesize_eq(bytesize, numeric) RETURNS boolean LANGUAGE SQL IMMUTABLE PARALLEL SAFE
+    RETURN CASE WHEN bytesize_holds($2) THEN $1 = $2::bytesize ELSE $1::numeric = $2 END;
+CREATE FUNCTION bytesize_ne(bytesize, numeric) RETURNS boolean LANGUAGE SQL IMMUTABLE PARALLEL SAFE
+    RETURN CASE WHEN bytesize_holds($2) THEN $1 <> $2::bytesize ELSE $1::numeric <> $2 END;
+CREATE FUNCTION bytesize_lt(bytesize, numeric) RETURNS boolean LANGUAGE SQL IMMUTABLE PARALLEL SAFE
+    RETURN CASE WHEN bytesize_holds($2) THEN $1 < $2::bytesize ELSE $1::numeric < $2 END;
+CREATE FUNCTION bytesize_le(bytesize, numeric) RETURNS boolean LANGUAGE SQL IMMUTABLE PARALLEL SAFE
+    RETURN CASE WHEN bytesize_holds($2) THEN $1 <= $2::bytesize ELSE $1::numeric <= $2 END;
+CREATE FUNCTION bytesize_gt(bytesize, numeric) RETURNS boolean LANGUAGE SQL IMMUTABLE PARALLEL SAFE
+    RETURN CASE WHEN bytesize_holds($2) THEN $1 > $2::bytesize ELSE $1::numeric > $2 END;
+CREATE FUNCTION bytesize_ge(bytesize, numeric) RETURNS boolean LANGUAGE SQL IMMUTABLE PARALLEL SAFE
+    RETURN CASE WHEN bytesize_holds($2) THEN $1 >= $2::bytesize ELSE $1::numeric >= $2 END;
+CREATE OPERATOR = (LEFTARG = bytesize, RIGHTARG = numeric, FUNCTION = bytesize_eq);
+CREATE OPERATOR <> (LEFTARG = bytesize, RIGHTARG = numeric, FUNCTION = bytesize_ne);
+CREATE OPERATOR < (LEFTARG = bytesize, RIGHTARG = numeric, FUNCTION = bytesize_lt);
+CREATE OPERATOR <= (LEFTARG = bytesize, RIGHTARG = numeric, FUNCTION = bytesize_le);
+CREATE OPERATOR > (LEFTARG = bytesize, RIGHTARG = numeric, FUNCTION = bytesize_gt);
+CREATE OPERATOR >= (LEFTARG = bytesize, RIGHTARG = numeric, FUNCTION = bytesize_ge);
+CREATE FUNCTION bytesize_eq(numeric, bytesize) RETURNS boolean LANGUAGE SQL IMMUTABLE PARALLEL SAFE RETURN $2 = $1;
+CREATE FUNCTION bytesize_ne(numeric, bytesize) RETURNS boolean LANGUAGE SQL IMMUTABLE PARALLEL SAFE RETURN $2 <> $1;
+CREATE FUNCTION bytesize_lt(numeric, bytesize) RETURNS boolean LANGUAGE SQL IMMUTABLE PARALLEL SAFE RETURN $2 > $1;
+CREATE FUNCTION bytesize_le(numeric, bytesize) RETURNS boolean LANGUAGE SQL IMMUTABLE PARALLEL SAFE RETURN $2 >= $1;
+CREATE FUNCTION bytesize_gt(numeric, bytesize) RETURNS boolean LANGUAGE SQL IMMUTABLE PARALLEL SAFE RETURN $2 < $1;
+CREATE FUNCTION bytesize_ge(numeric, bytesize) RETURNS boolean LANGUAGE SQL IMMUTABLE PARALLEL SAFE RETURN $2 <= $1;
+CREATE OPERATOR = (LEFTARG = numeric, RIGHTARG = bytesize, FUNCTION = bytesize_eq);
+CREATE OPERATOR <> (LEFTARG = numeric, RIGHTARG = bytesize, FUNCTION = bytesize_ne);
+CREATE OPERATOR < (LEFTARG = numeric, RIGHTARG = bytesize, FUNCTION = bytesize_lt);
+CREATE OPERATOR <= (LEFTARG = numeric, RIGHTARG = bytesize, FUNCTION = bytesize_le);
+CREATE OPERATOR > (LEFTARG = numeric, RIGHTARG = bytesize, FUNCTION = bytesize_gt);
+CREATE OPERATOR >= (LEFTARG = numeric, RIGHTARG = bytesize, FUNCTION = bytesize_ge);
 
 -- Calculations.
 CREATE FUNCTION bytesize_add(bytesize, bytesize) RETURNS bytesize

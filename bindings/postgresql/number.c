@@ -21,14 +21,32 @@ Datum bytesize_from_int4(PG_FUNCTION_ARGS)
     return DirectFunctionCall1(bytesize_from_int8, Int64GetDatum(PG_GETARG_INT32(0)));
 }
 
-PG_FUNCTION_INFO_V1(bytesize_to_int8);
-Datum bytesize_to_int8(PG_FUNCTION_ARGS)
+PG_FUNCTION_INFO_V1(bytesize_from_int2);
+Datum bytesize_from_int2(PG_FUNCTION_ARGS)
+{
+    return DirectFunctionCall1(bytesize_from_int8, Int64GetDatum(PG_GETARG_INT16(0)));
+}
+
+/* Returns the size in the first argument as an integer of a type, or ends the statement with an error. */
+static int64 integer_argument(FunctionCallInfo fcinfo, uint64 greatest, const char *type)
 {
     ByteSize size = argument(fcinfo, 0);
 
-    if (size.high != 0 || size.low > PG_INT64_MAX)
-        ereport(ERROR, (errcode(ERRCODE_NUMERIC_VALUE_OUT_OF_RANGE), errmsg("bigint out of range")));
-    PG_RETURN_INT64((int64)size.low);
+    if (size.high != 0 || size.low > greatest)
+        ereport(ERROR, (errcode(ERRCODE_NUMERIC_VALUE_OUT_OF_RANGE), errmsg("%s out of range", type)));
+    return (int64)size.low;
+}
+
+PG_FUNCTION_INFO_V1(bytesize_to_int8);
+Datum bytesize_to_int8(PG_FUNCTION_ARGS)
+{
+    PG_RETURN_INT64(integer_argument(fcinfo, PG_INT64_MAX, "bigint"));
+}
+
+PG_FUNCTION_INFO_V1(bytesize_to_int4);
+Datum bytesize_to_int4(PG_FUNCTION_ARGS)
+{
+    PG_RETURN_INT32((int32)integer_argument(fcinfo, PG_INT32_MAX, "integer"));
 }
 
 /* Returns the size of a numeric, rounded up to a whole byte. */

@@ -136,7 +136,8 @@ def unescaped(text):
 
 
 def test_random_pairs_beside_numeric(server):
-    """Compares comparisons, casts, texts, sums, differences, products and quotients of 200,000 pairs with numeric."""
+    """Compares comparisons, casts, texts, sums, differences, products and quotients of 200,000 pairs with numeric, and
+    comparisons of 5,000 sizes with seven numbers each."""
     got = server.sql(
         "SELECT setseed(0.5);",
         "CREATE TEMP TABLE pairs AS SELECT trunc((random() * 1e15)::numeric * power(10::numeric, (random() * 11)::int))"
@@ -149,13 +150,18 @@ def test_random_pairs_beside_numeric(server):
         " OR (a >= b AND (x - least(x, y))::numeric <> a - b) OR (x * n)::numeric <> ceil(a * n)"
         " OR (x / n)::numeric <> div(a, n) OR bytesize_cmp(x, y) <> sign(a - b)"
         " OR (y > '0 B' AND x / y <> a / b) OR (x = y AND bytesize_hash(x) <> bytesize_hash(y));",
+        "SELECT count(*) FROM (SELECT a, a::bytesize AS x, c FROM (SELECT * FROM pairs LIMIT 5000) AS first,"
+        " unnest(ARRAY[a, b, a - 0.5, a + 0.5, -b, a + 1e30, 'NaN']) AS c) AS sized WHERE"
+        " (x = c) <> (a = c) OR (x <> c) <> (a <> c) OR (x < c) <> (a < c) OR (x <= c) <> (a <= c)"
+        " OR (x > c) <> (a > c) OR (x >= c) <> (a >= c) OR (c = x) <> (c = a) OR (c <> x) <> (c <> a)"
+        " OR (c < x) <> (c < a) OR (c <= x) <> (c <= a) OR (c > x) <> (c > a) OR (c >= x) <> (c >= a);",
         "SELECT array_agg(a ORDER BY a) = array_agg(a ORDER BY a::bytesize) FROM pairs;",
         "SELECT count(DISTINCT a) = count(DISTINCT a::bytesize), div(sum(a), count(*)) = avg(a::bytesize)::numeric,"
         " sum(a / 1e8) > 0, max(a) = max(a::bytesize)::numeric FROM pairs;",
         "SELECT count(*) = (SELECT count(*) FROM pairs p JOIN pairs q ON p.a = q.b) FROM pairs p JOIN pairs q"
         " ON p.a::bytesize = q.b::bytesize;",
     )  # fmt: skip
-    assert got == ["", "0", "t", "t|t|t|t", "t"]
+    assert got == ["", "0", "0", "t", "t|t|t|t", "t"]
 
 
 def test_dump_copy_and_logical_decoding(server):

@@ -34,10 +34,19 @@ SELECT (-0.5)::bytesize;
 SELECT 'NaN'::numeric::bytesize;
 SELECT 1e30::bytesize;
 SELECT '10 EB'::bytesize::bigint;
+SELECT 5::smallint::bytesize, '1 KiB'::bytesize::integer, '2147483647'::bytesize::integer;
+SELECT '2147483648'::bytesize::integer;
+SELECT (-5)::smallint::bytesize;
 CREATE TABLE assigned(size bytesize);
 INSERT INTO assigned VALUES (1024), ('1 KB'), (5000000000);
+INSERT INTO assigned SELECT 7::smallint;
 INSERT INTO assigned VALUES (1.5);
 SELECT * FROM assigned ORDER BY size;
+-- Comparisons with numbers.
+SELECT '1 KB'::bytesize > 999, 1000 = '1 KB'::bytesize, '1 KB'::bytesize < 1000.5, -1 < '0'::bytesize, '1 KB'::bytesize >= 'NaN'::numeric, (NULL::bytesize > -1) IS NULL;
+SELECT '1 KB'::bytesize BETWEEN 1 AND 1e3, '1 KB'::bytesize IN (5, 1000), '1 KB'::bytesize = ANY('{5,1000}'::smallint[]), '1 KB'::bytesize <> 1e30;
+-- No operator makes another ambiguous: a text beside a size is a size, and a number beside a number none.
+SELECT '1 KB'::bytesize > '1 B', '1 B' < '1 KB'::bytesize, 2 * 1.5, '1 KB'::bytesize / 2, '1 KB'::bytesize / '2';
 -- Calculations.
 SELECT '1 KiB'::bytesize + '1 B', '1 KiB'::bytesize - '24 B', '1 KiB'::bytesize * 1.5, 3 * '1 KiB'::bytesize, 0.0001 * '1 KB'::bytesize;
 SELECT '1 GB'::bytesize / 3, '1 KB'::bytesize / 0.3, '1 GiB'::bytesize / '1 MiB'::bytesize, '10 B'::bytesize / '4 B'::bytesize = 2.5;
@@ -63,6 +72,8 @@ SET enable_bitmapscan = off;
 EXPLAIN (COSTS OFF) SELECT count(*) FROM sizes WHERE size = '4999 B';
 SELECT count(*) FROM sizes WHERE size = '4999 B';
 SELECT count(*) FROM sizes WHERE size < '1 KB';
+EXPLAIN (COSTS OFF) SELECT count(*) FROM sizes WHERE 1000 > size;
+SELECT count(*) FROM sizes WHERE 1000 > size;
 SELECT max(size), min(size) FROM sizes;
 DROP INDEX sizes_btree;
 CREATE INDEX sizes_hash ON sizes USING hash(size);
