@@ -29,10 +29,21 @@ def test_clang_has_no_warning(library, tmp_path):
     extension("clang", library, tmp_path, "-O2")
 
 
-def test_allocations_that_fail_and_zero_bytes(library, tmp_path):
-    """Calls checks/checks.c, in which one allocation of SQLite after another fails, under ASan and UBSan."""
-    words = ["-std=c99", *WARNINGS, *SANITIZED, path("bindings/sqlite/checks/checks.c"), "-lsqlite3"]
-    output(compiled("gcc", tmp_path / "checks", *words), extension("gcc", library, tmp_path, *SANITIZED))
+def test_allocations_that_fail_and_ends_of_texts(library, tmp_path):
+    """Calls checks/checks.c, in which one allocation of SQLite after another fails, texts end where their memory does,
+    and SQLite has the calls of 3.31, under ASan and UBSan."""
+    need("sqlite3ext.h")
+    sources = [path("bindings/sqlite", name) for name in ("checks/checks.c", "byte_unit_sqlite.c")]
+    words = ["-std=c99", *WARNINGS, *SANITIZED, "-I", library, *sources, f"{library}/libbyte_unit.a", "-lsqlite3"]
+    output(compiled("gcc", tmp_path / "checks", *words))
+
+
+def test_no_state(library, tmp_path):
+    """The one variable is SQLite's pointer to its calls: the extension keeps nothing that threads share."""
+    need("sqlite3ext.h", "nm")
+    words = ["-std=c99", "-O2", "-c", "-fno-pie", "-I", library, path("bindings/sqlite/byte_unit_sqlite.c")]
+    symbols = re.findall(r" [^TtUuRr] (\S+)$", output("nm", compiled("gcc", tmp_path / "object", *words)), re.M)
+    assert symbols == ["sqlite3_api"]
 
 
 @pytest.fixture(scope="module")

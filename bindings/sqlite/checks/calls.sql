@@ -57,6 +57,8 @@ SELECT size_sum(column1) IS NULL FROM (VALUES (1)) WHERE column1 > 1; -- 1
 SELECT size_sum(column1), typeof(size_sum(column1)) FROM (VALUES (9223372036854775806), ('1')); -- 9223372036854775807|integer
 SELECT size_sum(column1), typeof(size_sum(column1)) FROM (VALUES (9223372036854775807), ('1')); -- 9223372036854775808|text
 SELECT size_sum(size_sum), size_text(size_sum(size_sum)) FROM (SELECT size_sum(column1) AS size_sum FROM (VALUES ('900 RB'), ('99 RB'))); -- 999000000000000000000000000000|999 RB
+SELECT size_sum(column1) FROM (VALUES ('16 EiB'), ('16 EiB')); -- 36893488147419103232
+SELECT group_concat(s, ' ') FROM (SELECT size_sum(column1) OVER (ROWS 1 PRECEDING) AS s FROM (VALUES ('16 EiB'), ('16 EiB'), ('16 EiB'))); -- 18446744073709551616 36893488147419103232 36893488147419103232
 SELECT size_sum(column1) FROM (VALUES ('1'), ('999999999999999999999999999999')); -- error: the sum of the sizes is 10^30 or more
 SELECT size_sum(column1) FROM (VALUES ('999 RB'), ('999 RB'), ('1 x')); -- error: '1 x' is not a size: the character 'x' is incorrect ('B', 'K', 'M', 'G', 'T', 'P', 'E', 'Z', 'Y' or 'R' or no character is expected) (character 3)
 SELECT size_sum(column1) FILTER (WHERE size_try(column1) > 0) FROM (VALUES ('1 KB'), ('1 x')); -- 1000

@@ -1,13 +1,18 @@
 /* Makes one allocation of SQLite after another fail while a statement that calls the extension runs: the statement must
- * end with SQLITE_NOMEM, or as it does if none fails. Then binds texts with zero bytes.
- *
- *     checks EXTENSION
+ * end with SQLITE_NOMEM, or as it does if none fails. Then binds texts with zero bytes. The extension, which is linked,
+ * gets only those calls of SQLite that 3.31 has, and from them texts that end where their memory ends, so that ASan
+ * reports a read past one.
  *
  * Prints how many runs there were, and returns 1 if one ended otherwise. */
-#include <sqlite3.h>
+#define SQLITE_CORE /* calls of SQLite are its own here, not those of a table */
+#include <sqlite3ext.h>
 #include <stdbool.h>
+#include <stddef.h>
 #include <stdio.h>
+#include <stdlib.h>
 #include <string.h>
+
+int sqlite3_byteunit_init(sqlite3 *db, char **error, const sqlite3_api_routines *api);
 
 static sqlite3_mem_methods real; /* SQLite's own allocator */
 static long before_failure = -1; /* how many more allocations succeed; no limit if negative */
@@ -33,6 +38,66 @@ static void *failing_realloc(void *old, int size)
     return fails() ? NULL : real.xRealloc(old, size);
 }
 
+static struct copy {
+    struct copy *next;
+    char text[];
+} *copies;
+
+/* Returns a copy of a text, in memory that ends where the text does. */
+static const char *copy_of(const void *text, size_t len)
+{
+    struct copy *copy = malloc(sizeof *copy + len);
+
+    copy->next = copies;
+    copies = copy;
+    return len == 0 ? copy->text : memcpy(copy->text, text, len);
+}
+
+static const unsigned char *copied_text(sqlite3_value *value)
+{
+    const unsigned char *text = sqlite3_value_text(value);
+
+    return text == NULL ? NULL : (const unsigned char *)copy_of(text, (size_t)sqlite3_value_bytes(value));
+}
+
+static int (*compare)(void *, int, const void *, int, const void *); /* the collation of the extension */
+
+static int compare_copies(void *unused, int a_len, const void *a, int b_len, const void *b)
+{
+    return compare(unused, a_len, copy_of(a, (size_t)a_len), b_len, copy_of(b, (size_t)b_len));
+}
+
+static int create_collation(sqlite3 *db, const char *name, int encoding, void *unused,
+                            int (*call)(void *, int, const void *, int, const void *), void (*destroy)(void *))
+{
+    compare = call;
+    return sqlite3_create_collation_v2(db, name, encoding, unused, compare_copies, destroy);
+}
+
+static int version_3_30_1(void)
+{
+    return 3030001;
+}
+
+static int version_3_31_0(void)
+{
+    return 3031000;
+}
+
+/* The calls that the extension gets. */
+static sqlite3_api_routines given;
+
+/* Sets `given`, as SQLite calls each extension: those of its calls that 3.31.0 has. */
+static int get_calls(sqlite3 *db, char **error, const sqlite3_api_routines *api)
+{
+    (void)db, (void)error;
+    memcpy(&given, api, offsetof(sqlite3_api_routines, create_filename)); /* the first one of 3.32.0 */
+    given.libversion_number = version_3_31_0;
+    given.value_text = copied_text;
+    given.create_collation_v2 = create_collation;
+    return SQLITE_OK;
+}
+
 /* Runs a statement, and writes its result: the beginning of the text of a value, NULL, or the error. Returns SQLite's
  * status. */
 static int result_of(sqlite3_stmt *statement, char *out, size_t out_len)
@@ -48,6 +113,16 @@ static int result_of(sqlite3_stmt *statement, char *out, size_t out_len)
         snprintf(out, out_len, "%s", sqlite3_errmsg(sqlite3_db_handle(statement)));
     }
     return status;
+}
+
+/* Ends a statement, and frees the copies of its texts. */
+static void finalize(sqlite3_stmt *statement)
+{
+    sqlite3_finalize(statement);
+    for (struct copy *next; copies != NULL; copies = next) {
+        next = copies->next;
+        free(copies);
+    }
 }
 
 /* Prepares a statement. If that fails, it counts as wrong. */
@@ -70,7 +145,7 @@ static void with_failures(sqlite3 *db, const char *sql)
     sqlite3_stmt *statement = prepare(db, sql);
     int normal = result_of(statement, wanted, sizeof wanted);
 
-    sqlite3_finalize(statement);
+    finalize(statement);
     failed = true;
     for (long count = 0; failed && count < 1000; count++) {
         statement = prepare(db, sql);
@@ -78,7 +153,7 @@ static void with_failures(sqlite3 *db, const char *sql)
         before_failure = count;
         int status = result_of(statement, got, sizeof got);
         before_failure = -1;
-        sqlite3_finalize(statement);
+        finalize(statement);
         runs++;
         if (status != SQLITE_NOMEM && (status != normal || strcmp(got, wanted) != 0)) {
             printf("%s: allocation %ld fails: %d %s, not %d %s\n", sql, count, status, got, normal, wanted);
@@ -100,7 +175,7 @@ static void with_text(sqlite3 *db, const char *sql, const char *text, int len, c
         printf("%s: %s, not %s\n", sql, got, wanted);
         wrong++;
     }
-    sqlite3_finalize(statement);
+    finalize(statement);
 }
 
 /* Binds texts that a constant of SQL cannot be: with zero bytes, and white space and control characters of two bytes. */
@@ -130,6 +205,7 @@ static const char *const statements[] = {
     "SELECT size_parse('1.5 KiB')",
     "SELECT size_parse(1536, 'bits')",
     "SELECT size_parse('12 Kiq')",
+    "SELECT size_parse(substr('xxxxxxxxxxxxxxxxxxxxxxxxxxxxxxxxxxxxxxxxxxxxxxxxxxxxxxxxxxxxxxxxx', 2))",
     "SELECT size_parse('10 EB')",
     "SELECT size_parse(x'3132')",
     "SELECT size_parse(1.5)",
@@ -145,6 +221,7 @@ static const char *const statements[] = {
     "SELECT size_try('12 Kiq')",
     "SELECT size_pretty(1536, 'decimal', 9000)",
     "SELECT size_pretty(1536, 'x')",
+    "SELECT size_pretty(1536, 'both')",
     "SELECT size_sum(column1, 'bits') FROM (VALUES ('1 KB'), (9223372036854775807))",
     "SELECT size_sum(column1) FROM (VALUES ('999 RB'), ('999 RB'))",
     "SELECT group_concat(s) FROM (SELECT size_sum(column1) OVER (ROWS 1 PRECEDING) AS s"
@@ -153,20 +230,35 @@ static const char *const statements[] = {
     "SELECT size_in(1536, 'MB', 2, 'bits')",
     "SELECT size_in(1536, 'Mx')",
     "SELECT size_in(1536, ' ')",
-    "SELECT group_concat(t) FROM (SELECT column1 AS t FROM (VALUES ('1 KiB'), ('2 x'), ('1000'), ('1 x'))"
+    "SELECT group_concat(t) FROM (SELECT column1 AS t FROM (VALUES ('1 KiB'), ('2 x'), ('1000'), ('1 x'), ('1 xy'))"
     " ORDER BY t COLLATE SIZE)",
 };
 
+/* Checks that a version of SQLite that is too old is rejected. */
+static void with_old_version(sqlite3 *db)
+{
+    sqlite3_api_routines old = given;
+    char *error = NULL;
+
+    old.libversion_number = version_3_30_1;
+    runs++;
+    if (sqlite3_byteunit_init(db, &error, &old) != SQLITE_ERROR || error == NULL
+        || strstr(error, " is too old: 3.31.0 or later is needed") == NULL) {
+        printf("SQLite 3.30.1: %s\n", error == NULL ? "no error" : error);
+        wrong++;
+    }
+    sqlite3_free(error);
+}
+
 /* Runs all checks in a database of an encoding: in UTF-16, SQLite converts each text. */
-static void in_encoding(const char *extension, const char *encoding)
+static void in_encoding(const char *encoding)
 {
     sqlite3 *db = NULL;
     char *error = NULL;
 
     if (sqlite3_open(":memory:", &db) != SQLITE_OK || sqlite3_exec(db, encoding, NULL, NULL, NULL) != SQLITE_OK
-        || sqlite3_db_config(db, SQLITE_DBCONFIG_ENABLE_LOAD_EXTENSION, 1, NULL) != SQLITE_OK
-        || sqlite3_load_extension(db, extension, NULL, &error) != SQLITE_OK) {
-        printf("%s: %s\n", extension, error == NULL ? sqlite3_errmsg(db) : error);
+        || sqlite3_byteunit_init(db, &error, &given) != SQLITE_OK) {
+        printf("%s: %s\n", encoding, error == NULL ? sqlite3_errmsg(db) : error);
         wrong++;
         return;
     }
@@ -175,22 +267,24 @@ static void in_encoding(const char *extension, const char *encoding)
     for (size_t at = 0; at < sizeof statements / sizeof *statements; at++)
         with_failures(db, statements[at]);
     with_zero_bytes(db);
+    with_old_version(db);
     sqlite3_close(db);
 }
 
-int main(int argc, char **argv)
+int main(void)
 {
     sqlite3_mem_methods failing;
 
-    if (argc != 2 || sqlite3_config(SQLITE_CONFIG_GETMALLOC, &real) != SQLITE_OK)
+    if (sqlite3_config(SQLITE_CONFIG_GETMALLOC, &real) != SQLITE_OK)
         return 2;
     failing = real;
     failing.xMalloc = failing_malloc;
     failing.xRealloc = failing_realloc;
-    if (sqlite3_config(SQLITE_CONFIG_MALLOC, &failing) != SQLITE_OK)
+    if (sqlite3_config(SQLITE_CONFIG_MALLOC, &failing) != SQLITE_OK
+        || sqlite3_auto_extension((void (*)(void))get_calls) != SQLITE_OK)
         return 2;
-    in_encoding(argv[1], "PRAGMA encoding = 'UTF-8'");
-    in_encoding(argv[1], "PRAGMA encoding = 'UTF-16'");
+    in_encoding("PRAGMA encoding = 'UTF-8'");
+    in_encoding("PRAGMA encoding = 'UTF-16'");
     printf("%ld runs, %ld wrong\n", runs, wrong);
     return wrong != 0;
 }
