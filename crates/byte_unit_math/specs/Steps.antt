@@ -1,4 +1,4 @@
--- Step counts, in which contracts give the cost of a call.
+-- Step counts: how many steps a method takes, such as trial division. They bound no running time.
 use Rattle.std.specs.Prelude.{ℕ, ◌+◌, ◌-◌, ◌^◌, min, max}
 
 -- The largest step count, 2^64 - 1.

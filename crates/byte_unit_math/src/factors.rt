@@ -22,9 +22,9 @@ pub struct Factors {
 ///
 /// Precondition (proved at every call): `1 <= size < 10^30`.
 ///
-/// Counts the steps of trial division: one for each division by 2 or 5 that succeeds, and one for each of the two that
-/// fail, at most 101 in all: a size is below 2^100, so it has at most 99 such factors. The exponent of 2 is read from
-/// the trailing zero bits, without division.
+/// Adds the steps of trial division, computed from the exponents: one for each division by 2 or 5 that succeeds, and
+/// one for each of the two that fail, at most 101 in all: a size is below 2^100, so it has at most 99 such factors. The
+/// exponent of 2 itself is read from the trailing zero bits, without division.
 ///
 /// # Examples
 /// ```rust

@@ -67,8 +67,8 @@ pub fn least_size(d: Decimal, unit_size: u128, limit: u128) -> Option<u128>
     (size < limit).then_some(size)
 }
 
-/// Returns the same as [`least_size`], with the same precondition, and counts one step for each of the four
-/// seven-digit groups of the fraction.
+/// Returns the same as [`least_size`], with the same precondition, and adds four steps: a product by groups of seven
+/// digits has one for each, and 28 digits are four groups. It adds four for a shorter fraction too.
 ///
 /// # Examples
 /// ```rust

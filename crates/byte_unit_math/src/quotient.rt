@@ -61,7 +61,7 @@ pub fn exact_quotient(size: u128, unit: u128, places: u32, steps: &mut Steps) ->
 /// `places <= 28`, `twos <= number.twos + places`, `fives <= number.fives + places`, and the quotient scaled by
 /// `10^places` is below 2^112.
 ///
-/// Counts one step for each digit after the point of the result.
+/// Adds the steps of long division: one for each digit after the point of the result.
 ///
 /// # Examples
 /// ```rust

@@ -108,7 +108,7 @@ fn decimal_expansion(numerator: u128, twos: u32, tens: u32) -> Option<ShortExpan
 /// Precondition (proved at every call): `numerator < 8 * 10^30`, `2^twos * 5^fives <= 2^93`, and the quotient is exact
 /// within these digits.
 ///
-/// Counts one step for each digit after the point of the result.
+/// Adds the steps of long division: one for each digit after the point of the result.
 ///
 /// # Examples
 /// ```rust

@@ -1,10 +1,13 @@
-//! A step counter for complexity contracts.
+//! A step counter, of which contracts say by how much a call raises it.
 ghost use Rattle.std.specs.Prelude.{◌≡◌, ℕ};
 ghost use Rattle.byte_unit_math.specs.Steps.{saturating_add};
 
 use std::marker::Model;
 
 /// A step count. It starts at 0, never falls, and saturates at `u64::MAX`.
+///
+/// The steps are those of a method that a call names, such as trial division. Most calls compute their number and work
+/// in another way, so a count bounds no running time.
 ///
 /// # Examples
 /// ```rust

@@ -55,10 +55,11 @@ impl Byte {
         self.get_recoverable_unit_counted(allow_in_bits, precision, &mut Steps::new())
     }
 
-    /// Returns what [`Byte::get_recoverable_unit`] returns, and adds the number of its steps to `steps`.
+    /// Returns what [`Byte::get_recoverable_unit`] returns, and adds to `steps` those of trial and long division.
     ///
     /// A step is one factor 2 or 5 of the size, one of the two trials that fail, or one digit of the decimal after
-    /// the point. That is at most 116 steps; a size of zero takes none. The count saturates at its maximum.
+    /// the point. That is at most 116 steps; a size of zero takes none. Few of these divisions are made, so the count
+    /// bounds no running time. It saturates at its maximum.
     ///
     /// # Examples
     /// ```rust
