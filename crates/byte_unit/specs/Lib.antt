@@ -48,6 +48,7 @@ pub use Rattle.byte_unit_choice.specs.ParsedAdjusted
 pub use Rattle.byte_unit_format.specs.AdjustedString
 pub use Rattle.byte_unit_format.specs.Room
 pub use Rattle.byte_unit_format.specs.Written
+pub use Rattle.byte_unit_format.specs.WithDigits
 pub use Rattle.byte_unit_base.specs.ErrorPosition
 pub use Rattle.byte_unit_base.specs.ReaderLaws
 pub use Rattle.byte_unit_choice.specs.ChoiceLaws

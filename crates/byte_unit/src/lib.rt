@@ -19,6 +19,7 @@ pub mod decimal;
 pub mod laws;
 mod unit_json;
 
+pub use byte_unit_base::size::parse_line;
 pub use byte_unit_base::{
     ExceededBoundsError, JsonSizeError, Kind, ParseError, Unit, UnitParseError, ValueParseError,
     read_size,
@@ -28,7 +29,7 @@ pub use byte_unit_byte::{AdjustedByte, Byte};
 pub use byte_unit_choice::{Family, UnitType, choose_unit, largest_unit};
 pub use byte_unit_format::{
     Align, FormatSpec, Sign, append_layout, append_plain, layout_len, plain_len, write_layout,
-    write_plain,
+    write_plain, write_with_digits,
 };
 pub use byte_unit_math::{
     Decimal, Expansion, Steps, Ties, exact_quotient, least_size, least_size_counted, two_five,

@@ -151,7 +151,8 @@ pub fn parse_bytes(bytes: &[u8], ignore_case: bool, kind: Kind) -> Option<Result
     parse_line::<false>(bytes, bytes.len(), ignore_case, kind)
 }
 
-/// Parses a size from the line at the beginning of bytes, its first `len` bytes, as [`parse_bytes`] does from these.
+/// Parses a size from the line at the beginning of bytes, its first `len` bytes, as [`parse`] does from a string: it is
+/// a number of bytes for `Kind::Byte`, and of bits for `Kind::Bit`. Returns `None` if the line is not UTF-8.
 ///
 /// With `BINARY` a decimal prefix means the binary one. Eight bytes at a time are loaded, past the end of the line too.
 ///
@@ -159,12 +160,13 @@ pub fn parse_bytes(bytes: &[u8], ignore_case: bool, kind: Kind) -> Option<Result
 /// there is none.
 ///
 /// # Errors
-/// As `parse_bytes`.
+/// Returns `Some` with the error of `parse` if the line is UTF-8 and `parse` rejects it.
 ///
 /// # Examples
 /// ```rust
-/// assert!(rt; matches!(size::parse_line::<false>(b"1 KB\n12\n", 4, false, Kind::Byte), Some(Ok(1000))));
-/// assert!(rt; matches!(size::parse_line::<true>(b"1 KB", 4, false, Kind::Byte), Some(Ok(1024))));
+/// assert!(rt; matches!(parse_line::<false>(b"1 KB\n12\n", 4, false, Kind::Byte), Some(Ok(1000))));
+/// assert!(rt; matches!(parse_line::<true>(b"1 KB", 4, false, Kind::Bit), Some(Ok(8192))));
+/// assert!(rt; parse_line::<false>(b"1 KB\xFF", 5, false, Kind::Byte).is_none());
 /// ```
 #[inline(always)]
 pub fn parse_line<const BINARY: bool>(

@@ -7,7 +7,7 @@ use Rattle.std.proofs.lemmas.List.{take_more_set}
 use Rattle.byte_unit.specs.Errors.{size_fault}
 use Rattle.byte_unit.specs.SizeReading.{IsBytesReading}
 use Rattle.byte_unit.specs.declared.ParseError.{ParseError}
-use Rattle.byte_unit_format.specs.WithDigits.{IsTextWithDigits}
+use Rattle.byte_unit.specs.WithDigits.{IsTextWithDigits}
 use Rattle.byte_unit_lines.specs.Answer.{Kind, IsAnswer, ShowsSize, words_of, not_text, size, rejected}
 use Rattle.byte_unit_lines.specs.Answered.{AddsAnswer}
 

@@ -7,9 +7,7 @@ ghost use Rattle.byte_unit_lines.specs.Answer.{words_of};
 ghost use Rattle.byte_unit_lines.specs.Lines.{line_end};
 ghost use Rattle.byte_unit_lines.specs.Answered.{AddsAnswer, GrowsByAnswer};
 
-use byte_unit::{Kind, ParseError, ValueParseError};
-use byte_unit_base::size;
-use byte_unit_format::write_with_digits;
+use byte_unit::{Kind, ParseError, ValueParseError, parse_line, write_with_digits};
 use std::alloc::{AllocError, Allocator};
 
 /// A bound on the length in bytes of an answer: two strings of at most 37 bytes, ` = ` between them, and the line end.
@@ -56,7 +54,7 @@ fn add_answer_of<const BITS: bool, A: Allocator>(
 {
     let kind = if BITS { Kind::Bit } else { Kind::Byte };
     // Prefixes mean what they say (`::<false>`), and case counts.
-    match size::parse_line::<false>(bytes, len, false, kind) {
+    match parse_line::<false>(bytes, len, false, kind) {
         None => out.extend_from_slice(b"not text\n"),
         Some(Err(error)) => out.extend_from_slice(fault_line_of(&error)),
         Some(Ok(size)) => {

@@ -1,7 +1,6 @@
 //! Tests of the digits of a size and its form with a unit, written as one text.
 use super::shown::assert_same;
-use byte_unit::{Byte, Kind};
-use byte_unit_format::write_with_digits;
+use byte_unit::{Byte, Kind, write_with_digits};
 use std::process::Abort;
 use std::str;
 
