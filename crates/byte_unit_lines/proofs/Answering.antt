@@ -4,8 +4,8 @@ use Rattle.byte_unit_lines.specs.Answer.{Kind, IsAnswer}
 use Rattle.byte_unit_lines.specs.Report.{AreAnswers}
 use Rattle.byte_unit_lines.specs.RunOutput.{AnswerFirst}
 use Rattle.byte_unit_lines.specs.Answered.{IsAnswered}
-use Rattle.byte_unit_lines.specs.declared.run.RunError.{RunError}
-use Rattle.byte_unit_lines.specs.declared.run.RunError.TheVariants.{Memory, Read, Write}
+use Rattle.byte_unit_lines.specs.declared.report.RunError.{RunError}
+use Rattle.byte_unit_lines.specs.declared.report.RunError.TheVariants.{Memory, Read, Write}
 use Rattle.byte_unit_stream.proofs.Beginnings.{IsBeginningOf-after}
 
 -- the answers to two lists of lines, one after the other, are the answers to the concatenated list

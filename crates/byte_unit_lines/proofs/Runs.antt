@@ -10,8 +10,8 @@ use Rattle.byte_unit_lines.specs.Lines.{finished_lines, lines_of, line_end}
 use Rattle.byte_unit_lines.specs.Report.{AreAnswers, IsReport}
 use Rattle.byte_unit_lines.specs.RunOutput.{IsWritten}
 use Rattle.byte_unit_lines.specs.Answered.{BeginFirst, IsAnswered}
-use Rattle.byte_unit_lines.specs.declared.run.RunError.{RunError}
-use Rattle.byte_unit_lines.specs.declared.run.RunError.TheVariants.{Memory, Read, Write}
+use Rattle.byte_unit_lines.specs.declared.report.RunError.{RunError}
+use Rattle.byte_unit_lines.specs.declared.report.RunError.TheVariants.{Memory, Read, Write}
 use Rattle.byte_unit_lines.proofs.Answering.{AreAnswers-append, AreAnswers-single, lines_have_answers}
 use Rattle.byte_unit_lines.proofs.Answering.{IsAnswered-append}
 use Rattle.byte_unit_stream.specs.Chunks.{ended_records, begun_record, nonempty_record}

@@ -6,8 +6,8 @@ use Rattle.byte_unit_lines.specs.Answer.{Kind, IsAnswer}
 use Rattle.byte_unit_lines.specs.Capacity.{answer_max}
 use Rattle.byte_unit_lines.specs.Report.{AreAnswers}
 use Rattle.byte_unit_lines.specs.RunOutput.{AnswerFirst}
-use Rattle.byte_unit_lines.specs.declared.run.RunError.{RunError}
-use Rattle.byte_unit_lines.specs.declared.run.RunError.TheVariants.{Memory, Read, Write}
+use Rattle.byte_unit_lines.specs.declared.report.RunError.{RunError}
+use Rattle.byte_unit_lines.specs.declared.report.RunError.TheVariants.{Memory, Read, Write}
 use Rattle.byte_unit_stream.specs.Beginnings.{IsBeginningOf}
 
 -- the answer to the line was appended

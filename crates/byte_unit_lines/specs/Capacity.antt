@@ -1,7 +1,7 @@
 -- The buffers of a run, and capacity that suffices for them.
 use Rattle.std.specs.Prelude.{ℕ, [], ◌≡◌, ◌+◌, ◌*◌, ◌≤◌, vec_len, vec_capacity}
 use Rattle.std.specs.declared.vec.Vec.{Vec}
-use Rattle.byte_unit_lines.specs.declared.run.Buffers.{Buffers}
+use Rattle.byte_unit_lines.specs.declared.report.Buffers.{Buffers}
 
 -- no answer has more bytes than two texts of a size, of at most 37 bytes each, ` = ` between them, and a line end
 abbrev pub answer_max : ℕ

@@ -5,7 +5,8 @@ use Rattle.byte_unit.specs.declared.Kind.TheVariants.{Byte, Bit}
 use Rattle.byte_unit_lines.specs.RunOutput.{IsWritten}
 use Rattle.byte_unit_lines.specs.declared.ending.Ending.{Ending}
 use Rattle.byte_unit_lines.specs.declared.ending.Ending.TheVariants.{Done, Usage, Failed}
-use Rattle.byte_unit_lines.specs.declared.run.RunError.TheVariants.{Memory, Read, Write}
+use Rattle.byte_unit_lines.specs.declared.report.RunError.{RunError}
+use Rattle.byte_unit_lines.specs.declared.report.RunError.TheVariants.{Memory, Read, Write}
 
 -- these arguments, each as its bytes, ask for sizes of this kind: none or `byte` for bytes, `bit` for bits
 abbrev pub AskFor : List (List ℕ) → Kind → Type 0
@@ -25,10 +26,14 @@ status_of Done = 0
 status_of (Failed _) = 1
 status_of Usage = 2
 
+-- the line for standard error, without its line end, if a run fails with this error
+abbrev pub message_of : RunError → List ℕ
+message_of Memory = codes "out of memory"
+message_of Read = codes "read failed"
+message_of Write = codes "write failed"
+
 -- the line for standard error, without its line end; `None` if all lines are answered
 abbrev pub line_of : Ending → Option (List ℕ)
 line_of Done = None
-line_of (Failed Memory) = Some (codes "out of memory")
-line_of (Failed Read) = Some (codes "read failed")
-line_of (Failed Write) = Some (codes "write failed")
+line_of (Failed error) = Some (message_of error)
 line_of Usage = Some (codes "usage: byte_unit_lines [byte|bit]")

@@ -3,8 +3,8 @@ use Rattle.std.specs.Prelude.{ℕ, List, Result, Ok, Err, ⊤}
 use Rattle.byte_unit_lines.specs.Answer.{Kind}
 use Rattle.byte_unit_lines.specs.Lines.{finished_lines}
 use Rattle.byte_unit_lines.specs.Report.{AreAnswers, IsReport}
-use Rattle.byte_unit_lines.specs.declared.run.RunError.{RunError}
-use Rattle.byte_unit_lines.specs.declared.run.RunError.TheVariants.{Memory, Read, Write}
+use Rattle.byte_unit_lines.specs.declared.report.RunError.{RunError}
+use Rattle.byte_unit_lines.specs.declared.report.RunError.TheVariants.{Memory, Read, Write}
 use Rattle.byte_unit_stream.specs.Beginnings.{IsBeginningOf}
 
 -- the answers to the first of these lines, for some number of them, each answer whole

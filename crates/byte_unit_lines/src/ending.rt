@@ -2,11 +2,11 @@
 
 ghost use Rattle.std.specs.Prelude.{◌≡◌, ℕ, List, map, option_map, IsTrue, IfSome};
 ghost use Rattle.std.specs.String.{string_bytes};
-ghost use Rattle.byte_unit_lines.specs.Ending.{AskFor, IsWrittenAtEnding, status_of, line_of};
+ghost use Rattle.byte_unit_lines.specs.Ending.{AskFor, IsWrittenAtEnding, status_of, message_of, line_of};
 ghost use Rattle.byte_unit_stream.specs.Streams.{HasRead, HasReadAll, reading_failed};
 ghost use Rattle.byte_unit_stream.specs.Streams.{HasWritten, writing_failed};
 
-use crate::run::{RunError, run};
+use crate::report::{RunError, run};
 use byte_unit::Kind;
 use byte_unit_stream::{FusedReader, FusedWriter};
 use std::alloc::Global;
@@ -41,11 +41,20 @@ impl Ending {
     {
         match self {
             Ending::Done => None,
-            Ending::Failed(RunError::Memory) => Some("out of memory"),
-            Ending::Failed(RunError::Read) => Some("read failed"),
-            Ending::Failed(RunError::Write) => Some("write failed"),
+            Ending::Failed(error) => Some(fault_words(error)),
             Ending::Usage => Some("usage: byte_unit_lines [byte|bit]"),
         }
+    }
+}
+
+/// Returns the line for standard error, without its line end, if a run fails with this error.
+pub fn fault_words(error: RunError) -> &'static str
+    ensures { result.now ≡ message_of error }
+{
+    match error {
+        RunError::Memory => "out of memory",
+        RunError::Read => "read failed",
+        RunError::Write => "write failed",
     }
 }
 

@@ -4,13 +4,15 @@
 mod ending;
 mod laws;
 mod line;
-mod run;
+mod report;
 #[cfg(test)]
 mod tests;
 
-use byte_unit_stream::{FusedReader, FusedWriter};
+pub use byte_unit::Kind;
+pub use byte_unit_stream::{FusedReader as Reading, FusedWriter as Writing};
+pub use ending::{fault_words, kind_of};
 use ending::{Ending, serve};
-use run::RunError;
+pub use report::{RunError, run};
 use std::process::ExitCode;
 use std::{env, io};
 
@@ -32,8 +34,8 @@ fn words_after_name(rt: &HostRuntime) -> io::Result<Vec<String>> {
 fn answer(rt: &HostRuntime) -> Ending {
     match words_after_name(rt) {
         Ok(words) => {
-            let mut reader = FusedReader::new(rt.reader());
-            let mut writer = FusedWriter::new(io::writer(rt));
+            let mut reader = Reading::new(rt.reader());
+            let mut writer = Writing::new(io::writer(rt));
             serve(rt.alloc(), &words, &mut reader, &mut writer)
         }
         Err(error) if error.kind() == io::ErrorKind::OutOfMemory => {

@@ -4,10 +4,7 @@
 ghost use Rattle.std.specs.Prelude.{IfOk};
 ghost use Rattle.byte_unit_lines.specs.Report.{IsReport};
 
-use crate::ending::kind_of;
-use crate::run::{RunError, run};
-use byte_unit::Kind;
-use byte_unit_stream::{FusedReader, FusedWriter};
+use crate::{Kind, Reading, RunError, Writing, fault_words, kind_of, run};
 use std::alloc::Global;
 use std::fmt::Debug;
 use std::process::Abort;
@@ -27,6 +24,7 @@ mod ends;
 mod large;
 mod memory;
 mod mixed;
+mod names;
 mod order;
 mod refusals;
 mod refusing;
@@ -41,8 +39,8 @@ fn assert_is<S: PartialEq + Debug + Drop>(rt: &impl Abort, found: S, wanted: S, 
 fn report_of(alloc: Global, input: &[u8], kind: Kind) -> Result<Vec<u8>, RunError>
     ensures { IfOk result (λ output. IsReport kind input.now output.items) }
 {
-    let mut reader = FusedReader::new(input);
-    let mut writer = FusedWriter::new(Vec::new(alloc));
+    let mut reader = Reading::new(input);
+    let mut writer = Writing::new(Vec::new(alloc));
     match run(alloc, &mut reader, &mut writer, kind) {
         Ok(()) => Ok(writer.into_inner()),
         Err(error) => Err(error),

@@ -3,7 +3,7 @@ use super::ended::{Ended, streams};
 use super::mixed::{INPUT, REPORT, repeated};
 use super::refusing::Refusing;
 use super::*;
-use crate::run::{Buffers, run_with_buffers, run_with_capacity};
+use crate::report::{Buffers, run_with_buffers, run_with_capacity};
 use byte_unit_stream::paced::AT_ONCE;
 
 /// The number of allocations at the start: one for a line and one for the answers.

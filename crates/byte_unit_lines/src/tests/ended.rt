@@ -3,7 +3,7 @@ ghost use Rattle.std.specs.Prelude.{◌<◌, length};
 
 use super::refusing::Refusing;
 use super::*;
-use crate::run::{Buffers, run_with_buffers};
+use crate::report::{Buffers, run_with_buffers};
 use byte_unit_stream::paced::{AT_ONCE, MemoryReader, MemoryWriter, Pace};
 use std::alloc::Allocator;
 
@@ -22,8 +22,8 @@ impl<'a> Ended<'a> {
     /// Creates the result of a run over these streams.
     pub fn new(
         end: Result<(), RunError>,
-        reader: FusedReader<MemoryReader<'a>>,
-        writer: FusedWriter<MemoryWriter>,
+        reader: Reading<MemoryReader<'a>>,
+        writer: Writing<MemoryWriter>,
     ) -> Ended<'a> {
         Ended {
             result: end,
@@ -77,7 +77,7 @@ pub fn streams(
     input: &[u8],
     reads: Pace,
     writes: Pace,
-) -> (FusedReader<MemoryReader<'_>>, FusedWriter<MemoryWriter>) {
+) -> (Reading<MemoryReader<'_>>, Writing<MemoryWriter>) {
     let reader = MemoryReader {
         rest: input,
         pace: reads,
@@ -86,7 +86,7 @@ pub fn streams(
         taken: Vec::new(alloc),
         pace: writes,
     };
-    (FusedReader::new(reader), FusedWriter::new(writer))
+    (Reading::new(reader), Writing::new(writer))
 }
 
 /// Runs with this allocator, and with reads of at most the length of `buffer`. The output is allocated by `alloc`.

@@ -9,7 +9,7 @@ use std::alloc::AllocError;
 const INPUT: &[u8] = b"1 KB\n";
 
 /// Returns the arguments as the program receives them.
-fn words(alloc: Global, words: &[&str]) -> Result<Vec<String>, AllocError> {
+pub fn words(alloc: Global, words: &[&str]) -> Result<Vec<String>, AllocError> {
     let mut texts = Vec::new(alloc);
     for word in words {
         texts.push(String::from_str(alloc, word)?)?;
@@ -92,6 +92,21 @@ const STATUSES: &[(Ending, u8, Option<&str>)] = &[
     (Ending::Failed(RunError::Write), 1, Some("write failed")),
     (Ending::Usage, 2, Some("usage: byte_unit_lines [byte|bit]")),
 ];
+
+/// Each error of a run, and the line for standard error.
+const FAULTS: &[(RunError, &str)] = &[
+    (RunError::Read, "read failed"),
+    (RunError::Write, "write failed"),
+    (RunError::Memory, "out of memory"),
+];
+
+#[test]
+fn words_of_errors(rt: HostRuntime) {
+    for (error, words) in FAULTS {
+        let found = (*error, fault_words(*error));
+        assert_is(&rt, found, (*error, *words), "the words of an error");
+    }
+}
 
 #[test]
 fn statuses_and_lines_of_endings(rt: HostRuntime) {

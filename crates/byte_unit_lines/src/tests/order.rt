@@ -58,7 +58,7 @@ impl<'a> Write for CountingWriter<'a> {
 #[test]
 fn answers_are_written_before_the_next_read(rt: HostRuntime) {
     let taken = Cell::new(0);
-    let mut reader = FusedReader::new(NotingReader {
+    let mut reader = Reading::new(NotingReader {
         inner: MemoryReader {
             rest: b"1KB\n2KB\nx\n3KB",
             pace: BY_LINE,
@@ -66,7 +66,7 @@ fn answers_are_written_before_the_next_read(rt: HostRuntime) {
         taken: &taken,
         notes: Vec::new(rt.alloc()),
     });
-    let mut writer = FusedWriter::new(CountingWriter {
+    let mut writer = Writing::new(CountingWriter {
         inner: MemoryWriter {
             taken: Vec::new(rt.alloc()),
             pace: AT_ONCE,

@@ -5,7 +5,7 @@ use Rattle.byte_unit_stream.specs.Streams.{reader_of, writer_of, reads_left}
 use Rattle.byte_unit_stream.proofs.Longest.{IsWithin}
 use Rattle.byte_unit_lines.specs.Lines.{line_end}
 use Rattle.byte_unit_lines.proofs.Runs.{HasServed}
-use Rattle.byte_unit_lines.proofs.run.run_with_buffers.Given as goal
+use Rattle.byte_unit_lines.proofs.report.run_with_buffers.Given as goal
 
 -- against the state at the start: what was read is served, and the lengths and capacities are within their bounds
 abbrev pub invariant-reads : goal.invariant-reads

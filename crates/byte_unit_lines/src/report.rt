@@ -1,4 +1,4 @@
-//! The program's loop: reads a chunk, answers the lines that end in it, and writes the answers.
+//! The report on an input: a loop that reads a chunk, answers the lines that end in it, and writes the answers.
 //!
 //! The memory of [`Buffers`] is kept from one read to the next.
 
@@ -60,7 +60,7 @@ pub enum RunError {
 
 /// Converts a failed allocation to `Memory`.
 impl From<AllocError> for RunError {
-    ghost use Rattle.byte_unit_lines.specs.declared.run.RunError.TheVariants.{Memory};
+    ghost use Rattle.byte_unit_lines.specs.declared.report.RunError.TheVariants.{Memory};
 
     ghost from_gives = { λ _ error. error ≡ Memory };
 

@@ -4,7 +4,7 @@ use Rattle.byte_unit_lines.specs.Answered.{AddsAnswers}
 use Rattle.byte_unit_lines.specs.Lines.{line_end}
 use Rattle.byte_unit_lines.proofs.Feeding.{answers_room}
 use Rattle.byte_unit_stream.proofs.Feeding.{IsFed, IsFedWithin}
-use Rattle.byte_unit_lines.proofs.run.feed.Given as goal
+use Rattle.byte_unit_lines.proofs.report.feed.Given as goal
 
 -- against the state at the start: the growth of the buffers is bounded, and the lines before `rest` are answered
 abbrev pub invariant-loop-n : goal.invariant-loop-n

@@ -8,9 +8,9 @@ use Rattle.byte_unit_lines.specs.Lines.{line_end}
 use Rattle.byte_unit_lines.proofs.Feeding.{AddsAnswers-append, AddsAnswers-single}
 use Rattle.byte_unit_stream.proofs.Feeding.{Feed, IsFed-step, IsFedWithin-step, IsNext, IsNext-alone}
 use Rattle.byte_unit_stream.proofs.ChunkRecords.{empty_from_length}
-use Rattle.byte_unit_lines.proofs.run.feed.Goals.{then-is_empty+in_ok-add_answer}
-use Rattle.byte_unit_lines.proofs.run.feed.Goals.{else-is_empty+in_ok-extend_from_slice+in_ok-add_answer-2}
-use Rattle.byte_unit_lines.proofs.run.feed.Goals as goal
+use Rattle.byte_unit_lines.proofs.report.feed.Goals.{then-is_empty+in_ok-add_answer}
+use Rattle.byte_unit_lines.proofs.report.feed.Goals.{else-is_empty+in_ok-extend_from_slice+in_ok-add_answer-2}
+use Rattle.byte_unit_lines.proofs.report.feed.Goals as goal
 
 -- the invariant, a pair of the growth of the buffers and of what is fed, holds after one more line
 pub loop-n-preserved : goal.loop-n-preserved

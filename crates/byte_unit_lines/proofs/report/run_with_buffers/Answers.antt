@@ -6,7 +6,7 @@ use Rattle.std.proofs.lemmas.List.{length-take, take_all}
 use Rattle.std.proofs.lemmas.Result.{on_ok_weaker}
 use Rattle.std.proofs.KnownBytes.{Appends-trans, Consumes-kept, Consumes-trans}
 use Rattle.byte_unit_lines.specs.Answer.{IsAnswer}
-use Rattle.byte_unit_lines.specs.declared.run.RunError.TheVariants.{Memory, Write}
+use Rattle.byte_unit_lines.specs.declared.report.RunError.TheVariants.{Memory, Write}
 use Rattle.byte_unit_lines.proofs.Runs.{Course, IsServed, course_of, HasServed-piece}
 use Rattle.byte_unit_lines.proofs.Runs.{IsWritten-piece, IsWritten-error, IsWritten-last_line}
 use Rattle.byte_unit_lines.proofs.Runs.{report_without_last_line, first_lines_answered, HasServed-at_end}
@@ -14,7 +14,7 @@ use Rattle.byte_unit_lines.specs.Lines.{line_end}
 use Rattle.byte_unit_stream.proofs.Bytes.{IsWrittenBy}
 use Rattle.byte_unit_stream.proofs.Longest.{IsWithin-piece, longest_record-unfinished, longest_record-within}
 use Rattle.byte_unit_stream.proofs.ChunkRecords.{begun_record-piece, empty_from_length, nonempty_from_length}
-use Rattle.byte_unit_lines.proofs.run.run_with_buffers.Goals as goal
+use Rattle.byte_unit_lines.proofs.report.run_with_buffers.Goals as goal
 
 -- a read failed: the answers to all finished lines of what was read before are written
 pub returns-in-None-clause-run : goal.returns-in-None-clause-run
