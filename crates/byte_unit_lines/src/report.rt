@@ -2,10 +2,10 @@
 //!
 //! The memory of [`Buffers`] is kept from one read to the next.
 
-ghost use Rattle.std.specs.Prelude.{◌≡◌, ◌+◌, ◌<◌, ◌≤◌, ℕ, List, [], length};
+ghost use Rattle.std.specs.Prelude.{◌≡◌, ◌+◌, ◌*◌, ◌<◌, ◌≤◌, ℕ, List, [], length};
 ghost use Rattle.std.specs.Prelude.{IsTrue, IsOk, IsErrOf, IfOk, OnOk, OnErr};
 ghost use Rattle.std.specs.Prelude.{vec_len, vec_capacity};
-ghost use Rattle.byte_unit_lines.specs.Capacity.{AreEmpty, HaveCapacity};
+ghost use Rattle.byte_unit_lines.specs.Capacity.{AreEmpty, HaveCapacity, answer_max};
 ghost use Rattle.byte_unit_lines.specs.Lines.{line_end, longest_line};
 ghost use Rattle.byte_unit_lines.specs.RunOutput.{IsWritten};
 ghost use Rattle.byte_unit_lines.specs.Answered.{AddsAnswers, AddsFirst, IsAnswered};
@@ -154,7 +154,9 @@ pub fn run_with_capacity<A: Allocator, R: Read, W: Write>(
 
 /// Does what [`run`] does, for lines of at most `longest` bytes, in the caller's buffers; it reads into `buffer`.
 ///
-/// Precondition (proved at every call): `buffer` is not empty; both of `buffers` are empty.
+/// The buffers may be those of an earlier run, whatever its result: what they hold is dropped first.
+///
+/// Precondition (proved at every call): `buffer` is not empty.
 ///
 /// # Errors
 ///
@@ -169,13 +171,13 @@ pub fn run_with_buffers<A: Allocator, R: Read, W: Write>(
     writer: &mut FusedWriter<W>,
     kind: Kind,
 ) -> Result<(), RunError>
-    requires buffer { 0 < length buffer.old }
-    requires empty { AreEmpty buffers.old }
+    requires { 0 < length buffer.old }
     ensures run { (read written : List ℕ)
         × HasRead R.remaining reader.old reader.new read
         × HasWritten W.contents writer.old writer.new written
         × IsWritten kind read result written }
-    ensures memory { HaveCapacity longest (length buffer.old) buffers.old.line buffers.old.waiting
+    ensures memory { longest + length buffer.old ≤ vec_capacity buffers.old.line
+        → answer_max * length buffer.old ≤ vec_capacity buffers.old.waiting
         → IsErrOf result RunError.Memory → (read : List ℕ)
         × HasRead R.remaining reader.old reader.new read × (longest < longest_line read) }
     ensures bound { OnOk result ((read : List ℕ)
@@ -185,6 +187,8 @@ pub fn run_with_buffers<A: Allocator, R: Read, W: Write>(
     ensures read_failed { IsErrOf result RunError.Read → IsTrue (reading_failed reader.new) }
     ensures write_failed { IsErrOf result RunError.Write → IsTrue (writing_failed writer.new) }
 {
+    buffers.line.clear();
+    buffers.waiting.clear();
     // The goals about the loop have their names from this label.
     'reads: loop {
         match reader.read(buffer) {

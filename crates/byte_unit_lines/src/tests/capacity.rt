@@ -1,10 +1,10 @@
 //! Runs in which each allocation after the start fails.
-use super::ended::{Ended, streams};
+use super::ended::{Ended, ran_with, streams};
 use super::mixed::{INPUT, REPORT, repeated};
 use super::refusing::Refusing;
 use super::*;
-use crate::report::{Buffers, run_with_buffers, run_with_capacity};
-use byte_unit_stream::paced::AT_ONCE;
+use crate::report::{Buffers, run_with_capacity};
+use byte_unit_stream::paced::{AT_ONCE, Pace, Then};
 
 /// The number of allocations at the start: one for a line and one for the answers.
 const START: u64 = 2;
@@ -105,6 +105,9 @@ fn a_last_line_and_the_longest_answers(rt: HostRuntime) {
     expect(&rt, 2, &input, 4096, Ok(()), &report);
 }
 
+/// Streams that transfer all bytes in each call.
+const OPEN: (Pace, Pace) = (AT_ONCE, AT_ONCE);
+
 /// Asserts the result for `1 KB` without a line end in reads of two bytes, with this limit, and the report.
 fn expect_without_capacity(
     rt: &(impl Abort + AllocGlobal),
@@ -113,16 +116,8 @@ fn expect_without_capacity(
     report: &[u8],
 ) {
     let mut buffers = Buffers::new(rt.alloc());
-    let (mut reader, mut writer) = streams(rt.alloc(), b"1 KB", AT_ONCE, AT_ONCE);
-    let result = run_with_buffers(
-        &mut buffers,
-        longest,
-        &mut [0u8; 2],
-        &mut reader,
-        &mut writer,
-        Kind::Byte,
-    );
-    let ended = Ended::new(result, reader, writer);
+    let buffer = &mut [0u8; 2];
+    let ended = ran_with(rt.alloc(), &mut buffers, longest, buffer, b"1 KB", OPEN);
     ended.expect(rt, wanted, report, "limit", &[longest]);
 }
 
@@ -132,6 +127,26 @@ fn the_limit_without_capacity(rt: HostRuntime) {
     expect_without_capacity(&rt, 4, Ok(()), b"1000 = 1 KB\n");
     expect_without_capacity(&rt, 3, Err(RunError::Memory), b"");
     expect_without_capacity(&rt, 0, Err(RunError::Memory), b"");
+}
+
+/// The paces of runs in the same buffers, one after another, their inputs, results and reports. After the first run no
+/// line is unfinished; each of the next three leaves an unfinished line or an answer that waits.
+const RUNS: &[((Pace, Pace), &[u8], Result<(), RunError>, &[u8])] = &rows! {
+    (OPEN, b"1 KB\n", Ok(()), b"1000 = 1 KB\n"),
+    (OPEN, b"2 KB", Ok(()), b"2000 = 2 KB\n"),
+    ((Pace { step: 80, calls: 1, then: Then::Fail }, AT_ONCE), b"3 KB\n4", Err(RunError::Read), b"3000 = 3 KB\n"),
+    ((AT_ONCE, Pace { step: 80, calls: 0, then: Then::Fail }), b"5 KB\n", Err(RunError::Write), b""),
+    (OPEN, b"6 KB", Ok(()), b"6000 = 6 KB\n"),
+};
+
+#[test]
+fn runs_in_the_same_buffers(rt: HostRuntime) {
+    let mut buffers = Buffers::new(rt.alloc());
+    for (number, (paces, input, wanted, report)) in RUNS.iter().enumerate() {
+        let buffer = &mut [0u8; 80];
+        let ended = ran_with(rt.alloc(), &mut buffers, usize::MAX, buffer, input, *paces);
+        ended.expect(&rt, *wanted, report, "run", &[number]);
+    }
 }
 
 /// The number of the allocation that fails, the limit, and the number of allocations. The last two limits, with a read

@@ -100,11 +100,26 @@ pub fn ran_in<'a, A: Allocator>(
 ) -> Ended<'a>
     requires { 0 < length buffer.old }
 {
-    let (mut reader, mut writer) = streams(alloc, input, reads, writes);
     let mut buffers = Buffers::new(heap);
+    let paces = (reads, writes);
+    ran_with(alloc, &mut buffers, usize::MAX, buffer, input, paces)
+}
+
+/// Runs as `ran_in` does, in these buffers, for lines of at most `longest` bytes.
+pub fn ran_with<'a, A: Allocator>(
+    alloc: Global,
+    buffers: &mut Buffers<A>,
+    longest: usize,
+    buffer: &mut [u8],
+    input: &'a [u8],
+    paces: (Pace, Pace),
+) -> Ended<'a>
+    requires { 0 < length buffer.old }
+{
+    let (mut reader, mut writer) = streams(alloc, input, paces.0, paces.1);
     let result = run_with_buffers(
-        &mut buffers,
-        usize::MAX,
+        buffers,
+        longest,
         buffer,
         &mut reader,
         &mut writer,

@@ -28,23 +28,22 @@ returns-in-None-clause-run g c =
       so_far.served.answered,
     )
 
--- the invariant holds at the start: nothing is read or written, and both buffers are empty
+-- the invariant holds at the start: nothing is read or written, and both buffers were cleared
 pub reads-init : goal.reads-init
-reads-init g c = (
+reads-init g c = let first = c.clear.ensures in let second = c.clear-2.ensures in (
   record {
     read = [];
     written = [];
     gave = search rules;
     took = search rules;
-    -- the two parts of `AreEmpty`: no line has begun, and no answer waits
-    served = record { answered = refl; begun = c.requires.empty.0 };
-    none_wait = c.requires.empty.1;
+    served = record { answered = refl; begun = search (rules, first.items, second.items) };
+    none_wait = search (rules, first.items, second.items);
   },
   record {
-    finished = omega (arith, c.requires.buffer);
-    unfinished = omega (arith, c.args.buffers.now.line.ok.0, ap length c.requires.empty.0);
-    part_capacity = omega arith;
-    waiting_capacity = omega arith;
+    finished = omega (arith, c.requires);
+    unfinished = omega (arith, first.len, second.len);
+    part_capacity = omega (arith, first.capacity, second.capacity);
+    waiting_capacity = omega (arith, first.capacity, second.capacity);
   },
 )
 
@@ -80,7 +79,7 @@ returns-then-len-longest-clause-run g c =
 
 -- the unfinished line exceeds `longest`: what was read has a line that is longer than `longest`
 pub returns-then-len-longest-clause-memory : goal.returns-then-len-longest-clause-memory
-returns-then-len-longest-clause-memory g c = λ _ _.
+returns-then-len-longest-clause-memory g c = λ _ _ _.
     let so_far = c.reads.invariant.0 in
     let piece = take c.in-Some.n c.read.new.buf in
     let read = so_far.read ++ piece in
@@ -102,7 +101,7 @@ returns-then-is_empty-clause-bound g c =
     let end = c.in-Some-eq0 in (
       so_far.read,
       HasServed-at_end so_far _ c.read.new.buf end.ensures.came end.field-0-test,
-      longest_record-within c.reads.invariant.1 so_far.served.begun c.requires.buffer,
+      longest_record-within c.reads.invariant.1 so_far.served.begun c.requires,
     )
 
 -- the input has ended in a line: on `Ok` each line that was read is shorter than `longest` and a `buffer` together
@@ -111,7 +110,7 @@ returns-in_ok-add_answer-clause-bound g c =
     let so_far = c.reads.invariant.0 in
     let end = c.in-Some-eq0 in
     let gave = HasServed-at_end so_far _ c.read.new.buf end.ensures.came end.field-0-test in
-    let below = longest_record-within c.reads.invariant.1 so_far.served.begun c.requires.buffer in
+    let below = longest_record-within c.reads.invariant.1 so_far.served.begun c.requires in
     on_ok_weaker c.write_whole.result (λ _. (so_far.read, gave, below)) c.write_whole.ensures.ok
 
 -- the lines of a read could not all be answered: what is written is what the error allows
