@@ -9,6 +9,7 @@ SELECT '1,5 GB'::bytesize;
 SELECT ''::bytesize;
 SELECT '1000000000000000000000000000000'::bytesize;
 SELECT '1 Ké'::bytesize;
+SELECT ('x' || repeat('é', 32))::bytesize;
 -- The functions.
 SELECT size_parse('1.5 KiB'), size_parse('100 mb'), size_parse('100 mb', 'ignore-case'), size_parse('10m', 'binary ignore-case');
 SELECT size_parse(NULL) IS NULL, size_try('1 XB') IS NULL, size_try('1 KB'), size_explain('1 KB') IS NULL;
