@@ -268,11 +268,10 @@ def test_each_failure(here, copied, monkeypatch, error):
 
 
 def test_replaced_links(tmp_path, monkeypatch):
-    """A link is replaced, not what it leads to, but not a link to a folder. If another file cannot be replaced, the link
-    is there again."""
+    """A link is replaced, not what it leads to, but a link to a folder is not. If another file cannot be replaced, the
+    link is there again."""
     monkeypatch.setattr(replace, "on_signals", lambda handler: None)
-    write(tmp_path, {"file": "Its own."})
-    (tmp_path / "link").symlink_to("file")
+    (tmp_path / "link").symlink_to("nothing")
     before, files = contents(tmp_path, whole=True), {tmp_path / "link": "elsewhere", tmp_path / "new/in/file": b""}
     with pytest.raises(FileNotFoundError):
         replace.replace({**files, tmp_path / "none": None}, {})
@@ -281,7 +280,7 @@ def test_replaced_links(tmp_path, monkeypatch):
     (tmp_path / "folder").symlink_to("new")
     with pytest.raises(Failure, match="folder is a folder"):
         replace.replace({tmp_path / "folder": b""}, {})
-    assert contents(tmp_path)["link"] == (Path("elsewhere"), False) and (tmp_path / "file").read_text() == "Its own."
+    assert contents(tmp_path)["link"] == (Path("elsewhere"), False) and not (tmp_path / "nothing").exists()
 
 
 def test_commit(here, copied):
