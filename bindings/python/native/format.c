@@ -57,10 +57,16 @@ static bool kind_flag(PyObject *object, uint32_t *flags)
     return add_flag(object, "bits", BYTE_UNIT_BITS, flags);
 }
 
-/* Reads the options bits, precision, width, align, sign and alternate into a spec, which has their defaults. */
-static bool to_options(PyObject *module, PyObject *const *options, uint32_t *flags, byte_unit_spec *spec)
+/* Reads the options bits, precision, width, align, sign and alternate, if there are names of arguments, into a spec
+ * that has their defaults. */
+static bool to_options(PyObject *module, PyObject *names, PyObject *const *options, uint32_t *flags,
+                       byte_unit_spec *spec)
 {
     uint32_t alternate = options[5] ? 0 : spec->alternate; /* if it is passed, it is added as a flag is */
+    *flags = BYTE_UNIT_BYTES;
+    if (!names) {
+        return true;
+    }
     if (options[1]) {
         spec->has_precision = is_set(options[1]);
         spec->precision = 0;
@@ -83,7 +89,7 @@ PyObject *text_of(PyObject *module, PyObject *const *args, Py_ssize_t count, PyO
     uint32_t flags;
     byte_unit_spec spec = {.alternate = 1};
     if (!place(&SIGNATURE, args, count, names, given) || !to_size(module, given[0], &size) ||
-        !to_options(module, given + 1, &flags, &spec)) {
+        !to_options(module, names, given + 1, &flags, &spec)) {
         return NULL;
     }
     return text_with(write_text, size, flags, BYTE_UNIT_NO_UNIT, spec);
@@ -98,7 +104,7 @@ PyObject *adjusted_text(PyObject *module, PyObject *const *args, Py_ssize_t coun
     uint32_t flags, unit;
     byte_unit_spec spec = {0};
     if (!place(&SIGNATURE, args, count, names, given) || !to_size(module, given[0], &size) ||
-        !to_unit(module, given[1], &unit) || !to_options(module, given + 2, &flags, &spec)) {
+        !to_unit(module, given[1], &unit) || !to_options(module, names, given + 2, &flags, &spec)) {
         return NULL;
     }
     return text_with(byte_unit_adjusted_text, size, flags, unit, spec);
@@ -115,7 +121,7 @@ PyObject *approximate_text(PyObject *module, PyObject *const *args, Py_ssize_t c
     byte_unit_spec spec = {.has_precision = 1, .precision = 1};
     if (!place(&SIGNATURE, args, count, names, given) || !to_size(module, given[0], &size) ||
         (given[1] && !to_choice(module, &TYPES, given[1], &unit_type)) ||
-        !to_options(module, given + 2, &flags, &spec)) {
+        !to_options(module, names, given + 2, &flags, &spec)) {
         return NULL;
     }
     return text_with(byte_unit_approximate_text, size, flags, unit_type, spec);

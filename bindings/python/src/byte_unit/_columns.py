@@ -265,6 +265,8 @@ class Column(Sequence["int | None"]):
 
 def _items(texts: "Iterable[str | bytes | None]") -> "Iterable[str | bytes | None]":
     """Returns what the texts are read from. Raises `TypeError` if its items are parts of a text, or names."""
+    if isinstance(texts, (list, tuple)):
+        return texts
     kind = type(texts).__name__
     if isinstance(texts, (str, bytes)):
         raise TypeError(f"texts must be an iterable of texts, not one {kind}")
