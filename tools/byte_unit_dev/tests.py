@@ -17,8 +17,8 @@ from .needs import DEBIAN_PYTHON
 # The parts by the words that choose them, and the file or folder of each.
 PARTS = {
     **{part: f"bindings/c/test_{part}.py" for part in ("header", "c", "install", "aarch64")},
-    **{part: f"bindings/{part}/test_{part}.py" for part in ("python", "rust", "sqlite", "postgresql", "js")},
-    "vectors": "vectors/test_vectors.py", "command": "command/tests",
+    **{part: f"bindings/{part}/test_{part}.py" for part in ("python", "rust", "sqlite", "postgresql")},
+    "js": "bindings/js", "vectors": "vectors/test_vectors.py", "command": "command/tests",
     **{part: f"tools/tests/test_{part}.py" for part in ("scale", "memory", "limits", "take")},
     "dist": "tools/tests/dist",
 }
