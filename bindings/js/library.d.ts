@@ -80,8 +80,9 @@ export interface Library {
     parse(string: string, options?: SizeReadingOptions): bigint;
     /** Returns the unit that a string spells. Throws a SizeError. */
     parseUnit(string: string, options?: ReadingOptions): Unit;
-    /** Reads strings, each as parse does, and throws no SizeError. */
-    parseMany(strings: readonly string[], options?: SizeReadingOptions): Sizes;
+    /** Reads the strings of an array, a set, a generator or another iterable object, each as parse does, and throws no
+     *  SizeError. */
+    parseMany(strings: Iterable<string> & object, options?: SizeReadingOptions): Sizes;
     /** Returns the message of the error of a string, or null if it is a size. */
     explain(string: string, options?: SizeReadingOptions): string | null;
     /** Returns the message of the error of a string, or null if it is a unit. */

@@ -9,9 +9,21 @@ export const UNITS = Object.freeze(["b", "B", ...PREFIXES.flatMap(
 // The names of the codes that the parsing calls return, each at its code.
 const CODES = ["ok", "no_value", "not_number", "number_too_long", "exceeded_bounds", "unit", "not_utf8",
     "invalid_argument"];
-// The codes of unit types, signs and alignments in byte_unit.h. A sign or an alignment of 0 is unset.
-const TYPES = { binary: 0, decimal: 1, both: 2 };
-const SIGNS = { plus: 1, minus: 2 }, ALIGNS = { left: 1, center: 2, right: 3 };
+// The code of the unit type that is taken if none is given.
+const BINARY = 0;
+// The kinds of options: the type of a value, what is expected, and a function to the code in byte_unit.h of a value, or
+// to undefined. 65535 is the most in a byte_unit_spec, where a sign or an alignment of 0 is unset.
+const FLAG = { type: "boolean", expected: "true or false", codeOf: Number };
+const COUNT = { type: "number", expected: "an integer from 0 to 65535",
+    codeOf: value => Number.isInteger(value) && value >= 0 && value <= 65535 ? value : undefined };
+const choice = codes => ({ type: "string", expected: `one of ${Object.keys(codes).join(", ")}`,
+    codeOf: value => Object.hasOwn(codes, value) ? codes[value] : undefined });
+const OPTIONS = { bits: FLAG, ignoreCase: FLAG, binary: FLAG, alternate: FLAG, precision: COUNT, width: COUNT,
+    sign: choice({ plus: 1, minus: 2 }), align: choice({ left: 1, center: 2, right: 3 }),
+    type: choice({ binary: BINARY, decimal: 1, both: 2 }) };
+// The names of the options of the calls that parse a unit, that parse a size, and that format a size.
+const UNIT_OPTIONS = ["bits", "ignoreCase"], SIZE_OPTIONS = [...UNIT_OPTIONS, "binary"];
+const TEXT_OPTIONS = ["bits", "precision", "width", "sign", "align", "alternate"];
 // The limit of sizes, and a mask of 64 bits.
 const SIZE_LIMIT = 10n ** 30n, LOW = (1n << 64n) - 1n;
 // The bytes of a page of WebAssembly's memory, and the length of the area that a text is first written to, which is
@@ -28,44 +40,43 @@ export class SizeError extends Error {
     }
 }
 
+/** Returns a value as an error quotes it: `"2"` and `2n` are no `2`. */
+function quoted(value) {
+    const text = typeof value === "string" ? JSON.stringify(value) : String(value);
+    return typeof value === "bigint" ? `${text}n` : text;
+}
+
 /**
- * Returns the flags of byte_unit.h that options set. Throws a TypeError if a name is not one of `allowed`, or if a flag
- * is not a boolean, such as `"no"`.
+ * Returns the codes of the options that are given, by their names: one that is `undefined` is not given. Each is read
+ * once, so no code of the caller, such as a getter, runs later. Throws a TypeError if a name is not one of `allowed` or
+ * a value has another type, such as `"no"` for `false`, and a RangeError if it is out of range.
  */
-function flagsOf(options, ...allowed) {
-    // BYTE_UNIT_BITS, BYTE_UNIT_IGNORE_CASE and BYTE_UNIT_BINARY_PREFIXES.
-    const bits = { bits: 1, ignoreCase: 2, binary: 8 };
-    let flags = 0;
-    for (const [name, value] of Object.entries(options)) {
+function optionsOf(given = {}, ...allowed) {
+    if (typeof given !== "object" || given === null)
+        throw new TypeError(`${quoted(given)} is no object with options`);
+    const options = {};
+    for (const [name, value] of Object.entries(given)) {
         if (!allowed.includes(name))
             throw new TypeError(`${name} is no option of this call`);
-        if (name in bits && value !== undefined) {
-            if (typeof value !== "boolean")
-                throw new TypeError(`${name} is ${String(value)}: true or false is expected`);
-            flags |= value ? bits[name] : 0;
-        }
+        if (value === undefined)
+            continue;
+        const { type, expected, codeOf } = OPTIONS[name], isOfType = typeof value === type;
+        options[name] = isOfType ? codeOf(value) : undefined;
+        if (options[name] === undefined)
+            throw new (isOfType ? RangeError : TypeError)(`${name} is ${quoted(value)}: ${expected} is expected`);
     }
-    return flags;
+    return options;
 }
 
-/** Returns the number of an option that has to be an integer from `least` to 65535, the most in a byte_unit_spec. */
-function countOf(name, value, least) {
-    if (!Number.isInteger(value) || value < least || value > 65535)
-        throw new RangeError(`${name} is ${String(value)}: an integer from ${least} to 65535 is expected`);
-    return value;
-}
-
-/** Returns the code of the value of an option that has to be one of the names in a table of codes. */
-function choiceOf(name, value, codes) {
-    if (!Object.hasOwn(codes, value))
-        throw new RangeError(`${name} is ${String(value)}: one of ${Object.keys(codes).join(", ")} is expected`);
-    return codes[value];
+/** Returns the flags of byte_unit.h: BYTE_UNIT_BITS, BYTE_UNIT_IGNORE_CASE and BYTE_UNIT_BINARY_PREFIXES. */
+function flagsOf({ bits = 0, ignoreCase = 0, binary = 0 }) {
+    return bits | ignoreCase << 1 | binary << 3;
 }
 
 /** Returns an argument that has to be a string. */
 function textGiven(value) {
     if (typeof value !== "string")
-        throw new TypeError(`${String(value)} is no string`);
+        throw new TypeError(`${quoted(value)} is no string`);
     return value;
 }
 
@@ -148,7 +159,7 @@ class Memory {
     /** Writes a size as a byte_unit_number, and returns its address, by which WebAssembly's C passes a struct. */
     writeSize(size) {
         if (typeof size !== "bigint" && !Number.isSafeInteger(size))
-            throw new TypeError(`${String(size)} is no BigInt, and no integer that a number holds exactly`);
+            throw new TypeError(`${quoted(size)} is no BigInt, and no integer that a number holds exactly`);
         const value = BigInt(size);
         if (value < 0n || value >= SIZE_LIMIT)
             throw new RangeError(`${value} is no size: it is negative, or 10^30 or more`);
@@ -162,15 +173,13 @@ class Memory {
         return this.view().getBigUint64(from, true) | this.view().getBigUint64(from + 8, true) << 64n;
     }
 
-    /** Writes options as a byte_unit_spec, in the order of its fields, and returns its address. */
-    writeSpec({ precision, width, sign, align, alternate }) {
+    /** Writes the codes of options as a byte_unit_spec, in the order of its fields, and returns its address. */
+    writeSpec({ precision, width = 0, sign = 0, align = 0, alternate = 0 }) {
         const view = this.view(), at = this.at.spec;
-        view.setUint32(at, precision === undefined ? 0 : countOf("precision", precision, 0), true);
-        view.setUint32(at + 4, width === undefined ? 0 : countOf("width", width, 0), true);
-        view.setUint8(at + 8, precision === undefined ? 0 : 1);
-        view.setUint8(at + 9, alternate ? 1 : 0);
-        view.setUint8(at + 10, sign === undefined ? 0 : choiceOf("sign", sign, SIGNS));
-        view.setUint8(at + 11, align === undefined ? 0 : choiceOf("align", align, ALIGNS));
+        view.setUint32(at, precision ?? 0, true);
+        view.setUint32(at + 4, width, true);
+        [precision === undefined ? 0 : 1, alternate, sign, align].forEach(
+            (code, index) => view.setUint8(at + 8 + index, code));
         return BigInt(at);
     }
 
@@ -241,9 +250,9 @@ export async function instantiate(bytes) {
 
     /** Returns the code of a unit by its name. */
     function unitCode(unit) {
-        const code = UNITS.indexOf(unit);
+        const code = UNITS.indexOf(textGiven(unit));
         if (code < 0)
-            throw new RangeError(`${String(unit)} is no name of a unit, such as KiB or MB`);
+            throw new RangeError(`${quoted(unit)} is no name of a unit, such as KiB or MB`);
         return code;
     }
 
@@ -251,18 +260,22 @@ export async function instantiate(bytes) {
     return {
         version: exports.byte_unit_version(),
 
-        parse(string, options = {}) {
-            return sizeOf(textGiven(string), flagsOf(options, "bits", "ignoreCase", "binary"));
+        parse(string, options) {
+            return sizeOf(textGiven(string), flagsOf(optionsOf(options, ...SIZE_OPTIONS)));
         },
 
-        parseUnit(string, options = {}) {
-            return UNITS[unitOf(textGiven(string), flagsOf(options, "bits", "ignoreCase"))];
+        parseUnit(string, options) {
+            return UNITS[unitOf(textGiven(string), flagsOf(optionsOf(options, ...UNIT_OPTIONS)))];
         },
 
-        parseMany(strings, options = {}) {
-            const flags = flagsOf(options, "bits", "ignoreCase", "binary"), count = strings.length;
-            const encoded = Array.from(strings, string => encoder.encode(textGiven(string)));
-            const total = encoded.reduce((sum, bytes) => sum + bytes.length, 0);
+        parseMany(strings, options) {
+            const flags = flagsOf(optionsOf(options, ...SIZE_OPTIONS)), encoded = [];
+            if (Object(strings) instanceof String)
+                throw new TypeError("strings is one string: an array or another iterable of strings is expected");
+            // The caller's iterator runs here alone, and what it returns is counted: nothing is in the memory yet.
+            for (const string of strings)
+                encoded.push(encoder.encode(textGiven(string)));
+            const count = encoded.length, total = encoded.reduce((sum, bytes) => sum + bytes.length, 0);
             // A text has 16 bytes for its size, 8 for its offset and 1 for its code. There is one offset of 8 bytes more:
             // 64 bytes hold it, and the others are to spare.
             const sizesAt = memory.reserve(total + 25 * count + 64), offsetsAt = sizesAt + 16 * count;
@@ -274,46 +287,49 @@ export async function instantiate(bytes) {
                 end += bytes.length;
             });
             view.setBigInt64(offsetsAt + 8 * count, BigInt(end), true);
-            exports.byte_unit_parse_many_to(BigInt(dataAt), BigInt(end), BigInt(offsetsAt), BigInt(count + 1), flags,
-                BigInt(sizesAt), BigInt(count), BigInt(codesAt), BigInt(count));
+            const code = exports.byte_unit_parse_many_to(BigInt(dataAt), BigInt(end), BigInt(offsetsAt),
+                BigInt(count + 1), flags, BigInt(sizesAt), BigInt(count), BigInt(codesAt), BigInt(count));
+            if (code !== 0)
+                throw new Error(`byte_unit: byte_unit_parse_many_to returned ${CODES[code]}`);
             const codes = Array.from(memory.bytes(codesAt, count), code => CODES[code]);
-            return { codes, sizes: codes.map((code, row) => code === "ok" ? memory.readSize(sizesAt + 16 * row) : null) };
+            const sizes = codes.map((code, row) => code === "ok" ? memory.readSize(sizesAt + 16 * row) : null);
+            return { codes, sizes };
         },
 
-        explain(string, options = {}) {
-            const flags = flagsOf(options, "bits", "ignoreCase", "binary");
+        explain(string, options) {
+            const flags = flagsOf(optionsOf(options, ...SIZE_OPTIONS));
             return explained(exports.byte_unit_explain, textGiven(string), flags) || null;
         },
 
-        explainUnit(string, options = {}) {
-            const flags = flagsOf(options, "bits", "ignoreCase");
+        explainUnit(string, options) {
+            const flags = flagsOf(optionsOf(options, ...UNIT_OPTIONS));
             return explained(exports.byte_unit_explain_unit, textGiven(string), flags) || null;
         },
 
-        text(size, options = {}) {
-            const flags = flagsOf(options, "bits", "precision", "width", "sign", "align", "alternate");
-            const number = memory.writeSize(size), spec = memory.writeSpec({ alternate: true, ...options });
+        text(size, options) {
+            const given = { alternate: 1, ...optionsOf(options, ...TEXT_OPTIONS) }, flags = flagsOf(given);
+            const spec = memory.writeSpec(given), number = memory.writeSize(size);
             return memory.readText((out, room) => exports.byte_unit_text(number, flags, spec, out, room));
         },
 
-        adjustedText(size, unit, options = {}) {
-            const flags = flagsOf(options, "bits", "precision", "width", "sign", "align", "alternate");
-            const number = memory.writeSize(size), spec = memory.writeSpec(options), code = unitCode(unit);
-            return memory.readText((out, room) => exports.byte_unit_adjusted_text(number, flags, code, spec, out, room));
+        adjustedText(size, unit, options) {
+            const given = optionsOf(options, ...TEXT_OPTIONS), flags = flagsOf(given), code = unitCode(unit);
+            const spec = memory.writeSpec(given), number = memory.writeSize(size);
+            return memory.readText(
+                (out, room) => exports.byte_unit_adjusted_text(number, flags, code, spec, out, room));
         },
 
-        approximateText(size, options = {}) {
-            const { type = "binary", precision = 1, ...rest } = options;
-            const flags = flagsOf(options, "bits", "type", "precision", "width", "sign", "align", "alternate");
-            const code = choiceOf("type", type, TYPES);
-            const number = memory.writeSize(size), spec = memory.writeSpec({ precision, ...rest });
-            return memory.readText((out, room) => exports.byte_unit_approximate_text(number, flags, code, spec, out, room));
+        approximateText(size, options) {
+            const given = { type: BINARY, precision: 1, ...optionsOf(options, ...TEXT_OPTIONS, "type") };
+            const flags = flagsOf(given), code = given.type;
+            const spec = memory.writeSpec(given), number = memory.writeSize(size);
+            return memory.readText(
+                (out, room) => exports.byte_unit_approximate_text(number, flags, code, spec, out, room));
         },
 
-        appropriateUnit(size, options = {}) {
-            const flags = flagsOf(options, "bits", "type");
-            const code = choiceOf("type", options.type ?? "binary", TYPES);
-            return UNITS[exports.byte_unit_appropriate_unit(memory.writeSize(size), flags, code)];
+        appropriateUnit(size, options) {
+            const given = { type: BINARY, ...optionsOf(options, "bits", "type") }, number = memory.writeSize(size);
+            return UNITS[exports.byte_unit_appropriate_unit(number, flagsOf(given), given.type)];
         },
     };
 }

@@ -32,9 +32,10 @@ def test_lines(javascript, check_drawn, kind):
 
 
 def evaluated(javascript, code):
-    """Returns what an expression of the package's calls is, as JSON, or the error."""
+    """Returns what an expression of the package's calls is, or what its promise becomes, as JSON, or the error."""
     script = (f"import * as byteUnit from {json.dumps(str(javascript / 'index.js'))};\n"
-              f"const {{ {CALLS} }} = byteUnit;\nlet found;\ntry {{ found = {code}; }}\n"
+              f"const {{ {CALLS} }} = byteUnit, place = {json.dumps(javascript.as_uri())};\n"
+              f"let found;\ntry {{ found = await ({code}); }}\n"
               "catch (error) { found = `${error.name}: ${error.message}`; }\n"
               "console.log(JSON.stringify(found, (_, value) => typeof value === 'bigint' ? `${value}n` : value));\n")  # fmt: skip
     return json.loads(output(*NODE, "--input-type=module", "-e", script))
@@ -45,7 +46,7 @@ def evaluated(javascript, code):
     ("parse('10m', { binary: true, ignoreCase: true })", "10485760n"), ("parse('1 Kb', { bits: true })", "1000n"),
     ("parse('')", "SizeError: no value can be found"), ("parse(1)", "TypeError: 1 is no string"),
     ("parse('1', { ignorecase: true })", "TypeError: ignorecase is no option of this call"),
-    ("parse('1', { bits: 'no' })", "TypeError: bits is no: true or false is expected"),
+    ("parse('1', { bits: 'no' })", 'TypeError: bits is "no": true or false is expected'),
     ("parseUnit('kib')", "Kib"), ("parseUnit('k', { bits: true })", "Kb"),
     ("explain('1 KB')", None), ("explainUnit('x').startsWith(\"the character 'x'\")", True),
     ("text(1536)", "1.5 KiB"), ("text(10n ** 30n - 1n)", "999999999999999999999999999.999 KB"),
@@ -53,11 +54,15 @@ def evaluated(javascript, code):
     ("text(10n ** 30n)", f"RangeError: {10**30} is no size: it is negative, or 10^30 or more"),
     ("text(1.5)", "TypeError: 1.5 is no BigInt, and no integer that a number holds exactly"),
     ("text(1, { precision: -1 })", "RangeError: precision is -1: an integer from 0 to 65535 is expected"),
-    ("text(1, { sign: 'both' })", "RangeError: sign is both: one of plus, minus is expected"),
+    ("text(1, { precision: 65536 })", "RangeError: precision is 65536: an integer from 0 to 65535 is expected"),
+    ("text(1, { sign: 'both' })", 'RangeError: sign is "both": one of plus, minus is expected'),
     ("adjustedText(1536, 'MB')", "0.001536 MB"), ("adjustedText(1, 'KiB', { precision: 65535 }).length", 65541),
-    ("adjustedText(1, 'kib')", "RangeError: kib is no name of a unit, such as KiB or MB"),
-    ("approximateText(123456789)", "117.7 MiB"), ("approximateText(123456789, { type: 'decimal', precision: 0 })", "123 MB"),
-    ("appropriateUnit(1536)", "KiB"), ("parseMany([])", {"sizes": [], "codes": []}),
+    ("adjustedText(1, 'kib')", 'RangeError: "kib" is no name of a unit, such as KiB or MB'),
+    ("adjustedText(1, 5)", "TypeError: 5 is no string"),
+    ("approximateText(123456789)", "117.7 MiB"),
+    ("approximateText(123456789, { type: 'decimal', precision: 0 })", "123 MB"),
+    ("appropriateUnit(1536)", "KiB"), ("appropriateUnit(1536, { type: 'decimal' })", "KB"),
+    ("parseMany([])", {"sizes": [], "codes": []}),
     ("parseMany(['1 KB', '', 'x', '1e3'])", {"sizes": ["1000n", None, None, None],
                                              "codes": ["ok", "no_value", "not_number", "unit"]}),
     ("(() => { try { parse('é 1'); } catch (e) { return [e.code, e.character, e.position, e.text]; } })()",
@@ -71,6 +76,81 @@ def evaluated(javascript, code):
 def test_calls(javascript, code, found):
     """Evaluates expressions: a BigInt has `n` after its digits, an error is its name and its message."""
     assert evaluated(javascript, code) == found
+
+
+@pytest.mark.parametrize("call, options, error", [
+    *[("text(1, {})", f"{{ alternate: {value} }}", f"TypeError: alternate is {value}: true or false is expected")
+      for value in ('"no"', "0", "null")],
+    ("text(1, {})", '{ precision: "2" }', 'TypeError: precision is "2": an integer from 0 to 65535 is expected'),
+    ("text(1, {})", "{ width: 2n }", "TypeError: width is 2n: an integer from 0 to 65535 is expected"),
+    ("text(1, {})", "{ sign: 1 }", "TypeError: sign is 1: one of plus, minus is expected"),
+    ("text(1, {})", "{ align: true }", "TypeError: align is true: one of left, center, right is expected"),
+    *[(f"{call}(1, {{}})", "{ type: null }", "TypeError: type is null: one of binary, decimal, both is expected")
+      for call in ("approximateText", "appropriateUnit")],
+    *[("parse('1', {})", value, f"TypeError: {value} is no object with options") for value in ("true", "null", '"b"')],
+])  # fmt: skip
+def test_options_of_another_type(javascript, call, options, error):
+    """They are a TypeError, of which the message shows the value."""
+    assert evaluated(javascript, call.replace("{}", options)) == error
+
+
+@pytest.mark.parametrize("call, names, text", [
+    ("text(1536, {})", "alternate bits precision width sign align", "1.5 KiB"),
+    ("adjustedText(1536, 'KiB', {})", "alternate bits precision width sign align", "1.5 KiB"),
+    ("approximateText(1536, {})", "alternate bits precision width sign align type", "1.5 KiB"),
+    ("appropriateUnit(1536, {})", "bits type", "KiB"), ("parse('10', {})", "bits ignoreCase binary", "10n"),
+])  # fmt: skip
+def test_options_that_are_undefined(javascript, call, names, text):
+    """They are as not given."""
+    options = ", ".join(f"{name}: undefined" for name in names.split())
+    assert evaluated(javascript, call.replace("{}", f"{{ {options} }}")) == text
+
+
+def test_options_with_code(javascript):
+    """A getter that makes calls of its own changes no size, and is called once."""
+    getter = "get width() { calls++; parse('7 KB'); text(10n ** 29n, { width: 30, precision: 2 }); return 12; }"
+    for call, text in (("text(1536, OPTIONS)", "1.5      KiB"), ("adjustedText(1536, 'B', OPTIONS)", "1536       B"),
+                       ("approximateText(1536, OPTIONS)", "1.5      KiB")):  # fmt: skip
+        code = f"(() => {{ let calls = 0; return [{call.replace('OPTIONS', f'{{ {getter} }}')}, calls]; }})()"
+        assert evaluated(javascript, code) == [text, 1]
+
+
+@pytest.mark.parametrize("strings, sizes", [
+    ("new Set(['1 KB', '2 KB'])", ["1000n", "2000n"]), ("new Map([['1 KB', 0]]).keys()", ["1000n"]),
+    ("(function* () { yield '1 KB'; parseMany(['3 KB', '4 KB']); yield 'x'; parse('5 KB'); })()", ["1000n", None]),
+    *[("Object.assign(['7', '8'], { *[Symbol.iterator]() { %s } })" % "".join(f"yield '{n}';" for n in range(count)),
+       [f"{n}n" for n in range(count)]) for count in (0, 1, 5)],
+])  # fmt: skip
+def test_iterables(javascript, strings, sizes):
+    """Their strings are read, as many as there are, after a column that is longer."""
+    assert evaluated(javascript, f"[parseMany(Array(9).fill('9 KB')), parseMany({strings}).sizes][1]") == sizes
+
+
+@pytest.mark.parametrize("strings, error", [
+    *[(string, "TypeError: strings is one string: an array or another iterable of strings is expected")
+      for string in ("'1 KB'", "'1😀2'", "''", "new String('12')", "'1'.repeat(2000000)")],
+    ("['1 KB', 5]", "TypeError: 5 is no string"), ("new Map([['1 KB', '2 KB']])", "TypeError: 1 KB,2 KB is no string"),
+    ("{ length: 1, 0: '1 KB' }", "TypeError: strings is not iterable"), ("5", "TypeError: strings is not iterable"),
+])  # fmt: skip
+def test_no_iterables_of_strings(javascript, strings, error):
+    """They are a TypeError, and later calls return what they should."""
+    code = (f"(() => {{ try {{ parseMany({strings}); }} catch (error) {{ "
+            "return [`${error.name}: ${error.message}`, parse('1.5 KiB'), text(1536)]; } })()")  # fmt: skip
+    assert evaluated(javascript, code) == [error, "1536n", "1.5 KiB"]
+
+
+def test_a_column_that_is_rejected(javascript):
+    """parseMany throws the code of the module's call, if it is another than 0."""
+    code = """(async () => {
+        const { instantiate } = await import(`${place}/library.js`), { readFile } = await import("node:fs/promises");
+        const made = WebAssembly.instantiate;
+        WebAssembly.instantiate = async (...given) => {
+            const { exports } = (await made(...given)).instance;
+            return { instance: { exports: { ...exports, byte_unit_parse_many_to: () => 7 } } };
+        };
+        return (await instantiate(await readFile(new URL(`${place}/byte_unit.wasm`)))).parseMany(["1"]);
+    })()"""
+    assert evaluated(javascript, code) == "Error: byte_unit: byte_unit_parse_many_to returned invalid_argument"
 
 
 def test_code_of_the_readme(javascript):

@@ -4,12 +4,14 @@ import { instantiate, type Library } from "../library.js";
 
 const size: bigint = parse("10m", { binary: true, ignoreCase: true });
 const words: string[] = [text(size), text(1536, { precision: 2 }), adjustedText(size, "KiB"), approximateText(size, { type: "decimal" })];
-const { sizes, codes } = parseMany(["1 KB", "x"]);
+const { sizes, codes } = parseMany(["1 KB", "x"]), ofSet = parseMany(new Set(["1 KB"])).sizes;
 const total: bigint = sizes.reduce((sum: bigint, one) => sum + (one ?? 0n), 0n);
 const place: number | null = new SizeError("").position;
 const made: Promise<Library> = instantiate(new Uint8Array());
 // @ts-expect-error: an option that does not exist
 parse("1", { ignore_case: true });
+// @ts-expect-error: one string is no list of strings
+parseMany("1 KB");
 // @ts-expect-error: a size is no string
 text("1536");
-export const used = [words, codes, total, place, made, parseUnit("k"), UNITS.length, version];
+export const used = [words, codes, total, ofSet, place, made, parseUnit("k"), UNITS.length, version];
