@@ -44,7 +44,7 @@ export interface AdjustedTextOptions {
 /** How a size is formatted for people. The precision is 1 if it is not given. */
 export interface ApproximateTextOptions extends AdjustedTextOptions {
     /** The units to choose from: `binary` if it is not given. */
-    type?: UnitType;
+    unitType?: UnitType;
 }
 
 /** The sizes of strings, `null` for each that is no size, and the code of each: `ok`, or that of its error. */
@@ -94,7 +94,7 @@ export interface Library {
     /** Returns the text of a size, rounded to one place or to the precision, in the largest unit of a type not above it. */
     approximateText(size: bigint | number, options?: ApproximateTextOptions): string;
     /** Returns the largest unit of a type that is not above a size. */
-    appropriateUnit(size: bigint | number, options?: { bits?: boolean; type?: UnitType }): Unit;
+    appropriateUnit(size: bigint | number, options?: { bits?: boolean; unitType?: UnitType }): Unit;
 }
 
 /** Compiles the module byte_unit.wasm, and returns the calls of the library over it. */

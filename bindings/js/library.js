@@ -20,7 +20,7 @@ const choice = codes => ({ type: "string", expected: `one of ${Object.keys(codes
     codeOf: value => Object.hasOwn(codes, value) ? codes[value] : undefined });
 const OPTIONS = { bits: FLAG, ignoreCase: FLAG, binary: FLAG, alternate: FLAG, precision: COUNT, width: COUNT,
     sign: choice({ plus: 1, minus: 2 }), align: choice({ left: 1, center: 2, right: 3 }),
-    type: choice({ binary: BINARY, decimal: 1, both: 2 }) };
+    unitType: choice({ binary: BINARY, decimal: 1, both: 2 }) };
 // The names of the options of the calls that parse a unit, that parse a size, and that format a size.
 const UNIT_OPTIONS = ["bits", "ignoreCase"], SIZE_OPTIONS = [...UNIT_OPTIONS, "binary"];
 const TEXT_OPTIONS = ["bits", "precision", "width", "sign", "align", "alternate"];
@@ -320,16 +320,16 @@ export async function instantiate(bytes) {
         },
 
         approximateText(size, options) {
-            const given = { type: BINARY, precision: 1, ...optionsOf(options, ...TEXT_OPTIONS, "type") };
-            const flags = flagsOf(given), code = given.type;
+            const given = { unitType: BINARY, precision: 1, ...optionsOf(options, ...TEXT_OPTIONS, "unitType") };
+            const flags = flagsOf(given), code = given.unitType;
             const spec = memory.writeSpec(given), number = memory.writeSize(size);
             return memory.readText(
                 (out, room) => exports.byte_unit_approximate_text(number, flags, code, spec, out, room));
         },
 
         appropriateUnit(size, options) {
-            const given = { type: BINARY, ...optionsOf(options, "bits", "type") }, number = memory.writeSize(size);
-            return UNITS[exports.byte_unit_appropriate_unit(number, flagsOf(given), given.type)];
+            const given = { unitType: BINARY, ...optionsOf(options, "bits", "unitType") };
+            return UNITS[exports.byte_unit_appropriate_unit(memory.writeSize(size), flagsOf(given), given.unitType)];
         },
     };
 }

@@ -60,8 +60,8 @@ def evaluated(javascript, code):
     ("adjustedText(1, 'kib')", 'RangeError: "kib" is no name of a unit, such as KiB or MB'),
     ("adjustedText(1, 5)", "TypeError: 5 is no string"),
     ("approximateText(123456789)", "117.7 MiB"),
-    ("approximateText(123456789, { type: 'decimal', precision: 0 })", "123 MB"),
-    ("appropriateUnit(1536)", "KiB"), ("appropriateUnit(1536, { type: 'decimal' })", "KB"),
+    ("approximateText(123456789, { unitType: 'decimal', precision: 0 })", "123 MB"),
+    ("appropriateUnit(1536)", "KiB"), ("appropriateUnit(1536, { unitType: 'decimal' })", "KB"),
     ("parseMany([])", {"sizes": [], "codes": []}),
     ("parseMany(['1 KB', '', 'x', '1e3'])", {"sizes": ["1000n", None, None, None],
                                              "codes": ["ok", "no_value", "not_number", "unit"]}),
@@ -85,8 +85,9 @@ def test_calls(javascript, code, found):
     ("text(1, {})", "{ width: 2n }", "TypeError: width is 2n: an integer from 0 to 65535 is expected"),
     ("text(1, {})", "{ sign: 1 }", "TypeError: sign is 1: one of plus, minus is expected"),
     ("text(1, {})", "{ align: true }", "TypeError: align is true: one of left, center, right is expected"),
-    *[(f"{call}(1, {{}})", "{ type: null }", "TypeError: type is null: one of binary, decimal, both is expected")
-      for call in ("approximateText", "appropriateUnit")],
+    *[(f"{call}(1, {{}})", options, error) for call in ("approximateText", "appropriateUnit") for options, error in (
+        ("{ unitType: null }", "TypeError: unitType is null: one of binary, decimal, both is expected"),
+        ("{ type: 'decimal' }", "TypeError: type is no option of this call"))],
     *[("parse('1', {})", value, f"TypeError: {value} is no object with options") for value in ("true", "null", '"b"')],
 ])  # fmt: skip
 def test_options_of_another_type(javascript, call, options, error):
@@ -97,8 +98,8 @@ def test_options_of_another_type(javascript, call, options, error):
 @pytest.mark.parametrize("call, names, text", [
     ("text(1536, {})", "alternate bits precision width sign align", "1.5 KiB"),
     ("adjustedText(1536, 'KiB', {})", "alternate bits precision width sign align", "1.5 KiB"),
-    ("approximateText(1536, {})", "alternate bits precision width sign align type", "1.5 KiB"),
-    ("appropriateUnit(1536, {})", "bits type", "KiB"), ("parse('10', {})", "bits ignoreCase binary", "10n"),
+    ("approximateText(1536, {})", "alternate bits precision width sign align unitType", "1.5 KiB"),
+    ("appropriateUnit(1536, {})", "bits unitType", "KiB"), ("parse('10', {})", "bits ignoreCase binary", "10n"),
 ])  # fmt: skip
 def test_options_that_are_undefined(javascript, call, names, text):
     """They are as not given."""

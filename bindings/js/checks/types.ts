@@ -3,7 +3,7 @@ import { adjustedText, approximateText, parse, parseMany, parseUnit, SizeError, 
 import { instantiate, type Library } from "../library.js";
 
 const size: bigint = parse("10m", { binary: true, ignoreCase: true });
-const words: string[] = [text(size), text(1536, { precision: 2 }), adjustedText(size, "KiB"), approximateText(size, { type: "decimal" })];
+const words: string[] = [text(size), text(1536, { precision: 2 }), adjustedText(size, "KiB"), approximateText(size, { unitType: "decimal" })];
 const { sizes, codes } = parseMany(["1 KB", "x"]), ofSet = parseMany(new Set(["1 KB"])).sizes;
 const total: bigint = sizes.reduce((sum: bigint, one) => sum + (one ?? 0n), 0n);
 const place: number | null = new SizeError("").position;

@@ -30,8 +30,8 @@ function textOf([, , size, ...more], bits) {
         return byteUnit.text(BigInt(size), { bits, ...spec(more[0]) });
     const [how, what, word] = more, options = { bits, ...spec(word) };
     if (how === "by" && options.precision !== undefined)
-        return byteUnit.approximateText(BigInt(size), { type: what, ...options });
-    const unit = how === "in" ? what : byteUnit.appropriateUnit(BigInt(size), { bits, type: what });
+        return byteUnit.approximateText(BigInt(size), { unitType: what, ...options });
+    const unit = how === "in" ? what : byteUnit.appropriateUnit(BigInt(size), { bits, unitType: what });
     return byteUnit.adjustedText(BigInt(size), unit, options);
 }
 
