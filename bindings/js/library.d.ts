@@ -97,5 +97,6 @@ export interface Library {
     appropriateUnit(size: bigint | number, options?: { bits?: boolean; unitType?: UnitType }): Unit;
 }
 
-/** Compiles the module byte_unit.wasm, and returns the calls of the library over it. */
+/** Compiles the module byte_unit.wasm, and returns the calls of the library over it. The promise is rejected with an
+ *  Error if the engine has no 64-bit memory, or if the bytes are not that module. */
 export function instantiate(bytes: BufferSource): Promise<Library>;

@@ -24,6 +24,8 @@ const OPTIONS = { bits: FLAG, ignoreCase: FLAG, binary: FLAG, alternate: FLAG, p
 // The names of the options of the calls that parse a unit, that parse a size, and that format a size.
 const UNIT_OPTIONS = ["bits", "ignoreCase"], SIZE_OPTIONS = [...UNIT_OPTIONS, "binary"];
 const TEXT_OPTIONS = ["bits", "precision", "width", "sign", "align", "alternate"];
+// A module that has a memory with 64-bit addresses, and nothing else.
+const MEMORY64 = Uint8Array.of(0, 97, 115, 109, 1, 0, 0, 0, 5, 3, 1, 4, 0);
 // The limit of sizes, and a mask of 64 bits.
 const SIZE_LIMIT = 10n ** 30n, LOW = (1n << 64n) - 1n;
 // The bytes of a page of WebAssembly's memory, and the length of the area that a text is first written to, which is
@@ -94,15 +96,21 @@ function indexOfByte(string, wanted) {
     return index;
 }
 
-/** Makes an instance of a module. The error of an engine that cannot compile it says what the engine lacks. */
+/** Makes an instance of the module. An error says whether the engine cannot take it, or the bytes are not its own. */
 async function instanceOf(bytes) {
-    try {
-        return (await WebAssembly.instantiate(bytes, {})).instance;
-    } catch (error) {
-        if (!(error instanceof WebAssembly.CompileError))
-            throw error;
+    if (!WebAssembly.validate(MEMORY64))
         throw new Error("byte_unit: this engine takes no WebAssembly with 64-bit memory (memory64); Node 20 needs "
-            + "--experimental-wasm-memory64", { cause: error });
+            + "--experimental-wasm-memory64");
+    try {
+        const { instance } = await WebAssembly.instantiate(bytes, {}), { byte_unit_version, memory } = instance.exports;
+        // A module that ends before its data compiles, and answers wrongly. The data is near the end of the memory.
+        if (!byte_unit_version || !new Uint8Array(memory.buffer).findLast(byte => byte > 0))
+            throw new Error("it has no calls, or no constants");
+        return instance;
+    } catch (cause) {
+        if (cause instanceof TypeError)
+            throw cause;
+        throw new Error(`byte_unit: byte_unit.wasm is another file, or not whole: ${cause.message}`, { cause });
     }
 }
 

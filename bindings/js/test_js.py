@@ -154,6 +154,16 @@ def test_a_column_that_is_rejected(javascript):
     assert evaluated(javascript, code) == "Error: byte_unit: byte_unit_parse_many_to returned invalid_argument"
 
 
+def test_require(javascript, tmp_path):
+    """`import` finds the package by its name; `require` says to write that."""
+    (tmp_path / "node_modules").mkdir()
+    (tmp_path / "node_modules/byte-unit").symlink_to(javascript)
+    script = "import('byte-unit').then(found => console.log(found.parse('1 KB')))"
+    assert output(*NODE, "-e", script, cwd=tmp_path) == "1000n\n"
+    status, _, said = ended(*NODE, "-e", "require('byte-unit')", cwd=tmp_path)
+    assert status == 1 and b"write `const byteUnit = await import('byte-unit')`" in said
+
+
 def test_code_of_the_readme(javascript):
     """Compares each call of the page with the result in the comment after it."""
     code = re.search(r"^```js\n(import .*?)^```$", read("bindings/js/README.md"), re.M | re.S)[1]

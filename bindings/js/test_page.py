@@ -1,12 +1,16 @@
-"""Tests the page in Chromium, driven by WebDriver."""
+"""Tests the page in Chromium, driven by WebDriver, and what is said of a module that cannot be loaded."""
 
 import re
+import shutil
 import tempfile
+import threading
 import time
+from functools import partial
+from http.server import SimpleHTTPRequestHandler, ThreadingHTTPServer
 
 import pytest
 from byte_unit_dev.browser import Browser
-from byte_unit_dev.fixtures import need, read
+from byte_unit_dev.fixtures import NODE, need, output, read
 from byte_unit_dev.page import page
 
 NARROW_SPACE = "\u202f"  # what the page has between groups of three digits
@@ -129,6 +133,18 @@ def test_page_for_all(browser, place):
     assert browser.call("POST", "/se/log", {"type": "browser"}) == []
 
 
+def test_page_without_memory64(browser, place, tmp_path):
+    """A browser that has no 64-bit memory is told so in place of the answer."""
+    script = "<script>WebAssembly.validate = () => false</script><main>"
+    text = place.read_text(encoding="utf-8").replace("<main>", script)
+    (tmp_path / "page.html").write_text(text, encoding="utf-8")
+    browser.open((tmp_path / "page.html").as_uri())
+    said = browser.script("return document.getElementById('answer').innerText")
+    assert said.startswith("byte_unit: this engine takes no WebAssembly with 64-bit memory (memory64)")
+    assert len(browser.call("POST", "/se/log", {"type": "browser"})) == 1
+    browser.open(place.as_uri())
+
+
 def test_page_at_three_widths(browser, tmp_path):
     """Nothing is wider than the window but what scrolls in itself, in both schemes, and no digits are broken."""
     typed(browser, "1.5 GiB")
@@ -166,3 +182,59 @@ def test_time_of_a_redraw(browser):
         "document.getElementById('form').dispatchEvent(new Event('input')); return (performance.now() - start) / 50"
     )
     assert took < 50
+
+
+def without_data(module):
+    """Returns a module up to its section of data, which has the constants. It is valid all the same."""
+    at = 8
+    while module[at] != 11:
+        # A section is its number, its length as digits of 7 bits, of which the last is below 128, and its content.
+        length, shift, at = 0, 0, at + 1
+        while module[at] >= 128:
+            length, shift, at = length | (module[at] & 127) << shift, shift + 7, at + 1
+        at += 1 + (length | module[at] << shift)
+    return module[:at]
+
+
+@pytest.fixture(scope="module")
+def broken(javascript, tmp_path_factory):
+    """A folder with a copy of the package for each way in which its module can be wrong."""
+    module = (javascript / "byte_unit.wasm").read_bytes()
+    made = tmp_path_factory.mktemp("broken")
+    for name, data in {"missing": None, "html": b"<!DOCTYPE html>", "cut": module[:-9], "code": without_data(module),
+                       "empty": b"", "other": module[:8], "whole": module}.items():  # fmt: skip
+        shutil.copytree(javascript, made / name)
+        (made / name / "byte_unit.wasm").unlink()
+        if data is not None:
+            (made / name / "byte_unit.wasm").write_bytes(data)
+    return made
+
+
+# What an import says of them.
+SAID = {
+    **dict.fromkeys(["html", "cut", "code", "empty", "other"],
+                    "byte_unit: byte_unit.wasm is another file, or not whole: "),
+    "whole": "loaded",
+}  # fmt: skip
+
+
+def test_a_broken_module(broken):
+    for name, said in {**SAID, "missing": "ENOENT: no such file or directory, open "}.items():
+        ends = "() => console.log('loaded'), error => console.log(error.message)"
+        script = f"await import('./{name}/index.js').then({ends})"
+        assert output(*NODE, "--input-type=module", "-e", script, cwd=broken).startswith(said), name
+
+
+def test_a_broken_module_of_a_server(broken, browser):
+    """The browser, which has 64-bit memory, is told what is wrong, and not that it has none."""
+    with ThreadingHTTPServer(("127.0.0.1", 0), partial(SimpleHTTPRequestHandler, directory=broken)) as server:
+        threading.Thread(target=server.serve_forever).start()
+        try:
+            root = f"http://127.0.0.1:{server.server_port}"
+            browser.open(root)  # a list of the folders, from which a module may be imported
+            script = "return import(arguments[0]).then(() => 'loaded', error => error.message)"
+            missing = f"byte_unit: {root}/missing/byte_unit.wasm cannot be loaded: status 404"
+            for name, said in {**SAID, "missing": missing}.items():
+                assert browser.script(script, f"{root}/{name}/index.js").startswith(said), name
+        finally:
+            server.shutdown()
