@@ -1,6 +1,5 @@
 """Drives Chromium by its driver, by WebDriver."""
 
-import base64
 import json
 import re
 import shutil
@@ -70,9 +69,6 @@ class Browser:
                 "params": {"features": [{"name": "prefers-color-scheme", "value": name}]},
             },
         )
-
-    def screenshot(self, file):
-        file.write_bytes(base64.b64decode(self.call("GET", "/screenshot")))
 
     def close(self):
         try:
