@@ -16,6 +16,7 @@ Debian's aarch64-linux-gnu-gcc is there.
 """
 
 import argparse
+import fcntl
 import os
 import re
 import shutil
@@ -66,8 +67,12 @@ def build_for(target, folder, after_ci):
 
 
 def proved(*words, crate="byte_unit_c"):
-    """Runs a call that proves a crate, and fails if it does not say so."""
-    status, said = shown(*words, cwd=path("crates", crate))
+    """Runs a call that proves a crate, and fails if it does not say so. Calls of several processes follow one another,
+    since they keep what they prove in one folder."""
+    Path(path("crates", crate, "out")).mkdir(exist_ok=True)
+    with open(path("crates", crate, "out/proving"), "w", encoding="utf-8") as file:
+        fcntl.flock(file, fcntl.LOCK_EX)
+        status, said = shown(*words, cwd=path("crates", crate))
     if status or not re.search("^logic=proved ", said, re.M):
         raise Failure(f"status {status}, or no line that begins with logic=proved: see above")
 

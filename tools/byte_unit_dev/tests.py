@@ -2,9 +2,10 @@
 
     tools/dev test [--after-ci] [--lines N] [--seed S] [PART..] [-- PYTEST'S ARGUMENTS]
 
-Without a part, runs all. A test is skipped only if a program or file that it needs is missing; a line that begins with
-`skipped: ` names it. The last line is `N passed, N failed`, with `, N skipped` after it if some were. Of pytest's
-arguments, `-k WORD` chooses tests, and `-m whole` runs those that take long, or inputs of 1 GB.
+Without a part, runs all. The files of several parts run side by side, by python3-pytest-xdist. A test is skipped only
+if a program or file that it needs is missing; a line that begins with `skipped: ` names it. The last line is `N passed,
+N failed`, with `, N skipped` after it if some were. Of pytest's arguments, `-k WORD` chooses tests, and `-m whole` runs
+those that take long, or inputs of 1 GB.
 """
 
 import os
@@ -36,6 +37,9 @@ def run(*words, after_ci=False, lines=4000, seed=1):
     for python in filter(shutil.which, (sys.executable, DEBIAN_PYTHON)):
         if call(python, "-c", "import pytest, hypothesis").returncode == 0:
             chosen = [path(PARTS[part]) for part in parts or PARTS]
+            # A file is one process's, so what its tests share, such as a server, is made once.
+            if len(parts) != 1 and call(python, "-c", "import xdist").returncode == 0:
+                words = ["--numprocesses", str(min(os.cpu_count(), 4)), "--dist", "loadfile", *words]
             return call(python, "-B", "-m", "pytest", *words, *chosen, stdout=None, stderr=None).returncode
     missing = "no Python has pytest and hypothesis (Debian: python3-pytest, python3-hypothesis)"
     if "BYTE_UNIT_SETUP" not in os.environ:

@@ -133,8 +133,10 @@ def test_older_postgresql(file, tmp_path):
     (module,), (script,) = (list(tmp_path.glob(f"root/usr/**/byte_unit{end}")) for end in (".so", "--*.sql"))
     found = re.search(r"CREATE TYPE bytesize;.*?STORAGE = plain\);", read(script), re.S)[0]
     statements = [*found.replace("MODULE_PATHNAME", str(module)).split(";\n"), "SELECT '1.5 KiB'::bytesize"]
-    for folder in (tmp_path, *tmp_path.parents[:2]):
-        folder.chmod(0o755)
+    # The folders of pytest, and of its processes that run side by side, are the tests' alone.
+    for folder in (tmp_path, *tmp_path.parents):
+        if folder.stat().st_mode & 0o777 == 0o700:
+            folder.chmod(0o755)
     (tmp_path / "data").mkdir()
     shutil.chown(tmp_path / "data", *["nobody", "nogroup"] * (os.geteuid() == 0) or [os.geteuid()])
     user = ["setpriv", "--reuid=nobody", "--regid=nogroup", "--clear-groups"] * (os.geteuid() == 0)
