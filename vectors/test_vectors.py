@@ -8,7 +8,7 @@ from byte_unit_dev.fixtures import NODE, compiled, ended, environment, path, rea
 from byte_unit_dev.model.exact import Rejected, form, size_of
 
 # How many rows each runner has, so that no call is left out unseen: vectors/README.md has the numbers, too.
-BY_MODEL, BY_BINDING, BY_JAVASCRIPT = 613, 1145, 1080
+BY_MODEL, BY_BINDING, BY_JAVASCRIPT = 615, 1147, 1082
 # The names of errors in the rows, by those that the exact model has.
 MODEL_ERRORS = {"no value": "NoValue", "not a number": "NotNumber", "number too long": "NumberTooLong",
                 "out of range": "ExceededBounds", "bad unit": "Unit"}  # fmt: skip

@@ -126,7 +126,7 @@ def test_vectors(server):
             answer = unescaped(found[3])
             error = {"ExceededBounds": "22003 .*"}.get(answer.split(" ")[0], "22P02 .*")
             rows += [(code, re.escape(answer.strip('"')) if answer[0] in '0123456789"' else error)] * bool(code)
-    assert len(rows) == 424 and wrong_of(server, rows) == []
+    assert len(rows) == 425 and wrong_of(server, rows) == []
 
 
 def unescaped(text):

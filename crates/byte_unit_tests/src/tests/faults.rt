@@ -71,14 +71,15 @@ const ERRORS_IGNORING_CASE: &[(&str, Expected)] = &[
     ("1bié", Expected::Unit('é', &['t'], false)),
 ];
 
-/// Strings with two errors: the leftmost is returned. A number out of range, as in the fourth row, is an error only if
-/// its unit is right.
+/// Strings with two errors: the leftmost is returned. A number out of range, as in the fourth row and in the last
+/// (10^30, the least), is an error only if its unit is right.
 const LEFTMOST_ERROR: &[(&str, Expected)] = &rows! {
     ("x x", Expected::NotNumber('x')),
     ("1.x KX", Expected::NotNumber('x')),
     ("1000 YX", Expected::Unit('X', &['B', 'b'], true)),
     ("5192296858534827628530496329220095 x", Expected::Unit('x', &TEN, true)),
     ("9999999999999999999999999999 bi", Expected::Unit('i', &[], true)),
+    ("1000000000000000000000000000000 x", Expected::Unit('x', &TEN, true)),
 };
 
 /// At each position where the parser switches from bytes to characters; so in the next two tables.
