@@ -15,8 +15,8 @@ LANES = int(os.environ.get("RT_JOBS") or min(4, os.cpu_count()))
 FAILURE = re.compile(r"(?:[\w ]+: )?(?:AllocError|Error\(out of memory\))")
 TESTS = "crates/byte_unit_tests/src/tests"
 # The line of crates.txt for the tests in refused.rt.
-USED = "byte_unit_tests: byte_unit byte_unit_bit byte_unit_byte byte_unit_format byte_unit_choice byte_unit_base " \
-    "byte_unit_math serde_json"
+USED = "byte_unit_tests: byte_unit_serde byte_unit byte_unit_bit byte_unit_byte byte_unit_format byte_unit_choice " \
+    "byte_unit_base byte_unit_math serde serde_json toml"
 MANY = b"".join(b"%d.5 KiB\n" % number for number in range(12_000))
 # Calls of the command: their words, and standard input. A run reads 65,536 bytes at once.
 CALLS = [
@@ -53,7 +53,7 @@ def wrong_endings(root, last):
 
 
 def test_calls_without_allocator(tmp_path):
-    """A test in refused.rt makes at most three allocations: in the fourth run none of them fails."""
+    """A test in refused.rt makes at most four allocations: in the fifth run none of them fails."""
     copy_to(tmp_path, "crates")
     # Without the crates that only other tests use, which would be compiled in each run.
     write(tmp_path / "crates.txt", re.sub(r"(?m)^byte_unit_tests: .*$", USED, read("crates.txt")))
@@ -61,7 +61,7 @@ def test_calls_without_allocator(tmp_path):
     for name in others:
         os.remove(tmp_path / TESTS / f"{name}.rt")
     write(tmp_path / f"{TESTS}.rt", re.sub(rf"^mod ({'|'.join(others)});\n", "", read(f"{TESTS}.rt"), flags=re.M))
-    assert not list(wrong_endings(tmp_path, 4))
+    assert not list(wrong_endings(tmp_path, 5))
 
 
 @pytest.mark.whole

@@ -1,6 +1,6 @@
 -- What a function returns, by what the calls of a format returned. `D` is what a format is read from or written to, and
 -- `E` is the error of the format.
-use Rattle.std.specs.Prelude.{◌≡◌, ◌⊎◌, ◌≤◌, ◌-◌, ◌^◌, ℕ, List, length, Bool, MatchBool, Option, Some, None, Result, Ok, Err, MatchResult, true, false, [], ◌∷◌, IsUtf8}
+use Rattle.std.specs.Prelude.{◌≡◌, ◌⊎◌, ℕ, List, length, Bool, MatchBool, Option, Some, None, Result, Ok, Err, MatchResult, true, false, [], ◌∷◌, IsUtf8}
 use Rattle.std.specs.Result.{result_map_both}
 use Rattle.serde.specs.Event.{Event, seq_begins}
 use Rattle.serde.specs.Steps.{Gives, Stays}
@@ -68,22 +68,20 @@ ReadingOption none_returns Reading = AndThen none_returns (λ is_none old result
     (Converting Reading (λ value from read. read ≡ Ok (Some value)) old result new))
 
 -- The error of a sequence: the format's own error at its beginning, or, after the values that were read, the format's
--- own error at the next item, that of reading the item, or that of an item which cannot be stored; or `usize::MAX`
--- values were read.
+-- own error at the next item, that of reading the item, or that of a failed allocation after it was read.
 abbrev pub IsListError :
     {A F E M : Type 0} → (List ℕ → A → Type 0) → (F → List ℕ → Event → F → Type 0) → (F → F → Type 0)
     → Returns (Deserializer F E M) Unit E → Returns (Deserializer F E M) Bool E
     → Returns (Deserializer F E M) A E → (Deserializer F E M → E → Type 0)
     → Deserializer F E M → Deserializer F E M → E → Type 0
-IsListError {A} {F} {E} {M} Means gives stays begin_returns next_returns Reading refuses old new error =
+IsListError {A} {F} {E} {M} Means gives stays begin_returns next_returns Reading runs_out old new error =
     begin_returns old (Err error) new
     ⊎ ((first last : Deserializer F E M) × (values : List A) × Gives gives old (seq_begins None) first
     × ReadsEach Means gives stays first last values
     × (next_returns last (Err error) new
     ⊎ ((looked : Deserializer F E M) × Stays stays last looked × Reading looked (Err error) new)
     ⊎ ((looked : Deserializer F E M) × (value : A) × Stays stays last looked
-    × ReadsString Means gives looked new value × refuses new error)
-    ⊎ (2 ^ 64 - 1 ≤ length values)))
+    × ReadsString Means gives looked new value × runs_out new error)))
 
 -- A string of the size of this form is written.
 abbrev pub WritingSizeAs :

@@ -1,6 +1,7 @@
 //! Lists of what is stored as strings.
 
-ghost use Rattle.std.specs.Prelude.{IfErr, IfOk, OnOk};
+ghost use Rattle.std.specs.Prelude.{◌≡◌, ◌∷◌, [], ◌++◌, ◌≤◌, ◌<◌, ◌^◌, length, vec_len, vec_capacity};
+ghost use Rattle.std.specs.Prelude.{IfErr, IfOk, OnErr, OnOk};
 ghost use Rattle.serde.specs.Event.{WritesSeq};
 ghost use Rattle.byte_unit_serde.specs.Returns.{IsListError, Reading, WritingList};
 ghost use Rattle.byte_unit_serde.specs.Serialized.{ReadsSeq};
@@ -49,17 +50,34 @@ impl<W, R: DeserializeString> Lists<W, R> {
             ReadsSeq R.means F.gives F.stays from.old from.new values.items) }
         ensures error { IfErr result
             (IsListError R.means F.gives F.stays F.begin_returns F.next_returns
-            (Reading R.parses F.string_returns F.rejects) F.refuses from.old from.new) }
+            (Reading R.parses F.string_returns F.rejects) F.runs_out from.old from.new) }
     {
         F::begin_list(from)?;
         let mut items = Vec::new(alloc);
-        while items.len() < usize::MAX {
-            if !F::next_in_list(from)? {
-                return Ok(items);
-            }
+        while F::next_in_list(from)? {
             let item = Strings::<W, R>::deserialize(alloc, from)?;
-            F::append(from, &mut items, item)?;
+            append(from, &mut items, item)?;
         }
-        Err(from.wrong_len())
+        Ok(items)
     }
+}
+
+/// Appends an item to a list.
+///
+/// # Errors
+///
+/// Returns the format's error of a failed allocation, only if the list is at its capacity.
+fn append<F: Source, T: Drop>(
+    from: &Deserializer<'_, '_, F>,
+    items: &mut Vec<T>,
+    item: T,
+) -> Result<(), F::Error>
+    ensures items { OnOk result (items.new.items ≡ items.old.items ++ item ∷ []) }
+    ensures bound { length items.old.items < 2 ^ 64 }
+    ensures full { OnErr result (vec_capacity items.old ≤ vec_len items.old) }
+    ensures out_of_memory { IfErr result (F.runs_out from.now) }
+{
+    // That it is a `usize` is the clause `bound`, by which a loop over the items ends.
+    let _len = items.len();
+    items.push(item).map_err(|_| F::out_of_memory(from))
 }

@@ -1,6 +1,6 @@
 //! The calls by which sizes and units are read from a format.
 
-ghost use Rattle.std.specs.Prelude.{◌≡◌, ℕ, Bool, List, ◌∷◌, [], ◌++◌, None, string_bytes, IfOk, OnOk, IfErr, MatchBool};
+ghost use Rattle.std.specs.Prelude.{ℕ, Bool, List, None, string_bytes, IfOk, OnOk, MatchBool};
 ghost use Rattle.std.specs.Result.{result_map_both};
 ghost use Rattle.serde.specs.Event.{text, nothing, seq_begins, seq_ends};
 ghost use Rattle.serde.specs.Steps.{Gives, Stays};
@@ -14,7 +14,7 @@ use std::alloc::Global;
 ///
 /// The contracts of `serde` say nothing of a call that returns an error. Here a relation says what each call returned,
 /// and what reads over any `Source` can return an error only if the relation has it: the error of a call of the format,
-/// or the one that the format makes for a rejected string.
+/// or the one that the format makes for a rejected string or a failed allocation.
 pub trait Source: Format {
     // Each holds of the deserializer before a call, what the call returned, and the deserializer after it.
     ghost string_returns: { Returns (Deserializer Self Self.Error Self.Mark) (List ℕ) Self.Error };
@@ -27,8 +27,8 @@ pub trait Source: Format {
 
     // The deserializer makes this error of a message.
     ghost rejects: { Deserializer Self Self.Error Self.Mark → List ℕ → Self.Error → Type 0 };
-    // The deserializer makes this error for an item that a list has no memory for.
-    ghost refuses: { Deserializer Self Self.Error Self.Mark → Self.Error → Type 0 };
+    // The deserializer makes this error for a failed allocation.
+    ghost runs_out: { Deserializer Self Self.Error Self.Mark → Self.Error → Type 0 };
 
     /// Reads a string.
     fn read_string(
@@ -62,18 +62,9 @@ pub trait Source: Format {
     fn rejection(from: &Deserializer<'_, '_, Self>, message: &str) -> Self::Error
         ensures { rejects from.now message.now result };
 
-    /// Appends an item to a list.
-    ///
-    /// # Errors
-    ///
-    /// Returns the error that the format has for a failed allocation.
-    fn append<T: Drop>(
-        from: &Deserializer<'_, '_, Self>,
-        items: &mut Vec<T>,
-        item: T,
-    ) -> Result<(), Self::Error>
-        ensures items { OnOk result (items.new.items ≡ items.old.items ++ item ∷ []) }
-        ensures refused { IfErr result (refuses from.now) };
+    /// Returns the error of a failed allocation.
+    fn out_of_memory(from: &Deserializer<'_, '_, Self>) -> Self::Error
+        ensures { runs_out from.now result };
 }
 
 impl<F: Format> Source for F {
@@ -87,7 +78,7 @@ impl<F: Format> Source for F {
 
     ghost rejects = { λ _ _ _. Unit };
 
-    ghost refuses = { λ _ _. Unit };
+    ghost runs_out = { λ _ _. Unit };
 
     fn read_string(alloc: Global, from: &mut Deserializer<'_, '_, F>) -> Result<String, F::Error> {
         from.string(alloc)
@@ -109,14 +100,7 @@ impl<F: Format> Source for F {
         from.custom(message)
     }
 
-    fn append<T: Drop>(
-        from: &Deserializer<'_, '_, F>,
-        items: &mut Vec<T>,
-        item: T,
-    ) -> Result<(), F::Error> {
-        match items.push(item) {
-            Ok(()) => Ok(()),
-            Err(_) => Err(from.no_memory()),
-        }
+    fn out_of_memory(from: &Deserializer<'_, '_, F>) -> F::Error {
+        from.no_memory()
     }
 }

@@ -1,13 +1,14 @@
 //! Tests of failed allocations in calls that use the global allocator. Each call is made three times, with one
 //! allocation each: it returns `AllocError` if the allocation fails, and otherwise the expected result, whether or not
-//! an earlier allocation failed.
+//! an earlier allocation failed. A list is read once.
 //!
 //! These calls take `Global` and no other allocator, so a test by itself cannot make an allocation fail. The command
 //! `tools/dev test memory` runs these tests under `rt try --test --fail-alloc N`, which makes the Nth allocation of
 //! each test fail, for N = 1, 2, ..
 use super::asserting::{assert_for, assert_is};
 use super::shown::{AnySize, bits, bits_in, bytes, bytes_in, read_like, stored, text_of};
-use byte_unit::{FormatSpec, Unit, unit_from_json, unit_to_json};
+use byte_unit::{Byte, FormatSpec, Unit, unit_from_json, unit_to_json};
+use serde::Deserialize;
 use serde_json::Value;
 use std::alloc::Global;
 use std::process::Abort;
@@ -100,6 +101,23 @@ fn text_of_adjusted_bytes(rt: HostRuntime) {
 #[test]
 fn text_of_adjusted_bits(rt: HostRuntime) {
     assert_text(&rt, rt.alloc(), &bits_in(8192, Unit::Kbit), "8.192 Kb");
+}
+
+/// A list, which `byte_unit_serde` reads.
+#[derive(Drop, Deserialize)]
+struct Parts {
+    #[serde(with = "byte_unit_serde::byte_vec")]
+    parts: Vec<Byte>,
+}
+
+/// Reading a list of one size makes four allocations: two of `serde_json`, the string and the list. Whichever of them
+/// fails, the error is that of a failed allocation.
+#[test]
+fn list_of_bytes(rt: HostRuntime) {
+    match serde_json::from_str::<Parts>(rt.alloc(), "{\"parts\":[\"1 KB\"]}") {
+        Ok(list) => assert_is(&rt, list.parts.as_slice(), [Byte::KILOBYTE].as_slice()),
+        Err(error) => assert_for(&rt, error.is_memory(), "another error"),
+    }
 }
 
 /// Asserts that each type parses the JSON string `1.5 KiB`, and that it is rejected as a unit.
