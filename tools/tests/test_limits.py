@@ -54,7 +54,7 @@ def test_rules(program, limits, broken):
 
 
 @pytest.mark.parametrize("limits, reason", [
-    ({"file": "20 XB"}, "bad unit in `file`"), ({"file": "B"}, "not a number in `file`"),
+    ({"file": "20 XB"}, 'bad unit: "20 XB" in `file`'), ({"file": "B"}, 'not a number: "B" in `file`'),
     ({"file": "1 KB", "files": "1 KB", "total": "2 GiB", "disk": "2 GiB", "rate": "1 Gbit"}, "unknown field `files`")])
 def test_rejected_document(program, limits, reason):
     assert answer(program, document(**limits)) == (1, [], [f"Error: the limits are rejected: {reason}"])

@@ -14,7 +14,7 @@ use Rattle.byte_unit.specs.declared.Kind.{Kind}
 use Rattle.byte_unit.specs.declared.ParseError.{ParseError}
 use Rattle.byte_unit.specs.declared.Unit.{Unit as UnitName}
 use Rattle.byte_unit.specs.declared.UnitParseError.{UnitParseError}
-use Rattle.byte_unit_serde.specs.Messages.{message_of}
+use Rattle.byte_unit_serde.specs.Messages.{IsMessage, reason_of}
 use Rattle.byte_unit_serde.specs.Serialized.{ReadsString, ReadsEach}
 
 -- A relation of what is read or written before a call, of what the call returns, and of what is read or written after
@@ -40,25 +40,26 @@ Converting {D} {E} {A} call Converts old result new =
     (got : Result A E) × call old got new
     × MatchResult got (λ value. Converts value new result) (λ error. result ≡ Err error)
 
--- The string that the format gives is parsed in this way: its value is returned, or the error that is made of the
--- message of its error.
+-- The string that the format gives is parsed in this way: its value is returned, or the error that is made of a message
+-- with the reason and the string.
 abbrev pub Reading :
     {D E A : Type 0} → (List ℕ → Result A (List ℕ) → Type 0) → Returns D (List ℕ) E → (D → List ℕ → E → Type 0)
     → Returns D A E
 Reading {D} {E} {A} Parses string_returns rejects = Converting string_returns (λ bytes from result.
     (parsed : Result A (List ℕ)) × Parses bytes parsed × MatchResult parsed
     (λ value. result ≡ Ok value)
-    (λ message. (error : E) × rejects from message error × (result ≡ Err error)))
+    (λ reason. (message : List ℕ) × (error : E) × IsMessage reason bytes message × rejects from message error
+    × (result ≡ Err error)))
 
--- A string is parsed as a size in this way; an error is its message.
+-- A string is parsed as a size in this way; an error is its reason.
 abbrev pub ParsesSize : (List ℕ → Result ℕ ParseError → Type 0) → List ℕ → Result ℕ (List ℕ) → Type 0
 ParsesSize Reads bytes parsed = (reading : Result ℕ ParseError) × Reads bytes reading
-    × (parsed ≡ result_map_both (λ size. size) (λ error. message_of (size_fault error)) reading)
+    × (parsed ≡ result_map_both (λ size. size) (λ error. reason_of (size_fault error)) reading)
 
--- A string is parsed as a unit; an error is its message.
+-- A string is parsed as a unit; an error is its reason.
 abbrev pub ParsesUnit : List ℕ → Result UnitName (List ℕ) → Type 0
 ParsesUnit bytes parsed = (reading : Result UnitName UnitParseError) × IsUnitReading (flags_of false true) bytes reading
-    × (parsed ≡ result_map_both (λ unit. unit) (λ error. message_of (unit_fault error)) reading)
+    × (parsed ≡ result_map_both (λ unit. unit) (λ error. reason_of (unit_fault error)) reading)
 
 -- `None` is returned if the format gives nothing, and else what is read.
 abbrev pub ReadingOption :

@@ -10,7 +10,7 @@ ghost use Rattle.byte_unit_serde.specs.Returns.{ParsesSize, WritingSizeAs};
 ghost use Rattle.byte_unit_serde.specs.Serialized.{WritesSizeAs};
 
 use crate::Sink;
-use crate::messages::size_message;
+use crate::messages::size_reason;
 use crate::sizes::write_as;
 use crate::strings::{DeserializeString, SerializeString};
 use byte_unit::{Byte, FormatSpec, Kind, Unit};
@@ -44,7 +44,7 @@ impl DeserializeString for Binary {
     ghost parses = { ParsesSize (IsBinaryReading InBytes true) };
 
     fn parse_string(text: &str) -> Result<Byte, &'static str> {
-        Byte::parse_str_binary(text, true).map_err(|error| size_message(&error))
+        Byte::parse_str_binary(text, true).map_err(|error| size_reason(&error))
     }
 }
 

@@ -6,7 +6,7 @@ ghost use Rattle.byte_unit.specs.SizeReading.{IsSizeReading};
 ghost use Rattle.byte_unit.specs.declared.Kind.TheVariants.{Byte as InBytes};
 ghost use Rattle.byte_unit_serde.specs.Returns.{ParsesSize};
 
-use crate::messages::size_message;
+use crate::messages::size_reason;
 use crate::strings::DeserializeString;
 use byte_unit::Byte;
 
@@ -21,6 +21,6 @@ impl DeserializeString for IgnoreCase {
     ghost parses = { ParsesSize (IsSizeReading InBytes true) };
 
     fn parse_string(text: &str) -> Result<Byte, &'static str> {
-        Byte::parse_str(text, true).map_err(|error| size_message(&error))
+        Byte::parse_str(text, true).map_err(|error| size_reason(&error))
     }
 }

@@ -10,7 +10,7 @@ ghost use Rattle.byte_unit_serde.specs.Returns.{ParsesSize, WritingSize, Writing
 ghost use Rattle.byte_unit_serde.specs.Serialized.{WritesSize, WritesSizeAs};
 
 use crate::Sink;
-use crate::messages::size_message;
+use crate::messages::size_reason;
 use crate::strings::{DeserializeString, SerializeString};
 use byte_unit::{Bit, Byte, FormatSpec, Kind};
 use byte_unit_format::write_text;
@@ -62,7 +62,7 @@ impl DeserializeString for Byte {
     ghost parses = { ParsesSize (IsSizeReading InBytes false) };
 
     fn parse_string(text: &str) -> Result<Byte, &'static str> {
-        text.parse::<Byte>().map_err(|error| size_message(&error))
+        text.parse::<Byte>().map_err(|error| size_reason(&error))
     }
 }
 
@@ -86,6 +86,6 @@ impl DeserializeString for Bit {
     ghost parses = { ParsesSize (IsSizeReading InBits false) };
 
     fn parse_string(text: &str) -> Result<Bit, &'static str> {
-        text.parse::<Bit>().map_err(|error| size_message(&error))
+        text.parse::<Bit>().map_err(|error| size_reason(&error))
     }
 }

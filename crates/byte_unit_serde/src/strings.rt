@@ -1,11 +1,12 @@
 //! Values that are stored as strings, and the ways to write and to read them.
 
-ghost use Rattle.std.specs.Prelude.{ℕ, List, Result, IfOk, OnOk};
+ghost use Rattle.std.specs.Prelude.{◌≤◌, ℕ, List, Result, length, IfErr, IfOk, OnOk};
 ghost use Rattle.std.specs.Result.{result_map_both};
 ghost use Rattle.serde.specs.Event.{Log};
 ghost use Rattle.byte_unit_serde.specs.Returns.{Reading, Returns};
 ghost use Rattle.byte_unit_serde.specs.Serialized.{ReadsString};
 
+use crate::messages::message_for;
 use crate::{Sink, Source};
 use serde::Deserializer;
 use std::alloc::Global;
@@ -33,7 +34,8 @@ impl<W, R: DeserializeString> Strings<W, R> {
     ///
     /// # Errors
     ///
-    /// Returns the format's error if the value is not a string, or the string is rejected.
+    /// Returns the format's error if the value is not a string, or the string is rejected. The message of a rejected
+    /// string has the reason, and the string in quotes.
     pub fn deserialize<F: Source>(
         alloc: Global,
         from: &mut Deserializer<'_, '_, F>,
@@ -42,7 +44,13 @@ impl<W, R: DeserializeString> Strings<W, R> {
         ensures exact { Reading R.parses F.string_returns F.rejects from.old result from.new }
     {
         let text = F::read_string(alloc, from)?;
-        R::parse_string(text.as_str()).map_err(|message| F::rejection(from, message))
+        match R::parse_string(text.as_str()) {
+            Ok(value) => Ok(value),
+            Err(reason) => {
+                let message = message_for(reason, text.as_str());
+                Err(F::rejection(from, message.as_str()))
+            }
+        }
     }
 }
 
@@ -71,16 +79,17 @@ pub trait DeserializeString {
 
     // The string has this meaning.
     ghost means: { List ℕ → Self.Value → Type 0 };
-    // The string is parsed as this: its value, or the message of its error.
+    // The string is parsed as this: its value, or the reason why it is rejected.
     ghost parses: { List ℕ → Result Self.Value (List ℕ) → Type 0 };
 
     /// Parses a string.
     ///
     /// # Errors
     ///
-    /// Returns the message of the error if the string is rejected.
+    /// Returns the reason if the string is rejected, in at most 16 bytes.
     fn parse_string(text: &str) -> Result<Self::Value, &'static str>
         ensures value { IfOk result (means text.now) }
         ensures exact { parses text.now
-            (result_map_both (λ value. value) (λ message. message.now) result) };
+            (result_map_both (λ value. value) (λ reason. reason.now) result) }
+        ensures short { IfErr result (λ reason. length reason.now ≤ 16) };
 }

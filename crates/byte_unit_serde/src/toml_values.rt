@@ -71,9 +71,20 @@ impl Error for TomlUnitError {}
 /// use byte_unit::Byte;
 /// use byte_unit_serde::{TomlSizeError, byte_from_toml};
 ///
-/// let table = toml::table_from_str(alloc, "limit = \"15.5 KB\"\nlines = 3\n")?;
-/// assert_eq!(rt; byte_from_toml(&table["limit"])?, Byte::from_u64(15_500));
+/// let text = "lines = 3\n\n[[user]]\nused = \"15.5 KB\"\n\n[[user]]\nused = \"5 Kx\"\n";
+/// let table = toml::table_from_str(alloc, text)?;
 /// assert!(rt; matches!(byte_from_toml(&table["lines"]), Err(TomlSizeError::NotString)));
+/// for (index, user) in table["user"].as_array().unwrap().iter().enumerate() {
+///     let used = &user["used"];
+///     match byte_from_toml(used) {
+///         Ok(size) => assert_eq!(rt; (index, size), (0, Byte::from_u64(15_500))),
+///         Err(error) => {
+///             let message = format!(in alloc; "user[{index}].used: {used}: {error}")?;
+///             let wanted = "user[1].used: \"5 Kx\": the character 'x' is incorrect";
+///             assert!(rt; message.as_str().starts_with(wanted));
+///         }
+///     }
+/// }
 /// ```
 pub fn byte_from_toml(value: &Value) -> Result<Byte, TomlSizeError>
     ensures { ReadsString size_errors (IsSizeReading InBytes false)

@@ -94,10 +94,10 @@ fn nothing_with_prefixes_by_1024(rt: HostRuntime) {
 
 /// JSON texts with a string that is rejected, or a value that is not a string, and their errors.
 const REJECTED_JSON: &[(&str, &str)] = &rows! {
-    ("{\"size\":\"\",\"parts\":[]}", "no value at line 1 column 9"),
-    ("{\"size\":\"max\",\"parts\":[]}", "not a number at line 1 column 9"),
-    ("{\"size\":\"10m\",\"limit\":\"1 xb\",\"parts\":[]}", "bad unit at line 1 column 23"),
-    ("{\"size\":\"10m\",\"parts\":[\"10m\",\"808 rb\"]}", "out of range at line 1 column 30"),
+    ("{\"size\":\"\",\"parts\":[]}", "no value: \"\" at line 1 column 9"),
+    ("{\"size\":\"max\",\"parts\":[]}", "not a number: \"max\" at line 1 column 9"),
+    ("{\"size\":\"10m\",\"limit\":\"1 xb\",\"parts\":[]}", "bad unit: \"1 xb\" at line 1 column 23"),
+    ("{\"size\":\"10m\",\"parts\":[\"10m\",\"808 rb\"]}", "out of range: \"808 rb\" at line 1 column 30"),
     ("{\"size\":10485760,\"parts\":[]}", "invalid type at line 1 column 9"),
     ("{\"size\":1.5,\"parts\":[]}", "invalid type at line 1 column 9"),
     ("{\"size\":null,\"parts\":[]}", "invalid type at line 1 column 9"),
@@ -110,10 +110,10 @@ const REJECTED_JSON: &[(&str, &str)] = &rows! {
 
 /// TOML documents with a value that is rejected, and their errors.
 const REJECTED_TOML: &[(&str, &str)] = &rows! {
-    ("size = \"\"\nparts = []\n", "no value\nin `size`\n"),
-    ("size = \"max\"\nparts = []\n", "not a number\nin `size`\n"),
-    ("size = \"10m\"\nlimit = \"1 xb\"\nparts = []\n", "bad unit\nin `limit`\n"),
-    ("size = \"10m\"\nparts = [\"10m\", \"808 rb\"]\n", "out of range\nin `parts`\n"),
+    ("size = \"\"\nparts = []\n", "no value: \"\"\nin `size`\n"),
+    ("size = \"max\"\nparts = []\n", "not a number: \"max\"\nin `size`\n"),
+    ("size = \"10m\"\nlimit = \"1 xb\"\nparts = []\n", "bad unit: \"1 xb\"\nin `limit`\n"),
+    ("size = \"10m\"\nparts = [\"10m\", \"808 rb\"]\n", "out of range: \"808 rb\"\nin `parts`\n"),
     (
         "size = 10485760\nparts = []\n",
         "invalid type: integer `10485760`, expected a string\nin `size`\n",

@@ -126,18 +126,18 @@ fn nothing_with_case_ignored(rt: HostRuntime) {
 
 /// JSON texts with a string that is rejected, or a value that is not a string, and their errors.
 const REJECTED_JSON: &[(&str, &str)] = &rows! {
-    ("{\"size\":\"x\",\"parts\":[]}", "not a number at line 1 column 9"),
-    ("{\"size\":\"1 kb\",\"limit\":\"1 xb\",\"parts\":[]}", "bad unit at line 1 column 24"),
-    ("{\"size\":\"1 kb\",\"parts\":[\"1 kb\",\"1000 rb\"]}", "out of range at line 1 column 32"),
+    ("{\"size\":\"x\",\"parts\":[]}", "not a number: \"x\" at line 1 column 9"),
+    ("{\"size\":\"1 kb\",\"limit\":\"1 xb\",\"parts\":[]}", "bad unit: \"1 xb\" at line 1 column 24"),
+    ("{\"size\":\"1 kb\",\"parts\":[\"1 kb\",\"1000 rb\"]}", "out of range: \"1000 rb\" at line 1 column 32"),
     ("{\"size\":4096,\"parts\":[]}", "invalid type at line 1 column 9"),
     ("{\"size\":\"1 kb\",\"parts\":\"1 kb\"}", "invalid type at line 1 column 24"),
 };
 
 /// TOML documents with a string that is rejected, and their errors.
 const REJECTED_TOML: &[(&str, &str)] = &rows! {
-    ("size = \"x\"\nparts = []\n", "not a number\nin `size`\n"),
-    ("size = \"1 kb\"\nlimit = \"1 xb\"\nparts = []\n", "bad unit\nin `limit`\n"),
-    ("size = \"1 kb\"\nparts = [\"1 kb\", \"1000 rb\"]\n", "out of range\nin `parts`\n"),
+    ("size = \"x\"\nparts = []\n", "not a number: \"x\"\nin `size`\n"),
+    ("size = \"1 kb\"\nlimit = \"1 xb\"\nparts = []\n", "bad unit: \"1 xb\"\nin `limit`\n"),
+    ("size = \"1 kb\"\nparts = [\"1 kb\", \"1000 rb\"]\n", "out of range: \"1000 rb\"\nin `parts`\n"),
 };
 
 #[test]

@@ -9,15 +9,22 @@ use std::alloc::Global;
 use std::collections::BTreeMap;
 use std::process::Abort;
 
-/// A JSON string that is rejected as a size, and the reason that both formats give: each reason once. It is a TOML
-/// string too.
-const REJECTED: &[(&str, &str)] = &[
-    ("\"20 XB\"", "bad unit"),
-    ("\"much\"", "not a number"),
-    ("\"\"", "no value"),
-    ("\"1.12345678901234567890123456789\"", "number too long"),
-    ("\"1000 RB\"", "out of range"),
-];
+/// A JSON string, which is a TOML string too, that is rejected as a size, and the messages in TOML and in JSON: each
+/// reason once, then strings that are escaped, and one that is cut. In a message a string has at most 40 bytes with its
+/// quotes, and `serde_json` cuts a message after 32; three dots end what is cut.
+const REJECTED: &[(&str, &str, &str)] = &rows! {
+    ("\"20 XB\"", "bad unit: \"20 XB\"", "bad unit: \"20 XB\""),
+    ("\"much\"", "not a number: \"much\"", "not a number: \"much\""),
+    ("\"\"", "no value: \"\"", "no value: \"\""),
+    ("\"1.12345678901234567890123456789\"", "number too long: \"1.12345678901234567890123456789\"",
+        "number too long: \"1.123456789..."),
+    ("\"1000 RB\"", "out of range: \"1000 RB\"", "out of range: \"1000 RB\""),
+    ("\"1\\tKB\"", "bad unit: \"1\\tKB\"", "bad unit: \"1\\tKB\""),
+    ("\"1 é\\u001b\"", "bad unit: \"1 é\\u{1b}\"", "bad unit: \"1 é\\u{1b}\""),
+    ("\"1 \\u202eBK\"", "bad unit: \"1 \\u{202e}BK\"", "bad unit: \"1 \\u{202e}BK\""),
+    ("\"1 xxxxxxxxxxyyyyyyyyyyzzzzzzzzzzxxxxxxxxxx\"", "bad unit: \"1 xxxxxxxxxxyyyyyyyyyyzzzzzzzzzzxxxx...",
+        "bad unit: \"1 xxxxxxxxxxyyyyyy..."),
+};
 
 /// Reads the value of `limit` from a TOML document. If the document cannot be allocated, an empty one is read, which
 /// fails the test of the caller.
@@ -31,30 +38,37 @@ pub fn toml_limit<T: DeserializeOwned>(
     }
 }
 
-/// Asserts the reason of an error in each format. JSON adds the place of the value, TOML its key.
-pub fn assert_reason<T: DeserializeOwned>(
+/// Asserts the message of an error in TOML, which adds the key, and in JSON, of a value that was read before.
+pub fn assert_rejected<T: DeserializeOwned>(
     rt: &impl Abort,
     alloc: Global,
     text: &str,
-    reason: &str,
+    in_toml: &str,
+    in_json: &str,
 ) {
     let value = serde_json::Value::from_str(alloc, text).expect(rt, "a value");
-    assert_error(rt, alloc, serde_json::from_value::<T>(alloc, value), reason);
-    let wanted = format!(in alloc; "{reason}\nin `limit`\n").expect(rt, "memory");
+    assert_error(
+        rt,
+        alloc,
+        serde_json::from_value::<T>(alloc, value),
+        in_json,
+    );
+    let wanted = format!(in alloc; "{in_toml}\nin `limit`\n").expect(rt, "memory");
     assert_error(rt, alloc, toml_limit::<T>(alloc, text), wanted.as_str());
 }
 
 #[test]
 fn each_reason_in_json_and_toml(rt: HostRuntime) {
     let alloc = rt.alloc();
-    for (text, reason) in REJECTED {
-        assert_reason::<Stored<Byte>>(&rt, alloc, text, reason);
-        assert_reason::<Stored<Bit>>(&rt, alloc, text, reason);
-        let wanted = format!(in alloc; "{reason} at line 1 column 1").expect(&rt, "memory");
+    for (text, in_toml, in_json) in REJECTED {
+        assert_rejected::<Stored<Byte>>(&rt, alloc, text, in_toml, in_json);
+        assert_rejected::<Stored<Bit>>(&rt, alloc, text, in_toml, in_json);
+        let wanted = format!(in alloc; "{in_json} at line 1 column 1").expect(&rt, "memory");
         let read = serde_json::from_str::<Stored<Byte>>(alloc, text);
         assert_error(&rt, alloc, read, wanted.as_str());
     }
-    assert_reason::<Stored<Unit>>(&rt, alloc, "\"MiBs\"", "bad unit");
+    let wanted = "bad unit: \"MiBs\"";
+    assert_rejected::<Stored<Unit>>(&rt, alloc, "\"MiBs\"", wanted, wanted);
     let read = serde_json::from_str::<Stored<Byte>>(alloc, "4096");
     assert_error(&rt, alloc, read, "invalid type at line 1 column 1");
     let read = toml_limit::<Stored<Byte>>(alloc, "4096");

@@ -1,7 +1,7 @@
 //! Tests of sizes at their limits, of long strings and lists, of each unit and of `null`, stored by `serde` in JSON and
 //! in TOML.
 use super::asserting::{assert_for, assert_is};
-use super::serde_strings::{Lists, Options, Values, assert_reason, read_and_write, toml_limit};
+use super::serde_strings::{Lists, Options, Values, assert_rejected, read_and_write, toml_limit};
 use byte_unit::{Bit, Byte, Unit};
 use byte_unit_serde::Stored;
 use serde::DeserializeOwned;
@@ -43,8 +43,10 @@ fn sizes_at_their_limits(rt: HostRuntime) {
     }
     // 10^30, one more than the maximum.
     let most = "\"1000000000000000000000000000000\"";
-    assert_reason::<Stored<Byte>>(&rt, alloc, most, "out of range");
-    assert_reason::<Stored<Bit>>(&rt, alloc, most, "out of range");
+    let in_toml = "out of range: \"1000000000000000000000000000000\"";
+    let in_json = "out of range: \"10000000000000...";
+    assert_rejected::<Stored<Byte>>(&rt, alloc, most, in_toml, in_json);
+    assert_rejected::<Stored<Bit>>(&rt, alloc, most, in_toml, in_json);
 }
 
 /// Asserts that a string has this value in each format.
