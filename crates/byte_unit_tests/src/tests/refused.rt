@@ -7,7 +7,7 @@
 //! each test fail, for N = 1, 2, ..
 use super::asserting::{assert_for, assert_is};
 use super::shown::{AnySize, bits, bits_in, bytes, bytes_in, read_like, stored, text_of};
-use byte_unit::{Byte, FormatSpec, Unit, unit_from_json, unit_to_json};
+use byte_unit::{Bit, Byte, FormatSpec, Unit, UnitType, unit_from_json, unit_to_json};
 use serde::Deserialize;
 use serde_json::Value;
 use std::alloc::Global;
@@ -101,6 +101,28 @@ fn text_of_adjusted_bytes(rt: HostRuntime) {
 #[test]
 fn text_of_adjusted_bits(rt: HostRuntime) {
     assert_text(&rt, rt.alloc(), &bits_in(8192, Unit::Kbit), "8.192 Kb");
+}
+
+#[test]
+fn approximate_text_of_bytes(rt: HostRuntime) {
+    assert_calls!(
+        &rt,
+        Byte::from_u64(10_000).approximate_text(rt.alloc(), UnitType::Binary, places!(1)),
+        text,
+        text.as_str() == "9.8 KiB",
+        "9.8 KiB"
+    );
+}
+
+#[test]
+fn approximate_text_of_bits(rt: HostRuntime) {
+    assert_calls!(
+        &rt,
+        Bit::from_u64(10_000).approximate_text(rt.alloc(), UnitType::Binary, places!(1)),
+        text,
+        text.as_str() == "9.8 Kib",
+        "9.8 Kib"
+    );
 }
 
 /// A list, which `byte_unit_serde` reads.
