@@ -90,8 +90,7 @@ const CELL: FormatSpec = FormatSpec {
 
 /// Formats a size as a cell of the table, in the largest decimal unit not above it.
 fn cell(alloc: Global, size: Byte) -> Result<String, AllocError> {
-    size.get_appropriate_unit(UnitType::Decimal)
-        .to_text(alloc, CELL)
+    size.approximate_text(alloc, UnitType::Decimal, CELL)
 }
 
 /// Formats a quota as a cell of the table, in the largest unit that states it exactly with at most two digits after the
