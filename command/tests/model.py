@@ -41,13 +41,15 @@ def quoted(data):
 
 
 @functools.lru_cache(maxsize=1 << 10)
-def text_of(size, kind, ignore_case, to, precision):
+def text_of(size, kind, ignore_case, to, precision, binary):
     """Returns the text of a size. The precision is that of a number of a unit with a prefix; for `exact` it chooses the
-    unit, in which all digits are shown."""
+    unit, in which all digits are shown; if `binary`, only a unit by 1024 is shown."""
     if to == "plain":
         return str(size)
     if to == "exact":
         unit = best_unit(size, kind, precision=FORM_PLACES if precision is None else precision)
+        if binary and "i" not in unit:
+            return str(size)
     elif to in FORMS:
         unit = largest(size, kind, [unit for unit in UNITS[2:] if unit[-1] == BASE[kind]
                                     and to in ("auto", "iec" if "i" in unit else "si")])  # fmt: skip
@@ -72,9 +74,14 @@ def form(text, options):
     return text
 
 
+def is_binary(options):
+    """Returns whether `K` is 1024."""
+    return getattr(options, "from") == "iec"
+
+
 def read(data, options):
     """Returns the size that bytes represent under the options, or why they represent none."""
-    return size_of(data, options.kind, options.ignore_case, binary=getattr(options, "from") == "iec")
+    return size_of(data, options.kind, options.ignore_case, binary=is_binary(options))
 
 
 def limit(text, options):
@@ -193,7 +200,7 @@ class Run:
     def shown(self, size, columns=0):
         """Returns what is written for a size, in the width of `--padding` or else of these columns."""
         options = self.options
-        text = text_of(size, options.kind, options.ignore_case, options.to, options.precision)
+        text = text_of(size, options.kind, options.ignore_case, options.to, options.precision, is_binary(options))
         text = ((text.split(" ")[0] if options.no_unit else text) + options.suffix).encode()
         width = options.padding or columns
         return text.ljust(-width) if width < 0 else text.rjust(width)

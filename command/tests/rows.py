@@ -160,8 +160,16 @@ PREFIXES = [
     ("--from=iec --bits --to=plain 1K 1KB", b"", b"1024\n8192\n"),
     ("--from=iec -i --to=plain 1kb", b"", b"1024\n"),
     (["-d", "\\t", "--from=iec", "--to=plain"], b"2.9M\t.\n16K\t./a\n", b"3040871\t.\n16384\t./a\n"),
-    ("--from=iec --max=1K --min=1K", b"1023\n1K\n1025\n", b"1.023 KB\n1 KiB\n1.025 KB\n", 3,
+    ("--from=iec --max=1K --min=1K", b"1023\n1K\n1025\n", b"1023\n1 KiB\n1025\n", 3,
      told("line 1: '1023'", "below the minimum") + told("line 3: '1025'", "above the maximum")),
+    ("--bits --from=iec --max=1K --min=1Kb", b"1023\n1024\n1025\n", b"1023\n1 Kib\n1025\n", 3,
+     told("line 1: '1023'", "below the minimum") + told("line 3: '1025'", "above the maximum")),
+    # A decimal unit would be read as the binary one.
+    ("--from=iec", b"5\n1000\n1K\n1.5K\n1000K\n1MB\n", b"5\n1000\n1 KiB\n1.5 KiB\n1024000\n1 MiB\n"),
+    ("--from=iec --bits 7 1000 1K 12Mb", b"", b"7\n1000\n1 Kib\n12 Mib\n"),
+    ("--from=iec -p0 1536 2K", b"", b"1536\n2 KiB\n"), ("--from=iec -p1 1536", b"", b"1.5 KiB\n"),
+    ("--from=iec --total --padding=9 --suffix=/s 1000 1K", b"", b"   1000/s\n  1 KiB/s\n   2024/s\n"),
+    ("--from=iec --to=KB 1000", b"", b"1 KB\n"), ("--from=iec --to=si 1000", b"", b"1 KB\n"),
     ("--from=iec --invalid=warn 900RB 1x", b"", b"900RB\n1x\n", 0,
      told("operand 1: '900RB'", "the value 900 exceeds the valid range") + told("operand 2: '1x'", unit("x"), 2)),
 ]

@@ -11,6 +11,7 @@ import shlex
 
 import pytest
 from byte_unit_dev.fixtures import ended, need, output, path, read
+from byte_unit_dev.model.exact import some_unit
 from calls import some_call
 from model import OPTIONS, result_of
 from program import run
@@ -75,6 +76,16 @@ def test_option_is_documented(program, name):
     assert f"{f'-{letter}, ' if letter else ''}--{name}" in output(program, "--help")
     assert re.search(rf"^\.It .*{f'Fl {letter} .*' if letter else ''} -{name}\b", read("command/byte-unit.1"), re.M)
     assert re.search(rf"--{name}\b", read("command/byte-unit.bash"))
+
+
+@pytest.mark.parametrize("words", ["", "--from=iec", "--from=iec --bits", "--from=iec -i -p0", "--from=iec -p28"])
+def test_second_run_changes_nothing(program, seed, words):
+    """In the exact form, whatever prefixes mean."""
+    rng = random.Random(seed)
+    sizes = [str(rng.randrange(10 ** rng.randrange(1, 30))) for _ in range(2000)]
+    sizes += [f"{rng.randrange(100)}{rng.choice(['', '.5', '.125'])}{some_unit(rng, ['', 'B'])}" for _ in range(2000)]
+    status, once, messages = ended(program, *words.split(), input="\n".join(sizes).encode())
+    assert (status, messages) == (0, b"") and ended(program, *words.split(), input=once) == (0, once, b"")
 
 
 def listed(rng):

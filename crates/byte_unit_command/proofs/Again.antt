@@ -1,16 +1,24 @@
 -- Lemmas: what is formatted can be read again.
-use Rattle.std.proofs.Common.{◌≡◌, ◌≢◌, ℕ, ◌<◌, Bool, List, ◌++◌, Option, refl, sym, ap, subst, ◌∙◌}
-use Rattle.byte_unit.specs.Accepted.{IsAccepted}
+use Rattle.std.proofs.Common.{◌≡◌, ◌≢◌, ℕ, ◌<◌, Bool, true, false, true≢false, nat_lt, if◌then◌else◌, List, ◌++◌}
+use Rattle.std.proofs.Common.{Option, refl, sym, ap, subst, ◌∙◌}
+use Rattle.byte_unit.specs.BinaryReading.{binary_of}
+use Rattle.byte_unit.specs.BinaryString.{has_binary_prefix}
 use Rattle.byte_unit.specs.Bounds.{size_limit}
-use Rattle.byte_unit.specs.Version.{current}
+use Rattle.byte_unit.specs.Choice.{IsRecoveredIn}
 use Rattle.byte_unit.specs.FormLaws.{SizeFormReadsBack, PlainFormReadsBack, SizeHasOneForm}
+use Rattle.byte_unit.specs.Forms.{IsText, places_of}
 use Rattle.byte_unit.specs.NamedSpecs.{plain_spec}
+use Rattle.byte_unit.specs.Shape.{Shape, shape}
+use Rattle.byte_unit.specs.Units.{shape_of}
+use Rattle.byte_unit.specs.Version.{current}
 use Rattle.byte_unit.specs.declared.Kind.{Kind}
 use Rattle.byte_unit.specs.declared.Sign.TheVariants.{Unset, Plus}
+use Rattle.byte_unit_format.proofs.ReadBack.{accepted_as, digits_accepted, form_is_size}
+use Rattle.byte_unit_format.proofs.WrittenForms.{recovered_unit_unique}
 use Rattle.byte_unit_command.specs.Field.{ignores_case, without_suffix}
 use Rattle.byte_unit_command.specs.Laws.{IsLossless, TextsAreSizesOrNot, FormattedSizesAreRead, ExactTwiceIsOnce}
 use Rattle.byte_unit_command.specs.Prefixes.{IsAcceptedBy}
-use Rattle.byte_unit_command.specs.Formatted.{IsFormText, exact_spec, padded}
+use Rattle.byte_unit_command.specs.Formatted.{IsExactText, IsFormText, exact_spec, padded}
 use Rattle.byte_unit_command.specs.declared.options.Form.{Form}
 use Rattle.byte_unit_command.specs.declared.options.Form.TheVariants.{Exact, Plain, InUnit, NumberOf, Largest}
 use Rattle.byte_unit_command.proofs.Suffixes.{without_it}
@@ -20,55 +28,115 @@ use Rattle.byte_unit_command.proofs.Texts.{padded-none}
 unset_is_not_plus : Unset ≢ Plus
 unset_is_not_plus same = cc
 
--- a text in a lossless form is parsed as its size
-form_is_read : SizeFormReadsBack → PlainFormReadsBack → (kind : Kind) (form : Form) (precision : Option ℕ) (size : ℕ)
-    (ignore_case : Bool)
-    (text : List ℕ) → size < size_limit → IsLossless form → IsFormText kind form precision size text
-    → IsAccepted kind ignore_case text size
-form_is_read exact digits kind Exact precision size ignore_case text below lossless is_text =
-    exact kind size (exact_spec precision) ignore_case text below is_text
-form_is_read exact digits kind Plain precision size ignore_case text below lossless is_text =
-    let Accepts : List ℕ → Type 0 = λ text. IsAccepted kind ignore_case text size in
-    subst Accepts (sym is_text) (digits kind size plain_spec ignore_case below unset_is_not_plus)
-form_is_read exact digits kind (InUnit unit) precision size ignore_case text below lossless is_text = absurd lossless
-form_is_read exact digits kind (NumberOf unit) precision size ignore_case text below lossless is_text = absurd lossless
-form_is_read exact digits kind (Largest unit_type) precision size ignore_case text below lossless is_text =
-    absurd lossless
+-- a unit with a binary prefix is unchanged if its prefix is made binary. `some` says whether it has a prefix at all: it
+-- is a parameter, since both definitions branch on it
+by_power : (some : Bool) (unit : Shape) → (if some then unit.binary else false) ≡ true
+    → (if some then shape unit.power true unit.bit else unit) ≡ unit
+by_power true unit prefix = ap (λ binary. shape unit.power binary unit.bit) (sym prefix)
+by_power false unit prefix = refl
+
+module _ (exact : SizeFormReadsBack) (digits : PlainFormReadsBack) (kind : Kind) (precision : Option ℕ) (size : ℕ)
+    (ignore_case : Bool) (below : size < size_limit) where
+  -- digits are parsed as the size, whatever prefixes mean
+  digits_are_read : (reads : Bool) (text : List ℕ) → IsText kind size plain_spec text
+      → IsAcceptedBy reads kind ignore_case text size
+  digits_are_read true text is_text = rw is_text
+      (digits_accepted binary_of kind ignore_case size plain_spec refl below unset_is_not_plus)
+  digits_are_read false text is_text = rw is_text (digits kind size plain_spec ignore_case below unset_is_not_plus)
+
+  -- a text in a unit with a binary prefix is parsed as the size, whatever prefixes mean
+  binary_is_read : (reads : Bool) (text : List ℕ) (form : IsText kind size (exact_spec precision) text)
+      → has_binary_prefix form.unit ≡ true → IsAcceptedBy reads kind ignore_case text size
+  binary_is_read true text form prefix =
+      accepted_as binary_of kind ignore_case text form.number size form.unit
+      (by_power (nat_lt 0 form.unit.power) form.unit prefix)
+      (form_is_size kind size (exact_spec precision) ignore_case text below form) form.number_is below
+  binary_is_read false text form prefix = exact kind size (exact_spec precision) ignore_case text below form
+
+  -- the exact text where decimal prefixes mean binary ones is parsed as the size, whatever prefixes mean. `is_binary`
+  -- says whether its unit has a binary prefix
+  by_prefix : (reads : Bool) (text : List ℕ) (unit : Shape)
+      → IsRecoveredIn current kind false size (places_of precision) unit → (is_binary : Bool)
+      → has_binary_prefix unit ≡ is_binary
+      → IsText kind size (if is_binary then exact_spec precision else plain_spec) text
+      → IsAcceptedBy reads kind ignore_case text size
+  by_prefix reads text unit recovered true prefix form =
+      let same = recovered_unit_unique current kind size (places_of precision) form.unit unit form.is_recovered
+      recovered in
+      binary_is_read reads text form (ap has_binary_prefix same ∙ prefix)
+  by_prefix reads text unit recovered false prefix is_text = digits_are_read reads text is_text
+
+  -- an exact text is parsed as the size, unless prefixes are read otherwise than it was written for
+  exact_is_read : (reads binary : Bool) (text : List ℕ) → (reads ≡ true → binary ≡ true)
+      → IsExactText binary kind precision size text → IsAcceptedBy reads kind ignore_case text size
+  exact_is_read reads true text same (unit, recovered, is_text) =
+      by_prefix reads text (shape_of unit) recovered (has_binary_prefix (shape_of unit)) refl is_text
+  exact_is_read true false text same is_text = absurd (true≢false (sym (same refl)))
+  exact_is_read false false text same is_text = exact kind size (exact_spec precision) ignore_case text below is_text
+
+  -- a text in a lossless form is parsed as its size
+  form_is_read : (form : Form) (reads binary : Bool) (text : List ℕ) → IsLossless form → (reads ≡ true → binary ≡ true)
+      → IsFormText binary kind form precision size text → IsAcceptedBy reads kind ignore_case text size
+  form_is_read Exact reads binary text lossless same is_text = exact_is_read reads binary text same is_text
+  form_is_read Plain reads binary text lossless same is_text = digits_are_read reads text is_text
+  form_is_read (InUnit unit) reads binary text lossless same is_text = absurd lossless
+  form_is_read (NumberOf unit) reads binary text lossless same is_text = absurd lossless
+  form_is_read (Largest unit_type) reads binary text lossless same is_text = absurd lossless
 
 -- a size formatted in a lossless form, without a width, is parsed as that size
 pub formatted_is_read : SizeFormReadsBack → PlainFormReadsBack → FormattedSizesAreRead
 formatted_is_read exact digits =
-    λ options others size text below lossless no_width same_kind same_suffix no_binary (form, is_form, formatted_is).
+    λ options others size text below lossless no_width same_kind same_suffix prefixes (form, is_form, formatted_is).
     let suffix = options.suffix.now in
     let formatted = formatted_is ∙ padded-none options.width options.align_left (form ++ suffix) no_width in
     let is : without_suffix others.suffix.now text ≡ form =
     ap (λ suffix. without_suffix suffix text) same_suffix
     ∙ (ap (without_suffix suffix) formatted ∙ without_it form suffix) in
     let ignore_case = ignores_case others.kind others.ignore_case in
-    let at = form_is_read exact digits options.kind options.form options.precision size ignore_case form below
-    lossless is_form in
-    let Accepts : List ℕ → Type 0 = λ text. IsAccepted options.kind ignore_case text size in
+    let at = form_is_read exact digits options.kind options.precision size ignore_case below options.form others.binary
+    options.binary form lossless prefixes is_form in
+    let Accepts : List ℕ → Type 0 = λ text. IsAcceptedBy others.binary options.kind ignore_case text size in
     let text = without_suffix others.suffix.now text in
-    subst (λ binary. IsAcceptedBy binary others.kind ignore_case text size) (sym no_binary)
-    (subst (λ kind. IsAccepted kind ignore_case text size) (sym same_kind) (subst Accepts (sym is) at))
+    subst (λ kind. IsAcceptedBy others.binary kind ignore_case text size) (sym same_kind) (subst Accepts (sym is) at)
+
+-- a size has one text with a unit or as digits
+one_text : SizeHasOneForm → (kind : Kind) (precision : Option ℕ) (size : ℕ) (text other : List ℕ) (is_binary : Bool)
+    → IsText kind size (if is_binary then exact_spec precision else plain_spec) text
+    → IsText kind size (if is_binary then exact_spec precision else plain_spec) other → text ≡ other
+one_text one_form kind precision size text other true is_text is_other =
+    let only = one_form current kind size (exact_spec precision) in
+    only.one text is_text ∙ sym (only.one other is_other)
+one_text one_form kind precision size text other false is_text is_other = is_text ∙ sym is_other
+
+-- a size has one exact text
+one_exact : SizeHasOneForm → (binary : Bool) (kind : Kind) (precision : Option ℕ) (size : ℕ) (text other : List ℕ)
+    → IsExactText binary kind precision size text → IsExactText binary kind precision size other → text ≡ other
+one_exact one_form false kind precision size text other is_text is_other =
+    one_text one_form kind precision size text other true is_text is_other
+one_exact one_form true kind precision size text other (unit, recovered, is_text) (second, recovered_second, is_other) =
+    let same = recovered_unit_unique current kind size (places_of precision) (shape_of second) (shape_of unit)
+    recovered_second recovered in
+    one_text one_form kind precision size text other (has_binary_prefix (shape_of unit)) is_text
+    (subst (λ unit. IsText kind size (if has_binary_prefix unit then exact_spec precision else plain_spec) other) same
+    is_other)
 
 -- converting a text in the form `exact`, without a width, once more gives the same text
 pub exact_again : FormattedSizesAreRead → TextsAreSizesOrNot → SizeHasOneForm → ExactTwiceIsOnce
 exact_again formatted_read texts one_form =
-    λ options size text below exact no_width no_binary formatted again text_again read (form_again, is_again, again_is).
+    λ options size text below exact no_width formatted again text_again read (form_again, is_again, again_is).
     let kind = options.kind in
+    let binary = options.binary in
+    let precision = options.precision in
     let ignore_case = ignores_case kind options.ignore_case in
-    let spec = exact_spec options.precision in
     let lossless : IsLossless options.form = subst IsLossless (sym exact) tt in
-    let accepted = formatted_read options options size text below lossless no_width refl refl no_binary formatted in
-    let answer = texts options.binary kind ignore_case (without_suffix options.suffix.now text) in
+    let accepted = formatted_read options options size text below lossless no_width refl refl (λ yes. yes) formatted in
+    let answer = texts binary kind ignore_case (without_suffix options.suffix.now text) in
     let same : again ≡ size = answer.one_meaning again size read accepted in
     let form = formatted.0 in
-    let is_form : IsFormText kind Exact options.precision size form =
-    subst (λ way. IsFormText kind way options.precision size form) exact formatted.1 in
-    let is_form_again : IsFormText kind Exact options.precision size form_again =
-    subst (λ size. IsFormText kind Exact options.precision size form_again) same
-    (subst (λ way. IsFormText kind way options.precision again form_again) exact is_again) in
-    let only = one_form current kind size spec in
-    let forms : form_again ≡ form = only.one form_again is_form_again ∙ sym (only.one form is_form) in
+    let is_form : IsExactText binary kind precision size form =
+    subst (λ way. IsFormText binary kind way precision size form) exact formatted.1 in
+    let is_form_again : IsExactText binary kind precision size form_again =
+    subst (λ size. IsExactText binary kind precision size form_again) same
+    (subst (λ way. IsFormText binary kind way precision again form_again) exact is_again) in
+    let forms = one_exact one_form binary kind precision size form_again form is_form_again is_form in
     again_is ∙ ap (λ form. padded options.width options.align_left (form ++ options.suffix.now)) forms ∙ sym formatted.2

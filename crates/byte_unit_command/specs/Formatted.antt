@@ -1,9 +1,10 @@
 -- The text of a size, with its suffix and padding.
-use Rattle.std.specs.Prelude.{◌≡◌, ℕ, ◌-◌, ◌*◌, Bool, false, if◌then◌else◌, List, ◌++◌, length, replicate}
+use Rattle.std.specs.Prelude.{◌≡◌, ℕ, ◌-◌, ◌*◌, Bool, true, false, if◌then◌else◌, List, ◌++◌, length, replicate}
 use Rattle.std.specs.Prelude.{take, Option}
 use Rattle.byte_unit.specs.Adjusted.{IsAdjustedForm, IsNumeralBy, rule_of}
-use Rattle.byte_unit.specs.Choice.{IsAppropriate}
-use Rattle.byte_unit.specs.Forms.{IsText}
+use Rattle.byte_unit.specs.BinaryString.{has_binary_prefix}
+use Rattle.byte_unit.specs.Choice.{IsAppropriate, IsRecovered}
+use Rattle.byte_unit.specs.Forms.{IsText, places_of}
 use Rattle.byte_unit.specs.Kinds.{bits_in}
 use Rattle.byte_unit.specs.NamedSpecs.{plain_spec, alternate_spec}
 use Rattle.byte_unit.specs.Shape.{bits}
@@ -23,16 +24,24 @@ exact_spec precision = record alternate_spec { precision = precision }
 abbrev pub adjusted_spec : Option ℕ → FormatSpec
 adjusted_spec precision = record plain_spec { precision = precision }
 
--- the text of a size in a form: in the largest unit, not above the size, that represents it exactly within the
--- precision; as digits; in the given unit; as the number of that unit alone; in the largest unit of the type that is
--- not above the size
-abbrev pub IsFormText : Kind → Form → Option ℕ → ℕ → List ℕ → Type 0
-IsFormText kind Exact precision size text = IsText kind size (exact_spec precision) text
-IsFormText kind Plain precision size text = IsText kind size plain_spec text
-IsFormText kind (InUnit unit) precision size text = IsAdjustedForm kind size unit (adjusted_spec precision) text
-IsFormText kind (NumberOf unit) precision size text =
+-- the text of a size in the exact form: in the largest unit, not above the size, that represents it exactly within the
+-- precision. Where a decimal prefix means the binary one, it is digits instead, unless that unit has a binary prefix
+abbrev pub IsExactText : Bool → Kind → Option ℕ → ℕ → List ℕ → Type 0
+IsExactText false kind precision size text = IsText kind size (exact_spec precision) text
+IsExactText true kind precision size text =
+    (unit : UnitName) × IsRecovered kind false size (places_of precision) unit
+    × IsText kind size (if has_binary_prefix (shape_of unit) then exact_spec precision else plain_spec) text
+
+-- the text of a size in a form: in the exact form; as digits; in the given unit; as the number of that unit alone; in
+-- the largest unit of the type that is not above the size. Only the exact form depends on what a decimal prefix means
+abbrev pub IsFormText : Bool → Kind → Form → Option ℕ → ℕ → List ℕ → Type 0
+IsFormText binary kind Exact precision size text = IsExactText binary kind precision size text
+IsFormText binary kind Plain precision size text = IsText kind size plain_spec text
+IsFormText binary kind (InUnit unit) precision size text =
+    IsAdjustedForm kind size unit (adjusted_spec precision) text
+IsFormText binary kind (NumberOf unit) precision size text =
     IsNumeralBy (rule_of precision false (shape_of unit)) (size * bits_in kind) (bits (shape_of unit)) text
-IsFormText kind (Largest unit_type) precision size text =
+IsFormText binary kind (Largest unit_type) precision size text =
     (unit : UnitName) × IsAppropriate kind unit_type size unit
     × IsAdjustedForm kind size unit (adjusted_spec precision) text
 
@@ -45,7 +54,7 @@ padded width align_left text =
 -- the text that is written for a size
 abbrev pub IsFormatted : Options → ℕ → List ℕ → Type 0
 IsFormatted options size text =
-    (form : List ℕ) × IsFormText options.kind options.form options.precision size form
+    (form : List ℕ) × IsFormText options.binary options.kind options.form options.precision size form
     × (text ≡ padded options.width options.align_left (form ++ options.suffix.now))
 
 -- the first `len` of these bytes are a text for which this holds

@@ -1,5 +1,5 @@
 -- Laws of the texts of sizes: what is formatted can be read again.
-use Rattle.std.specs.Prelude.{◌≡◌, ℕ, ◌<◌, ⊤, Bool, false, List}
+use Rattle.std.specs.Prelude.{◌≡◌, ℕ, ◌<◌, ⊤, Bool, true, List}
 use Rattle.byte_unit.specs.Bounds.{size_limit}
 use Rattle.byte_unit.specs.ReaderLaws.{IsOneAnswer}
 use Rattle.byte_unit.specs.declared.Kind.{Kind}
@@ -32,18 +32,18 @@ TextsAreSizesOrNot =
     → IsOneAnswer ℕ (IsAcceptedBy binary kind ignore_case text) (IsRejectedBy binary kind ignore_case text)
 
 -- law: a size formatted in the exact form or as digits, without padding, is parsed as that size by a run with
--- any options of the same kind and suffix that read prefixes as they are. So nothing is lost by `--to=plain` and then
--- `--to=exact`
+-- any options of the same kind and suffix, unless decimal prefixes mean binary ones in that run alone. So nothing is
+-- lost by `--to=plain` and then `--to=exact`
 abbrev pub FormattedSizesAreRead : Type 0
 FormattedSizesAreRead =
     (options others : Options) (size : ℕ) (text : List ℕ) → size < size_limit → IsLossless options.form
-    → options.width ≡ 0 → others.kind ≡ options.kind → others.suffix.now ≡ options.suffix.now → others.binary ≡ false
-    → IsFormatted options size text → IsReadAs others text size
+    → options.width ≡ 0 → others.kind ≡ options.kind → others.suffix.now ≡ options.suffix.now
+    → (others.binary ≡ true → options.binary ≡ true) → IsFormatted options size text → IsReadAs others text size
 
 -- law: if a size formatted in the exact form, without padding, is parsed and formatted so once more, the text is the
--- same. So a second run of `--to=exact` changes nothing, if prefixes are read as they are
+-- same. So a second run of `--to=exact` changes nothing, whatever prefixes mean
 abbrev pub ExactTwiceIsOnce : Type 0
 ExactTwiceIsOnce =
     (options : Options) (size : ℕ) (text : List ℕ) → size < size_limit → options.form ≡ Exact → options.width ≡ 0
-    → options.binary ≡ false → IsFormatted options size text → (again : ℕ) (text_again : List ℕ)
+    → IsFormatted options size text → (again : ℕ) (text_again : List ℕ)
     → IsReadAs options text again → IsFormatted options again text_again → text_again ≡ text

@@ -21,7 +21,7 @@ iec, or one of auto, si and iec-i, with which K is 1000.
 UNIT is such a unit, or one of these words:
   exact  the largest unit, not above the size, that represents it exactly with
          at most N digits after the point, 3 without -p and 28 at most (the
-         default)
+         default); with --from=iec digits, if that unit is not binary
   plain  digits
   si     the largest decimal unit that is not above the size
   iec    the largest binary unit that is not above the size

@@ -9,7 +9,8 @@ pub(crate) fn texts_are_sizes_or_not()
     ensures { TextsAreSizesOrNot }
 {}
 
-/// States that a size formatted in the exact form or as digits, unpadded, is parsed as the same size.
+/// States that a size formatted in the exact form or as digits, unpadded, is parsed as the same size, unless only the
+/// call that parses it has `--from=iec`.
 pub fn formatted_sizes_are_read()
     ensures { FormattedSizesAreRead }
 {
@@ -17,7 +18,7 @@ pub fn formatted_sizes_are_read()
     laws::plain_form_reads_back();
 }
 
-/// States that a second run in the exact form changes nothing.
+/// States that a second run in the exact form changes nothing, whatever prefixes mean.
 pub fn exact_twice_is_once()
     ensures { ExactTwiceIsOnce }
 {

@@ -5,7 +5,8 @@ pub use byte_unit::{Kind, Unit, UnitType};
 /// How a size is formatted.
 #[derive(Debug, Clone, Copy, PartialEq, Eq)]
 pub enum Form {
-    /// In the largest unit, not above the size, that represents it exactly within the precision.
+    /// In the largest unit, not above the size, that represents it exactly within the precision. If a decimal prefix in
+    /// a size means the binary one, as digits unless that unit has a binary prefix.
     Exact,
     /// As digits.
     Plain,

@@ -1,18 +1,23 @@
 //! Writes and appends the text of a size.
 
 ghost use Rattle.std.specs.Prelude.{◌≡◌, ◌+◌, ◌<◌, ◌≤◌, ◌++◌, ℕ, List, length, max, replicate, OnOk, IsOk};
-ghost use Rattle.std.specs.Prelude.{vec_len, vec_capacity};
+ghost use Rattle.std.specs.Prelude.{true, false, None, vec_len, vec_capacity};
+ghost use Rattle.byte_unit.specs.BinaryString.{has_binary_prefix as is_binary};
 ghost use Rattle.byte_unit.specs.Bounds.{size_limit};
-ghost use Rattle.byte_unit.specs.Forms.{text_limit};
+ghost use Rattle.byte_unit.specs.Forms.{IsText, narrow_text, places_of, text_limit};
+ghost use Rattle.byte_unit.specs.Units.{shape_of};
 ghost use Rattle.byte_unit_command.specs.Capacity.{form_max, text_room, unit_text_max};
 ghost use Rattle.byte_unit_stream.specs.Beginnings.{IsBeginningOf};
-ghost use Rattle.byte_unit_command.specs.Formatted.{BeginsWithForm, IsFormText, IsFormatted, padded};
+ghost use Rattle.byte_unit_command.specs.Formatted.{BeginsWithForm, IsExactText, IsFormText, IsFormatted};
+ghost use Rattle.byte_unit_command.specs.Formatted.{exact_spec as spec_of_exact, padded};
 ghost use Rattle.byte_unit_command.specs.Values.{kind_of};
 
 use crate::options::{Form, Kind, Options, Unit};
+use crate::values::kind_of;
 use byte_unit::FormatSpec;
-use byte_unit_choice::appropriate_unit;
+use byte_unit_choice::{appropriate_unit, recoverable_unit};
 use byte_unit_format::{write_adjusted, write_text};
+use byte_unit_math::Steps;
 use std::alloc::{AllocError, Allocator};
 
 /// The most bytes of a text that are copied in one piece of a constant length. Most texts are shorter.
@@ -149,7 +154,7 @@ fn write_size(options: &Options, size: u128, out: &mut [u8]) -> usize
     requires bound { size < size_limit }
     requires capacity { text_limit ≤ length out.old }
     ensures written { BeginsWithForm
-        (IsFormText options.now.kind options.now.form options.now.precision size)
+        (IsFormText options.now.binary options.now.kind options.now.form options.now.precision size)
         out.new result }
     ensures bound { result < text_limit }
     ensures narrow { result ≤ form_max options.now.form options.now.precision }
@@ -170,21 +175,16 @@ fn write_as<const BITS: bool>(options: &Options, size: u128, out: &mut [u8]) -> 
     requires bound { size < size_limit }
     requires capacity { text_limit ≤ length out.old }
     ensures written { BeginsWithForm
-        (IsFormText (kind_of BITS) options.now.form options.now.precision size)
+        (IsFormText options.now.binary (kind_of BITS) options.now.form options.now.precision size)
         out.new result }
     ensures bound { result < text_limit }
     ensures narrow { result ≤ form_max options.now.form options.now.precision }
 {
-    let kind = if BITS { Kind::Bit } else { Kind::Byte };
+    let kind = kind_of(BITS);
     // The precision is read where it counts: digits take fewer instructions then.
     match options.form {
-        Form::Exact => {
-            let exact = FormatSpec {
-                precision: options.precision,
-                ..FormatSpec::ALTERNATE
-            };
-            write_text(size, kind, exact, out)
-        }
+        Form::Exact if options.binary => write_binary(size, kind, options.precision, out),
+        Form::Exact => write_text(size, kind, exact_spec(options.precision), out),
         Form::Plain => write_text(size, kind, FormatSpec::PLAIN, out),
         Form::InUnit(unit) => {
             let rounded = FormatSpec {
@@ -205,6 +205,70 @@ fn write_as<const BITS: bool>(options: &Options, size: u128, out: &mut [u8]) -> 
     }
 }
 
+/// Writes a size in the exact form where a decimal prefix means the binary one, and returns its length: as digits,
+/// unless its unit has a binary prefix.
+///
+/// Preconditions (proved at every call): `size` is less than 10^30, and `out` has capacity for any text.
+#[inline(never)]
+fn write_binary(size: u128, kind: Kind, precision: Option<u16>, out: &mut [u8]) -> usize
+    requires bound { size < size_limit }
+    requires capacity { text_limit ≤ length out.old }
+    ensures written { BeginsWithForm (IsFormText true kind Form.Exact precision size) out.new result }
+    ensures bound { result < text_limit }
+    ensures narrow { result ≤ narrow_text }
+{
+    write_text(size, kind, binary_spec(size, kind, precision), out)
+}
+
+/// Returns how a size is formatted in the exact form where a decimal prefix means the binary one.
+///
+/// Precondition (proved at every call): `size` is less than 10^30.
+fn binary_spec(size: u128, kind: Kind, precision: Option<u16>) -> FormatSpec
+    requires { size < size_limit }
+    ensures text { (text : List ℕ) → IsText kind size result text
+        → IsExactText true kind precision size text }
+    ensures narrow { result.width ≡ None }
+{
+    let places = places_of(precision);
+    let (_, unit) = recoverable_unit(size, kind, false, places, &mut Steps::new());
+    if has_binary_prefix(unit) {
+        exact_spec(precision)
+    } else {
+        FormatSpec::PLAIN
+    }
+}
+
+/// Returns the most digits after the point of a size with a unit, within this precision.
+fn places_of(precision: Option<u16>) -> usize
+    ensures { result ≡ places_of precision }
+{
+    match precision {
+        Some(precision) => usize::from(precision),
+        None => 3,
+    }
+}
+
+/// Returns how a size is formatted with a unit, within this precision.
+#[inline(always)]
+fn exact_spec(precision: Option<u16>) -> FormatSpec
+    ensures { result ≡ spec_of_exact precision }
+{
+    FormatSpec {
+        precision,
+        ..FormatSpec::ALTERNATE
+    }
+}
+
+/// Returns `true` if the unit has a binary prefix.
+fn has_binary_prefix(unit: Unit) -> bool
+    ensures { result ≡ is_binary (shape_of unit) }
+{
+    match unit {
+        Unit::Bit | Unit::B => false,
+        _ => unit.is_binary_multiples(),
+    }
+}
+
 /// Writes the number of a unit that a size is, and returns its length.
 ///
 /// The unit is written after it, and its length left out, with that of the space before it (1).
@@ -214,7 +278,7 @@ fn write_number(size: u128, kind: Kind, unit: Unit, precision: Option<u16>, out:
     requires bound { size < size_limit }
     requires capacity { text_limit ≤ length out.old }
     ensures written { BeginsWithForm
-        (IsFormText kind (Form.NumberOf unit) precision size)
+        (IsFormText false kind (Form.NumberOf unit) precision size)
         out.new result }
     ensures bound { result < text_limit }
     ensures narrow { result ≤ unit_text_max precision }

@@ -1,6 +1,7 @@
 //! The values of the options of a call, as clap has parsed them.
 
-ghost use Rattle.byte_unit_command.specs.Values.{HasValues};
+ghost use Rattle.std.specs.Prelude.{◌≡◌};
+ghost use Rattle.byte_unit_command.specs.Values.{HasValues, kind_of};
 
 use crate::options::Kind;
 use clap::ArgMatches;
@@ -48,16 +49,20 @@ pub struct Values<'a> {
     pub has_operands: bool,
 }
 
+/// Returns the kind of the sizes, in bits or in bytes.
+#[inline(always)]
+pub(crate) fn kind_of(bits: bool) -> Kind
+    ensures { result ≡ kind_of bits }
+{
+    if bits { Kind::Bit } else { Kind::Byte }
+}
+
 /// Returns the values of the options of a call that clap has parsed.
 pub fn values_of<'a>(matches: &ArgMatches<'a>) -> Values<'a>
     ensures { HasValues matches.now result }
 {
     Values {
-        kind: if matches.get_flag("bits") {
-            Kind::Bit
-        } else {
-            Kind::Byte
-        },
+        kind: kind_of(matches.get_flag("bits")),
         precision: matches.get_one::<u16>("precision"),
         header: matches.get_one::<u64>("header"),
         ignore_case: matches.get_flag("ignore-case"),

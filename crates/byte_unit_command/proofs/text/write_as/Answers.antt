@@ -18,3 +18,8 @@ returns-in-Largest-clause-narrow g c =
     let precision = c.args.options.now.precision in
     subst (λ form. c.write_adjusted-in-Largest.result ≤ form_max form precision) (sym c.in-Largest.is)
     (adjusted-narrow _ precision c.requires.bound c.write_adjusted-in-Largest.ensures.written)
+
+-- where decimal prefixes mean binary ones, the exact text is that of `write_binary`
+pub returns-in-Exact-clause-written : goal.returns-in-Exact-clause-written
+returns-in-Exact-clause-written g c =
+    rw (c.in-Exact.is, c.if-options.true, ← c.kind_of-kind.ensures) c.write_binary.ensures.written

@@ -1,5 +1,5 @@
 -- The text in the unit is the number, a space and the unit.
-use Rattle.std.proofs.Common.{◌-◌, ◌≤◌, List, ℕ, length, arith, ap, sym, subst}
+use Rattle.std.proofs.Common.{◌-◌, ◌≤◌, false, List, ℕ, length, arith, ap, sym, subst}
 use Rattle.byte_unit_command.specs.Formatted.{BeginsWithForm, IsFormText}
 use Rattle.byte_unit_command.specs.declared.options.Form.TheVariants.{NumberOf}
 use Rattle.byte_unit_command.proofs.Lengths.{adjusted-narrow}
@@ -21,7 +21,7 @@ pub returns-clause-written : goal.returns-clause-written
 returns-clause-written c =
     let len = c.write_adjusted-len.result in
     let room : len ≤ length c.args.out.now = omega (arith, c.write_adjusted-len.ensures.bound, c.requires.capacity) in
-    let IsText : List ℕ → Type 0 = IsFormText c.args.kind (NumberOf c.args.unit) c.args.precision c.args.size in
+    let IsText : List ℕ → Type 0 = IsFormText false c.args.kind (NumberOf c.args.unit) c.args.precision c.args.size in
     subst (λ (name : List ℕ). BeginsWithForm IsText c.write_adjusted-len.new.out (len - 1 - length name))
     (sym c.as_str.ensures)
     (begins_with_number _ _ _ _ _ _ _ c.write_adjusted-len.ensures.written room)
