@@ -3,6 +3,7 @@
 Follows command/byte-unit.1 and docs/DEFINITIONS.md, and shares no code with the crates.
 """
 
+import contextlib
 import functools
 import getopt
 import re
@@ -182,6 +183,14 @@ def character(text, message):
     return f" (character {len(text) - len(text.lstrip(WHITE_SPACE)) + first + 1})"
 
 
+def without_suffix(data, suffix):
+    """Returns bytes without the suffix at their end, after which there may be white space."""
+    texts = [data]
+    with contextlib.suppress(UnicodeDecodeError):
+        texts.append(data.decode().rstrip(WHITE_SPACE).encode())
+    return next((text.removesuffix(suffix) for text in texts if text.endswith(suffix)), data)
+
+
 class Aborted(Exception):
     """A field is not a size, and the run ends before its record."""
 
@@ -209,7 +218,7 @@ class Run:
         """Returns what is written for a field, after the gap, and tells what is wrong with it. A field that is not a
         size is copied."""
         options, named = self.options, f"{place}: {quoted(data)}"
-        text = data.removesuffix(options.suffix.encode())
+        text = without_suffix(data, options.suffix.encode())
         size = read(text, options)
         if isinstance(size, Rejected):
             if options.invalid != "ignore":

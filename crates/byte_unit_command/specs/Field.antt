@@ -1,7 +1,8 @@
 -- What is written for one field, and what is found in it.
-use Rattle.std.specs.Prelude.{◌≡◌, ℕ, ◌-◌, ◌⊎◌, Bool, false, ◌&&◌, nat_le, if◌then◌else◌, List, [], ◌∷◌, ◌++◌, length}
-use Rattle.std.specs.Prelude.{take, drop, Option, None, Some}
-use Rattle.std.specs.Str.{IsUtf8, bytes_eq}
+use Rattle.std.specs.Prelude.{◌≡◌, ℕ, ◌-◌, ◌⊎◌, Bool, false, nat_eq, if◌then◌else◌, List, [], ◌∷◌, ◌++◌, length}
+use Rattle.std.specs.Prelude.{take, Option, None, Some}
+use Rattle.std.specs.List.{ends_with}
+use Rattle.std.specs.Str.{IsUtf8, is_utf8, trim_end}
 use Rattle.byte_unit.specs.Fault.{Fault}
 use Rattle.byte_unit.specs.declared.Kind.{Kind}
 use Rattle.byte_unit.specs.declared.Kind.TheVariants.{Byte, Bit}
@@ -11,15 +12,24 @@ use Rattle.byte_unit_command.specs.Formatted.{IsFormatted}
 use Rattle.byte_unit_command.specs.declared.options.Options.{Options}
 
 -- whether the text ends with the suffix
-abbrev pub ends_with : List ℕ → List ℕ → Bool
-ends_with suffix text =
-    nat_le (length suffix) (length text) && bytes_eq (drop (length text - length suffix) text) suffix
+abbrev pub has_suffix : List ℕ → List ℕ → Bool
+has_suffix suffix text = ends_with nat_eq text suffix
 
--- the text before the suffix, or the text itself if it does not end with it
+-- the text without as many bytes at its end as the suffix has
+abbrev pub before_suffix : List ℕ → List ℕ → List ℕ
+before_suffix suffix text = take (length text - length suffix) text
+
+-- the text without the white space at its end, if it is UTF-8
+abbrev pub before_space : List ℕ → List ℕ
+before_space text = if is_utf8 text then trim_end text else text
+
+-- the text before the suffix, after which there may be white space, or the text itself if it does not end with that
 abbrev pub without_suffix : List ℕ → List ℕ → List ℕ
 without_suffix [] text = text
 without_suffix (c ∷ cs) text =
-    if ends_with (c ∷ cs) text then take (length text - length (c ∷ cs)) text else text
+    let suffix = c ∷ cs in
+    if has_suffix suffix text then before_suffix suffix text
+    else (if has_suffix suffix (before_space text) then before_suffix suffix (before_space text) else text)
 
 -- whether case is ignored; it is always significant in sizes in bits, where it tells bits from bytes
 abbrev pub ignores_case : Kind → Bool → Bool

@@ -54,7 +54,8 @@ pub struct Options<'a> {
     /// The number of digits after the point: at most this many in the exact form (3 for `None`), and exactly this many
     /// in a unit with a prefix (all for `None`). The other texts have all their digits.
     pub precision: Option<u16>,
-    /// What follows the text of a size, and is taken off before a field is read; nothing for none.
+    /// What follows the text of a size, and is taken off before a field is read, also before white space; nothing for
+    /// none.
     pub suffix: &'a [u8],
     /// The least number of columns of a size; 0 for none.
     pub width: u16,

@@ -2,7 +2,7 @@
 
 ghost use Rattle.std.specs.Prelude.{◌≡◌, ◌<◌, ◌≤◌, false, IfSome, IfNone};
 ghost use Rattle.byte_unit_command.specs.Field.{IsSize, IsNoSize, IsSizeBy, IsNoSizeBy, ignores_case};
-ghost use Rattle.byte_unit_command.specs.Field.{without_suffix};
+ghost use Rattle.byte_unit_command.specs.Field.{before_space, without_suffix};
 ghost use Rattle.byte_unit_command.specs.Prefixes.{IsBytesReadingBy};
 
 use crate::options::{Kind, Options};
@@ -34,19 +34,33 @@ pub(crate) fn ignores_case(kind: Kind, ignore_case: bool) -> bool
     }
 }
 
-/// Returns the text before the suffix, or the text itself if it does not end with it.
+/// Returns the text before the suffix, after which there may be white space, or the text itself if it does not end with
+/// that.
 #[inline(always)]
 pub(crate) fn without_suffix<'a>(suffix: &[u8], text: &'a [u8]) -> &'a [u8]
     ensures { result.now ≡ without_suffix suffix.now text.now }
 {
-    if suffix.is_empty() || text.len() < suffix.len() {
+    if suffix.is_empty() {
         return text;
     }
-    let at = text.len() - suffix.len();
-    if &text[at..] == suffix {
-        &text[..at]
+    if text.ends_with(suffix) {
+        return &text[..text.len() - suffix.len()];
+    }
+    let before = before_space(text);
+    if before.ends_with(suffix) {
+        &before[..before.len() - suffix.len()]
     } else {
         text
+    }
+}
+
+/// Returns the text without the white space at its end, or the text itself if it is not UTF-8.
+fn before_space(text: &[u8]) -> &[u8]
+    ensures { result.now ≡ before_space text.now }
+{
+    match str::from_utf8(text) {
+        Ok(text) => text.trim_end().as_bytes(),
+        Err(_) => text,
     }
 }
 
