@@ -15,8 +15,10 @@ from byte_unit_dev.model.exact import (BASE, FORM_PLACES, SIZE_LIMIT, UNITS, WHI
                                        size_of, unit_message, unit_of, value_of)
 from program import Result
 
-# The most bytes of a text that a message quotes; the greatest number of 64 bits; and the words that are forms.
+# The most bytes of a text that a message quotes, and Unicode's categories of the characters that it escapes; the
+# greatest number of 64 bits; and the words that are forms.
 QUOTED = 80
+ESCAPED = ("Cc", "Cf", "Zl", "Zp")
 BITS_64 = (1 << 64) - 1
 FORMS = ("exact", "plain", "si", "iec", "auto")
 
@@ -35,7 +37,7 @@ def quoted(data):
     end = len(data) if len(data) <= QUOTED else next((at for at in ends if data[at] & 0xC0 != 0x80), QUOTED)
     try:
         text = data[:end].decode()
-        text = "".join(f"\\u{{{ord(c):x}}}" if unicodedata.category(c) == "Cc" else c for c in text)
+        text = "".join(f"\\u{{{ord(c):x}}}" if unicodedata.category(c) in ESCAPED else c for c in text)
     except UnicodeDecodeError:
         text = "".join(chr(byte) if 0x20 <= byte < 0x7F else f"\\x{byte:02x}" for byte in data[:end])
     return f"'{text}{'..' if end < len(data) else ''}'"

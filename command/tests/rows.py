@@ -227,7 +227,10 @@ FIELDS = [
 
 QUOTED = [
     field(b"x\x1b[31m\x7f", "x\\u{1b}[31m\\u{7f}", digit("x"), 1),
-    field("\u0080\u009f\ufeff'\\".encode(), "\\u{80}\\u{9f}\ufeff'\\", digit("\\u{80}"), 1),
+    field("\u0080\u009f\ufeff'\\".encode(), "\\u{80}\\u{9f}\\u{feff}'\\", digit("\\u{80}"), 1),
+    *(field(f"1{c}BK".encode(), f"1\\u{{{ord(c):x}}}BK", unit(f"\\u{{{ord(c):x}}}"), 2)
+      for c in "\u00ad\u061c\u200e\u2028\u202e\u2069\ufffb\U000110cd\U00013438\U0001bca3\U0001d17a\U000e007f"),
+    field("1\U000110be".encode(), "1\U000110be", unit("\U000110be"), 2),
     field("1\u0301".encode(), "1\u0301", unit("\\u{301}"), 2),
     field(b"1\t\x00", "1\\u{9}\\u{0}", unit("\\t"), 2),
     field("\u3000 1 K\u00e9".encode(), "\u3000 1 K\u00e9", unit("\u00e9", "('B' or 'b' or no character is expected)"), 6),
@@ -261,6 +264,7 @@ WRONG_VALUES = [
       for text in ("0", "65536", "-65536", "-0", "-", "+6", "-+6", "--6", "6x", "")),
     ("--invalid=x", told("--invalid: 'x'", "not abort, fail, warn or ignore")),
     (["--invalid=\x1b"], told("--invalid: '\\u{1b}'", "not abort, fail, warn or ignore")),
+    (["--invalid=\u202e"], told("--invalid: '\\u{202e}'", "not abort, fail, warn or ignore")),
     ("--to=", told("--to: ''", "not a form or a unit")),
     (["--to= "], told("--to: ' '", "not a form or a unit")),
     ("--to=GiBB", told("--to: 'GiBB'", "not a form or a unit: " + unit("B", "('i' or no character is expected)"))),
@@ -283,6 +287,7 @@ WRONG_WORDS = [
     ("--bits -i", misused("the argument '--bits' cannot be used with '--ignore-case'")),
     ("--nothing", unknown("--nothing")),
     (["--x\nbyte-unit: y"], unknown("--x\\u{a}byte-unit: y")),
+    (["--x\u202e"], unknown("--x\\u{202e}")),
     ("--header=18446744073709551616",
      wrong("invalid value '18446744073709551616' for '--header[=<N>]': number too large to fit in target type")),
     ("--header=", wrong("invalid value '' for '--header[=<N>]': cannot parse integer from empty string")),

@@ -4,7 +4,7 @@ use Rattle.std.specs.Prelude.{nat_lt, nat_le, IfSome, if◌then◌else◌, Match
 use Rattle.std.specs.Prelude.{length, take, slice_index, codes}
 use Rattle.std.specs.Char.{is_control, encode_utf8}
 use Rattle.std.specs.Fmt.{decimal, digits, digit_glyph}
-use Rattle.std.specs.List.{flat_map}
+use Rattle.std.specs.List.{flat_map, list_any}
 use Rattle.std.specs.Str.{IsUtf8, is_utf8, chars}
 use Rattle.byte_unit.specs.Errors.{size_fault}
 use Rattle.byte_unit.specs.FaultText.{parse_text}
@@ -31,9 +31,23 @@ quoted_len field =
     else (if is_boundary field 79 then 79 else (if is_boundary field 78 then 78
     else (if is_boundary field 77 then 77 else 80))))
 
--- a character in a message: a control character as `\u{` with its code in hexadecimal and `}`, any other as it is
+-- the first and the last of each run of format characters (category `Cf` of Unicode 16), and of the separators of lines
+-- and paragraphs: what shows nothing, or changes how the text beside it is shown
+abbrev pub format_runs : List (ℕ × ℕ)
+format_runs =
+    (0xad, 0xad) ∷ (0x600, 0x605) ∷ (0x61c, 0x61c) ∷ (0x6dd, 0x6dd) ∷ (0x70f, 0x70f) ∷ (0x890, 0x891)
+    ∷ (0x8e2, 0x8e2) ∷ (0x180e, 0x180e) ∷ (0x200b, 0x200f) ∷ (0x2028, 0x202e) ∷ (0x2060, 0x2064)
+    ∷ (0x2066, 0x206f) ∷ (0xfeff, 0xfeff) ∷ (0xfff9, 0xfffb) ∷ (0x110bd, 0x110bd) ∷ (0x110cd, 0x110cd)
+    ∷ (0x13430, 0x1343f) ∷ (0x1bca0, 0x1bca3) ∷ (0x1d173, 0x1d17a) ∷ (0xe0001, 0xe0001) ∷ (0xe0020, 0xe007f) ∷ []
+
+-- whether a character is one of these
+unfoldable pub is_format : ℕ → Bool
+is_format c = list_any (λ run. nat_le run.0 c && nat_le c run.1) format_runs
+
+-- a character in a message: a control or format character as `\u{` with its code in hexadecimal and `}`, any other as
+-- it is
 abbrev pub escape_char : ℕ → List ℕ
-escape_char c = if is_control c then codes "\\u{" ++ digits 16 false c ++ codes "}" else encode_utf8 c
+escape_char c = if is_control c || is_format c then codes "\\u{" ++ digits 16 false c ++ codes "}" else encode_utf8 c
 
 -- whether a byte is a printable ASCII character
 abbrev pub is_printable : ℕ → Bool

@@ -1,11 +1,11 @@
-//! Quotes a field in a message, and escapes control characters.
+//! Quotes a field in a message, and escapes control and format characters.
 
 ghost use Rattle.std.specs.Prelude.{◌≡◌, ◌++◌, ◌<◌, ◌≤◌, ◌||◌, false, nat_lt, nat_le, length, IsTrue, OnOk};
 ghost use Rattle.std.specs.Fmt.{digit_glyph};
 ghost use Rattle.std.specs.List.{flat_map};
 ghost use Rattle.std.specs.Str.{chars};
 ghost use Rattle.std.specs.String.{string_bytes};
-ghost use Rattle.byte_unit_command.specs.Messages.{escape, escape_byte, escape_char, hex_of_byte, quote};
+ghost use Rattle.byte_unit_command.specs.Messages.{escape, escape_byte, escape_char, hex_of_byte, is_format, quote};
 ghost use Rattle.byte_unit_command.specs.Messages.{is_printable as is_printable_ascii, quoted_len as len_of_quote};
 
 use std::alloc::{AllocError, Allocator};
@@ -14,8 +14,34 @@ use std::fmt::Write;
 /// The most bytes of a field that a message quotes, so that a message about a long field is short.
 const QUOTED: usize = 80;
 
-/// Appends a field in quotes, with control characters and bytes that are not UTF-8 escaped. Of a long field only the
-/// beginning is quoted, with two points after it.
+/// The first and the last of each run of format characters (category `Cf` of Unicode 16), and of the separators of
+/// lines and paragraphs.
+const FORMAT_RUNS: [(char, char); 21] = [
+    ('\u{ad}', '\u{ad}'),
+    ('\u{600}', '\u{605}'),
+    ('\u{61c}', '\u{61c}'),
+    ('\u{6dd}', '\u{6dd}'),
+    ('\u{70f}', '\u{70f}'),
+    ('\u{890}', '\u{891}'),
+    ('\u{8e2}', '\u{8e2}'),
+    ('\u{180e}', '\u{180e}'),
+    ('\u{200b}', '\u{200f}'),
+    ('\u{2028}', '\u{202e}'),
+    ('\u{2060}', '\u{2064}'),
+    ('\u{2066}', '\u{206f}'),
+    ('\u{feff}', '\u{feff}'),
+    ('\u{fff9}', '\u{fffb}'),
+    ('\u{110bd}', '\u{110bd}'),
+    ('\u{110cd}', '\u{110cd}'),
+    ('\u{13430}', '\u{1343f}'),
+    ('\u{1bca0}', '\u{1bca3}'),
+    ('\u{1d173}', '\u{1d17a}'),
+    ('\u{e0001}', '\u{e0001}'),
+    ('\u{e0020}', '\u{e007f}'),
+];
+
+/// Appends a field in quotes, with control and format characters and bytes that are not UTF-8 escaped. Of a long field
+/// only the beginning is quoted, with two points after it.
 ///
 /// # Errors
 ///
@@ -62,7 +88,7 @@ pub(crate) fn is_boundary(byte: u8) -> bool
     byte < 0x80 || 0xC0 <= byte
 }
 
-/// Appends bytes: a text with its control characters escaped, and bytes that are not UTF-8 each for itself.
+/// Appends bytes: a text with its control and format characters escaped, and bytes that are not UTF-8 each for itself.
 ///
 /// # Errors
 ///
@@ -76,7 +102,7 @@ fn add_escaped<A: Allocator>(bytes: &[u8], line: &mut String<A>) -> Result<(), A
     }
 }
 
-/// Appends a text with its control characters escaped.
+/// Appends a text with its control and format characters escaped.
 ///
 /// # Errors
 ///
@@ -91,7 +117,7 @@ fn add_escaped_text<A: Allocator>(text: &str, line: &mut String<A>) -> Result<()
     Ok(())
 }
 
-/// Appends a character, escaped if it is a control character.
+/// Appends a character, escaped if it is a control or format character.
 ///
 /// # Errors
 ///
@@ -102,12 +128,20 @@ pub(crate) fn add_escaped_char<A: Allocator>(
 ) -> Result<(), AllocError>
     ensures { OnOk result (string_bytes line.new ≡ string_bytes line.old ++ escape_char c) }
 {
-    if c.is_control() {
+    if c.is_control() || is_format(c) {
         let code = c as u32;
         write!(line, "\\u{{{code:x}}}")
     } else {
         line.push(c)
     }
+}
+
+/// Returns `true` if the character is a format character, or separates lines or paragraphs.
+#[tactic(auto, unfolding(crate::specs::Messages::is_format))]
+fn is_format(c: char) -> bool
+    ensures { result ≡ is_format c }
+{
+    FORMAT_RUNS.iter().any(|run| run.0 <= c && c <= run.1)
 }
 
 /// Appends bytes: printable ASCII characters as they are, and any other byte escaped.

@@ -50,8 +50,8 @@ pub enum ValueError {
 impl<'a> Wrong<'a> {
     /// Returns the message, without its line end: the option, its value in quotes if it is told, and the reason.
     ///
-    /// The value is quoted as a message about a field quotes it: control characters are escaped, and of a long value
-    /// only the beginning is quoted.
+    /// The value is quoted as a message about a field quotes it: control and format characters are escaped, and
+    /// of a long value only the beginning is quoted.
     ///
     /// # Errors
     ///
@@ -145,8 +145,8 @@ fn with_mark(alloc: Global, word: &str) -> Result<String, AllocError> {
     Ok(marked)
 }
 
-/// Returns a text with its control characters escaped, but for the line feeds that end its lines. A zero byte is
-/// escaped as the line feed in whose place it is.
+/// Returns a text with its control and format characters escaped, but for the line feeds that end its lines. A zero
+/// byte is escaped as the line feed in whose place it is.
 ///
 /// # Errors
 ///
