@@ -179,6 +179,7 @@ REPEATED = [
     ("-ii 1kb", b"", b"1 KB\n"), ("-p1 --precision=2 --to=K 1234", b"", b"1.23 KB\n"),
     ("--header=2 --header", b"x\n1K\n", b"x\n1 KB\n"), ("--max=1 --max=2K --total --total 1K", b"", b"1 KB\n1 KB\n"),
     ("--from=iec --from=si --to=plain 1K", b"", b"1000\n"),
+    ("--inv=ignore --tot --fr iec --hum x 1K", b"", b"x\n1.0 KiB\n1.0 KiB\n"),
 ]
 
 SUFFIXES = [

@@ -104,7 +104,7 @@ def exact(rng):
     *[("-d," + field, "--from=auto", "--to=plain", lambda rng: ",".join(exact(rng) for _ in range(4)))
       for field in ("", " --field=2", " --field=1,3", " --field=2-", " --field=-2", " --field=-")],
     *[(words, "--from=auto", "--to=plain", exact)
-      for words in ("", "--header", "--header=5", "--padding=20", "--padding=-20", "-z")],
+      for words in ("", "--header", "--header=5", "--padding=20", "--padding=-20", "-z", "--inv=warn --pad=20")],
     *[(f"--invalid={way}", "--from=auto", "--to=plain", lambda rng: rng.choice(["x", "y", "1K", "2K"]))
       for way in ("fail", "warn", "ignore", "abort")],
     *[(words, "--from=iec", "--from=iec --to=plain", lambda rng: f"{rng.randrange(1, 999)}{rng.choice(['', *'KMG'])}")

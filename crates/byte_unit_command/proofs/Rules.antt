@@ -1,17 +1,43 @@
 -- Lemmas: the command as clap's parser reads it.
 use Rattle.std.proofs.Common.{◌≡◌, ◌∙◌, ℕ, Bool, true, false, List, [], ◌∷◌, ◌++◌, Option, None, Some, refl}
-use Rattle.std.proofs.Common.{ap, ap₂, arith, length, length-append, ne_eqb, IsSomeAnd, is_some, not, Bor}
+use Rattle.std.proofs.Common.{ap, ap₂, arith, length, length-append, ne_eqb, IsSomeAnd, is_some, not, Bor, ◌&&◌}
 use Rattle.std.proofs.lemmas.Bool.{and_left, and_right}
 use Rattle.clap.specs.Adds.{AddsConflicts}
 use Rattle.clap.specs.Built.{AddsArg}
 use Rattle.clap.specs.Walk.{Rule, is_empty, is_free_arg, rule_of}
-use Rattle.clap.specs.Simple.{App, app_of, with_rule}
+use Rattle.clap.specs.Simple.{App, app_of, app_of_fields, with_rule}
 use Rattle.clap.specs.declared.builder.arg.Arg.{Arg}
 use Rattle.clap.specs.declared.builder.command.Command.{Command}
+use Rattle.clap.specs.declared.builder.command.Command.TheOpen.{Command-F}
+use Rattle.clap.specs.declared.builder.command.Command.TheViews.{out-Command}
 use Rattle.clap.specs.declared.builder.range.ValueRange.{ValueRange}
 use Rattle.clap.specs.declared.builder.texts.Texts.TheVariants.{One}
 use Rattle.clap.specs.declared.builder.value_parser.ValueParser.{ValueParser}
 use Rattle.byte_unit_command.specs.CommandLine.{IsArg}
+
+-- nothing is true and false
+and_false : (b : Bool) → (b && false) ≡ false
+and_false true = refl
+and_false false = refl
+
+-- a command whose long names may be abbreviated is not plain
+not_plain : (old : Command-F Command) → app_of_fields (record old { infer_long_args = true })
+    ≡ record (app_of_fields old) { top = record (app_of_fields old).top { is_plain = false } }
+not_plain old =
+    let no_groups = is_empty old.groups.items in
+    let no_external = not old.allow_external_subcommands in
+    let no_globals = not old.has_globals in
+    ap (λ (plain : Bool). record (app_of_fields old) { top = record (app_of_fields old).top { is_plain = plain } })
+    (ap (λ (all : Bool). no_groups && (no_external && all)) (and_false no_globals)
+    ∙ (ap (λ (all : Bool). no_groups && all) (and_false no_external) ∙ and_false no_groups))
+
+-- a command whose long names may be abbreviated has the same rules, but is not plain
+pub with_abbreviations : (old new : Command) (app : App) → app_of old ≡ app
+    → out-Command new ≡ record (out-Command old) { infer_long_args = true }
+    → app_of new ≡ record app { top = record app.top { is_plain = false } }
+with_abbreviations old new app old_is new_is =
+    ap app_of_fields new_is ∙ not_plain (out-Command old)
+    ∙ ap (λ (app : App). record app { top = record app.top { is_plain = false } }) old_is
 
 -- a list with one more element is not empty
 longer_is_not_empty : {X : Type 0} (xs all : List X) (x : X) → all ≡ xs ++ x ∷ [] → is_empty all ≡ false

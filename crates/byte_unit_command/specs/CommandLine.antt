@@ -89,11 +89,12 @@ abbrev pub with_rules : App → List Rule → App
 with_rules app [] = app
 with_rules app (rule ∷ rules) = with_rules (with_rule app rule) rules
 
--- the command without arguments. It has a version, and the last of an option that is given more than once holds
+-- the command without arguments. It has a version, and the last of an option that is given more than once holds. It is
+-- not plain, since a long name may be abbreviated
 abbrev pub without_rules : App
 without_rules =
     let start = new_app (codes "byte-unit") in
-    record start { top = record start.top { has_version = true; args_override_self = true } }
+    record start { top = record start.top { has_version = true; args_override_self = true; is_plain = false } }
 
 -- the command that `arguments::command` makes, with its arguments in the order of the code
 abbrev pub command_line : App

@@ -48,9 +48,9 @@ Exit status:
 ///
 /// The contract says what clap's parser reads of it: the name and the letter of each option, whether it takes a value,
 /// and which numbers are values; and that the last of an option that is given twice holds. It does not say, and tests
-/// do, that `--ignore-case` excludes `--bits` and `--blanks` excludes `--delimiter`, that a number after `--header`
-/// needs `=`, that `--padding`, `--field` and `--suffix` take a value with a hyphen, and the texts of the help and the
-/// version.
+/// do, which abbreviations of a long name are taken, that `--ignore-case` excludes `--bits` and `--blanks` excludes
+/// `--delimiter`, that a number after `--header` needs `=`, that `--padding`, `--field` and `--suffix` take a value
+/// with a hyphen, and the texts of the help and the version.
 ///
 /// # Errors
 ///
@@ -63,7 +63,8 @@ pub fn command<'a>(alloc: Global) -> Result<Command<'a>, AllocError>
         .about("Converts sizes in bytes or bits, exactly: operands, or standard input.")
         .override_usage("byte-unit [OPTION].. [SIZE]..")
         .after_help(AFTER_HELP)
-        .args_override_self(true);
+        .args_override_self(true)
+        .infer_long_args(true);
     let ignore_case = flag(alloc, "ignore-case", "ignore case; b then means bytes")
         .short('i')
         .conflicts_with("bits")?;

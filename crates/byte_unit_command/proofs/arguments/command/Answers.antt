@@ -7,7 +7,7 @@ use Rattle.clap.specs.declared.builder.range.ValueRange.{ValueRange}
 use Rattle.clap.specs.declared.builder.value_parser.ValueParser.{ValueParser}
 use Rattle.byte_unit_command.specs.CommandLine.{IsArg, size_rules, value, with_rules, without_rules}
 use Rattle.byte_unit_command.proofs.Rules.{excluding, with_equals, with_help, with_hyphen, with_letter, with_missing}
-use Rattle.byte_unit_command.proofs.Rules.{with_one, with_parser, with_range}
+use Rattle.byte_unit_command.proofs.Rules.{with_abbreviations, with_one, with_parser, with_range}
 use Rattle.byte_unit_command.proofs.arguments.command.Goals as goal
 
 -- a range with both ends
@@ -22,11 +22,15 @@ returns c =
     let version : app_of c.version.result ≡ record start { top = record start.top { has_version = true } } =
     ap app_of_fields c.version.ensures ∙ ap (λ (app : App). record app
     { top = record app.top { has_version = true } }) c.new.ensures.app in
-    let text : app_of c.args_override_self-command.result ≡ without_rules =
-    ap app_of_fields c.args_override_self-command.ensures
+    let last : app_of c.args_override_self.result
+    ≡ record start { top = record start.top { has_version = true; args_override_self = true } } =
+    ap app_of_fields c.args_override_self.ensures
     ∙ ap (λ (app : App). record app { top = record app.top { args_override_self = true } })
     (ap app_of_fields c.after_help.ensures ∙ ap app_of_fields c.override_usage.ensures
     ∙ ap app_of_fields c.about.ensures ∙ version) in
+    let text : app_of c.infer_long_args-command.result ≡ without_rules =
+    with_abbreviations c.args_override_self.result c.infer_long_args-command.result _ last
+    c.infer_long_args-command.ensures in
     let excludes_bits = excluding _ _ _ _ (with_letter _ _ _ _ c.flag.ensures c.short.ensures)
     c.in_ok-ignore_case.ensures in
     let bits = with_one _ _ _ _ _ text c.flag-2.ensures c.in_ok-arg.ensures in
