@@ -9,6 +9,7 @@ import getopt
 import re
 import unicodedata
 from collections import namedtuple
+from dataclasses import replace
 from types import SimpleNamespace
 
 from byte_unit_dev.model.exact import (BASE, FORM_PLACES, SIZE_LIMIT, UNITS, WHITE_SPACE, Rejected, best_unit, largest,
@@ -21,6 +22,8 @@ QUOTED = 80
 ESCAPED = ("Cc", "Cf", "Zl", "Zp")
 BITS_64 = (1 << 64) - 1
 FORMS = ("exact", "plain", "si", "iec", "auto")
+# What is said of operands such as `5 KB`.
+SPLIT = b"byte-unit: a number and its unit were two operands; quote them as one, as in '5 KB'\n"
 
 
 class Wrong(Exception):
@@ -268,10 +271,18 @@ class Run:
         return Result(b"".join(text + self.options.end for text in written), b"".join(self.messages), status, unread)
 
 
+def has_split_size(words):
+    """Returns whether a word is a number and the next one a unit."""
+    units = [word.strip(WHITE_SPACE) for word in words[1:]]
+    return any(re.fullmatch("[0-9.]+", number) and unit and unit_of(unit, "byte", True)
+               for number, unit in zip(words, units))  # fmt: skip
+
+
 def converted(options, operands, data):
     """Returns the result for operands, or for this standard input if there are none."""
     if operands:
-        return Run(options, "operand").result([word.encode() for word in operands], 0, data != b"")
+        got = Run(options, "operand").result([word.encode() for word in operands], 0, data != b"")
+        return replace(got, messages=got.messages + SPLIT * (got.status == 2 and has_split_size(operands)))
     records = data.split(options.end)
     word = "record" if options.zero_terminated else "line"
     return Run(options, word).result(records if records[-1] else records[:-1], options.header, False)

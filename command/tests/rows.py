@@ -10,6 +10,7 @@ BLANK = "no value can be found"
 WIDTH = "not a number from 1 to 65535, or its negative"
 NEEDS = "needs -d or --blanks, by which fields are separated"
 TOTAL = "byte-unit: the total is 10^30 or more\n"
+SPLIT = "byte-unit: a number and its unit were two operands; quote them as one, as in '5 KB'\n"
 GREATEST = b"999999999999999999999999999999"
 
 
@@ -89,6 +90,12 @@ SIZES = [
      told("operand 1: '1\\u{a}2'", unit("\\n"), 2) + told("operand 2: 'x'", digit("x"), 1)),
     (["-z", "1KB\n", "2KB"], b"", b"1 KB\x002 KB\0"),
     (["-d", "\n", "--field=-", "1000\n1024"], b"", b"1 KB\n1 KiB\n"),
+    ("5 KB", b"", b"5 B\n", 2, told("operand 2: 'KB'", digit("K"), 1) + SPLIT),
+    ("--invalid=fail x 1.5 gib", b"", b"x\n2 B\ngib\n", 2,
+     told("operand 1: 'x'", digit("x"), 1) + told("operand 3: 'gib'", digit("g"), 1) + SPLIT),
+    ("--invalid=warn 5 KB", b"", b"5 B\nKB\n", 0, told("operand 2: 'KB'", digit("K"), 1)),
+    ("5K KB", b"", b"5 KB\n", 2, told("operand 2: 'KB'", digit("K"), 1)),
+    (["5", " "], b"", b"5 B\n", 2, told("operand 2: ' '", BLANK)),
     ("--header 4096K", b"", b"4.096 MB\n"),
     ("--header=2 1KB x", b"", b"1 KB\n", 2, told("operand 2: 'x'", digit("x"), 1)),
     ("", b"", b""), ("", b"1 KB", b"1 KB\n"),

@@ -10,7 +10,7 @@ from types import SimpleNamespace
 import pytest
 from byte_unit_dev.model.exact import LETTERS, SIZE_LIMIT, WHITE_SPACE
 from calls import some_call
-from model import BITS_64, Wrong, converted, limit, options_of, parsed, result_of
+from model import BITS_64, SPLIT, Wrong, converted, limit, options_of, parsed, result_of
 from program import Call, Result
 from rows import LARGE, MODELLED, OTHERS
 
@@ -125,6 +125,8 @@ WRONG = {
     "ESC reaches the terminal": ("messages", replaced(rb"\\u\{1b\}", b"\x1b")),
     "DEL reaches the terminal": ("messages", replaced(rb"\\u\{7f\}", b"\x7f")),
     "U+009B reaches the terminal": ("messages", replaced(rb"\\u\{9b\}", "\u009b".encode())),
+    "U+202E reaches the terminal": ("messages", replaced(rb"\\u\{202e\}", "\u202e".encode())),
+    "nothing on a number and its unit as two operands": ("messages", replaced(re.escape(SPLIT), b"")),
     "a character of four bytes is cut": ("messages", split_quotes),
     "no points after a cut text": ("messages", replaced(rb"\.\.'", b"'")),
     "line numbers without the header": ("messages", renumbered(lambda at, case: at - case.value("header", 0))),

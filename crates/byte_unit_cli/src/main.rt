@@ -7,7 +7,7 @@ use byte_unit_command::error::RunError;
 use byte_unit_command::field_list::fields_of;
 use byte_unit_command::meaning::options_of;
 use byte_unit_command::operands::joined;
-use byte_unit_command::options::Options;
+use byte_unit_command::options::{Options, Unit};
 use byte_unit_command::run::run;
 use byte_unit_command::streams::Streams;
 use byte_unit_command::values::values_of;
@@ -68,7 +68,13 @@ fn convert_call(
 ) -> Result<u8, AllocError> {
     if let Some(operands) = matches.get_strs("SIZE") {
         let input = joined(rt.alloc(), operands)?;
-        return Ok(convert(rt, options, "operand", input.as_slice()));
+        let status = convert(rt, options, "operand", input.as_slice());
+        if status == WRONG && has_split_size(operands) {
+            let _ = eprintln!(rt;
+                "byte-unit: a number and its unit were two operands; quote them as one, as in '5 KB'"
+            );
+        }
+        return Ok(status);
     }
     let input = rt.reader();
     if input.is_terminal() {
@@ -82,6 +88,27 @@ fn convert_call(
         "line"
     };
     Ok(convert(rt, options, word, input))
+}
+
+/// Returns `true` if an operand is a number and the next one a unit, as in `byte-unit 5 KB`.
+fn has_split_size(operands: &[&str]) -> bool {
+    operands.windows(2).any(|pair| match pair {
+        [number, unit] => is_number(number) && is_unit(unit),
+        _ => false,
+    })
+}
+
+/// Returns `true` if the word has only digits and points.
+fn is_number(word: &str) -> bool {
+    !word.is_empty()
+        && word
+            .bytes()
+            .all(|byte| byte.is_ascii_digit() || byte == b'.')
+}
+
+/// Returns `true` if the word spells a unit, in any case.
+fn is_unit(word: &str) -> bool {
+    Unit::parse_str(word, true, true).is_ok() && !word.trim().is_empty()
 }
 
 /// Writes what is wrong with the call, and returns the exit status.
