@@ -278,6 +278,7 @@ WRONG_VALUES = [
     ("--to=GiBB", told("--to: 'GiBB'", "not a form or a unit: " + unit("B", "('i' or no character is expected)"))),
     ("--to=EXACT",
      told("--to: 'EXACT'", "not a form or a unit: " + unit("X", "('B' or 'b' or no character is expected)"))),
+    ("--to=iec-i", told("--to: 'iec-i'", "not a form or a unit: " + unit("i"))),
     (["--to=\x1b[31mKB", "1"], told("--to: '\\u{1b}[31mKB'", "not a form or a unit: " + unit("\\u{1b}"))),
     ("--max=x", told("--max: 'x'", digit("x"))),
     ("--max=", told("--max: ''", BLANK)),

@@ -38,11 +38,13 @@ Examples:
   byte-unit --max='20 GB' < sizes > /dev/null
 
 Exit status:
-  0  all sizes were converted
-  1  a read or a write failed, or out of memory
-  2  a field was rejected (--invalid=abort or fail), the total is too large,
-     or the call is wrong
-  3  a size is above --max or below --min";
+  0    each field was converted, or copied by --invalid=warn or ignore
+  1    a read or a write failed, or out of memory
+  2    a field was rejected (--invalid=abort or fail), the total is too large,
+       or the call is wrong
+  3    a size is above --max or below --min
+  127  the processor lacks a feature of x86-64-v2
+  141  the reader of the output has gone";
 
 /// Returns the command, with its options.
 ///

@@ -57,7 +57,7 @@ pub struct Options<'a> {
     /// What follows the text of a size, and is taken off before a field is read, also before white space; nothing for
     /// none.
     pub suffix: &'a [u8],
-    /// The least number of columns of a size; 0 for none.
+    /// The least number of bytes of a size, with its suffix; 0 for none.
     pub width: u16,
     /// Whether the spaces that fill the width are after the size, and not before it.
     pub align_left: bool,
