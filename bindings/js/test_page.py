@@ -17,7 +17,7 @@ NARROW_SPACE = "\u202f"  # what the page has between groups of three digits
 
 
 def opened(browser, address):
-    """Opens an address anew, and returns the answer, for which it waits: a loaded page has to compile the module."""
+    """Opens an address anew, and returns the result, for which it waits: a loaded page has to compile the module."""
     browser.open("about:blank")
     browser.open(address)
     for _ in range(200):
@@ -145,7 +145,7 @@ def test_page_for_all(browser):
     ("bytes=", "␣"), ("bits=%00", "\0"), ("binary=1=2", "1=2"),
 ])  # fmt: skip
 def test_page_by_a_fragment(browser, place, fragment, answer):
-    """The page answers whatever is in its address, and logs no error."""
+    """The page shows a result whatever is in its address, and logs no error."""
     said = opened(browser, f"{place.as_uri()}#{fragment}")
     assert said.split("\n")[0] == answer.replace("_", NARROW_SPACE)
     assert browser.call("POST", "/se/log", {"type": "browser"}) == []
