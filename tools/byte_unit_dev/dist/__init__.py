@@ -62,7 +62,7 @@ what is in them was compiled of what was proved where they were made.
 
 In the unpacked sources, with the toolchain above (`rt version`):
 
-- `rt ci` proves each function again; its last line is `N passed, 0 failed`.
+- `rt ci --anew` proves each function again; its last line is `N passed, 0 failed`.
 - `tools/dev make-dist FOLDER` makes the other files again. With the same compilers (Debian 12) each has the checksum of
   SHA256SUMS; libbyte_unit.a and the command depend on the toolchain alone.
 - `tools/dev take` copies the library for Rattle into your repository; with `--with proofs` what was proved, too. To

@@ -173,7 +173,7 @@ def listed(names):
 
 
 def preconditions():
-    """Returns a list of the calls with a `requires`: those of `Byte`, which `Bit` has too, and the others."""
+    """Returns a list of the calls with a `requires`: those of `Byte`, which `Bit` has too, other methods, functions."""
     types, functions, laws = items()
     shared, others = {}, {}
     for entry in [*chain(*types.values()), *functions.values(), *laws.values()]:
@@ -181,8 +181,9 @@ def preconditions():
         if found and any(line.startswith("  requires") for line in entry.lines):
             is_shared = found[2] in ("Byte", "Bit")
             (shared if is_shared else others)[found[3] if is_shared else found[1]] = entry
-    return (f"{listed(shared)} of `Byte` and `Bit`, and {listed(others)}, have a `requires`, proved at each call. "
-            "No other call has one")
+    methods, alone = ([name for name in others if ("::" in name) == is_method] for is_method in (True, False))
+    return (f"{listed(shared)} of `Byte` and `Bit`, {listed(methods)}, and the functions {listed(alone)} have a "
+            "`requires`, proved at each call. No other call has one")
 
 
 def below():
