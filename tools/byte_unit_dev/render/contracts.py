@@ -14,8 +14,8 @@ PROOF = "crates/byte_unit_uses/proofs/message/parse_argument/Answers.antt"
 # The order of the types; what is not here comes after them, in the order in which the crate exports it.
 FIRST = ["Byte", "AdjustedByte", "Bit", "AdjustedBit", "Unit", "UnitType", "FormatSpec", "Align", "Sign"]
 SMALL, BELOW = FIRST[5:], ["Kind", "Family", "Decimal", "Expansion", "Steps", "Ties"]
-# The types whose contracts docs/DEFINITIONS.md begins with, and fields that follow from others.
-SAID, FOLLOWS = ["Byte", "AdjustedByte", "Unit"], ["computed"]
+# Fields that follow from others.
+FOLLOWS = ["computed"]
 MIRRORED = {"Byte": "Bit", "AdjustedByte": "AdjustedBit"}
 # Members of a trait that prove its rules and say nothing of a result.
 PROOFS = {"laws", "total", "matches_partial_cmp", "matches_eq", "coded", "inverse", "inverse_ok"}
@@ -207,12 +207,12 @@ def calling(page="CALLING.md"):
 
 @functools.lru_cache(maxsize=None)
 def groups():
-    """Returns the definitions that contracts of SAID cite, those to read, and those that laws and FOLLOWS add."""
+    """Returns the definitions that contracts on the page cite, those to read, and those that laws and FOLLOWS add."""
     types, functions, laws = items()
     calls = cited_by([*chain(*types.values()), *functions.values()])
     reached = closure(calls, FOLLOWS)
     added = closure(calls | cited_by(laws.values())) - reached
-    return cited_by(chain(*(types[name] for name in SAID))) & reached, reached, added
+    return cited_by(chain(*shown_types().values())), reached, added
 
 
 def link(spec):
@@ -247,7 +247,7 @@ def to_read():
     parts = []
     for spec in files_of(library(), reached):
         parts += [f"### `{spec.crate}`"] * (f"### `{spec.crate}`" not in parts)
-        names = [name for name in names_in(spec, quoted) if name[0].isupper()]
+        names = names_in(spec, quoted)
         parts += [f"#### {link(spec)}", said(spec)]
         parts += ["\n".join(f"- `{name}`: {said(spec, name)}" for name in names)] * bool(names)
     return "\n\n".join(parts)
@@ -305,9 +305,9 @@ def others():
 
 
 def definitions(page="docs/DEFINITIONS.md"):
-    """The files that the contracts of what `byte_unit` exports lead to, with the properties (their names begin with a
-    capital) that contracts of SAID cite; those that only laws and FOLLOWS lead to; those, and definitions in files to
-    read, that no public contract leads to; those of other crates. A definition leads to those that it uses."""
+    """The files that the contracts of what `byte_unit` exports lead to, with the words that contracts of CALLING.md
+    cite; those that only laws and FOLLOWS lead to; those, and definitions in files to read, that no public contract
+    leads to; those of other crates. A definition leads to those that it uses."""
     _, reached, added = groups()
     of_laws = [spec for spec in files_of(library(), added) if not names_in(spec, reached)]
     yield page, with_parts(page, section("To read", to_read()), section("Laws", bullets(of_laws)),
