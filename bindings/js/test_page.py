@@ -12,6 +12,7 @@ import pytest
 from byte_unit_dev.browser import Browser
 from byte_unit_dev.fixtures import NODE, need, output, read
 from byte_unit_dev.page import page
+from byte_unit_dev.rows import check, rows
 
 NARROW_SPACE = "\u202f"  # what the page has between groups of three digits
 
@@ -48,12 +49,6 @@ def browser(place):
             started.close()
 
 
-def unescaped(text):
-    """Returns a text of the test vectors without their escapes."""
-    text = re.sub(r"\\\{(\d+)\*(\\u\{[0-9A-Fa-f]+\}|.)\}", lambda found: found[2] * int(found[1]), text, flags=re.S)
-    return re.sub(r"\\u\{([0-9A-Fa-f]+)\}", lambda found: chr(int(found[1], 16)), text)
-
-
 def typed(browser, text, reading="bytes"):
     """Types a text in the field by keys. Returns the result that the page shows, and what it marks."""
     browser.script(
@@ -84,13 +79,11 @@ def test_page_answers(browser, text, reading, parts, marked):
 
 def test_page_by_the_vectors(browser):
     """Each text of the vectors that a field of one line holds is on the page the size of the vectors, or none."""
-    readings = {("byte", "cased"): "bytes", ("byte", "uncased"): "case", ("bit", "cased"): "bits"}
-    rows = []
-    found = re.findall(r'^\S+: parse (\w+) (\w+) "([^"]*)" = (.*)$', read("vectors/byte-unit.txt"), re.M)
-    for kind, case, text, wanted in found:
-        text = unescaped(text)
-        if (kind, case) in readings and len(text) < 200 and not re.search(r"[\0\r\n]", text):
-            rows.append((readings[kind, case], text, wanted if wanted.isdigit() else ""))
+    readings = {"parse byte cased": "bytes", "parse byte uncased": "case", "parse bit cased": "bits"}
+    asked = [row for row in rows() if " ".join(row.words) in readings and len(row.text) < 200
+             and not re.search(r"[\0\r\n]", row.text)]  # fmt: skip
+    calls = [(readings[" ".join(row.words)], row.text) for row in asked]
+    assert {reading for reading, _ in calls} == {*readings.values()}
     got = browser.script("""
         const field = document.getElementById("text");
         return arguments[0].map(([reading, text]) => {
@@ -98,8 +91,9 @@ def test_page_by_the_vectors(browser):
             field.value = text;
             document.getElementById("form").dispatchEvent(new Event("input"));
             return document.querySelector(".value")?.textContent.replace(/[^0-9]/g, "") ?? "";
-        })""", rows)  # fmt: skip
-    assert len(rows) > 500 and [(row, found) for row, found in zip(rows, got) if row[2] != found] == []
+        })""", calls)  # fmt: skip
+    # The page shows no size for a text that is in error.
+    check(asked, [size or row.answer * (not row.answer.isdigit()) for row, size in zip(asked, got)])
 
 
 def test_copying(browser):

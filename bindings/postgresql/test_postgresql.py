@@ -8,6 +8,7 @@ from byte_unit_dev import postgresql
 from byte_unit_dev.fixtures import call, environment, need, output, path, quoted_characters, read, write
 from byte_unit_dev.model.exact import Rejected, form, size_of, some_line
 from byte_unit_dev.needs import POSTGRESQL
+from byte_unit_dev.rows import check, rows
 
 VERSION = read("VERSION").strip()
 # A function that returns what a query returns, or the SQLSTATE, the message and the detail of its error.
@@ -94,45 +95,41 @@ def test_lines(server, check_drawn):
     check_drawn(some_line, wrong)
 
 
-def expression_of(words, text):
-    """Returns the call of a test vector in SQL, or `None`."""
-    flags = ", 'ignore-case'" * ("uncased" in words)
-    if words[:2] == ["parse", "byte"]:
-        return f"size_parse({quoted(text)}{flags})::numeric"
-    if words[:2] == ["says", "byte"]:
-        return f"regexp_replace(size_explain({quoted(text)}{flags}), ' \\(character \\d+\\)$', '')"
-    if words[:2] != ["text", "byte"]:
+def expression_of(row):
+    """Returns the call of a test vector in SQL, or `None`: it has no size in bits, no U+0000, and no other format."""
+    words, flags = row.words, ", 'ignore-case'" * ("uncased" in row.words)
+    if words[1:2] != ["byte"] or "\0" in (row.text or ""):
         return None
+    if words[0] == "parse":
+        return f"size_parse({quoted(row.text)}{flags})::numeric"
+    if words[0] == "says":
+        return f"regexp_replace(size_explain({quoted(row.text)}{flags}), ' \\(character \\d+\\)$', '')"
     found = re.fullmatch(r"\{(?::(#?)(?:\.(\d+))?)?\}", words[-1])
-    size, places = f"{words[2]}::numeric::bytesize", found and found[2]
+    if words[0] != "text" or not found:
+        return None
+    size, places = f"{words[2]}::numeric::bytesize", found[2]
     more = f", {places}" if places else ""
-    if found and len(words) == 4 and found[1]:
+    if len(words) == 4 and found[1]:
         return f"size_text({size}{more})"
-    if found and not found[1] and words[3] == "in":
+    if not found[1] and words[3] == "in":
         return f"size_in({size}, '{words[4]}'{more})"
-    if found and not found[1] and words[3] == "by" and places:
-        return f"size_pretty({size}, '{words[4]}'{more})"
-    return None
+    return f"size_pretty({size}, '{words[4]}'{more})" if not found[1] and words[3] == "by" and places else None
+
+
+def answer_of(row, said):
+    """Returns what the extension said as an answer. Of an error it says the SQLSTATE, which is for two kinds of errors."""
+    state = "22003 " if row.answer.startswith("ExceededBounds") else "22P02 "
+    if row.answer[0].isalpha() and said.startswith(state):
+        return row.answer
+    return said if row.words[0] == "parse" else f'"{said}"'
 
 
 def test_vectors(server):
     """Compares each test vector of bytes whose call the extension has."""
-    rows = []
-    for line in read("vectors/byte-unit.txt").split("\n"):
-        found = re.fullmatch(r'\S+: ([^"=#]*?) ?("[^"]*")? = (.*)', line)
-        text = found and found[2] and unescaped(found[2][1:-1])
-        if found and "\0" not in (text or ""):
-            code = expression_of(found[1].split(), text)
-            answer = unescaped(found[3])
-            error = {"ExceededBounds": "22003 .*"}.get(answer.split(" ")[0], "22P02 .*")
-            rows += [(code, re.escape(answer.strip('"')) if answer[0] in '0123456789"' else error)] * bool(code)
-    assert len(rows) == 425 and wrong_of(server, rows) == []
-
-
-def unescaped(text):
-    """Returns a text of the test vectors without their escapes."""
-    text = re.sub(r"\\\{(\d+)\*(\\u\{[0-9A-Fa-f]+\}|.)\}", lambda m: m[2] * int(m[1]), text, flags=re.S)
-    return re.sub(r"\\u\{([0-9A-Fa-f]+)\}", lambda m: chr(int(m[1], 16)), text)
+    asked = {row: code for row in rows() for code in [expression_of(row)] if code}
+    assert {row.words[0] for row in asked} == {"parse", "says", "text"}
+    got = server.sql(*map(tried, asked.values()))
+    check(asked, map(answer_of, asked, got))
 
 
 def test_random_pairs_beside_numeric(server):

@@ -8,7 +8,6 @@
     laws         the table of laws in docs/PROVED.md, from their comments
     guide        the blocks of code in docs/GUIDE.md, from the sources that comments name
     tools        the table of commands in CONTRIBUTING.md, from their docstrings
-    vectors      the rows of vectors/byte-unit.txt, from the tables of byte_unit_tests
 
 Without WHAT, renders all, in this order. In a page, what is rendered follows the first paragraph of a section. With
 --check writes nothing, and prints the first difference of each file; the exit status is then 1.
@@ -18,13 +17,12 @@ import os
 from itertools import zip_longest
 
 from ..common import Failure, path, read, reason, report, write
-from . import bindings, bits, contracts, pages, tables, vectors
+from . import bindings, bits, contracts, pages, tables
 
 # Each yields the name and the text of each file that it renders, or no text for one that has to go, and may end by a
 # failure for what else is wrong.
 PARTS = {"tables": tables.made, "bits": bits.made, "bindings": bindings.made, "calling": contracts.calling,
-         "definitions": contracts.definitions, "laws": pages.laws, "guide": pages.guide, "tools": pages.tools,
-         "vectors": vectors.made}  # fmt: skip
+         "definitions": contracts.definitions, "laws": pages.laws, "guide": pages.guide, "tools": pages.tools}  # fmt: skip
 
 
 def wrong(part, check):
