@@ -11,8 +11,9 @@ from byte_unit_dev.model.answers import answer
 from byte_unit_dev.rows import FILE, check, rows
 
 # The calls that the packages, and beside them that for JavaScript, do not have. The exact model has all.
-LEFT_OUT = {"read", "plain", "value", "steps", "largest", "choose", "make_decimal", "decimal", "expansion", "as_u64",
-            "json", "from_json", "unit_from_json", "properties", "constant"}  # fmt: skip
+LEFT_OUT = {"parse_binary", "read", "position", "plain", "layout", "value", "steps", "largest", "choose", "make_decimal",
+            "compute", "decimal", "expansion", "rounded", "least", "quotient", "powers", "as_u64", "json", "from_json",
+            "unit_json", "unit_from_json", "properties", "binary_unit", "constant"}  # fmt: skip
 LEFT_OUT_BY_JAVASCRIPT = LEFT_OUT | {"exact", "recoverable", "make_in"}
 # The rows of version 3.0.0: those of a section are the numbers up to this one, and a digest has their lines.
 ROWS_OF_3_0_0 = {
@@ -38,7 +39,7 @@ def test_ids():
 def test_sections():
     """Each section has the source of its answers, and the head describes the calls of the rows, and no others."""
     head, *sections = re.split(r"^## ", read(FILE), flags=re.M)
-    assert [text for text in sections if not re.match(r"[a-z]+: .+\n# Source: .+\n\n# ", text)] == []
+    assert [text for text in sections if not re.match(r"[a-z]+: .+\n# Source: .+\n(# .+\n)*\n# ", text)] == []
     assert set(re.findall(r"^#   (\w+) [A-Z]", head, re.M)) == {row.words[0] for row in rows()}
 
 
@@ -52,12 +53,14 @@ def test_rows_of_3_0_0(section):
 
 
 def check_program(command, left_out=LEFT_OUT, **variables):
-    """Checks the answers of a program that reads records and writes lines: see bindings/c/checks/vectors.c."""
-    records = [" ".join(row.words) + (f' "{row.text}' if row.text is not None else "") for row in rows()]
+    """Checks the answers of a program that reads records and writes lines: see bindings/c/checks/vectors.c. As a zero
+    byte ends a record, no text has one."""
+    asked = [row for row in rows() if "\0" not in (row.text or "")]
+    records = [" ".join(row.words) + (f' "{row.text}' if row.text is not None else "") for row in asked]
     given = "".join(record + "\0" for record in records).encode()
     status, written, _ = ended(*command, input=given, stderr=None, **variables)
     assert status == 0
-    check(rows(), written.decode().split("\n")[:-1], left_out)
+    check(asked, written.decode().split("\n")[:-1], left_out)
 
 
 def test_exact_model():

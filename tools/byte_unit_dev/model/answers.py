@@ -232,9 +232,8 @@ def rounded(numerator, twos, fives, places, ties):
 
 def layout(numerator, twos, fives, places, name, spec):
     """Returns the text of a number with a unit, of which the digits past the places are left out."""
-    scaled = int(expansion(numerator, twos, fives).scaleb(int(places)))
-    text = f"{scaled:0{int(places) + 1}}"
-    return with_unit(f"{text[: -int(places)]}.{text[-int(places) :]}" if int(places) else text, name, spec)
+    whole, _, decimals = f"{expansion(numerator, twos, fives):f}".partition(".")
+    return with_unit(f"{whole}.{decimals[:int(places)]:0<{int(places)}}".rstrip("."), name, spec)
 
 
 def json_of(kind, size, _=None, name=None):
