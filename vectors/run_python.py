@@ -27,6 +27,16 @@ def error_of(error):
     return "".join(word.title() for word in error.name.split("_")) + fields.get(error.name, "")
 
 
+def position(of, given):
+    """Returns the index in bytes of the first wrong character of a text, if it has one."""
+    try:
+        byte_unit.parse_unit(given) if of == "unit" else byte_unit.parse(given, bits=of == "bit")
+    except byte_unit.SizeError as error:
+        if error.position is not None:
+            return len(given[: error.position].encode())
+    return "none"
+
+
 def plain(count):
     """Returns a count without an exponent."""
     return f"{count:f}".rstrip("0").rstrip(".") if "." in f"{count:f}" else f"{count:f}"
@@ -44,8 +54,10 @@ def text(words, bits):
 def answer(words, given):
     """Returns the answer to a call, by its words and its text; without one the text is empty."""
     bits, uncased, either_kind = "bit" in words[1:2], "uncased" in words, words[2:3] == ["any"]
-    if words[0] == "parse":
-        return byte_unit.parse(given, bits=bits, ignore_case=uncased)
+    if words[0] in ("parse", "parse_binary"):
+        return byte_unit.parse(given, bits=bits, ignore_case=uncased, binary=words[0] == "parse_binary")
+    if words[0] == "position":
+        return position(words[1], given)
     if words[0] == "unit":
         return byte_unit.parse_unit(given, bits=words[2] == "bits", ignore_case=uncased)
     if words[0] == "says":

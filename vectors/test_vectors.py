@@ -10,11 +10,12 @@ from byte_unit_dev.fixtures import NODE, compiled, ended, environment, path, rea
 from byte_unit_dev.model.answers import answer
 from byte_unit_dev.rows import FILE, check, rows
 
-# The calls that the packages, and beside them that for JavaScript, do not have. The exact model has all.
-LEFT_OUT = {"parse_binary", "read", "position", "plain", "layout", "value", "steps", "largest", "choose", "make_decimal",
-            "compute", "decimal", "expansion", "rounded", "least", "quotient", "powers", "as_u64", "json", "from_json",
-            "unit_json", "unit_from_json", "properties", "binary_unit", "constant"}  # fmt: skip
-LEFT_OUT_BY_JAVASCRIPT = LEFT_OUT | {"exact", "recoverable", "make_in"}
+# The calls that a runner does not have. The exact model has all.
+BY_RUST = {"read", "plain", "layout", "value", "steps", "largest", "choose", "decimal", "expansion", "rounded", "least",
+           "quotient", "powers", "json", "from_json", "unit_json", "unit_from_json", "properties", "binary_unit",
+           "constant"}  # fmt: skip
+BY_C = BY_RUST | {"make_decimal", "compute", "as_u64"}
+BY_JAVASCRIPT = BY_C | {"exact", "recoverable", "make_in"}
 # The rows of version 3.0.0: those of a section are the numbers up to this one, and a digest has their lines.
 ROWS_OF_3_0_0 = {
     "parse": (129, "5009c428ac124b42"), "errors": (562, "52ad0371c5965163"), "units": (119, "9f8d342461b3db37"),
@@ -52,7 +53,7 @@ def test_rows_of_3_0_0(section):
     assert hashlib.sha256("\n".join(map(lines.get, wanted)).encode()).hexdigest()[: len(digest)] == digest
 
 
-def check_program(command, left_out=LEFT_OUT, **variables):
+def check_program(command, left_out=BY_C, **variables):
     """Checks the answers of a program that reads records and writes lines: see bindings/c/checks/vectors.c. As a zero
     byte ends a record, no text has one."""
     asked = [row for row in rows() if "\0" not in (row.text or "")]
@@ -74,7 +75,7 @@ def test_c(library, tmp_path):
 
 def test_rust(cargo, rust_package):
     cargo.output(rust_package, "build", "--example", "vectors")
-    check_program([os.path.join(cargo.target, "debug/examples/vectors")])
+    check_program([os.path.join(cargo.target, "debug/examples/vectors")], BY_RUST)
 
 
 def test_python(python):
@@ -90,4 +91,4 @@ def test_python_aarch64(python_aarch64):
 
 
 def test_javascript(javascript):
-    check_program([*NODE, javascript / "checks/vectors.js"], LEFT_OUT_BY_JAVASCRIPT)
+    check_program([*NODE, javascript / "checks/vectors.js"], BY_JAVASCRIPT)

@@ -79,7 +79,8 @@ def test_page_answers(browser, text, reading, parts, marked):
 
 def test_page_by_the_vectors(browser):
     """Each text of the vectors that a field of one line holds is on the page the size of the vectors, or none."""
-    readings = {"parse byte cased": "bytes", "parse byte uncased": "case", "parse bit cased": "bits"}
+    readings = {"parse byte cased": "bytes", "parse byte uncased": "case", "parse bit cased": "bits",
+                "parse_binary byte uncased": "binary"}  # fmt: skip
     asked = [row for row in rows() if " ".join(row.words) in readings and len(row.text) < 200
              and not re.search(r"[\0\r\n]", row.text)]  # fmt: skip
     calls = [(readings[" ".join(row.words)], row.text) for row in asked]

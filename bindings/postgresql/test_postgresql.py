@@ -95,6 +95,9 @@ def test_lines(server, check_drawn):
     check_drawn(some_line, wrong)
 
 
+OPERATORS = {"add": "+", "subtract": "-", "multiply": "*", "divide": "/"}
+
+
 def expression_of(row):
     """Returns the call of a test vector in SQL, or `None`: it has no size in bits, no U+0000, and no other format."""
     words, flags = row.words, ", 'ignore-case'" * ("uncased" in row.words)
@@ -102,6 +105,13 @@ def expression_of(row):
         return None
     if words[0] == "parse":
         return f"size_parse({quoted(row.text)}{flags})::numeric"
+    if words[0] == "parse_binary":
+        return f"size_parse({quoted(row.text)}, 'binary{' ignore-case' * ('uncased' in words)}')::numeric"
+    if words[0] == "position":
+        return f"substring(size_explain({quoted(row.text)}) from '\\(character (\\d+)\\)$')"
+    if words[0] == "compute":
+        other = f"{words[4]}::numeric" + "::bytesize" * (words[3] in ("add", "subtract"))
+        return f"({words[2]}::numeric::bytesize {OPERATORS[words[3]]} {other})::numeric"
     if words[0] == "says":
         return f"regexp_replace(size_explain({quoted(row.text)}{flags}), ' \\(character \\d+\\)$', '')"
     found = re.fullmatch(r"\{(?::(#?)(?:\.(\d+))?)?\}", words[-1])
@@ -121,13 +131,17 @@ def answer_of(row, said):
     state = "22003 " if row.answer.startswith("ExceededBounds") else "22P02 "
     if row.answer[0].isalpha() and said.startswith(state):
         return row.answer
-    return said if row.words[0] == "parse" else f'"{said}"'
+    if row.words[0] == "position":
+        return str(len(row.text[: int(said) - 1].encode())) if said else "none"
+    if row.words[0] == "compute":
+        return "none" if re.match("22003 |22012 ", said) else said
+    return f'"{said}"' if row.words[0] in ("text", "says") else said
 
 
 def test_vectors(server):
     """Compares each test vector of bytes whose call the extension has."""
     asked = {row: code for row in rows() for code in [expression_of(row)] if code}
-    assert {row.words[0] for row in asked} == {"parse", "says", "text"}
+    assert {row.words[0] for row in asked} == {"parse", "parse_binary", "position", "compute", "says", "text"}
     got = server.sql(*map(tried, asked.values()))
     check(asked, map(answer_of, asked, got))
 

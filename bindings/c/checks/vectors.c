@@ -123,7 +123,7 @@ static byte_unit_spec spec_of(const char *s)
     return spec;
 }
 
-/* Answers `parse KIND CASE TEXT`. */
+/* Answers `parse KIND CASE TEXT`, and `parse_binary` by a flag. */
 static void answer_parse(uint32_t flags, const char *text)
 {
     byte_unit_number size;
@@ -149,6 +149,17 @@ static void answer_unit(uint32_t flags, const char *text)
         print_error(code, &error);
         print_other_position(code, &error, text, byte_unit_unit_error_position);
     }
+}
+
+/* Answers `position OF TEXT`. */
+static void answer_position(const char *of, const char *text)
+{
+    size_t position;
+    if (strcmp(of, "unit") ? byte_unit_error_position(text, strlen(text), &position)
+                           : byte_unit_unit_error_position(text, strlen(text), &position))
+        printf("%zu", position);
+    else
+        printf("none");
 }
 
 /* Answers `text KIND SIZE [in UNIT | by TYPE] SPEC`. The type is binary, decimal or both. */
@@ -206,6 +217,10 @@ static void answer(char *record)
     uint32_t uncased = is_uncased ? BYTE_UNIT_IGNORE_CASE : 0;
     if (!strcmp(words[0], "parse"))
         answer_parse(bits | uncased, text);
+    else if (!strcmp(words[0], "parse_binary"))
+        answer_parse(bits | uncased | BYTE_UNIT_BINARY_PREFIXES, text);
+    else if (!strcmp(words[0], "position"))
+        answer_position(words[1], text);
     else if (!strcmp(words[0], "unit"))
         answer_unit(uncased | (strcmp(words[2], "bits") ? 0 : BYTE_UNIT_BITS), text);
     else if (!strcmp(words[0], "says"))

@@ -24,6 +24,19 @@ function errorOf(error) {
     }[error.code] ?? "");
 }
 
+/** Answers `position OF TEXT`: the index in bytes of UTF-8. */
+function positionOf(what, text) {
+    try {
+        what === "unit" ? byteUnit.parseUnit(text) : byteUnit.parse(text, { bits: what === "bit" });
+    } catch (error) {
+        if (!(error instanceof byteUnit.SizeError))
+            throw error;
+        if (error.position !== null)
+            return Buffer.byteLength(text.slice(0, error.position));
+    }
+    return "none";
+}
+
 /** Answers `text KIND SIZE [in UNIT | by TYPE] SPEC`. */
 function textOf([, , size, ...more], bits) {
     if (more.length === 1)
@@ -40,6 +53,8 @@ function answer(words, given) {
     const bits = words[1] === "bit", ignoreCase = words.includes("uncased");
     switch (words[0]) {
         case "parse": return byteUnit.parse(given, { bits, ignoreCase });
+        case "parse_binary": return byteUnit.parse(given, { bits, ignoreCase, binary: true });
+        case "position": return positionOf(words[1], given);
         case "unit": return byteUnit.parseUnit(given, { bits: words[2] === "bits", ignoreCase });
         case "says": return `"${byteUnit.explain(given, { bits, ignoreCase })}"`;
         case "text": return `"${textOf(words, bits)}"`;

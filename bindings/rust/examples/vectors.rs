@@ -3,7 +3,7 @@
 
 use std::io::{self, BufRead, BufWriter, Write};
 
-use byte_unit::{Align, Bit, Byte, FormatSpec, ParseError, Sign, Unit, UnitParseError, UnitType, ValueParseError};
+use byte_unit::{Align, Bit, Byte, Decimal, FormatSpec, ParseError, Sign, Unit, UnitParseError, UnitType, ValueParseError};
 
 /// Returns the name of a unit's error and its fields, as the vectors have it.
 fn unit_error(error: &UnitParseError) -> String {
@@ -29,6 +29,27 @@ fn parsed(text: &str, in_bits: bool, ignore_case: bool) -> Result<u128, ParseErr
     } else {
         Byte::parse_str(text, ignore_case).map(Byte::as_u128)
     }
+}
+
+fn parsed_binary(text: &str, in_bits: bool, ignore_case: bool) -> Result<u128, ParseError> {
+    if in_bits {
+        Bit::parse_str_binary(text).map(Bit::as_u128)
+    } else {
+        Byte::parse_str_binary(text, ignore_case).map(Byte::as_u128)
+    }
+}
+
+fn position(of: &str, text: &str) -> Option<usize> {
+    match of {
+        "unit" => Unit::error_position(text),
+        "bit" => Bit::error_position(text),
+        _ => Byte::error_position(text),
+    }
+}
+
+/// Returns a value, or `none`.
+fn or_none<T: ToString>(value: Option<T>) -> String {
+    value.map_or_else(|| "none".to_owned(), |value| value.to_string())
 }
 
 /// Returns the spec of a format string.
@@ -93,6 +114,40 @@ macro_rules! answer_of_size {
     }};
 }
 
+/// Answers `compute KIND SIZE OP NUMBER` and `as_u64 KIND SIZE` for a type.
+macro_rules! number_of_size {
+    ($Size:ident, $words:expr) => {{
+        let words = $words;
+        match $Size::from_u128(words[2].parse().unwrap()) {
+            None => "none".to_owned(),
+            Some(size) if words[0] == "as_u64" => format!("{} {}", size.as_u64(), or_none(size.as_u64_checked())),
+            Some(size) => {
+                let number: u128 = words[4].parse().unwrap();
+                or_none(match words[3] {
+                    "add" => $Size::from_u128(number).and_then(|number| size.add(number)),
+                    "subtract" => $Size::from_u128(number).and_then(|number| size.subtract(number)),
+                    "multiply" => size.multiply(number.try_into().unwrap()),
+                    _ => size.divide(number.try_into().unwrap()),
+                })
+            }
+        }
+    }};
+}
+
+/// Returns a decimal of its digits.
+fn decimal_of(digits: &str) -> Decimal {
+    let (whole, fraction) = digits.split_once('.').unwrap_or((digits, ""));
+    Decimal::new(whole.parse().unwrap(), format!("{fraction:0<28}").parse().unwrap()).unwrap()
+}
+
+fn made_decimal(number: Decimal, unit: Unit, in_bits: bool) -> Option<u128> {
+    if in_bits {
+        Bit::from_decimal_with_unit(number, unit).map(Bit::as_u128)
+    } else {
+        Byte::from_decimal_with_unit(number, unit).map(Byte::as_u128)
+    }
+}
+
 fn made(number: u128, unit: Unit, in_bits: bool) -> Option<u128> {
     if in_bits {
         Bit::from_u128_with_unit(number, unit).map(Bit::as_u128)
@@ -110,8 +165,12 @@ fn answer(words: &[&str], text: &str) -> String {
         "unit" => Unit::parse_str(text, uncased, words[2] == "bytes")
             .map_or_else(|error| unit_error(&error), |unit| unit.to_string()),
         "says" => format!("\"{}\"", parsed(text, in_bits, uncased).unwrap_err()),
-        "make_in" => made(words[2].parse().unwrap(), unit_of(words[3]), in_bits)
-            .map_or_else(|| "none".to_owned(), |size| size.to_string()),
+        "parse_binary" => parsed_binary(text, in_bits, uncased).map_or_else(error_of, |size| size.to_string()),
+        "position" => or_none(position(words[1], text)),
+        "make_in" => or_none(made(words[2].parse().unwrap(), unit_of(words[3]), in_bits)),
+        "make_decimal" => or_none(made_decimal(decimal_of(words[2]), unit_of(words[3]), in_bits)),
+        "compute" | "as_u64" if in_bits => number_of_size!(Bit, words),
+        "compute" | "as_u64" => number_of_size!(Byte, words),
         "text" | "exact" | "recoverable" => {
             let place = if words[0] == "text" { 2 } else { words.len() - 1 };
             let size = words[place].parse().unwrap();
