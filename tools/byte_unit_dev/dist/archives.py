@@ -45,7 +45,8 @@ def tarball(top, files, seconds):
 def files_of_tar(file):
     """Returns the files of a tar archive, without its first folder."""
     with tarfile.open(file) as archive:
-        return {entry.name.partition("/")[2]: archive.extractfile(entry).read() for entry in archive if entry.isfile()}
+        return {entry.name.partition("/")[2]: entry.linkname if entry.issym() else archive.extractfile(entry).read()
+                for entry in archive if entry.isfile() or entry.issym()}  # fmt: skip
 
 
 def files_of_zip(file):

@@ -15,6 +15,7 @@ from byte_unit_dev.dist import archives
 from byte_unit_dev.fixtures import AARCH64_CC, AARCH64_RUN, call, environment, need, output, path, read
 from byte_unit_dev.needs import DEBIAN_PYTHON, POSTGRESQL, POSTGRESQL_15, PYTHON_PACKAGE, is_there
 from byte_unit_dev.pages.text import LINK
+from byte_unit_dev.rows import FILE
 
 VERSION = read("VERSION").strip()
 MAKE = [path("tools/dev"), "make-dist"]
@@ -184,6 +185,7 @@ def test_sources(dist, file, sources, tmp_path):
     output(top / "tools/dev", "take", tmp_path)
     head = output("git", "rev-parse", "--short=12", "HEAD", cwd=path()).strip()
     assert f"commit: {head}" in read(tmp_path / "crates/byte_unit/VERSION")
+    assert read(top / FILE) == read(FILE)
     made.result()
     if not output("git", "status", "--porcelain", "--untracked-files=no", cwd=path()):
         assert set(sums(again)) < set(sums(dist)) and len(sums(again)) == len(sums(dist)) - 1
