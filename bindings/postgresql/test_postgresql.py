@@ -127,7 +127,7 @@ def expression_of(row):
 
 
 def answer_of(row, said):
-    """Returns what the extension said as an answer. Of an error it says the SQLSTATE, which is for two kinds of errors."""
+    """Returns what the extension said as an answer. Of an error it says the SQLSTATE, which is one of two."""
     state = "22003 " if row.answer.startswith("ExceededBounds") else "22P02 "
     if row.answer[0].isalpha() and said.startswith(state):
         return row.answer

@@ -3,7 +3,7 @@
 import re
 from itertools import zip_longest
 
-from .common import read
+from .common import Failure, read
 
 FILE = "vectors/byte-unit.txt"
 
@@ -14,12 +14,19 @@ def unescaped(text):
     return re.sub(r"\\u\{([0-9A-Fa-f]+)\}", lambda m: chr(int(m[1], 16)), text)
 
 
+def folded(text):
+    """Returns the beginning of a text, in which `\\{N*c}` is for N equal characters, if N is 100 or more."""
+    return re.sub(r"(.)\1{99,}", lambda m: f"\\{{{len(m[0])}*{m[1]}}}", text, flags=re.S)[:300]
+
+
 class Row:
     """A row: its line, ID and call, the words of this, its text (or None), and its answer, with nothing escaped."""
 
     def __init__(self, line):
-        self.line = line
-        self.id, self.call, text, answer = re.fullmatch(r'(\S+): ([^"=]*?(?: ("[^"]*"))?) = (.*)', line).groups()
+        found = re.fullmatch(r'(\S+): ([^"=]*?(?: ("[^"]*"))?) = (.+)', line)
+        if not found:
+            raise Failure(f"{FILE}: this is no row, `ID: CALL = ANSWER`: {line[:300]}")
+        self.line, (self.id, self.call, text, answer) = line, found.groups()
         self.words, self.answer = self.call.partition(' "')[0].split(), unescaped(answer)
         self.text = unescaped(text[1:-1]) if text else None
 
@@ -30,9 +37,11 @@ def rows():
 
 
 def check(rows, answers, left_out=()):
-    """Checks the answers of a runner, which are the rows', but `-` to each call whose word is left out, and to no other."""
+    """Checks the answers of a runner: they are the rows', but `-` to a call whose word is left out, and to no other."""
+    answers = [*answers]
+    assert len(answers) <= len(rows), f"there are {len(answers)} answers for {len(rows)} rows"
     wrong = [
-        f"{row.id}: {row.call[:200]}\n    wanted: {wanted[:200]}\n    got:    {got[:200]}"
+        f"{row.id}: {row.call[:300]}\n    wanted: {folded(wanted)}\n    got:    {folded(got)}"
         for row, got in zip_longest(rows, answers, fillvalue="nothing")
         for wanted in ["-" if row.words[0] in left_out else row.answer] if got != wanted
     ]  # fmt: skip

@@ -3,7 +3,9 @@
 
 use std::io::{self, BufRead, BufWriter, Write};
 
-use byte_unit::{Align, Bit, Byte, Decimal, FormatSpec, ParseError, Sign, Unit, UnitParseError, UnitType, ValueParseError};
+use byte_unit::{
+    Align, Bit, Byte, Decimal, FormatSpec, ParseError, Sign, Unit, UnitParseError, UnitType, ValueParseError,
+};
 
 /// Returns the name of a unit's error and its fields, as the vectors have it.
 fn unit_error(error: &UnitParseError) -> String {

@@ -1,5 +1,5 @@
-"""Answers the test vectors by the exact model. The head of vectors/byte-unit.txt has the forms of calls and answers; what
-answers a call takes its words, as they are, and its text."""
+"""Answers the test vectors by the exact model. The head of vectors/byte-unit.txt has the forms of calls and answers; a
+function for a call takes its words, as they are, and its text."""
 
 import json
 import re
@@ -138,7 +138,7 @@ def largest(size, units, kind, bits):
 
 
 def choose(size, units, bits, places):
-    """Returns the largest unit of a set that is not above a size and exact within the places, after the number of it."""
+    """Returns the largest unit of a set, not above a size, in which it is exact within the places, after its number."""
     scaled, power = int(size) * int(bits), 10 ** min(int(places), FRACTION_PLACES)
     names = [one for one in of_set(units) if BITS[one] <= scaled and scaled * power % BITS[one] == 0]
     return f"{shown(Decimal(scaled) / BITS[names[-1]])} {names[-1]}" if names else "none"
@@ -252,8 +252,8 @@ CALLS = {
     "parse": parse, "parse_binary": lambda *words: parse(*words, binary=True), "unit": unit, "read": number_and_unit,
     "says": lambda *words: quoted(size_in(*words, quote=debug_char).message), "position": position, "text": text_of,
     "plain": digits, "value": lambda kind, size, _, name: f"{int(size) * SCALE[kind]}/{BITS[name]}",
-    "exact": lambda kind, allowed, size: recoverable(kind, allowed, 0, size), "recoverable": recoverable, "steps": steps,
-    "largest": largest, "choose": choose, "make_in": made, "make_decimal": made, "decimal": decimal,
+    "exact": lambda kind, allowed, size: recoverable(kind, allowed, 0, size), "recoverable": recoverable,
+    "steps": steps, "largest": largest, "choose": choose, "make_in": made, "make_decimal": made, "decimal": decimal,
     "expansion": lambda *words: shown(expansion(*words)), "rounded": rounded, "layout": layout, "least": least,
     "quotient": quotient, "powers": powers, "compute": compute, "as_u64": in_64_bits, "json": json_of,
     "from_json": lambda kind, text: of_json(text, parse, kind, "cased"), "unit_json": quoted,

@@ -22,7 +22,8 @@ from . import bindings, bits, contracts, pages, tables
 # Each yields the name and the text of each file that it renders, or no text for one that has to go, and may end by a
 # failure for what else is wrong.
 PARTS = {"tables": tables.made, "bits": bits.made, "bindings": bindings.made, "calling": contracts.calling,
-         "definitions": contracts.definitions, "laws": pages.laws, "guide": pages.guide, "tools": pages.tools}  # fmt: skip
+         "definitions": contracts.definitions, "laws": pages.laws, "guide": pages.guide,
+         "tools": pages.tools}  # fmt: skip
 
 
 def wrong(part, check):
