@@ -1,5 +1,6 @@
-//! Tests over tables of test vectors: macros that the tables share, and a module for each subject. The assertions that
-//! several modules call are in `answers`, `asserting`, `command` and `shown`, and in a module whose head says so.
+//! Tests of what the rows of `vectors/byte-unit.txt` cannot say: traits, memory, calls side by side that answer the same,
+//! values that no string has, and what uses the library. Macros that tables share, and a module for each subject. The
+//! assertions that several modules call are in `asserting`, `command` and `shown`, and in a module whose head says so.
 
 /// Creates a `FormatSpec` from its fields. A macro, so that constants can use it.
 macro_rules! spec {
@@ -53,14 +54,7 @@ macro_rules! rows {
     };
 }
 
-mod adjusted;
-mod answers;
-mod any_texts;
-mod approximate;
 mod asserting;
-mod binary;
-mod bounds;
-mod choices;
 mod command;
 mod command_call;
 mod command_capacity;
@@ -72,40 +66,21 @@ mod command_options;
 mod command_streams;
 mod constants;
 mod decimals;
-mod documented;
-mod each_unit;
-mod edges;
 mod error_texts;
-mod expansions;
-mod faults;
 mod flags;
-mod format_strings;
-mod greatest;
 mod json;
-mod least;
-mod long_strings;
-mod longest;
-mod number_texts;
 mod numbers;
-mod positions;
-mod programs;
-mod quoted;
 mod readings;
 mod refused;
-mod ronna;
 mod serde_binary;
 mod serde_ignore_case;
 mod serde_strings;
 mod shown;
 mod spellings;
-mod stored_faults;
+mod steps;
 mod stored_limits;
 mod texts;
-mod tour;
 mod traits;
-mod unit_texts;
-mod units;
 mod uses;
-mod widest;
 mod with_digits;
 mod without_memory;

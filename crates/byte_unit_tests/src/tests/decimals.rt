@@ -1,54 +1,13 @@
-//! Tests of `Decimal`: its parts, order, digits and text. Other tests import `parts_of`.
+//! Tests of `Decimal`: its order, its parts from integers and its digits; and of the digits of an `Expansion`.
 use super::asserting::{assert_each, assert_for, assert_is};
-use super::shown::assert_display;
-use byte_unit::Decimal;
-use std::alloc::Global;
+use byte_unit::{Decimal, Expansion};
 use std::cmp::Ordering;
 use std::hash::{DefaultHasher, Hash, Hasher};
 use std::process::Abort;
 
-/// The mantissa, the scale, and the parts of the decimal: the integer part, and the fraction scaled by 10^28. A scale
-/// above 28 is rejected, and so is an integer part of 2^112 or more, such as that of the last row.
-const DECIMALS_BY_MANTISSA_AND_SCALE: &[(u128, u32, Option<(u128, u128)>)] = &rows! {
-    (5084, 2, Some((50, 8_400_000_000_000_000_000_000_000_000))),
-    (1000, 2, Some((10, 0))),
-    (1, 29, None),
-    (u128::MAX, 28, Some((34_028_236_692, 938_463_463_374_607_431_768_211_455))),
-    (u128::MAX, 10, Some((34_028_236_692_093_846_346_337_460_743, 1_768_211_455_000_000_000_000_000_000))),
-    (u128::MAX, 9, Some((340_282_366_920_938_463_463_374_607_431, 7_682_114_550_000_000_000_000_000_000))),
-    (u128::MAX, 5, Some((3_402_823_669_209_384_634_633_746_074_317_682, 1_145_500_000_000_000_000_000_000_000))),
-    (u128::MAX, 4, None),
-};
-
-/// Asserts the parts of each decimal.
-fn assert_parts(rt: &impl Abort, rows: &[(u128, u32, Option<(u128, u128)>)]) {
-    for (mantissa, scale, parts) in rows {
-        let number = Decimal::from_u128_with_scale(*mantissa, *scale).map(parts_of);
-        assert_is(rt, (*mantissa, *scale, number), (*mantissa, *scale, *parts));
-    }
-}
-
 /// Returns the integer part, and the fraction scaled by 10^28.
-pub fn parts_of(number: Decimal) -> (u128, u128) {
+fn parts_of(number: Decimal) -> (u128, u128) {
     (number.whole(), number.fraction())
-}
-
-/// The mantissa, the scale, and the text of the decimal, which has no zeros at the end.
-const DECIMAL_TEXTS: &[(u128, u32, &str)] = &[
-    (5084, 2, "50.84"),
-    (1000, 2, "10"),
-    (0, 0, "0"),
-    (1, 28, "0.0000000000000000000000000001"),
-    (90, 2, "0.9"),
-    (1_000_000_001, 9, "1.000000001"),
-];
-
-/// Asserts the `Display` text of each decimal.
-fn assert_decimals(rt: &impl Abort, alloc: Global, rows: &[(u128, u32, &str)]) {
-    for (mantissa, scale, text) in rows {
-        let number = Decimal::from_u128_with_scale(*mantissa, *scale).expect(rt, "a decimal");
-        assert_display(rt, alloc, &number, text);
-    }
 }
 
 /// Asserts order, hash and default through the trait bounds, as in a generic caller.
@@ -122,8 +81,28 @@ fn assert_digits(rt: &impl Abort, rows: &[(u128, u32, u128, u32)]) {
 }
 
 #[test]
-fn decimals_by_mantissa_and_scale(rt: HostRuntime) {
-    assert_parts(&rt, DECIMALS_BY_MANTISSA_AND_SCALE);
-    assert_decimals(&rt, rt.alloc(), DECIMAL_TEXTS);
+fn digits_of_decimals(rt: HostRuntime) {
     assert_digits(&rt, DIGITS_AFTER_THE_POINT);
+}
+
+/// Asserts the integer part, the number of decimals, the last of them, and that there are none after it.
+fn assert_expanded(rt: &impl Abort, e: &Expansion, whole: u128, places: u32, last: u8) {
+    let found = (e.whole(), e.places(), e.digit(places.max(1)));
+    assert_is(rt, found, (whole, places, last));
+    let past = (e.digit(places.saturating_add(1)), e.digit(u32::MAX));
+    assert_is(rt, past, (0, 0));
+}
+
+/// 10, 50.84 and 10^-28; and 1 / 2^93, a bit in RiB, whose digits are those of 5^93, which end with 5.
+#[test]
+fn digits_of_expansions(rt: HostRuntime) {
+    for (mantissa, scale, whole, places, last) in rows! {
+        (1000, 2, 10, 0, 0),
+        (5084, 2, 50, 2, 4),
+        (1, 28, 0, 28, 1),
+    } {
+        let d = Decimal::from_u128_with_scale(mantissa, scale).expect(&rt, "a decimal");
+        assert_expanded(&rt, &Expansion::from_decimal(d), whole, places, last);
+    }
+    assert_expanded(&rt, &Expansion::new(1, 93, 0), 0, 93, 5);
 }

@@ -1,4 +1,4 @@
-//! Tests that the flags of a formatter do not change the text of a number or a size, and that the default spec is
+//! Tests that the flags of a formatter do not change the text of a number, a unit or a size, and that the default spec is
 //! plain. `error_texts` imports the assertion.
 use super::asserting::assert_for;
 use super::shown::assert_same;
@@ -40,6 +40,7 @@ fn formatter_flags_are_ignored(rt: HostRuntime) {
     assert_printed_with_each_flag(&rt, alloc, &bits.get_adjusted_unit(Unit::Mbit), "1.555 Mb");
     assert_printed_with_each_flag(&rt, alloc, &number, "1.555");
     assert_printed_with_each_flag(&rt, alloc, &Expansion::from_decimal(number), "1.555");
+    assert_printed_with_each_flag(&rt, alloc, &Unit::KiB, "KiB");
     let is_plain = default_of::<FormatSpec>() == FormatSpec::PLAIN;
     assert_for(&rt, is_plain, "the default spec is plain");
 }

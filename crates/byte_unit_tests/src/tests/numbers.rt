@@ -1,7 +1,7 @@
 //! Tests of conversions and comparisons between sizes and integers, by method and through trait bounds. Other tests
 //! import `convert`.
 use super::asserting::{assert_each, assert_for, assert_is};
-use byte_unit::{Bit, Byte, ExceededBoundsError, Kind, TryFromIntError};
+use byte_unit::{Bit, Byte, ExceededBoundsError, TryFromIntError};
 use std::cmp::Ordering;
 use std::process::Abort;
 
@@ -38,50 +38,6 @@ fn sizes_and_integers(rt: HostRuntime) {
     let size = Bit::from_u64(5);
     assert_is(&rt, (size.as_u64(), size.as_u64_checked()), (5, Some(5)));
     assert_is(&rt, Bit::from_u128_unsafe(7).as_u128(), 7);
-}
-
-/// Returns the size as a saturated `u64`, and as a checked one.
-fn in_64_bits(kind: Kind, size: u128) -> Option<(u64, Option<u64>)> {
-    match kind {
-        Kind::Byte => {
-            let size = Byte::from_u128(size)?;
-            Some((size.as_u64(), size.as_u64_checked()))
-        }
-        Kind::Bit => {
-            let size = Bit::from_u128(size)?;
-            Some((size.as_u64(), size.as_u64_checked()))
-        }
-    }
-}
-
-/// Asserts each size as a `u64`.
-fn assert_in_64_bits(rt: &impl Abort, kind: Kind, rows: &[(u128, Option<(u64, Option<u64>)>)]) {
-    for (size, number) in rows {
-        assert_is(rt, (*size, in_64_bits(kind, *size)), (*size, *number));
-    }
-}
-
-/// The size; then, unless it is out of range, the `u64` nearest to it, and it as a `u64` if it is one.
-const SIZES_IN_64_BITS: &[(u128, Option<(u64, Option<u64>)>)] = &[
-    (7, Some((7, Some(7)))),
-    (18_446_744_073_709_551_615, Some((u64::MAX, Some(u64::MAX)))),
-    (18_446_744_073_709_551_616, Some((u64::MAX, None))),
-    (1_000_000_000_000_000_000_000, Some((u64::MAX, None))),
-    (MAX_SIZE, Some((u64::MAX, None))),
-    (MAX_SIZE + 1, None),
-];
-
-#[test]
-fn sizes_in_64_bits(rt: HostRuntime) {
-    // ZETTABIT in bytes, and the bits in ZETTABYTE: both exceed 64 bits.
-    let constants = [
-        (Byte::ZETTABIT.as_u128(), Some((u64::MAX, None))),
-        (Bit::ZETTABYTE.as_u128(), Some((u64::MAX, None))),
-    ];
-    assert_in_64_bits(&rt, Kind::Byte, SIZES_IN_64_BITS);
-    assert_in_64_bits(&rt, Kind::Bit, SIZES_IN_64_BITS);
-    assert_in_64_bits(&rt, Kind::Byte, &constants);
-    assert_in_64_bits(&rt, Kind::Bit, &constants);
 }
 
 /// The order of 1024 and each number.

@@ -2,7 +2,7 @@
 //! which is proved once, and a test calls it for each of its tables. If an allocation fails, the test ends with the
 //! message `memory`.
 use super::asserting::{assert_for, assert_is};
-use byte_unit::{AdjustedBit, AdjustedByte, Bit, Byte, FormatSpec, JsonSizeError, Kind, Unit};
+use byte_unit::{AdjustedBit, AdjustedByte, Bit, Byte, FormatSpec, JsonSizeError, Unit};
 use serde_json::Value;
 use std::alloc::{AllocError, Global};
 use std::fmt::Display;
@@ -20,28 +20,6 @@ pub enum AnySize {
 /// Creates a size in bytes.
 pub fn bytes(size: u64) -> AnySize {
     AnySize::Byte(Byte::from_u64(size))
-}
-
-/// Creates a size from a `u128`.
-pub fn great_size(rt: &impl Abort, kind: Kind, size: u128) -> AnySize {
-    match kind {
-        Kind::Byte => AnySize::Byte(Byte::from_u128(size).expect(rt, "a size")),
-        Kind::Bit => AnySize::Bit(Bit::from_u128(size).expect(rt, "a size")),
-    }
-}
-
-/// Creates a size in a unit from a `u128`.
-pub fn great_size_in(rt: &impl Abort, kind: Kind, size: u128, unit: Unit) -> AnySize {
-    match kind {
-        Kind::Byte => {
-            let size = Byte::from_u128(size).expect(rt, "a size");
-            AnySize::AdjustedByte(size.get_adjusted_unit(unit))
-        }
-        Kind::Bit => {
-            let size = Bit::from_u128(size).expect(rt, "a size");
-            AnySize::AdjustedBit(size.get_adjusted_unit(unit))
-        }
-    }
 }
 
 /// Creates a size in bits.
@@ -114,12 +92,12 @@ pub fn assert_same(rt: &impl Abort, text: &str, wanted: &str) {
     assert!(rt; text == wanted, "{text} in place of {wanted}");
 }
 
-/// Asserts the length of the text that is written to a buffer, and the text if it fits.
+/// Asserts the text that is written to a buffer, and its length.
 fn assert_written(rt: &impl Abort, shown: &AnySize, spec: FormatSpec, wanted: &str) {
-    // Longer than all texts but those that are padded, or have zeros, by the tests of `widest`.
+    // Longer than each text here.
     let mut out = [0; 128];
     let len = write(shown, spec, &mut out);
-    let is_written = len > 128 || out.starts_with(wanted.as_bytes());
+    let is_written = out.starts_with(wanted.as_bytes());
     assert_for(rt, len == wanted.len() && is_written, wanted);
 }
 
@@ -142,27 +120,6 @@ pub fn assert_row(rt: &impl Abort, alloc: Global, shown: &AnySize, spec: FormatS
     assert_written(rt, shown, spec, wanted);
 }
 
-/// Asserts the text of each size of the kind by its spec.
-pub fn assert_texts(rt: &impl Abort, alloc: Global, kind: Kind, rows: &[(u128, FormatSpec, &str)]) {
-    for (size, spec, wanted) in rows {
-        let shown = great_size(rt, kind, *size);
-        assert_row(rt, alloc, &shown, *spec, wanted);
-    }
-}
-
-/// Asserts the text of each size of the kind in its unit by its spec.
-pub fn assert_texts_in(
-    rt: &impl Abort,
-    alloc: Global,
-    kind: Kind,
-    rows: &[(u64, Unit, FormatSpec, &str)],
-) {
-    for (size, unit, spec, wanted) in rows {
-        let shown = great_size_in(rt, kind, u128::from(*size), *unit);
-        assert_row(rt, alloc, &shown, *spec, wanted);
-    }
-}
-
 /// Asserts the text of a value through the bound `Display`.
 pub fn assert_display<D: Display>(rt: &impl Abort, alloc: Global, value: &D, wanted: &str) {
     let text = format!(in alloc; "{value}").expect(rt, "memory");
@@ -176,13 +133,6 @@ pub fn assert_shown(rt: &impl Abort, alloc: Global, shown: &AnySize, wanted: &st
         AnySize::Bit(size) => assert_display(rt, alloc, size, wanted),
         AnySize::AdjustedByte(size) => assert_display(rt, alloc, size, wanted),
         AnySize::AdjustedBit(size) => assert_display(rt, alloc, size, wanted),
-    }
-}
-
-/// Asserts the `Display` text of each size.
-pub fn assert_displays(rt: &impl Abort, alloc: Global, rows: &[(AnySize, &str)]) {
-    for (shown, wanted) in rows {
-        assert_shown(rt, alloc, shown, wanted);
     }
 }
 

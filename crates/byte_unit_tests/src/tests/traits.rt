@@ -1,12 +1,10 @@
-//! Tests of std's traits on sizes, each through its bound: order, hash, conversions, `FromStr` and `Display`.
+//! Tests of std's traits on sizes and units, each through its bound: order, hash, conversions and `FromStr`.
 use super::asserting::{assert_are, assert_for, assert_is};
 use super::numbers::convert;
-use super::shown::assert_same;
-use byte_unit::{AdjustedBit, AdjustedByte, Bit, Byte, Unit};
+use byte_unit::{AdjustedBit, AdjustedByte, Bit, Byte, ParseError, Unit, ValueParseError};
 use std::alloc::Global;
 use std::cmp::Ordering;
 use std::collections::HashSet;
-use std::fmt::Display;
 use std::hash::Hash;
 use std::process::Abort;
 use std::str::FromStr;
@@ -54,6 +52,27 @@ fn sizes_by_their_bounds(rt: HostRuntime) {
     let order = partial_order(&Bit::KILOBIT, &Bit::KIBIBIT);
     assert_is(&rt, order, Some(Ordering::Less));
     assert_is(&rt, parsed::<Bit>("10 B").ok(), Some(Bit::from_u64(80)));
+}
+
+/// Units from their names, in which case counts and no suffix means bytes, and their bits.
+#[test]
+fn units_by_their_bounds(rt: HostRuntime) {
+    assert_is(&rt, parsed::<Unit>("").ok(), Some(Unit::B));
+    assert_is(&rt, parsed::<Unit>("kib").ok(), Some(Unit::Kibit));
+    assert_is(&rt, parsed::<Unit>("Kix").is_err(), true);
+    assert_is(&rt, convert::<Unit, u128>(Unit::KB), 8000);
+    assert_is(&rt, Unit::Kbit.as_str(), "Kb");
+}
+
+#[test]
+fn errors_by_their_bounds(rt: HostRuntime) {
+    let is_wanted = matches!(
+        "1.".parse::<Byte>(),
+        Err(ParseError::Value(ValueParseError::NotNumber('.')))
+    );
+    assert_for(&rt, is_wanted, "a decimal point without a digit");
+    let is_wanted = matches!(parsed::<Bit>("20 GX"), Err(ParseError::Unit(_)));
+    assert_for(&rt, is_wanted, "no unit");
 }
 
 /// Asserts whether a set has two elements or one after both sizes are inserted.
@@ -143,23 +162,4 @@ fn adjusted_sizes_from_and_into(rt: HostRuntime) {
     let bits = parsed::<AdjustedBit>("50.84 Mb").ok().expect(&rt, "a size");
     assert_is(&rt, bits.get_bit(), Bit::from_u64(50_840_000));
     assert_is(&rt, bits.get_unit(), Unit::Mibit);
-}
-
-/// Asserts that width, sign and precision in the format string do not change the text.
-fn assert_displayed_with_flags<D: Display>(rt: &impl Abort, alloc: Global, size: &D, wanted: &str) {
-    let text = format!(in alloc; "{size:>+12.1}").expect(rt, "memory");
-    assert_same(rt, text.as_str(), wanted);
-}
-
-#[test]
-fn sizes_displayed_with_flags(rt: HostRuntime) {
-    let alloc = rt.alloc();
-    let bytes = Byte::from_u64(1_555_000);
-    let bits = Bit::from_u64(1_555_000);
-    assert_displayed_with_flags(&rt, alloc, &bytes, "1555000");
-    assert_displayed_with_flags(&rt, alloc, &bits, "1555000");
-    let bytes = Byte::from_u64(10_000).get_adjusted_unit(Unit::MB);
-    let bits = Bit::from_u64(10_000).get_adjusted_unit(Unit::Mbit);
-    assert_displayed_with_flags(&rt, alloc, &bytes, "0.01 MB");
-    assert_displayed_with_flags(&rt, alloc, &bits, "0.01 Mb");
 }
