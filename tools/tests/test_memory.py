@@ -14,7 +14,7 @@ LANES = int(os.environ.get("RT_JOBS") or min(4, os.cpu_count()))
 # What a test may end with: the error itself, or the message of an `expect` with the error.
 FAILURE = re.compile(r"(?:[\w ]+: )?(?:AllocError|Error\(out of memory\))")
 TESTS = "crates/byte_unit_tests/src/tests"
-# The line of crates.txt for the tests in refused.rt.
+# The line of crates.txt for the tests in allocations.rt and refused.rt.
 USED = "byte_unit_tests: byte_unit_serde byte_unit byte_unit_bit byte_unit_byte byte_unit_format byte_unit_choice " \
     "byte_unit_base byte_unit_math serde serde_json toml"
 MANY = b"".join(b"%d.5 KiB\n" % number for number in range(12_000))
@@ -38,26 +38,29 @@ PROGRAMS = [*(("byte_unit_cli", *row) for row in CALLS), *(("byte_unit_lines", *
 
 def wrong_endings(root, last):
     """Yields the tests of byte_unit_tests that end in a wrong way as one of the first allocations fails: those in
-    refused.rt, which use the global allocator, have to pass, and others may end with the error itself."""
+    refused.rt have to pass, those in allocations.rt to end with the error of each of their three allocations and else
+    to pass, and others may end with the error itself."""
     how = {"cwd": f"{root}/crates/byte_unit_tests", "stderr": subprocess.PIPE}
     with ThreadPoolExecutor(LANES) as pool:
         numbers = range(1, last + 1)
         runs = list(pool.map(lambda at: call("rt", "try", "--test", "--fail-alloc", at, **how), numbers))
     names = [sorted(re.findall(r"^test (\S+) \.\.\. ", run.stdout, re.M)) for run in runs]
     for number, run in enumerate(runs, 1):
-        assert "test tests::refused::" in run.stdout, run.stderr
+        assert "test tests::refused::" in run.stdout and "test tests::allocations::" in run.stdout, run.stderr
         assert names[number - 1] == names[-1], f"allocation {number} fails: not all tests end\n{run.stderr}"
         for name, end, error in re.findall(r"^test (\S+) \.\.\. (\w+)\n(?:    (.*)\n)?", run.stdout, re.M):
-            if end != "ok" and ("::refused::" in name or not FAILURE.fullmatch(error)):
+            is_failure = end != "ok" and bool(FAILURE.fullmatch(error))
+            may = {"refused": [False], "allocations": [number <= 3]}.get(name.split("::")[1], [False, True])
+            if (end != "ok" and not is_failure) or is_failure not in may:
                 yield f"allocation {number} fails: {name} ends with {error}"
 
 
 def test_calls_without_allocator(tmp_path):
-    """A test in refused.rt makes at most four allocations: in the fifth run none of them fails."""
+    """A test in refused.rt makes at most four allocations, one in allocations.rt three: in the fifth run none fails."""
     copy_to(tmp_path, "crates")
     # Without the crates that only other tests use, which would be compiled in each run.
     write(tmp_path / "crates.txt", re.sub(r"(?m)^byte_unit_tests: .*$", USED, read("crates.txt")))
-    others = re.findall(r"^mod (?!refused;|asserting;|shown;)(\w+);\n", read(f"{TESTS}.rt"), re.M)
+    others = re.findall(r"^mod (?!allocations;|refused;|asserting;|shown;)(\w+);\n", read(f"{TESTS}.rt"), re.M)
     for name in others:
         os.remove(tmp_path / TESTS / f"{name}.rt")
     write(tmp_path / f"{TESTS}.rt", re.sub(rf"^mod ({'|'.join(others)});\n", "", read(f"{TESTS}.rt"), flags=re.M))

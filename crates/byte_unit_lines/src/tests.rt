@@ -22,12 +22,10 @@ mod ended;
 mod endings;
 mod ends;
 mod large;
-mod memory;
 mod mixed;
 mod names;
 mod order;
 mod refusals;
-mod refusing;
 mod rows;
 
 /// Asserts that what was found is what is wanted. A name tells which of a test's rows it was.

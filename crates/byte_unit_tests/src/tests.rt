@@ -1,6 +1,7 @@
-//! Tests of what the rows of `vectors/byte-unit.txt` cannot say: traits, memory, calls side by side that answer the same,
-//! values that no string has, and what uses the library. Macros that tables share, and a module for each subject. The
-//! assertions that several modules call are in `asserting`, `command` and `shown`, and in a module whose head says so.
+//! Tests of what the rows of `vectors/byte-unit.txt` cannot say: traits, memory, calls side by side that answer the
+//! same, values that no string has, and what uses the library. Macros that tables share, and a module for each subject.
+//! The assertions that several modules call are in `asserting`, `command` and `shown`, and in a module whose head says
+//! so.
 
 /// Creates a `FormatSpec` from its fields. A macro, so that constants can use it.
 macro_rules! spec {
@@ -54,6 +55,7 @@ macro_rules! rows {
     };
 }
 
+mod allocations;
 mod asserting;
 mod command;
 mod command_call;

@@ -1,19 +1,20 @@
-//! Runs in which each allocation after the start fails.
-use super::ended::{Ended, ran_with, streams};
+//! Runs in an arena, in which each allocation after the start fails.
+use super::ended::{Ended, arena_of, filled, ran_with, streams};
 use super::mixed::{INPUT, REPORT, repeated};
-use super::refusing::Refusing;
 use super::*;
 use crate::report::{Buffers, run_with_capacity};
 use byte_unit_stream::paced::{AT_ONCE, Pace, Then};
 
-/// The number of allocations at the start: one for a line and one for the answers.
-const START: u64 = 2;
+/// Returns the number of bytes that a start takes: those of a line and a read, and of 78 for each byte of a read.
+fn start(longest: usize, step: usize) -> usize {
+    longest.saturating_add(step.saturating_mul(79))
+}
 
 /// The length of the longest line of the input.
 const LONGEST: usize = 34;
 
-/// Asserts the result and the report of a run over `input` in reads of at most `step` bytes, in which each allocation
-/// after the start fails, and that it makes none.
+/// Asserts the result and the report of a run over `input` in reads of at most `step` bytes, with no more memory than
+/// the start takes: each allocation after it fails.
 fn expect(
     rt: &(impl Abort + AllocGlobal),
     longest: usize,
@@ -22,11 +23,13 @@ fn expect(
     wanted: Result<(), RunError>,
     report: &[u8],
 ) {
-    let heap = Refusing::new(rt.alloc(), START + 1, u64::MAX);
+    let bytes = start(longest, step);
+    let arena = arena_of(rt, bytes);
+    let _rest = filled(rt, &arena, bytes);
     let mut buffer = b" ".repeat(rt.alloc(), step.max(1)).expect(rt, "memory");
     let (mut reader, mut writer) = streams(rt.alloc(), input, AT_ONCE, AT_ONCE);
     let started = run_with_capacity(
-        &heap,
+        &arena,
         longest,
         &mut buffer,
         &mut reader,
@@ -42,7 +45,6 @@ fn expect(
         "limit and bytes a read",
         &[longest, step],
     );
-    assert_is(rt, heap.asked(), START, "allocations");
 }
 
 /// The output for the first seven lines of the input.
@@ -149,36 +151,38 @@ fn runs_in_the_same_buffers(rt: HostRuntime) {
     }
 }
 
-/// The number of the allocation that fails, the limit, and the number of allocations. The last two limits, with a read
-/// of 80 bytes, exceed every memory: nothing is allocated.
-const STARTS: &[(u64, usize, u64)] = &[
-    (1, LONGEST, 1),
-    (2, LONGEST, 2),
-    (u64::MAX, usize::MAX, 0),
-    (u64::MAX, usize::MAX - 80, 0),
+/// The limit, the bytes of memory, and whether the run starts: with just enough bytes, with one fewer, with those of
+/// the first allocation alone, and with none. The last two limits, with a read of 80 bytes, exceed every memory.
+const STARTS: &[(usize, usize, bool)] = &[
+    (LONGEST, LONGEST + 80 + 78 * 80, true),
+    (LONGEST, LONGEST + 80 + 78 * 80 - 1, false),
+    (LONGEST, LONGEST + 80, false),
+    (LONGEST, 0, false),
+    (usize::MAX, LONGEST + 80 + 78 * 80, false),
+    (usize::MAX - 80, LONGEST + 80 + 78 * 80, false),
 ];
 
+/// Asserts whether a run starts. One that does not has read and written nothing.
+fn expect_start(rt: &(impl Abort + AllocGlobal), (longest, bytes, starts): (usize, usize, bool)) {
+    let arena = arena_of(rt, bytes);
+    let _rest = filled(rt, &arena, bytes);
+    let (mut reader, mut writer) = streams(rt.alloc(), INPUT, AT_ONCE, AT_ONCE);
+    let started = run_with_capacity(
+        &arena,
+        longest,
+        &mut [0u8; 80],
+        &mut reader,
+        &mut writer,
+        Kind::Byte,
+    );
+    let Ended { left, taken, .. } = Ended::new(Ok(()), reader, writer);
+    let found = (started.is_ok(), left == INPUT, taken.is_empty());
+    assert_is(rt, found, (starts, !starts, !starts), "a start");
+}
+
 #[test]
-fn a_failed_start(rt: HostRuntime) {
-    for (number, longest, asked) in STARTS {
-        let heap = Refusing::new(rt.alloc(), *number, *number);
-        let (mut reader, mut writer) = streams(rt.alloc(), INPUT, AT_ONCE, AT_ONCE);
-        let started = run_with_capacity(
-            &heap,
-            *longest,
-            &mut [0u8; 80],
-            &mut reader,
-            &mut writer,
-            Kind::Byte,
-        );
-        // Nothing is read or written, and no other allocation is made after it.
-        let Ended { left, taken, .. } = Ended::new(Ok(()), reader, writer);
-        let found = (
-            started.is_err(),
-            left == INPUT,
-            taken.is_empty(),
-            heap.asked(),
-        );
-        assert_is(&rt, found, (true, true, true, *asked), "a start");
+fn the_start(rt: HostRuntime) {
+    for row in STARTS {
+        expect_start(&rt, *row);
     }
 }

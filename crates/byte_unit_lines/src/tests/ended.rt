@@ -1,9 +1,10 @@
 //! Runs in memory, their results, and the assertions on them that several tests share.
 ghost use Rattle.std.specs.Prelude.{◌<◌, length};
 
-use super::refusing::Refusing;
+use super::mixed::{finished, first_lines};
 use super::*;
 use crate::report::{Buffers, run_with_buffers};
+use bumpalo::Bump;
 use byte_unit_stream::paced::{AT_ONCE, MemoryReader, MemoryWriter, Pace};
 use std::alloc::Allocator;
 
@@ -128,22 +129,42 @@ pub fn ran_with<'a, A: Allocator>(
     Ended::new(result, reader, writer)
 }
 
-/// Asserts that a run ends at the allocation of this number with this report written, if that one fails alone, and if
-/// all after it fail too.
-pub fn expect_failed_allocation(
+/// Creates an arena of at least this number of bytes, which gets no more. An allocation that does not fit fails, and
+/// nothing that was given back is used again.
+pub fn arena_of(rt: &(impl Abort + AllocGlobal), bytes: usize) -> Bump {
+    let arena = Bump::try_with_capacity(rt.alloc(), bytes.max(1)).expect(rt, "memory");
+    arena.set_allocation_limit(Some(0));
+    arena
+}
+
+/// Returns a buffer that leaves this number of bytes of the arena.
+pub fn filled<'a>(rt: &impl Abort, arena: &'a Bump, left: usize) -> Vec<u8, &'a Bump> {
+    let rest = arena.chunk_capacity().saturating_sub(left);
+    let buffer = Vec::with_capacity(arena, rest).expect(rt, "memory");
+    assert_is(rt, arena.chunk_capacity(), left, "bytes of the arena");
+    buffer
+}
+
+/// Runs over this input in one read or more with this number of bytes of memory, asserts that the run ends with the
+/// whole report, or out of memory after the answers to some number of first lines, and returns that number.
+pub fn answers_in(
     rt: &(impl Abort + AllocGlobal),
-    input: &[u8],
+    bytes: usize,
+    (input, report): (&[u8], &[u8]),
     reads: Pace,
-    number: u64,
-    report: &[u8],
-) {
+) -> usize {
+    let arena = arena_of(rt, bytes);
+    let _rest = filled(rt, &arena, bytes);
     // Longer than the inputs of the tests that call this.
     let mut buffer = [0u8; 80];
-    for last in [number, u64::MAX] {
-        let heap = Refusing::new(rt.alloc(), number, last);
-        let ended = ran_in(rt.alloc(), &heap, &mut buffer, input, reads, AT_ONCE);
-        let numbers = [number as usize];
-        ended.expect(rt, Err(RunError::Memory), report, "at allocation", &numbers);
-        assert_is(rt, heap.asked(), number, "allocations");
-    }
+    let ended = ran_in(rt.alloc(), &arena, &mut buffer, input, reads, AT_ONCE);
+    let lines = finished(&ended.taken);
+    let is_whole = ended.taken.len() == report.len();
+    let wanted = if is_whole {
+        Ok(())
+    } else {
+        Err(RunError::Memory)
+    };
+    ended.expect(rt, wanted, first_lines(report, lines), "bytes", &[bytes]);
+    lines
 }

@@ -1,40 +1,47 @@
-//! Runs in which each allocation fails in turn. The buffer of 80 bytes holds the whole input, so the pace alone makes
-//! reads shorter.
-use super::ended::{expect_failed_allocation, ran_in};
+//! Runs out of memory at each allocation, whole and with reads of few bytes.
+use super::ended::answers_in;
 use super::mixed::{INPUT, LINES, REPORT, first_lines};
-use super::refusing::Refusing;
 use super::*;
-use byte_unit_stream::paced::{AT_ONCE, Pace, Then};
+use byte_unit_stream::paced::{Pace, Then};
 
-/// Returns the number of allocations of a run over this input, or 0 if the run fails.
-fn allocations(alloc: Global, input: &[u8], reads: Pace) -> u64 {
-    let heap = Refusing::new(alloc, u64::MAX, u64::MAX);
-    match ran_in(alloc, &heap, &mut [0u8; 80], input, reads, AT_ONCE).result {
-        Ok(()) => heap.asked(),
-        Err(_) => 0,
-    }
+/// Returns the first lines of the input with their answers.
+fn first(lines: usize) -> (&'static [u8], &'static [u8]) {
+    (first_lines(INPUT, lines), first_lines(REPORT, lines))
 }
 
-/// Asserts that a run ends at each of its allocations if that fails, and at none if only later ones fail.
-fn expect_each_failed(rt: &(impl Abort + AllocGlobal), reads: Pace) {
-    let mut next = 1u64;
-    for lines in 0..LINES {
-        // The lines whose allocations all came before are answered, and no other.
-        let last = allocations(rt.alloc(), first_lines(INPUT, lines + 1), reads);
-        for number in next..=last {
-            expect_failed_allocation(rt, INPUT, reads, number, first_lines(REPORT, lines));
-        }
-        next = last.saturating_add(1);
+/// Asserts that with this number of bytes of memory those lines are answered whose allocations all succeed, and no
+/// other: a run over these lines alone succeeds, and a run over these and the next one does not. Returns their number.
+fn expect_answers(rt: &(impl Abort + AllocGlobal), bytes: usize, reads: Pace) -> usize {
+    let lines = answers_in(rt, bytes, first(LINES), reads);
+    for more in [lines, lines.saturating_add(1).min(LINES)] {
+        let found = answers_in(rt, bytes, first(more), reads);
+        assert_is(rt, (bytes, found), (bytes, lines), "answered lines");
     }
-    assert_is(rt, next > 1, true, "an allocation");
-    let heap = Refusing::new(rt.alloc(), next, u64::MAX);
-    let ended = ran_in(rt.alloc(), &heap, &mut [0u8; 80], INPUT, reads, AT_ONCE);
-    ended.expect(rt, Ok(()), REPORT, "bytes a read", &[reads.step]);
+    lines
+}
+
+/// More bytes of memory than any run over the input takes.
+const ENOUGH: usize = 1024;
+
+/// Asserts the answered lines with each number of bytes of memory, from none to as many as all take.
+fn expect_each(rt: &(impl Abort + AllocGlobal), step: usize) {
+    let reads = Pace::new(step, usize::MAX, Then::Fail);
+    let mut least = 0;
+    for bytes in 0..ENOUGH {
+        let lines = expect_answers(rt, bytes, reads);
+        assert_is(rt, lines >= least, true, "more memory, more answers");
+        if lines == LINES {
+            assert_is(rt, bytes > 0, true, "memory is taken");
+            return;
+        }
+        least = lines;
+    }
+    panic!(rt; "no run succeeded");
 }
 
 #[test]
 fn each_failed_allocation(rt: HostRuntime) {
     for step in [1, 2, 3, 8, INPUT.len()] {
-        expect_each_failed(&rt, Pace::new(step, usize::MAX, Then::Fail));
+        expect_each(&rt, step);
     }
 }

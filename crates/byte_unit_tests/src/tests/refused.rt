@@ -1,4 +1,4 @@
-//! Tests of failed allocations in calls that use the global allocator. Each call is made three times, with one
+//! Tests of failed allocations in calls that make a JSON string or read a list. Each call is made three times, with one
 //! allocation each: it returns `AllocError` if the allocation fails, and otherwise the expected result, whether or not
 //! an earlier allocation failed. A list is read once.
 //!
@@ -6,8 +6,8 @@
 //! `tools/dev test memory` runs these tests under `rt try --test --fail-alloc N`, which makes the Nth allocation of
 //! each test fail, for N = 1, 2, ..
 use super::asserting::{assert_for, assert_is};
-use super::shown::{AnySize, bits, bits_in, bytes, bytes_in, read_like, stored, text_of};
-use byte_unit::{Bit, Byte, FormatSpec, Unit, UnitType, unit_from_json, unit_to_json};
+use super::shown::{AnySize, bits, bits_in, bytes, bytes_in, read_like, stored};
+use byte_unit::{Byte, Unit, unit_from_json, unit_to_json};
 use serde::Deserialize;
 use serde_json::Value;
 use std::alloc::Global;
@@ -40,18 +40,6 @@ fn assert_string(rt: &impl Abort, alloc: Global, shown: &AnySize, wanted: &str) 
     );
 }
 
-/// Asserts the text of a size with a unit.
-fn assert_text(rt: &impl Abort, alloc: Global, shown: &AnySize, wanted: &str) {
-    let spec = FormatSpec::ALTERNATE;
-    assert_calls!(
-        rt,
-        text_of(shown, alloc, spec),
-        text,
-        text.as_str() == wanted,
-        wanted
-    );
-}
-
 #[test]
 fn json_string_of_bytes(rt: HostRuntime) {
     assert_string(&rt, rt.alloc(), &bytes(1536), "1.5 KiB");
@@ -80,48 +68,6 @@ fn json_string_of_a_unit(rt: HostRuntime) {
         value,
         value.as_str() == Some("Kb"),
         "Kb"
-    );
-}
-
-#[test]
-fn text_of_bytes(rt: HostRuntime) {
-    assert_text(&rt, rt.alloc(), &bytes(1536), "1.5 KiB");
-}
-
-#[test]
-fn text_of_bits(rt: HostRuntime) {
-    assert_text(&rt, rt.alloc(), &bits(8192), "8 Kib");
-}
-
-#[test]
-fn text_of_adjusted_bytes(rt: HostRuntime) {
-    assert_text(&rt, rt.alloc(), &bytes_in(1536, Unit::KB), "1.536 KB");
-}
-
-#[test]
-fn text_of_adjusted_bits(rt: HostRuntime) {
-    assert_text(&rt, rt.alloc(), &bits_in(8192, Unit::Kbit), "8.192 Kb");
-}
-
-#[test]
-fn approximate_text_of_bytes(rt: HostRuntime) {
-    assert_calls!(
-        &rt,
-        Byte::from_u64(10_000).approximate_text(rt.alloc(), UnitType::Binary, places!(1)),
-        text,
-        text.as_str() == "9.8 KiB",
-        "9.8 KiB"
-    );
-}
-
-#[test]
-fn approximate_text_of_bits(rt: HostRuntime) {
-    assert_calls!(
-        &rt,
-        Bit::from_u64(10_000).approximate_text(rt.alloc(), UnitType::Binary, places!(1)),
-        text,
-        text.as_str() == "9.8 Kib",
-        "9.8 Kib"
     );
 }
 

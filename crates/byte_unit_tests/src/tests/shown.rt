@@ -58,7 +58,7 @@ pub fn text_of(shown: &AnySize, alloc: Global, spec: FormatSpec) -> Result<Strin
 }
 
 /// Returns the text by `to_text_in`, which takes any allocator.
-fn text_in(shown: &AnySize, alloc: Global, spec: FormatSpec) -> Result<String, AllocError> {
+pub fn text_in(shown: &AnySize, alloc: Global, spec: FormatSpec) -> Result<String, AllocError> {
     match shown {
         AnySize::Byte(size) => size.to_text_in(alloc, spec),
         AnySize::Bit(size) => size.to_text_in(alloc, spec),
@@ -68,7 +68,7 @@ fn text_in(shown: &AnySize, alloc: Global, spec: FormatSpec) -> Result<String, A
 }
 
 /// Appends the text by `append_text`.
-fn append(shown: &AnySize, spec: FormatSpec, text: &mut String) -> Result<(), AllocError> {
+pub fn append(shown: &AnySize, spec: FormatSpec, text: &mut String) -> Result<(), AllocError> {
     match shown {
         AnySize::Byte(size) => size.append_text(spec, text),
         AnySize::Bit(size) => size.append_text(spec, text),

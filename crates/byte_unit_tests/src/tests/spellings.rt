@@ -1,5 +1,5 @@
-//! Tests of every spelling of every unit, which rules make: 55 prefixes with 27 suffixes, each with four combinations of
-//! the flags `ignore_case` and `prefer_byte`.
+//! Tests of every spelling of every unit, which rules make: 55 prefixes with 27 suffixes, each with four combinations
+//! of the flags `ignore_case` and `prefer_byte`.
 use super::asserting::assert_is;
 use byte_unit::Unit;
 use std::alloc::Global;

@@ -39,7 +39,7 @@ fn displayed_sizes(rt: HostRuntime) {
     assert_shown(&rt, alloc, &bits_in(13, Unit::B), "1.625 B");
 }
 
-/// The text in the appropriate unit, in a string and in a buffer. `Bit` has the same code, rendered from that of `Byte`.
+/// The text in the appropriate unit, in a string and in a buffer.
 #[test]
 fn approximate_texts(rt: HostRuntime) {
     let alloc = rt.alloc();
