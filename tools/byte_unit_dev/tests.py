@@ -19,7 +19,7 @@ from .needs import DEBIAN_PYTHON
 PARTS = {
     **{part: f"bindings/c/test_{part}.py" for part in ("header", "c", "install", "aarch64")},
     **{part: f"bindings/{part}/test_{part}.py" for part in ("python", "rust", "sqlite", "postgresql")},
-    "js": "bindings/js", "vectors": "vectors/test_vectors.py", "agreement": "bindings/test_agreement.py",
+    "js": "bindings/js", "vectors": "vectors", "agreement": "bindings/test_agreement.py",
     "command": "command/tests",
     **{part: f"tools/tests/test_{part}.py" for part in ("scale", "memory", "limits", "take")},
     "dist": "tools/tests/dist",
