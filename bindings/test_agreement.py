@@ -77,15 +77,16 @@ def in_sql(name, words, options, size):
 
 
 def by_command(calls, program):
-    """Returns what the command writes: one run for the sizes of all calls with the same options. The type of units is
-    always given, since `-H` chooses from both."""
+    """Returns what the command writes: one run for the sizes of all calls with the same options. `-H` has the type of
+    unit and the precision of the calls in which neither is given."""
     groups, texts = {}, {}
     for at, (name, words, options) in enumerate(calls):
         given = [f"-p{places}" for places in [options.get("precision")] if places is not None]
         if name == "adjusted_text":
             given += [f"--to={words[-1]}"]
         if name == "approximate_text":
-            given = [f"--to={TYPES[options.get('unit_type', 'binary')]}", *(given or ["-p1"])]
+            unit_type = [f"--to={TYPES[word]}" for word in [options.get("unit_type")] if word]
+            given = ["-H", *unit_type, *given]
         groups.setdefault((*given,), []).append(at)
     for given, places in groups.items():
         lines = "".join(f"{calls[at][1][0]}\n" for at in places).encode()

@@ -121,7 +121,7 @@ OPTIONS = {
     "human-readable": Option("H"),
     "from": Option("", "auto", lambda text, options: checked(
         text, text in ("auto", "si", "iec", "iec-i"), "not auto, si, iec or iec-i"), None),
-    "to": Option("", lambda options: "auto" if options.human_readable else "exact", form, None),
+    "to": Option("", lambda options: "iec" if options.human_readable else "exact", form, None),
     "no-unit": Option("", False, lambda text, options: checked(
         True, options.to == "plain" or options.to not in FORMS,
         "needs --to=plain or --to with a unit, such as --to=MiB", False)),

@@ -90,6 +90,12 @@ def without_human(got, case):
     return result_of(replace(case.call, words=words)) if case.options and words != case.call.words else got
 
 
+def human_of_both_types(got, case):
+    """Takes `-H` for `--to=auto -p 1`: a later `--to` holds."""
+    call = replace(case.call, words=["--to=auto", *case.call.words])
+    return result_of(call) if case.value("human_readable", False) else got
+
+
 def first_of_each(got, case):
     """Takes the first of `--to=..` for the last one."""
     uses = [word for word in case.call.words if word.startswith("--to=")]
@@ -162,6 +168,7 @@ WRONG = {
     "--max not by --from": ("max", lambda size, case: limit(
         case.options.texts["max"], SimpleNamespace(**{**vars(case.options), "from": "auto"}))),
     "-H ignored": ("all", lambda got, case: without_human(got, case)),
+    "-H in units of both types": ("all", lambda got, case: human_of_both_types(got, case)),
     "the first of an option": ("all", lambda got, case: first_of_each(got, case)),
     "the maximum exclusive": ("max", lambda size, case: max(0, size - 1)),
     "the greatest minimum ignored": ("min", lambda size, case: 0 if size == SIZE_LIMIT - 1 else size),

@@ -2,7 +2,7 @@
 use Rattle.std.specs.Prelude.{◌≡◌, ℕ, ◌≤◌, ⊤, ◌⊎◌, Bool, true, false, if◌then◌else◌, List, [], Option, None, Some}
 use Rattle.std.specs.Prelude.{MatchOption, unwrap_or, is_some, codes}
 use Rattle.std.specs.Borrow.{Bor}
-use Rattle.byte_unit.specs.declared.UnitType.TheVariants.{Both}
+use Rattle.byte_unit.specs.declared.UnitType.TheVariants.{Binary}
 use Rattle.byte_unit_command.specs.Meaning.{IsFrom, IsOutputForm, MeansNothing}
 use Rattle.byte_unit_command.specs.Meaning.{IsForm, IsNoForm, IsDelimiter, IsPadding, IsNoPadding}
 use Rattle.byte_unit_command.specs.Meaning.{IsMode, IsLimit, IsNoLimit}
@@ -18,9 +18,9 @@ use Rattle.byte_unit_command.specs.declared.wrong.ValueError.TheVariants.{Delimi
 use Rattle.byte_unit_command.specs.declared.wrong.ValueError.TheVariants.{NoDelimiter}
 use Rattle.byte_unit_command.specs.declared.wrong.Wrong.{Wrong}
 
--- the form without `--to`: `-H` means `--to=auto -p 1`, but for what `--to` and `-p` say
+-- the form without `--to`: `-H` means `--to=iec -p 1`, but for what `--to` and `-p` say
 abbrev pub form_without : Bool → Form
-form_without human_readable = if human_readable then Largest Both else Exact
+form_without human_readable = if human_readable then Largest Binary else Exact
 
 -- the precision: that of `-p`, or else 1 with `-H`
 abbrev pub precision_of : Bool → Option ℕ → Option ℕ

@@ -91,7 +91,7 @@ pub fn command<'a>(alloc: Global) -> Result<Command<'a>, AllocError>
                 .short('p')
                 .value_parser(value_parser!(u16)),
         )?
-        .arg(flag(alloc, "human-readable", "as --to=auto -p 1").short('H'))?
+        .arg(flag(alloc, "human-readable", "as --to=iec -p 1").short('H'))?
         .arg(value(alloc, "delimiter", "C", delimiter).short('d'))?
         .arg(flag(alloc, "blanks", blanks).conflicts_with("delimiter")?)?
         .arg(value(alloc, "field", "FIELDS", field).allow_hyphen_values(true))?

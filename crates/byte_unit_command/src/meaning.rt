@@ -113,7 +113,7 @@ fn form_of<'a>(values: &Values<'a>) -> Result<Form, Wrong<'a>>
     ensures err { IfErr result (IsWrongForm values.now) }
 {
     let default = if values.human_readable {
-        "auto"
+        "iec"
     } else {
         "exact"
     };

@@ -1,4 +1,4 @@
--- A value that is neither `auto` nor `exact` was given by `--to`.
+-- A value that is neither `iec` nor `exact` was given by `--to`.
 use Rattle.std.proofs.Common.{◌≡◌, ◌≢◌, ℕ, List, Option, None, Some, Bor, inr, refl, sym, ap, subst, ◌∙◌, rules}
 use Rattle.std.specs.Prelude.{unwrap_or}
 use Rattle.byte_unit.specs.declared.Unit.{Unit as UnitName}
@@ -20,13 +20,13 @@ within : (unit : UnitName) (precision : Option ℕ) → IsWithinExact (InUnit un
 within unit None = tt
 within unit (Some precision) = search rules
 
--- the value of `--to` is the name of a unit: neither `auto` nor `exact`, since those cases come first
+-- the value of `--to` is the name of a unit: neither `iec` nor `exact`, since those cases come first
 pub returns-in-Ok-clause-ok : goal.returns-in-Ok-clause-ok
 returns-in-Ok-clause-ok c =
     let values = c.args.values.now in
     let value = c.unwrap_or-value.result in
     let other : value.now ≢ c.if-values.default.now = elim c.if-values.branch [
-      | then-values w ↦ λ same. c.in_default.not-auto (same ∙ ap (λ text. text.now) w.default-is)
+      | then-values w ↦ λ same. c.in_default.not-iec (same ∙ ap (λ text. text.now) w.default-is)
       | else-values w ↦ λ same. c.in_default.not-exact (same ∙ ap (λ text. text.now) w.default-is)
     ] in
     let to = is_given values.to c.if-values.default value c.unwrap_or-value.ensures other in (
