@@ -1,7 +1,6 @@
 -- Lemmas: the loop over the lines that end in a chunk.
-use Rattle.std.proofs.Common.{◌≡◌, ◌*◌, ℕ, List, [], ◌∷◌, ◌++◌, ap, ◌∙◌, append_assoc}
+use Rattle.std.proofs.Common.{◌≡◌, ℕ, List, [], ◌∷◌, ◌++◌, ap, ◌∙◌, append_assoc}
 use Rattle.byte_unit_lines.specs.Answer.{Kind}
-use Rattle.byte_unit_lines.specs.Capacity.{answer_max}
 use Rattle.byte_unit_lines.specs.Answered.{AddsAnswer, AddsAnswers}
 use Rattle.byte_unit_lines.proofs.Answering.{AreAnswers-append, AreAnswers-single}
 
@@ -21,7 +20,3 @@ pub AddsAnswers-single : (kind : Kind) (line old : List ℕ) {new after : List �
     → after ≡ new → AddsAnswers kind (line ∷ []) old after
 AddsAnswers-single kind line old (answer, is_answer, new_is) after_is =
     (answer, AreAnswers-single kind line answer is_answer, after_is ∙ new_is)
-
--- the room for the answers to the lines that end in `rest` bytes, one for each byte, however long the part before is
-abbrev pub answers_room : ℕ → ℕ → ℕ
-answers_room part rest = answer_max * rest

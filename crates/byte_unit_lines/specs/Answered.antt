@@ -1,9 +1,6 @@
 -- Private: how far a run has come, step by step. No public contract cites this file.
-use Rattle.std.specs.Prelude.{◌≡◌, ℕ, ◌+◌, ◌≤◌, List, ◌++◌, Result, Ok, Err, OnErr, IsOk, ⊤}
-use Rattle.std.specs.Prelude.{vec_len, vec_capacity}
-use Rattle.std.specs.declared.vec.Vec.{Vec}
+use Rattle.std.specs.Prelude.{◌≡◌, ℕ, List, ◌++◌, Result, Ok, Err, ⊤}
 use Rattle.byte_unit_lines.specs.Answer.{Kind, IsAnswer}
-use Rattle.byte_unit_lines.specs.Capacity.{answer_max}
 use Rattle.byte_unit_lines.specs.Report.{AreAnswers}
 use Rattle.byte_unit_lines.specs.RunOutput.{AnswerFirst}
 use Rattle.byte_unit_lines.specs.declared.report.RunError.{RunError}
@@ -13,14 +10,6 @@ use Rattle.byte_unit_stream.specs.Beginnings.{IsBeginningOf}
 -- the answer to the line was appended
 abbrev pub AddsAnswer : Kind → List ℕ → List ℕ → List ℕ → Type 0
 AddsAnswer kind line old new = (answer : List ℕ) × IsAnswer kind line answer × (new ≡ old ++ answer)
-
--- a vector grew by at most an answer, and by nothing if allocation failed, which it does not if there was capacity for
--- one
-pub record GrowsByAnswer {E Z : Type 0} (old new : Vec ℕ Z) (result : Result ⊤ E) : Type 0 where
-  pub err : OnErr result (new.items ≡ old.items)
-  pub succeeds : vec_len old + answer_max ≤ vec_capacity old → IsOk result
-  pub len : vec_len new ≤ vec_len old + answer_max
-  pub capacity : vec_capacity old ≤ vec_capacity new
 
 -- the answers to these lines were appended
 abbrev pub AddsAnswers : Kind → List (List ℕ) → List ℕ → List ℕ → Type 0

@@ -1,6 +1,5 @@
 -- The definitions that the contracts of this crate are written in: answers, reports and the ends of a run.
 pub mod Answer
-pub mod Capacity
 pub mod Ending
 pub mod Laws
 pub mod Lines

@@ -1,6 +1,6 @@
 -- The lines of an input, which is a list of bytes. They are the records that end at the byte 0A.
 use Rattle.std.specs.Prelude.{ℕ, List}
-use Rattle.byte_unit_stream.specs.Records.{records_of, finished_records, longest_record}
+use Rattle.byte_unit_stream.specs.Records.{records_of, finished_records}
 
 -- the byte that ends a line
 abbrev pub line_end : ℕ
@@ -13,7 +13,3 @@ lines_of bytes = records_of line_end bytes
 -- the lines of an input that have a line end
 abbrev pub finished_lines : List ℕ → List (List ℕ)
 finished_lines bytes = finished_records line_end bytes
-
--- the number of bytes of the longest line of an input; 0 if there is none
-abbrev pub longest_line : List ℕ → ℕ
-longest_line bytes = longest_record line_end bytes

@@ -1,11 +1,16 @@
--- What a run has written, by what it has read and how it ended.
-use Rattle.std.specs.Prelude.{ℕ, List, Result, Ok, Err, ⊤}
+-- What a run has written, by what it has read and how it ended; and empty buffers.
+use Rattle.std.specs.Prelude.{◌≡◌, ℕ, List, [], Result, Ok, Err, ⊤}
 use Rattle.byte_unit_lines.specs.Answer.{Kind}
 use Rattle.byte_unit_lines.specs.Lines.{finished_lines}
 use Rattle.byte_unit_lines.specs.Report.{AreAnswers, IsReport}
+use Rattle.byte_unit_lines.specs.declared.report.Buffers.{Buffers}
 use Rattle.byte_unit_lines.specs.declared.report.RunError.{RunError}
 use Rattle.byte_unit_lines.specs.declared.report.RunError.TheVariants.{Memory, Read, Write}
 use Rattle.byte_unit_stream.specs.Beginnings.{IsBeginningOf}
+
+-- no line has begun, and no answer waits
+abbrev pub AreEmpty : {Z : Type 0} → Buffers Z → Type 0
+AreEmpty buffers = (buffers.line.items ≡ []) × (buffers.waiting.items ≡ [])
 
 -- the answers to the first of these lines, for some number of them, each answer whole
 abbrev pub AnswerFirst : Kind → List (List ℕ) → List ℕ → Type 0

@@ -1,18 +1,18 @@
 //! The answer to one line.
 
-ghost use Rattle.std.specs.Prelude.{◌≡◌, ◌∷◌, [], ◌++◌, OnOk, cond, take};
+ghost use Rattle.std.specs.Prelude.{◌≡◌, ◌∷◌, [], ◌++◌, OnErr, OnOk, cond, take};
 ghost use Rattle.byte_unit.specs.Errors.{size_fault};
 ghost use Rattle.byte_unit.specs.Line.{IsLine};
 ghost use Rattle.byte_unit_lines.specs.Answer.{words_of};
 ghost use Rattle.byte_unit_lines.specs.Lines.{line_end};
-ghost use Rattle.byte_unit_lines.specs.Answered.{AddsAnswer, GrowsByAnswer};
+ghost use Rattle.byte_unit_lines.specs.Answered.{AddsAnswer};
 
 use byte_unit::{Kind, ParseError, ValueParseError, parse_line, write_with_digits};
 use std::alloc::{AllocError, Allocator};
 
 /// A bound on the length in bytes of an answer: two strings of at most 37 bytes, ` = ` between them, and the line end.
 /// No text of a size without a width is longer than 37 bytes.
-pub(crate) const ANSWER_MAX: usize = 78;
+const ANSWER_MAX: usize = 78;
 
 /// Appends the answer to the line at the beginning of bytes, its first `len` bytes, with its line end.
 ///
@@ -20,8 +20,7 @@ pub(crate) const ANSWER_MAX: usize = 78;
 /// there is none.
 ///
 /// # Errors
-/// Returns `AllocError`, and appends nothing, if allocation fails. It never does if `out` has capacity for
-/// [`ANSWER_MAX`] bytes more.
+/// Returns `AllocError`, and appends nothing, if allocation fails.
 pub(crate) fn add_answer<A: Allocator>(
     bytes: &[u8],
     len: usize,
@@ -30,7 +29,7 @@ pub(crate) fn add_answer<A: Allocator>(
 ) -> Result<(), AllocError>
     requires { IsLine bytes.now len }
     ensures ok { OnOk result (AddsAnswer kind (take len bytes.now) out.old.items out.new.items) }
-    ensures growth { GrowsByAnswer out.old out.new result }
+    ensures err { OnErr result (out.new.items ≡ out.old.items) }
 {
     match kind {
         Kind::Byte => add_answer_of::<false, A>(bytes, len, out),
@@ -50,7 +49,7 @@ fn add_answer_of<const BITS: bool, A: Allocator>(
     requires { IsLine bytes.now len }
     ensures ok { OnOk result (AddsAnswer (cond BITS Kind.Bit Kind.Byte)
         (take len bytes.now) out.old.items out.new.items) }
-    ensures growth { GrowsByAnswer out.old out.new result }
+    ensures err { OnErr result (out.new.items ≡ out.old.items) }
 {
     let kind = if BITS { Kind::Bit } else { Kind::Byte };
     // Prefixes mean what they say (`::<false>`), and case counts.

@@ -2,19 +2,17 @@
 //!
 //! The memory of [`Buffers`] is kept from one read to the next.
 
-ghost use Rattle.std.specs.Prelude.{◌≡◌, ◌+◌, ◌*◌, ◌<◌, ◌≤◌, ℕ, List, [], length};
-ghost use Rattle.std.specs.Prelude.{IsTrue, IsOk, IsErrOf, IfOk, OnOk, OnErr};
-ghost use Rattle.std.specs.Prelude.{vec_len, vec_capacity};
-ghost use Rattle.byte_unit_lines.specs.Capacity.{AreEmpty, HaveCapacity, answer_max};
-ghost use Rattle.byte_unit_lines.specs.Lines.{line_end, longest_line};
-ghost use Rattle.byte_unit_lines.specs.RunOutput.{IsWritten};
+ghost use Rattle.std.specs.Prelude.{◌≡◌, ◌<◌, ℕ, List, [], length};
+ghost use Rattle.std.specs.Prelude.{IsTrue, IsErrOf, OnOk};
+ghost use Rattle.byte_unit_lines.specs.Lines.{line_end};
+ghost use Rattle.byte_unit_lines.specs.RunOutput.{AreEmpty, IsWritten};
 ghost use Rattle.byte_unit_lines.specs.Answered.{AddsAnswers, AddsFirst, IsAnswered};
 ghost use Rattle.byte_unit_stream.specs.Chunks.{ended_records, begun_record};
 ghost use Rattle.byte_unit_stream.specs.Streams.{HasRead, HasReadAll, reading_failed};
 ghost use Rattle.byte_unit_stream.specs.Streams.{HasWritten, writing_failed};
 
 use crate::laws::each_line_has_an_answer;
-use crate::line::{ANSWER_MAX, add_answer};
+use crate::line::add_answer;
 use byte_unit::Kind;
 use byte_unit_stream::{FusedReader, FusedWriter, end_of, write_whole};
 use std::alloc::{AllocError, Allocator, Global};
@@ -94,78 +92,19 @@ pub fn run<R: Read, W: Write>(
 {
     let mut buffer = [0u8; CHUNK];
     let mut buffers = Buffers::new(alloc);
-    // `usize::MAX`: lines of any length.
-    run_with_buffers(&mut buffers, usize::MAX, &mut buffer, reader, writer, kind)
+    run_with_buffers(&mut buffers, &mut buffer, reader, writer, kind)
 }
 
-/// Does what [`run`] does, with any allocator, for lines of at most `longest` bytes, in reads of at most the length of
-/// `buffer`, and without an allocation after the start.
-///
-/// At the start it allocates `longest` bytes and 79 times the length of `buffer`: once for a line, and 78 times for the
-/// answers, since each byte of a read may end a line.
-///
-/// Precondition (proved at every call): `buffer` is not empty.
-///
-/// # Errors
-///
-/// Returns `Err(AllocError)` if an allocation at the start fails, or its length exceeds `usize::MAX`; nothing has been
-/// read or written then. No contract of std says when an allocation succeeds: that this error is returned for no other
-/// reason is tested, not proved.
-///
-/// The inner result is that of the run, with the errors of [`run`]. There `Memory` means that more than `longest` bytes
-/// of a line have been read without its line end, and so that the line is longer than `longest`. A longer line is
-/// answered only if the read in which it exceeds `longest` returns its line end too, and so never if it has at least as
-/// many bytes as `longest` and the length of `buffer` together.
-pub fn run_with_capacity<A: Allocator, R: Read, W: Write>(
-    alloc: &A,
-    longest: usize,
-    buffer: &mut [u8],
-    reader: &mut FusedReader<R>,
-    writer: &mut FusedWriter<W>,
-    kind: Kind,
-) -> Result<Result<(), RunError>, AllocError>
-    requires { 0 < length buffer.old }
-    ensures run { IfOk result (λ ended. (read written : List ℕ)
-        × HasRead R.remaining reader.old reader.new read
-        × HasWritten W.contents writer.old writer.new written
-        × IsWritten kind read ended written) }
-    ensures memory { IfOk result (λ ended. IsErrOf ended RunError.Memory → (read : List ℕ)
-        × HasRead R.remaining reader.old reader.new read × (longest < longest_line read)) }
-    ensures bound { IfOk result (λ ended. OnOk ended ((read : List ℕ)
-        × HasRead R.remaining reader.old reader.new read
-        × (longest_line read < longest + length buffer.old))) }
-    ensures end { IfOk result (λ ended. OnOk ended (HasReadAll R.remaining reader.new)) }
-    ensures read_failed { IfOk result
-        (λ ended. IsErrOf ended RunError.Read → IsTrue (reading_failed reader.new)) }
-    ensures write_failed { IfOk result
-        (λ ended. IsErrOf ended RunError.Write → IsTrue (writing_failed writer.new)) }
-    ensures unstarted { OnErr result ((reader.new ≡ reader.old) × (writer.new ≡ writer.old)) }
-{
-    let mut buffers = Buffers::new(alloc);
-    let chunk = buffer.len();
-    buffers
-        .line
-        .try_reserve_exact(longest.checked_add(chunk).ok_or(AllocError)?)?;
-    buffers
-        .waiting
-        .try_reserve_exact(chunk.checked_mul(ANSWER_MAX).ok_or(AllocError)?)?;
-    Ok(run_with_buffers(&mut buffers, longest, buffer, reader, writer, kind))
-}
-
-/// Does what [`run`] does, for lines of at most `longest` bytes, in the caller's buffers; it reads into `buffer`.
+/// Does what [`run`] does, with any allocator, in the caller's buffers; it reads into `buffer`.
 ///
 /// The buffers may be those of an earlier run, whatever its result: what they hold is dropped first.
 ///
 /// Precondition (proved at every call): `buffer` is not empty.
 ///
 /// # Errors
-///
-/// Those of [`run`], and `Memory` if more than `longest` bytes of a line have been read without its line end. `Memory`
-/// is returned for no other reason if `buffers.line` has capacity for `longest` bytes and a `buffer` more, and
-/// `buffers.waiting` for 78 times the length of `buffer`.
+/// Those of [`run`].
 pub fn run_with_buffers<A: Allocator, R: Read, W: Write>(
     buffers: &mut Buffers<A>,
-    longest: usize,
     buffer: &mut [u8],
     reader: &mut FusedReader<R>,
     writer: &mut FusedWriter<W>,
@@ -176,13 +115,6 @@ pub fn run_with_buffers<A: Allocator, R: Read, W: Write>(
         × HasRead R.remaining reader.old reader.new read
         × HasWritten W.contents writer.old writer.new written
         × IsWritten kind read result written }
-    ensures memory { longest + length buffer.old ≤ vec_capacity buffers.old.line
-        → answer_max * length buffer.old ≤ vec_capacity buffers.old.waiting
-        → IsErrOf result RunError.Memory → (read : List ℕ)
-        × HasRead R.remaining reader.old reader.new read × (longest < longest_line read) }
-    ensures bound { OnOk result ((read : List ℕ)
-        × HasRead R.remaining reader.old reader.new read
-        × (longest_line read < longest + length buffer.old)) }
     ensures end { OnOk result (HasReadAll R.remaining reader.new) }
     ensures read_failed { IsErrOf result RunError.Read → IsTrue (reading_failed reader.new) }
     ensures write_failed { IsErrOf result RunError.Write → IsTrue (writing_failed writer.new) }
@@ -205,9 +137,6 @@ pub fn run_with_buffers<A: Allocator, R: Read, W: Write>(
                     }
                 }
             }
-        }
-        if buffers.line.len() > longest {
-            return Err(RunError::Memory);
         }
     }
     if buffers.line.is_empty() {
@@ -246,10 +175,6 @@ fn answer_piece<A: Allocator, W: Write>(
     ensures line { OnOk result (line.new.items ≡ begun_record line_end line.old.items bytes.now) }
     ensures waiting { OnOk result (waiting.new.items ≡ []) }
     ensures failed { IsErrOf result RunError.Write → IsTrue (writing_failed writer.new) }
-    ensures memory { HaveCapacity (vec_len line.old) (length bytes.now) line.old waiting.old
-        → ¬ IsErrOf result RunError.Memory }
-    ensures line_capacity { vec_capacity line.old ≤ vec_capacity line.new }
-    ensures waiting_capacity { vec_capacity waiting.old ≤ vec_capacity waiting.new }
 {
     let fed = feed(line, bytes, kind, waiting);
     // If allocation failed, the answers to the lines before are written all the same.
@@ -276,10 +201,6 @@ fn feed<A: Allocator>(
     ensures ok { OnOk result (AddsAnswers kind (ended_records line_end line.old.items bytes.now)
         waiting.old.items waiting.new.items) }
     ensures line { OnOk result (line.new.items ≡ begun_record line_end line.old.items bytes.now) }
-    ensures succeeds { HaveCapacity (vec_len line.old) (length bytes.now) line.old waiting.old
-        → IsOk result }
-    ensures line_capacity { vec_capacity line.old ≤ vec_capacity line.new }
-    ensures waiting_capacity { vec_capacity waiting.old ≤ vec_capacity waiting.new }
 {
     let mut rest = bytes;
     while let Some(n) = end_of(rest, LINE_END) {

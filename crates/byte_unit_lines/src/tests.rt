@@ -16,7 +16,7 @@ macro_rules! rows {
     };
 }
 
-mod capacity;
+mod again;
 mod chunks;
 mod ended;
 mod endings;

@@ -103,14 +103,13 @@ pub fn ran_in<'a, A: Allocator>(
 {
     let mut buffers = Buffers::new(heap);
     let paces = (reads, writes);
-    ran_with(alloc, &mut buffers, usize::MAX, buffer, input, paces)
+    ran_with(alloc, &mut buffers, buffer, input, paces)
 }
 
-/// Runs as `ran_in` does, in these buffers, for lines of at most `longest` bytes.
+/// Runs as `ran_in` does, in these buffers.
 pub fn ran_with<'a, A: Allocator>(
     alloc: Global,
     buffers: &mut Buffers<A>,
-    longest: usize,
     buffer: &mut [u8],
     input: &'a [u8],
     paces: (Pace, Pace),
@@ -118,14 +117,7 @@ pub fn ran_with<'a, A: Allocator>(
     requires { 0 < length buffer.old }
 {
     let (mut reader, mut writer) = streams(alloc, input, paces.0, paces.1);
-    let result = run_with_buffers(
-        buffers,
-        longest,
-        buffer,
-        &mut reader,
-        &mut writer,
-        Kind::Byte,
-    );
+    let result = run_with_buffers(buffers, buffer, &mut reader, &mut writer, Kind::Byte);
     Ended::new(result, reader, writer)
 }
 

@@ -1,24 +1,21 @@
 -- Each iteration appends the answer to one line, the first of the rest: with the part that was read before, or alone.
--- The capacity that is left covers the lines that are left. Of the invariant, `.0` are the bounds (`IsFedWithin`), and
--- `.1` is what was answered. `.ok.0` of a vector: its length is that of its items.
-use Rattle.std.proofs.Common.{◌+◌, ◌-◌, ℕ, List, length, take, drop, ap, ◌∙◌, arith, length-drop, vec_len}
-use Rattle.std.specs.Prelude.{vec_capacity}
+-- `.ok.0` of a vector: its length is that of its items.
+use Rattle.std.proofs.Common.{◌+◌, ◌-◌, ℕ, List, length, take, drop, ap, ◌∙◌, arith, vec_len}
 use Rattle.std.proofs.lemmas.List.{take_all, take_rest}
 use Rattle.byte_unit_lines.specs.Lines.{line_end}
 use Rattle.byte_unit_lines.proofs.Feeding.{AddsAnswers-append, AddsAnswers-single}
-use Rattle.byte_unit_stream.proofs.Feeding.{Feed, IsFed-step, IsFedWithin-step, IsNext, IsNext-alone}
+use Rattle.byte_unit_stream.proofs.Feeding.{Feed, IsFed-step, IsNext, IsNext-alone}
 use Rattle.byte_unit_stream.proofs.ChunkRecords.{empty_from_length}
 use Rattle.byte_unit_lines.proofs.report.feed.Goals.{then-is_empty+in_ok-add_answer}
 use Rattle.byte_unit_lines.proofs.report.feed.Goals.{else-is_empty+in_ok-extend_from_slice+in_ok-add_answer-2}
 use Rattle.byte_unit_lines.proofs.report.feed.Goals as goal
 
--- the invariant, a pair of the growth of the buffers and of what is fed, holds after one more line
+-- the invariant holds after one more line
 pub loop-n-preserved : goal.loop-n-preserved
 loop-n-preserved g c =
     -- the place of the line end, which lies in the rest
     let place = c.in-Some.n in
     let ends = c.in-Some.ensures.some in
-    let within = ends.0 in
     let rest = c.loop-n.rest.now in
     let part = c.loop-n.line in
     let append = AddsAnswers-append c.args.kind in
@@ -28,10 +25,8 @@ loop-n-preserved g c =
       rest = take (length rest - (place + 1)) (drop (place + 1) rest);
       state = c.if-is_empty.waiting.items;
     } in
-    -- the rest that is left, as the slice in the code and as a `drop`: shorter by the line and its line end
+    -- the rest that is left, as the slice in the code and as a `drop`
     let rest_is = take_rest rest (place + 1) in
-    let left = ap length rest_is ∙ length-drop (place + 1) rest in
-    let so_far = c.loop-n.invariant in
     -- the cases of the `if`: the line lies wholly in this chunk, or has begun in an earlier one
     elim c.if-is_empty.branch [
       | then-is_empty+in_ok-add_answer w ↦
@@ -39,15 +34,8 @@ loop-n-preserved g c =
           let none = empty_from_length part.items (vec_len part) part.ok.0 w.if-is_empty.ensures in
           let answer = AddsAnswers-single c.args.kind (take place rest) now.state w.in_ok-add_answer.ensures.ok
           (ap (λ waiting. waiting.items) w.waiting-is) in
-          let growth = w.add_answer.ensures.growth in (
-            IsFedWithin-step so_far.0 place within left
-                (ap (λ line. vec_len line) w.line-is ∙ (part.ok.0 ∙ ap length none))
-                (omega (arith, ap (λ waiting. vec_len waiting) w.waiting-is, growth.len, within))
-                (omega (arith, ap (λ line. vec_capacity line) w.line-is))
-                (omega (arith, ap (λ waiting. vec_capacity waiting) w.waiting-is, growth.capacity)),
-            IsFed-step so_far.1 (IsNext-alone line_end now place ends none) append next answer
-                (ap (λ line. line.items) w.line-is ∙ none) rest_is,
-          )
+          IsFed-step c.loop-n.invariant (IsNext-alone line_end now place ends none) append next answer
+          (ap (λ line. line.items) w.line-is ∙ none) rest_is
       | else-is_empty+in_ok-extend_from_slice+in_ok-add_answer-2 w ↦
           -- the buffer `line`, with the rest of the line appended, is answered whole and then cleared
           let line = take w.len.result w.deref.result.now in
@@ -58,14 +46,6 @@ loop-n-preserved g c =
           } in
           let answer = AddsAnswers-single c.args.kind line now.state w.in_ok-add_answer-2.ensures.ok
           (ap (λ waiting. waiting.items) w.waiting-is) in
-          let kept = ap (λ line. vec_capacity line) w.line-is in
-          let extended = w.extend_from_slice.ensures.capacity in
-          let growth = w.add_answer-else-is_empty.ensures.growth in (
-            IsFedWithin-step so_far.0 place within left (ap (λ line. vec_len line) w.line-is ∙ w.clear.ensures.len)
-                (omega (arith, ap (λ waiting. vec_len waiting) w.waiting-is, growth.len, within))
-                (omega (arith, kept, extended, w.clear.ensures.capacity))
-                (omega (arith, ap (λ waiting. vec_capacity waiting) w.waiting-is, growth.capacity)),
-            IsFed-step so_far.1 is_next append next answer (ap (λ line. line.items) w.line-is ∙ w.clear.ensures.items)
-                rest_is,
-          )
+          IsFed-step c.loop-n.invariant is_next append next answer
+          (ap (λ line. line.items) w.line-is ∙ w.clear.ensures.items) rest_is
     ]

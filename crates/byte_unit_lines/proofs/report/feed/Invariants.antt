@@ -1,16 +1,14 @@
--- The lines before the rest are answered, and the buffers have grown by no more than these lines allow.
+-- The lines before the rest are answered; the rest gets shorter.
 use Rattle.std.proofs.Common.{length}
 use Rattle.byte_unit_lines.specs.Answered.{AddsAnswers}
 use Rattle.byte_unit_lines.specs.Lines.{line_end}
-use Rattle.byte_unit_lines.proofs.Feeding.{answers_room}
-use Rattle.byte_unit_stream.proofs.Feeding.{IsFed, IsFedWithin}
+use Rattle.byte_unit_stream.proofs.Feeding.{IsFed}
 use Rattle.byte_unit_lines.proofs.report.feed.Given as goal
 
--- against the state at the start: the growth of the buffers is bounded, and the lines before `rest` are answered
+-- against the state at the start: the lines before `rest` are answered
 abbrev pub invariant-loop-n : goal.invariant-loop-n
 invariant-loop-n g l =
-    IsFedWithin answers_room l.initial.line l.initial.waiting l.bytes l.line l.waiting l.rest
-    × IsFed line_end (AddsAnswers l.kind)
+    IsFed line_end (AddsAnswers l.kind)
     (record { part = l.initial.line.items; rest = l.bytes; state = l.initial.waiting.items })
     (record { part = l.line.items; rest = l.rest; state = l.waiting.items })
 

@@ -1,26 +1,21 @@
 -- Each read is served: the answers to the lines that end in it are written, and the line that it has begun waits.
--- `Memory` is not returned while the lines are no longer than the limit. Of the invariant, `.0` is what was served, and
--- `.1` are the bounds (`IsWithin`). `.ok.0` of a vector: its length is that of its items.
-use Rattle.std.proofs.Common.{◌≡◌, ◌≢◌, ◌≤◌, [], ◌++◌, refl, sym, ap, subst, ◌∙◌, take, length, vec_len, arith, rules}
-use Rattle.std.proofs.lemmas.List.{length-take, take_all}
-use Rattle.std.proofs.lemmas.Result.{on_ok_weaker}
+-- `.ok.0` of a vector: its length is that of its items.
+use Rattle.std.proofs.Common.{◌≡◌, ◌≢◌, [], ◌++◌, refl, sym, ap, subst, ◌∙◌, take, vec_len, arith, rules}
+use Rattle.std.proofs.lemmas.List.{take_all}
 use Rattle.std.proofs.KnownBytes.{Appends-trans, Consumes-kept, Consumes-trans}
 use Rattle.byte_unit_lines.specs.Answer.{IsAnswer}
 use Rattle.byte_unit_lines.specs.declared.report.RunError.TheVariants.{Memory, Write}
 use Rattle.byte_unit_lines.proofs.Runs.{Course, IsServed, course_of, HasServed-piece}
 use Rattle.byte_unit_lines.proofs.Runs.{IsWritten-piece, IsWritten-error, IsWritten-last_line}
 use Rattle.byte_unit_lines.proofs.Runs.{report_without_last_line, first_lines_answered, HasServed-at_end}
-use Rattle.byte_unit_lines.specs.Lines.{line_end}
 use Rattle.byte_unit_stream.proofs.Bytes.{IsWrittenBy}
-use Rattle.byte_unit_stream.proofs.Longest.{IsWithin-piece, longest_record-unfinished, longest_record-within}
-use Rattle.byte_unit_stream.proofs.ChunkRecords.{begun_record-piece, empty_from_length, nonempty_from_length}
+use Rattle.byte_unit_stream.proofs.ChunkRecords.{empty_from_length, nonempty_from_length}
 use Rattle.byte_unit_lines.proofs.report.run_with_buffers.Goals as goal
 
 -- a read failed: the answers to all finished lines of what was read before are written
 pub returns-in-None-clause-run : goal.returns-in-None-clause-run
 returns-in-None-clause-run g c =
-    -- the invariant is a pair: what was served, and the bounds (`IsWithin`)
-    let so_far = c.reads.invariant.0 in (
+    let so_far = c.reads.invariant in (
       so_far.read,
       so_far.written,
       Consumes-kept _ _ _ so_far.read so_far.gave c.in-None.ensures.none,
@@ -30,94 +25,30 @@ returns-in-None-clause-run g c =
 
 -- the invariant holds at the start: nothing is read or written, and both buffers were cleared
 pub reads-init : goal.reads-init
-reads-init g c = let first = c.clear.ensures in let second = c.clear-2.ensures in (
-  record {
-    read = [];
-    written = [];
-    gave = search rules;
-    took = search rules;
-    served = record { answered = refl; begun = search (rules, first.items, second.items) };
-    none_wait = search (rules, first.items, second.items);
-  },
-  record {
-    finished = omega (arith, c.requires);
-    unfinished = omega (arith, first.len, second.len);
-    part_capacity = omega (arith, first.capacity, second.capacity);
-    waiting_capacity = omega (arith, first.capacity, second.capacity);
-  },
-)
+reads-init g c = let first = c.clear.ensures in let second = c.clear-2.ensures in record {
+  read = [];
+  written = [];
+  gave = search rules;
+  took = search rules;
+  served = record { answered = refl; begun = search (rules, first.items, second.items) };
+  none_wait = search (rules, first.items, second.items);
+}
 
--- the invariant holds after a read whose lines were answered, and whose unfinished line is at most `longest`
+-- the invariant holds after a read whose lines were answered
 pub reads-preserved : goal.reads-preserved
 reads-preserved g c =
-    let so_far = c.reads.invariant.0 in
     let piece = take c.in-Some.n c.read.new.buf in
     let fed = c.in-Ok.ensures in
     -- a triple: the bytes that were written, that they were appended to the writer, and that they are the answers
     let answers = fed.written in
-    let line = c.answer_piece.new.line in
-    -- the bytes of this read are no more than `buffer` holds
-    let short : length piece ≤ length c.args.buffer.now =
-    omega (arith, length-take c.in-Some.n c.read.new.buf, c.read.auto.buf, c.reads.auto.buffer) in (
-      HasServed-piece so_far _ _ piece answers.0 line.items c.answer_piece.new.waiting.items c.in-Some.ensures.came
-          answers.1 answers.2 fed.line fed.waiting,
-      IsWithin-piece c.reads.invariant.1 so_far.served.begun piece short
-          (omega (arith, c.if-len-longest.false, c.len.ensures)) fed.line_capacity fed.waiting_capacity,
-    )
-
--- the unfinished line exceeds `longest`: the answers to all finished lines are written, as `Memory` allows
-pub returns-then-len-longest-clause-run : goal.returns-then-len-longest-clause-run
-returns-then-len-longest-clause-run g c =
-    let so_far = c.reads.invariant.0 in
-    let piece = take c.in-Some.n c.read.new.buf in
-    let fed = c.in-Ok.ensures in
-    let answers = fed.written in
-    -- what is served with this read
-    let next = HasServed-piece so_far _ _ piece answers.0 c.answer_piece.new.line.items c.answer_piece.new.waiting.items
-    c.in-Some.ensures.came answers.1 answers.2 fed.line fed.waiting in
-    (next.read, next.written, next.gave, next.took, first_lines_answered c.args.kind (course_of next) next.served)
-
--- the unfinished line exceeds `longest`: what was read has a line that is longer than `longest`
-pub returns-then-len-longest-clause-memory : goal.returns-then-len-longest-clause-memory
-returns-then-len-longest-clause-memory g c = λ _ _ _.
-    let so_far = c.reads.invariant.0 in
-    let piece = take c.in-Some.n c.read.new.buf in
-    let read = so_far.read ++ piece in
-    let line = c.answer_piece.new.line in
-    let fed = c.in-Ok.ensures in
-    let begun = fed.line ∙ begun_record-piece line_end so_far.read so_far.served.begun piece in
-    -- the unfinished line is no longer than the longest line
-    let long = longest_record-unfinished line_end read line.items begun in (
-      read,
-      Consumes-trans _ _ _ so_far.read piece so_far.gave c.in-Some.ensures.came,
-      omega (arith, long, c.if-len-longest.true, c.len.ensures, line.ok.0),
-    )
-
--- the input has ended, not in a line: each line that was read is shorter than `longest` and a `buffer` together
-pub returns-then-is_empty-clause-bound : goal.returns-then-is_empty-clause-bound
-returns-then-is_empty-clause-bound g c =
-    let so_far = c.reads.invariant.0 in
-    -- the read returned no byte
-    let end = c.in-Some-eq0 in (
-      so_far.read,
-      HasServed-at_end so_far _ c.read.new.buf end.ensures.came end.field-0-test,
-      longest_record-within c.reads.invariant.1 so_far.served.begun c.requires,
-    )
-
--- the input has ended in a line: on `Ok` each line that was read is shorter than `longest` and a `buffer` together
-pub returns-in_ok-add_answer-clause-bound : goal.returns-in_ok-add_answer-clause-bound
-returns-in_ok-add_answer-clause-bound g c =
-    let so_far = c.reads.invariant.0 in
-    let end = c.in-Some-eq0 in
-    let gave = HasServed-at_end so_far _ c.read.new.buf end.ensures.came end.field-0-test in
-    let below = longest_record-within c.reads.invariant.1 so_far.served.begun c.requires in
-    on_ok_weaker c.write_whole.result (λ _. (so_far.read, gave, below)) c.write_whole.ensures.ok
+    HasServed-piece c.reads.invariant _ _ piece answers.0 c.answer_piece.new.line.items
+    c.answer_piece.new.waiting.items c.in-Some.ensures.came answers.1 answers.2 fed.line fed.waiting
 
 -- the lines of a read could not all be answered: what is written is what the error allows
 pub returns-in-Err-clause-run : goal.returns-in-Err-clause-run
 returns-in-Err-clause-run g c =
     let each = c.each_line_has_an_answer.ensures in
-    let so_far = c.reads.invariant.0 in
+    let so_far = c.reads.invariant in
     let piece = take c.in-Some.n c.read.new.buf in
     -- a triple: the bytes that were written for this read, that they were appended, and that they answer its lines as
     -- far as the error allows
@@ -132,7 +63,7 @@ returns-in-Err-clause-run g c =
 -- the input has ended, not in a line: the report on what was read is written
 pub returns-then-is_empty-clause-run : goal.returns-then-is_empty-clause-run
 returns-then-is_empty-clause-run g c =
-    let so_far = c.reads.invariant.0 in
+    let so_far = c.reads.invariant in
     let end = c.in-Some-eq0 in
     let line = c.reads.buffers.line in
     -- there is no unfinished line; `line.ok.0` says that the length of a vector is that of its items
@@ -147,7 +78,7 @@ returns-then-is_empty-clause-run g c =
 -- allocation failed for the answer to the last line: the answers to all finished lines are written
 pub returns-in_err-add_answer-clause-run : goal.returns-in_err-add_answer-clause-run
 returns-in_err-add_answer-clause-run g c =
-    let so_far = c.reads.invariant.0 in
+    let so_far = c.reads.invariant in
     let end = c.in-Some-eq0 in
     -- `result` is the error that `?` returns; the second part of its contract says that it is `Memory`
     let error = c.from_residual in
@@ -162,7 +93,7 @@ returns-in_err-add_answer-clause-run g c =
 -- the input has ended in a line: what is written for it is right for the result of the last write
 pub returns-in_ok-add_answer-clause-run : goal.returns-in_ok-add_answer-clause-run
 returns-in_ok-add_answer-clause-run g c =
-    let so_far = c.reads.invariant.0 in
+    let so_far = c.reads.invariant in
     let end = c.in-Some-eq0 in
     -- the last line, as the slice that is answered
     let line = c.deref.result.now in
