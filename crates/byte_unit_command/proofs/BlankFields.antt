@@ -1,7 +1,7 @@
 -- Lemmas: the fields between blanks.
 use Rattle.std.proofs.Common.{◌≡◌, ℕ, suc, ◌+◌, ◌<◌, ◌≤◌, Bool, true, false, not, ◌&&◌, cond, List, [], ◌∷◌, ◌++◌, take}
 use Rattle.std.proofs.Common.{drop, get_or, length, refl, sym, ap, ◌∙◌, append_assoc, append-nil, arith, inl, inr, zero}
-use Rattle.std.proofs.Common.{◌-◌, length-take, take_all, eq-or-lt_of_le, drop-cons}
+use Rattle.std.proofs.Common.{◌-◌, take_all, eq-or-lt_of_le, drop-cons}
 use Rattle.std.proofs.Math.Bool.{and-false}
 use Rattle.std.proofs.lemmas.List.{drop_all, take_more}
 use Rattle.std.specs.List.{onto_first}
@@ -103,19 +103,6 @@ module _ (options : Options) (at : at_blanks options ≡ true) where
   -- if the options split at blanks, there are no bytes between two fields
   pub between_of-blanks : between_of options ≡ []
   between_of-blanks = ap (λ blanks. bytes_between blanks options.delimiter) at
-
--- the blank that separates a field is one of its bytes
-pub gap-short : (later : Bool) (field : List ℕ) → length (cond later (take 1 field) []) ≤ length field
-gap-short true field = omega (arith, length-take 1 field)
-gap-short false field = omega arith
-
--- the columns of a field, with the blank that separates it, are no more than its bytes
-pub gap-columns : (later : Bool) (field : List ℕ) → length (cond later (take 1 field) [])
-    + cond later (length field - 1) (cond (begins_blank field) (length field) 0) ≤ length field
-gap-columns true field = omega (arith, length-take 1 field)
-gap-columns false field =
-    elim (begins_blank field) as (λ blank. length {A = ℕ} [] + cond blank (length field) 0 ≤ length field)
-    [ true ↦ omega arith | false ↦ omega arith ]
 
 -- the first byte says whether there is a blank at the beginning
 pub begins_blank-first : (bytes : List ℕ) (default : ℕ) → 0 < length bytes

@@ -1,15 +1,13 @@
 -- Lemmas: the loop over the records that end in a chunk.
-use Rattle.std.proofs.Common.{◌≡◌, ℕ, ◌+◌, List, [], ◌∷◌, drop, sym, subst}
+use Rattle.std.proofs.Common.{◌≡◌, ℕ, ◌+◌, List, [], drop, sym, subst}
 use Rattle.std.proofs.Common.{◌⊎◌, inl, inr}
 use Rattle.byte_unit_stream.specs.Chunks.{ended_records}
-use Rattle.byte_unit_command.specs.RunState.{AddsRecords, Aborts, State, EndsEarly, at_next}
-use Rattle.byte_unit_command.specs.RunState.{RecordHasNoMessage, RecordsHaveNoMessage, state_of}
+use Rattle.byte_unit_command.specs.RunState.{AddsRecords, Aborts, State, EndsEarly, at_next, state_of}
 use Rattle.byte_unit_command.specs.declared.options.Options.{Options}
 use Rattle.byte_unit_command.specs.declared.run.Buffers.{Buffers}
 use Rattle.byte_unit_command.specs.declared.error.RunError.{RunError}
 use Rattle.byte_unit_command.specs.declared.error.RunError.TheVariants.{Memory, Rejected}
 use Rattle.byte_unit_stream.proofs.Feeding.{Feed, IsFed, IsNext, ended_records-next}
-use Rattle.byte_unit_command.proofs.Untold.{next-untold, record-untold}
 
 -- the `Feed` of the buffers of a run, with these bytes left
 abbrev pub feed_of : {A : Type 0} → Buffers A → List ℕ → Feed State
@@ -38,12 +36,3 @@ module _ {options : Options} {start now : Feed State} {place : ℕ} {bytes : Lis
             subst EndedEarly (sym rejected)
             (fed.records, others, bytes, now.state, all, fed.added, same, (aborts rejected).0, (aborts rejected).1)
       ]
-
-  -- if there is no message about the records of the chunk, there is none about the next one
-  pub IsNext-untold : RecordsHaveNoMessage options (ended_records options.record_end start.part start.rest) start.state
-      → RecordHasNoMessage options bytes now.state
-  IsNext-untold untold =
-      let others = ended_records options.record_end [] (drop (place + 1) now.rest) in
-      record-untold options now.state.word now.state.place now.state.header bytes others
-      (next-untold options fed.records (bytes ∷ others) start.state now.state fed.added
-      (subst (λ records. RecordsHaveNoMessage options records start.state) (ended_records-next fed next) untold))

@@ -19,7 +19,3 @@ pub mod Texts
 pub mod Items
 pub mod Joining
 pub mod Rules
-pub mod Untold
-pub mod Rooms
-pub mod Lengths
-pub mod Dues

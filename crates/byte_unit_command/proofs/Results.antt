@@ -1,10 +1,5 @@
 -- Lemmas: results of calls.
-use Rattle.std.proofs.Common.{◌≡◌, Result, Ok, Err, OnOk, IfErr, sym, subst, IsErrAnd}
-
--- a fact that holds in any case holds at `Ok`
-pub OnOk-always : {T E : Type 0} {P : Type 0} (result : Result T E) → P → OnOk result P
-OnOk-always (Ok _) holds = holds
-OnOk-always (Err _) holds = tt
+use Rattle.std.proofs.Common.{◌≡◌, Result, Ok, Err, IfErr, sym, subst, IsErrAnd}
 
 -- the error that `?` passes on is this one
 pub error-passed : {T E : Type 0} (result : Result T E) (error target : E) → IsErrAnd result (λ other. other ≡ error)

@@ -6,12 +6,12 @@ use Rattle.byte_unit_command.specs.Run.{Course, IsRunOf}
 use Rattle.byte_unit_command.specs.declared.run.Buffers.{Buffers}
 use Rattle.byte_unit_command.specs.declared.options.Options.{Options}
 use Rattle.byte_unit_command.specs.declared.error.RunError.{RunError}
-use Rattle.byte_unit_command.specs.declared.error.RunError.TheVariants.{Memory, Read}
+use Rattle.byte_unit_command.specs.declared.error.RunError.TheVariants.{Read}
 use Rattle.byte_unit_command.specs.declared.streams.Streams.{Streams}
 use Rattle.byte_unit_command.specs.declared.tally.Tally.{Tally}
 use Rattle.byte_unit_command.proofs.Answering.{IsAnswered}
 use Rattle.byte_unit_command.proofs.Results.{Err-passed}
-use Rattle.byte_unit_command.proofs.Runs.{IsRunResult, IsRunResult-finished, IsRunResult-memory, IsRunResult-piece}
+use Rattle.byte_unit_command.proofs.Runs.{IsRunResult, IsRunResult-finished, IsRunResult-piece}
 use Rattle.byte_unit_command.proofs.Runs.{IsRunResult-read, IsServed, IsServed-piece, IsServed-start}
 use Rattle.byte_unit_command.proofs.Telling.{IsTold-more, IsTold-nothing}
 use Rattle.byte_unit_stream.specs.Chunks.{ended_records, begun_record}
@@ -57,14 +57,14 @@ module _ {R W E A : Type 0} {remaining : R → Option (List ℕ)} {contents : W 
     {tells : E → Option (List ℕ)} {options : Options} {old between : Streams R W E} {buffers : Buffers A}
     (so_far : HasServed remaining contents tells options old between buffers) where
   -- reading a piece extends what was read by it
-  pub HasRead-more : (reader : FusedReader R) (piece : List ℕ) → HasRead remaining between.reader reader piece
+  HasRead-more : (reader : FusedReader R) (piece : List ℕ) → HasRead remaining between.reader reader piece
       → HasRead remaining old.reader reader (so_far.course.read ++ piece)
   HasRead-more reader piece came =
       Consumes-trans (remaining (reader_of old.reader)) (remaining (reader_of between.reader))
       (remaining (reader_of reader)) so_far.course.read piece so_far.course.has_read came
 
   -- reading nothing leaves what was read
-  pub HasRead-end : (reader : FusedReader R) (piece : List ℕ) → HasRead remaining between.reader reader piece
+  HasRead-end : (reader : FusedReader R) (piece : List ℕ) → HasRead remaining between.reader reader piece
       → piece ≡ [] → HasRead remaining old.reader reader so_far.course.read
   HasRead-end reader piece came none =
       Consumes-at_end (remaining (reader_of old.reader)) (remaining (reader_of between.reader))
@@ -107,14 +107,6 @@ module _ {R W E A : Type 0} {remaining : R → Option (List ℕ)} {contents : W 
       none_waits = none_waits;
       none_untold = none_untold;
     }
-
-    -- if the unfinished record is too long, what is written and told is right for `Memory`
-    pub IsRunOf-long : IsRunOf remaining contents tells options old new (Err Memory)
-    IsRunOf-long =
-        let served = IsServed-piece so_far.served piece answered.written answered.messages next.part.items
-        (state_of next.converter) answered.holds part_is in
-        let at = IsRunResult-memory served (HasReadAll remaining new.reader) in
-        (Course-more (so_far.course.read ++ piece) (HasRead-more new.reader piece came) answered, at.0, at.1)
 
   -- if the call that converts the next piece has failed, what is written and told is right for its error
   pub IsRunOf-piece : (new : Streams R W E) (next : Buffers A) (piece : List ℕ)

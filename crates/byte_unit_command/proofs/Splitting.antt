@@ -10,8 +10,7 @@ use Rattle.byte_unit_command.specs.Messages.{AreFieldMessages, AreMessagesOfFiel
 use Rattle.byte_unit_command.specs.Messages.{other as other_told}
 use Rattle.byte_unit_command.specs.RunOutput.{Passes}
 use Rattle.byte_unit_command.specs.Output.{AreFields, HasRejectedField}
-use Rattle.byte_unit_command.specs.RunState.{AddsField, AddsFields, Aborts, IsRejectedField, FieldHasNoMessage, State}
-use Rattle.byte_unit_command.specs.RunState.{after}
+use Rattle.byte_unit_command.specs.RunState.{AddsField, AddsFields, Aborts, IsRejectedField, State, after}
 use Rattle.byte_unit_stream.specs.Records.{split_by}
 use Rattle.byte_unit_command.specs.Sums.{has_rejected}
 use Rattle.byte_unit_command.specs.declared.options.Options.{Options}
@@ -219,12 +218,6 @@ module _ {options : Options} {bytes : List ℕ} {old : State} {number : ℕ} {re
   messages-old field is_rejected messages are =
       subst (λ state. AreFieldMessages options state.word state.place number field is_rejected messages) so_far.new_is
       are
-
-  -- if there is no message about a field for the place at the start, there is none for the place that the state has now
-  pub FieldHasNoMessage-now : (field : List ℕ) → FieldHasNoMessage options number field old
-      → FieldHasNoMessage options number field new
-  FieldHasNoMessage-now field none =
-      subst (FieldHasNoMessage options number field) (sym so_far.new_is) none
 
   -- the invariant holds after one more field and the bytes after it
   IsSplitting-step : (field behind : List ℕ) → fields_of options rest ≡ field ∷ fields_of options behind

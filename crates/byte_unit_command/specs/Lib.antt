@@ -22,4 +22,3 @@ pub mod CommandLine
 pub mod Told
 pub mod WrongText
 pub mod WrongCharacter
-pub mod Capacity

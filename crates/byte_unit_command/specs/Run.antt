@@ -1,13 +1,19 @@
--- What a run has done with its streams.
-use Rattle.std.specs.Prelude.{ℕ, ◌<◌, ◌⊎◌, List, Option, Result}
+-- What a run has done with its streams; and empty buffers.
+use Rattle.std.specs.Prelude.{◌≡◌, ℕ, List, [], Option, Result}
 use Rattle.byte_unit_command.specs.RunOutput.{IsWritten}
-use Rattle.byte_unit_command.specs.Told.{AreRunMessages, IsMessageDue, IsTold}
+use Rattle.byte_unit_command.specs.RunState.{messages_of}
+use Rattle.byte_unit_command.specs.Told.{AreRunMessages, IsTold}
 use Rattle.byte_unit_command.specs.declared.options.Options.{Options}
 use Rattle.byte_unit_command.specs.declared.error.RunError.{RunError}
+use Rattle.byte_unit_command.specs.declared.run.Buffers.{Buffers}
 use Rattle.byte_unit_command.specs.declared.streams.Streams.{Streams}
 use Rattle.byte_unit_command.specs.declared.tally.Tally.{Tally}
-use Rattle.byte_unit_stream.specs.Records.{longest_record}
 use Rattle.byte_unit_stream.specs.Streams.{HasRead, HasReadAll, HasWritten, writing_failed}
+
+-- the buffers of a run are empty
+abbrev pub AreEmpty : {A : Type 0} → Buffers A → Type 0
+AreEmpty buffers =
+    (buffers.part.items ≡ []) × (buffers.converter.waiting.items ≡ []) × (messages_of buffers.converter.notices ≡ [])
 
 -- from the old streams to the new ones, exactly these bytes were read and written, and this was told of these messages.
 -- `remaining`, `contents` and `tells` are those of the reader, the writer and standard error
@@ -29,16 +35,3 @@ IsRunOf remaining contents tells options old new result =
     (course : Course remaining contents tells old new)
     × IsWritten options course.read (HasReadAll remaining new.reader) result course.written
     × AreRunMessages options old.word.now course.read (HasReadAll remaining new.reader) result course.messages
-
--- why a run for records of at most `longest` bytes is out of memory: it has read more than these of a record without
--- its end byte, or a message was due about a record that it has read
-abbrev pub IsMemoryDue : {R W E : Type 0} → (R → Option (List ℕ)) → Options → ℕ → Streams R W E → Streams R W E → Type 0
-IsMemoryDue remaining options longest old new =
-    (read : List ℕ) × HasRead remaining old.reader new.reader read × ((longest < longest_record options.record_end read)
-    ⊎ IsMessageDue options old.word.now read (HasReadAll remaining new.reader))
-
--- each record that a run has read has fewer bytes than `bound`
-abbrev pub AreRecordsBelow : {R W E : Type 0} → (R → Option (List ℕ)) → Options → ℕ → Streams R W E → Streams R W E
-    → Type 0
-AreRecordsBelow remaining options bound old new =
-    (read : List ℕ) × HasRead remaining old.reader new.reader read × (longest_record options.record_end read < bound)

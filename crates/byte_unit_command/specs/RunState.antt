@@ -1,13 +1,11 @@
 -- Private but for `messages_of`: how far a run has come.
 use Rattle.std.specs.Prelude.{◌≡◌, ℕ, ◌+◌, ◌-◌, ◌≤◌, min, true, false, ◌||◌, List, [], ◌∷◌, ◌++◌, Option, Some, None}
-use Rattle.std.specs.Prelude.{vec_capacity, vec_len, length, ◌<◌, ◌⊎◌, Bool, MatchBool, IsTrue, IfErr}
-use Rattle.std.specs.Prelude.{Result, Ok, Err, ⊤}
-use Rattle.std.specs.declared.vec.Vec.{Vec}
+use Rattle.std.specs.Prelude.{length, ◌<◌, ◌⊎◌, Bool, MatchBool, IsTrue, IfErr, Result, Ok, Err, ⊤}
 use Rattle.byte_unit.specs.Bounds.{size_limit}
 use Rattle.byte_unit_command.specs.Field.{Found, IsField, IsNoSize}
 use Rattle.byte_unit_command.specs.Fields.{IsChosenField, fields_of}
 use Rattle.byte_unit_command.specs.Messages.{AreFieldMessages, AreMessagesOfFields, AreMessagesToRejected}
-use Rattle.byte_unit_command.specs.Messages.{AreRecordMessages, AreMessages, next_place, last_place}
+use Rattle.byte_unit_command.specs.Messages.{AreMessages, next_place, last_place}
 use Rattle.byte_unit_command.specs.RunOutput.{Passes}
 use Rattle.byte_unit_stream.specs.Beginnings.{IsBeginningOf}
 use Rattle.byte_unit_command.specs.Output.{AreFields, AreRecords, HasRejectedField}
@@ -128,25 +126,6 @@ pub record Aborts (options : Options) (bytes : List ℕ) (old : State) (new_mess
 abbrev pub IsEarlyError : Result ⊤ RunError → Type 0
 IsEarlyError result = IfErr result (λ error. (error ≡ Memory) ⊎ (error ≡ Rejected))
 
--- there is no message about the field with this number
-abbrev pub FieldHasNoMessage : Options → ℕ → List ℕ → State → Type 0
-FieldHasNoMessage options number field state =
-    (is_rejected : Bool) × AreFieldMessages options state.word state.place number field is_rejected []
-
--- there is no message about the fields of a record, which is no header record
-abbrev pub FieldsHaveNoMessage : Options → List ℕ → State → Type 0
-FieldsHaveNoMessage options bytes state =
-    AreMessagesOfFields options state.word state.place 1 (fields_of options bytes) []
-
--- there is no message about the next record
-abbrev pub RecordHasNoMessage : Options → List ℕ → State → Type 0
-RecordHasNoMessage options bytes state =
-    AreRecordMessages options state.word (next_place state.place) state.header bytes []
-
--- there is no message about the next records
-abbrev pub RecordsHaveNoMessage : Options → List (List ℕ) → State → Type 0
-RecordsHaveNoMessage options records state = AreMessages options state.word state.place state.header records []
-
 -- the texts of these records and the messages about them were appended, and they were counted
 pub record AddsRecords (options : Options) (records : List (List ℕ)) (old new : State) : Type 0 where
   pub text : List ℕ
@@ -194,14 +173,6 @@ pub record WritesAndTells {W E : Type 0} (contents : W → Option (List ℕ)) (t
   pub has_told : HasWritten tells old_errors errors told
   pub are_told : Tells (writing_failed old_errors) (writing_failed errors) messages told
   pub holds : Holds written messages
-
--- there is capacity for this many more bytes
-abbrev pub HasRoom : {Z : Type 0} → Vec ℕ Z → ℕ → Type 0
-HasRoom text bytes = vec_len text + bytes ≤ vec_capacity text
-
--- at most this many bytes were appended
-abbrev pub Grows : {Z : Type 0} → Vec ℕ Z → Vec ℕ Z → ℕ → Type 0
-Grows old new bytes = vec_len new ≤ vec_len old + bytes
 
 -- the line of the total, if it is asked for and is a size
 abbrev pub IsTotalFor : Options → ℕ → List ℕ → Type 0

@@ -1,5 +1,5 @@
 -- What a run has told on standard error, by the records read and its end.
-use Rattle.std.specs.Prelude.{◌≡◌, ◌⊎◌, Bool, false, List, [], ◌∷◌, ◌++◌, ℕ, Result, Ok, Err}
+use Rattle.std.specs.Prelude.{◌≡◌, ◌⊎◌, Bool, false, List, ◌∷◌, ◌++◌, ℕ, Result, Ok, Err}
 use Rattle.byte_unit_command.specs.Fields.{fields_of}
 use Rattle.byte_unit_command.specs.Messages.{AreMessages, AreMessagesToRejected, next_place, last_place}
 use Rattle.byte_unit_command.specs.RunOutput.{all_of, finished_of}
@@ -50,13 +50,3 @@ AreRunMessages options word read complete (Err _) messages =
 pub record IsTold (failed : Bool) (messages told : List ℕ) : Type 0 where
   pub begins : IsBeginningOf told messages
   pub all : failed ≡ false → told ≡ messages
-
--- there is a message about these records
-abbrev pub HaveMessage : Options → List ℕ → List (List ℕ) → Type 0
-HaveMessage options word records = ¬ AreMessages options word 0 options.header records []
-
--- a message was due: there is one about the finished records, or about all if the input was read to its end.
--- `complete` is that of `IsWritten`
-abbrev pub IsMessageDue : Options → List ℕ → List ℕ → Type 0 → Type 0
-IsMessageDue options word read complete =
-    HaveMessage options word (finished_of options read) ⊎ complete × HaveMessage options word (all_of options read)

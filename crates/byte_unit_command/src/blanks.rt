@@ -2,9 +2,8 @@
 
 ghost use Rattle.std.specs.Prelude.{◌≡◌, ◌+◌, ◌-◌, ◌<◌, ◌≤◌, ◌∷◌, ◌&&◌, [], Some, not};
 ghost use Rattle.std.specs.Prelude.{cond, drop, length, take, true, IfSome, IfNone};
-ghost use Rattle.byte_unit_command.specs.Capacity.{text_room};
 ghost use Rattle.byte_unit_command.specs.Fields.{at_blanks, begins_blank as has_blank_first, between_of, blank_fields};
-ghost use Rattle.byte_unit_command.specs.Fields.{fields_of, gap_by, is_blank as is_a_blank, width_by};
+ghost use Rattle.byte_unit_command.specs.Fields.{fields_of, is_blank as is_a_blank, width_by};
 
 use crate::options::Options;
 use byte_unit_stream::end_of;
@@ -57,9 +56,7 @@ pub(crate) fn end_of_first(
 
 /// Returns the least number of columns of a size that replaces the field with this number, between blanks.
 pub(crate) fn width_of(options: &Options, number: u64, field: &[u8]) -> usize
-    ensures width { result ≡ width_by true options.now.width number field.now }
-    ensures bound { length (gap_by true number field.now) + result
-        ≤ text_room options.now + length field.now }
+    ensures { result ≡ width_by true options.now.width number field.now }
 {
     if options.width == 0 {
         return columns_of(number > 1, field);
@@ -69,8 +66,7 @@ pub(crate) fn width_of(options: &Options, number: u64, field: &[u8]) -> usize
 
 /// Returns the blank before a field that separates it from the field before it; nothing for the first field.
 pub(crate) fn gap_of(later: bool, field: &[u8]) -> &[u8]
-    ensures items { result.now ≡ cond later (take 1 field.now) [] }
-    ensures bound { length result.now ≤ length field.now }
+    ensures { result.now ≡ cond later (take 1 field.now) [] }
 {
     if !later {
         return &[];

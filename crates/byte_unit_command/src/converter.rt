@@ -1,15 +1,13 @@
 //! Converts records field by field, and finds the fields to convert.
 
 ghost use Rattle.std.specs.Prelude.{◌≡◌, ◌≤◌, ◌∷◌, ℕ, [], Some, length};
-ghost use Rattle.std.specs.Prelude.{OnOk, OnErr, IsErrOf, IsTrue, IsFalse, vec_capacity};
+ghost use Rattle.std.specs.Prelude.{OnOk, OnErr, IsErrOf, IsTrue, IsFalse};
 ghost use Rattle.byte_unit.specs.Forms.{text_limit};
-ghost use Rattle.byte_unit_command.specs.Capacity.{field_room, fields_room, record_room};
 ghost use Rattle.byte_unit_command.specs.Field.{IsNoSize};
 ghost use Rattle.byte_unit_command.specs.Fields.{AreRangesFrom, GoesTo, InRange, IsChosenField, IsInOrder, at_blanks};
-ghost use Rattle.byte_unit_command.specs.RunState.{AddsRecords, Grows, messages_of, state_of};
-ghost use Rattle.byte_unit_command.specs.CallEnds.{AbortsNext, Extends, FieldEndsEarly, FieldIsAdded, FieldIsRejected};
-ghost use Rattle.byte_unit_command.specs.CallEnds.{FieldsAreAdded, FieldsAreRejected, FieldsEndEarly, KeepsMessages};
-ghost use Rattle.byte_unit_command.specs.CallEnds.{RecordEndsEarly};
+ghost use Rattle.byte_unit_command.specs.RunState.{AddsRecords, IsEarlyError, messages_of, state_of};
+ghost use Rattle.byte_unit_command.specs.CallEnds.{AbortsNext, FieldIsAdded, FieldIsRejected, FieldsAreAdded};
+ghost use Rattle.byte_unit_command.specs.CallEnds.{FieldsAreRejected, KeepsMessages, KeepsText};
 
 use crate::blanks::{between, end_of_first, gap_of, width_of};
 use crate::error::{RunError, RunResult};
@@ -64,10 +62,7 @@ impl<A: Allocator> Converter<A> {
             → messages_of self.new.notices ≡ messages_of self.old.notices }
         ensures rejected { IsErrOf result RunError.Rejected → AbortsNext
             options.now bytes.now (state_of self.old) (messages_of self.new.notices) }
-        ensures early { RecordEndsEarly options.now bytes.now self.old result }
-        ensures len { Grows self.old.waiting self.new.waiting
-            (record_room options.now (length bytes.now)) }
-        ensures capacity { vec_capacity self.old.waiting ≤ vec_capacity self.new.waiting }
+        ensures early { IsEarlyError result }
     {
         let len = self.waiting.len();
         let messages = self.notices.messages.len();
@@ -89,9 +84,9 @@ impl<A: Allocator> Converter<A> {
             (AddsRecords options.now (bytes.now ∷ []) (state_of self.old) (state_of self.new)) }
         ensures rejected { IsErrOf result RunError.Rejected → AbortsNext
             options.now bytes.now (state_of self.old) (messages_of self.new.notices) }
-        ensures early { RecordEndsEarly options.now bytes.now self.old result }
+        ensures early { IsEarlyError result }
         ensures kept_messages { KeepsMessages self.old self.new }
-        ensures extends { Extends (record_room options.now (length bytes.now)) self.old self.new }
+        ensures kept_text { KeepsText self.old self.new }
     {
         self.place.number = self.place.number.saturating_add(1);
         if self.header > 0 {
@@ -117,9 +112,9 @@ impl<A: Allocator> Converter<A> {
         requires { text_limit ≤ length digits.old }
         ensures ok { FieldsAreAdded options.now bytes.now self.old self.new result }
         ensures rejected { FieldsAreRejected options.now bytes.now self.old self.new result }
-        ensures early { FieldsEndEarly options.now bytes.now self.old result }
+        ensures early { IsEarlyError result }
         ensures kept_messages { KeepsMessages self.old self.new }
-        ensures extends { Extends (fields_room options.now (length bytes.now)) self.old self.new }
+        ensures kept_text { KeepsText self.old self.new }
     {
         match options.delimiter {
             None => {
@@ -152,9 +147,9 @@ impl<A: Allocator> Converter<A> {
         requires capacity { text_limit ≤ length digits.old }
         ensures ok { FieldsAreAdded options.now bytes.now self.old self.new result }
         ensures rejected { FieldsAreRejected options.now bytes.now self.old self.new result }
-        ensures early { FieldsEndEarly options.now bytes.now self.old result }
+        ensures early { IsEarlyError result }
         ensures kept_messages { KeepsMessages self.old self.new }
-        ensures extends { Extends (fields_room options.now (length bytes.now)) self.old self.new }
+        ensures kept_text { KeepsText self.old self.new }
     {
         // For the proof: there are fewer fields than a `u64` counts.
         let _len = bytes.len();
@@ -205,9 +200,9 @@ impl<A: Allocator> Converter<A> {
         requires no { IsFalse chosen → ¬ IsChosenField options.now.fields.now number }
         ensures ok { FieldIsAdded options.now number field.now self.old self.new result }
         ensures rejected { FieldIsRejected options.now number field.now self.old self.new result }
-        ensures early { FieldEndsEarly options.now number field.now self.old result }
+        ensures early { IsEarlyError result }
         ensures kept_messages { KeepsMessages self.old self.new }
-        ensures extends { Extends (field_room options.now (length field.now)) self.old self.new }
+        ensures kept_text { KeepsText self.old self.new }
     {
         if !chosen {
             self.waiting.extend_from_slice(field)?;
@@ -241,9 +236,9 @@ impl<A: Allocator> Converter<A> {
         requires none { IsNoSize options.now field.now }
         ensures ok { FieldIsAdded options.now number field.now self.old self.new result }
         ensures rejected { FieldIsRejected options.now number field.now self.old self.new result }
-        ensures early { FieldEndsEarly options.now number field.now self.old result }
+        ensures early { IsEarlyError result }
         ensures kept_messages { KeepsMessages self.old self.new }
-        ensures extends { Extends (field_room options.now (length field.now)) self.old self.new }
+        ensures kept_text { KeepsText self.old self.new }
     {
         add_reject_notice(options, &self.place, number, field, &mut self.notices)?;
         if options.invalid == Invalid::Abort {

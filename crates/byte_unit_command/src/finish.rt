@@ -1,13 +1,10 @@
 //! The end of a run: the last record, and the total.
 
-ghost use Rattle.std.specs.Prelude.{◌≡◌, ◌+◌, ◌≤◌, ℕ, List, [], length};
+ghost use Rattle.std.specs.Prelude.{◌≡◌, ◌≤◌, ℕ, List, [], length};
 ghost use Rattle.std.specs.Prelude.{IsErrOf, IsTrue};
 ghost use Rattle.byte_unit.specs.Forms.{text_limit};
-ghost use Rattle.byte_unit_command.specs.Capacity.{end_room, text_room};
 ghost use Rattle.byte_unit_command.specs.RunState.{IsFinished, IsTotalWritten, WritesAndTells};
-ghost use Rattle.byte_unit_command.specs.RunState.{HasRoom, RecordsHaveNoMessage};
 ghost use Rattle.byte_unit_command.specs.RunState.{idle, messages_of, state_of};
-ghost use Rattle.byte_unit_stream.specs.Chunks.{nonempty_record};
 ghost use Rattle.byte_unit_stream.specs.Streams.{HasWritten, writing_failed};
 
 use crate::converter::Converter;
@@ -46,9 +43,6 @@ impl<A: Allocator> Converter<A> {
             writer.old writer.new errors.old errors.new
             (IsFinished options.now part.now (idle (state_of self.old)) result) }
         ensures failed { IsErrOf result RunError.Write → IsTrue (writing_failed writer.new) }
-        ensures memory { HasRoom self.old.waiting (end_room options.now (length part.now))
-            → RecordsHaveNoMessage options.now (nonempty_record part.now) (state_of self.old)
-            → ¬ IsErrOf result RunError.Memory }
     {
         if !part.is_empty() {
             let added = self.add_record(options, part, digits);
@@ -88,8 +82,6 @@ fn write_with_total<A: Allocator, W: Write>(
         × HasWritten W.contents writer.old writer.new written
         × IsTotalWritten options.now total waiting.old.items result written }
     ensures failed { IsErrOf result RunError.Write → IsTrue (writing_failed writer.new) }
-    ensures memory { HasRoom waiting.old (text_room options.now + 1)
-        → ¬ IsErrOf result RunError.Memory }
 {
     if total >= TOTAL_LIMIT {
         write_whole(writer, waiting, RunError::Write)?;

@@ -1,6 +1,6 @@
 //! Messages about fields, for standard error.
 
-ghost use Rattle.std.specs.Prelude.{◌≡◌, ◌++◌, [], take, List, ℕ, OnOk, IsOk, true, false};
+ghost use Rattle.std.specs.Prelude.{◌≡◌, ◌++◌, [], take, List, ℕ, OnOk, true};
 ghost use Rattle.std.specs.String.{string_bytes};
 ghost use Rattle.byte_unit_command.specs.Field.{IsNoSize};
 ghost use Rattle.byte_unit_command.specs.Fields.{IsChosenField};
@@ -117,7 +117,6 @@ pub(crate) fn add_reject_notice<A: Allocator>(
         number field.now true text
         × (messages_of notices.new ≡ messages_of notices.old ++ text)) }
     ensures kept { IsBeginningOf (messages_of notices.old) (messages_of notices.new) }
-    ensures untold { has_rejected_told options.now.invalid ≡ false → IsOk result }
 {
     let told = tells_rejected(options.invalid);
     if !told {

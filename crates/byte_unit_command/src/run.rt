@@ -1,14 +1,10 @@
 //! The run and its buffers: reads a chunk, converts the records that end in it, and writes them.
 
-ghost use Rattle.std.specs.Prelude.{◌≡◌, ◌+◌, ◌*◌, ◌^◌, ◌<◌, ◌≤◌, max, length, vec_len, vec_capacity};
-ghost use Rattle.std.specs.Prelude.{IsTrue, IsOk, IsErrOf, IfErr, OnOk, OnErr, IfOk, IfSome};
+ghost use Rattle.std.specs.Prelude.{◌≡◌, ◌+◌, ◌^◌, ◌<◌, ◌≤◌, length};
+ghost use Rattle.std.specs.Prelude.{IsTrue, IsErrOf, IfErr, OnOk};
 ghost use Rattle.byte_unit.specs.Forms.{text_limit};
-ghost use Rattle.byte_unit_command.specs.Capacity.{AreEmpty, HaveCapacity, SufficeFor, texts_max};
-ghost use Rattle.byte_unit_command.specs.Capacity.{read_max as most_of_read, text_max as most_of_text};
-ghost use Rattle.byte_unit_command.specs.Capacity.{read_room as room_of_read};
-ghost use Rattle.byte_unit_command.specs.RunState.{AddsRecords, RecordsHaveNoMessage, EndsEarly};
-ghost use Rattle.byte_unit_command.specs.RunState.{messages_of, state_of};
-ghost use Rattle.byte_unit_command.specs.Run.{AreRecordsBelow, IsMemoryDue, IsRunOf};
+ghost use Rattle.byte_unit_command.specs.Run.{AreEmpty, IsRunOf};
+ghost use Rattle.byte_unit_command.specs.RunState.{AddsRecords, EndsEarly, messages_of, state_of};
 ghost use Rattle.byte_unit_stream.specs.Chunks.{ended_records, begun_record};
 ghost use Rattle.byte_unit_stream.specs.Streams.{reading_failed, writing_failed};
 
@@ -18,9 +14,8 @@ use crate::notice::{Notices, Place};
 use crate::options::{Form, Invalid, Options};
 use crate::streams::Streams;
 use crate::tally::Tally;
-use crate::text::AT_ONCE;
 use byte_unit_stream::{end_of, write_whole};
-use std::alloc::{AllocError, Allocator, Global};
+use std::alloc::{Allocator, Global};
 use std::io::{Read, Write};
 
 /// The number of bytes that [`run`] asks for in each read: 64 KiB, as many as a pipe of Linux holds by default.
@@ -36,7 +31,7 @@ const DIGITS: usize = 65600;
 ///
 /// On `Ok` the whole output has been written. Returns what was counted.
 ///
-/// It sets no limit on records: that `Memory` is returned only if an allocation fails is tested, not proved.
+/// A record may have any length: that `Memory` is returned only if an allocation fails is tested, not proved.
 ///
 /// # Errors
 ///
@@ -61,91 +56,30 @@ pub fn run<R: Read, W: Write, E: Write>(
     let mut digits = [0u8; DIGITS];
     // By reference, so that the functions for messages are others than those for wrong calls, and inlined.
     let mut buffers = Buffers::new(&alloc);
-    run_with_buffers(
-        &mut buffers,
-        options,
-        // Records of any length.
-        usize::MAX,
-        &mut buffer,
-        &mut digits,
-        streams,
-    )
+    run_with_buffers(&mut buffers, options, &mut buffer, &mut digits, streams)
 }
 
-/// Does what [`run`] does, with any allocator, for records of at most `longest` bytes, and with reads of at most the
-/// length of `buffer`. Allocates only at the start, and for messages.
+/// Does what [`run`] does, with any allocator, in the caller's buffers, and with reads of at most the length of
+/// `buffer`.
 ///
-/// The allocations at the start are those of [`Buffers::with_capacity`].
+/// The buffers may be those of an earlier run, whatever its result: what they hold is dropped first.
 ///
 /// Preconditions (proved at every call): `buffer` is not empty, and `digits` has capacity for the text of any size.
 ///
 /// # Errors
 ///
-/// Returns `Err(AllocError)` if an allocation at the start fails, or its length exceeds `usize::MAX`; nothing has been
-/// read or written then. No contract of std says when an allocation succeeds: that this error is returned for no other
-/// reason is tested, not proved.
-///
-/// The inner result is that of the run, with the errors of [`run`]. There `Memory` means that more than `longest` bytes
-/// of a record have been read without its end byte, or that a message was due about a record that was read. A longer
-/// record is converted only if the read in which it exceeds `longest` returns its end byte too, and so never if it has
-/// at least as many bytes as `longest` and the length of `buffer` together.
-pub fn run_with_capacity<A: Allocator, R: Read, W: Write, E: Write>(
-    alloc: &A,
-    options: &Options,
-    longest: usize,
-    buffer: &mut [u8],
-    digits: &mut [u8],
-    streams: &mut Streams<R, W, E>,
-) -> Result<Result<Tally, RunError>, AllocError>
-    requires nonempty { 0 < length buffer.old }
-    requires capacity { text_limit ≤ length digits.old }
-    ensures run { IfOk result
-        (IsRunOf R.remaining W.contents E.contents options.now streams.old streams.new) }
-    ensures memory { IfOk result (λ ended. IsErrOf ended RunError.Memory
-        → IsMemoryDue R.remaining options.now longest streams.old streams.new) }
-    ensures bound { IfOk result (λ ended. OnOk ended
-        (AreRecordsBelow R.remaining options.now
-        (longest + length buffer.old) streams.old streams.new)) }
-    ensures read_failed { IfOk result
-        (λ ended. IsErrOf ended RunError.Read → IsTrue (reading_failed streams.new.reader)) }
-    ensures write_failed { IfOk result
-        (λ ended. IsErrOf ended RunError.Write → IsTrue (writing_failed streams.new.writer)) }
-    ensures unstarted { OnErr result (streams.new ≡ streams.old) }
-{
-    let mut buffers = Buffers::with_capacity(alloc, options, longest, buffer.len())?;
-    Ok(run_with_buffers(&mut buffers, options, longest, buffer, digits, streams))
-}
-
-/// Does what [`run`] does, for records of at most `longest` bytes, in the caller's buffers, and with reads of at most
-/// the length of `buffer`.
-///
-/// Preconditions (proved at every call): `buffer` is not empty, `buffers` are, and `digits` has capacity for the text
-/// of any size.
-///
-/// # Errors
-///
-/// Those of [`run`], and `Memory` if more than `longest` bytes of a record have been read without its end byte; which
-/// longer records are converted is as for [`run_with_capacity`]. If `buffers` have capacity for such records and reads
-/// into `buffer`, `Memory` is returned for no other reason than a message that was due about a record that was read.
+/// Those of [`run`].
 pub fn run_with_buffers<A: Allocator, R: Read, W: Write, E: Write>(
     buffers: &mut Buffers<A>,
     options: &Options,
-    longest: usize,
     buffer: &mut [u8],
     digits: &mut [u8],
     streams: &mut Streams<R, W, E>,
 ) -> Result<Tally, RunError>
-    requires empty { AreEmpty buffers.old }
     requires nonempty { 0 < length buffer.old }
     requires capacity { text_limit ≤ length digits.old }
     ensures run { IsRunOf R.remaining W.contents E.contents options.now
         streams.old streams.new result }
-    ensures memory { HaveCapacity options.now longest (length buffer.old) buffers.old
-        → IsErrOf result RunError.Memory
-        → IsMemoryDue R.remaining options.now longest streams.old streams.new }
-    ensures bound { OnOk result
-        (AreRecordsBelow R.remaining options.now
-        (longest + length buffer.old) streams.old streams.new) }
     ensures read_failed { IsErrOf result RunError.Read
         → IsTrue (reading_failed streams.new.reader) }
     ensures write_failed { IsErrOf result RunError.Write
@@ -153,6 +87,7 @@ pub fn run_with_buffers<A: Allocator, R: Read, W: Write, E: Write>(
 {
     let most = read_max(options, buffer.len());
     let chunk = &mut buffer[..most];
+    buffers.empty();
     buffers.converter.header = options.header;
     buffers.converter.tally = Tally::NONE;
     buffers.converter.place = Place {
@@ -176,9 +111,6 @@ pub fn run_with_buffers<A: Allocator, R: Read, W: Write, E: Write>(
                 buffers.converter.notices.tell(&mut streams.errors);
                 fed?;
             }
-        }
-        if buffers.part.len() > longest {
-            return Err(RunError::Memory);
         }
     }
     buffers.converter.finish(
@@ -222,33 +154,18 @@ impl<A: Allocator + Copy> Buffers<A> {
             },
         }
     }
-
-    /// Creates buffers with capacity for records of at most `longest` bytes and reads into a buffer of `chunk` bytes.
-    /// None is allocated for messages.
-    ///
-    /// # Errors
-    ///
-    /// Returns `AllocError` if allocation fails, or the capacity exceeds `usize::MAX`.
-    pub fn with_capacity(
-        alloc: A,
-        options: &Options,
-        longest: usize,
-        chunk: usize,
-    ) -> Result<Buffers<A>, AllocError>
-        ensures empty { IfOk result (λ buffers. AreEmpty buffers) }
-        ensures capacity { IfOk result (λ buffers. HaveCapacity options.now longest chunk buffers) }
-    {
-        let mut buffers = Buffers::new(alloc);
-        let chunk = read_max(options, chunk);
-        let part = longest.checked_add(chunk).ok_or(AllocError)?;
-        let waiting = read_room(options, longest, chunk).ok_or(AllocError)?;
-        buffers.part.try_reserve_exact(part)?;
-        buffers.converter.waiting.try_reserve_exact(waiting)?;
-        Ok(buffers)
-    }
 }
 
 impl<A: Allocator> Buffers<A> {
+    /// Drops what the buffers hold of an earlier run.
+    fn empty(&mut self)
+        ensures { AreEmpty self.new }
+    {
+        self.part.clear();
+        self.converter.waiting.clear();
+        self.converter.notices.messages.clear();
+    }
+
     /// Converts the records that end in `bytes`.
     ///
     /// The part that was read before begins the first of them; the part of the next one is kept.
@@ -273,14 +190,6 @@ impl<A: Allocator> Buffers<A> {
             (ended_records options.now.record_end self.old.part.items bytes.now)
             (state_of self.old.converter) error self.new.converter.waiting.items
             (messages_of self.new.converter.notices)) }
-        ensures succeeds { SufficeFor options.now (vec_len self.old.part)
-            (length bytes.now) self.old.part
-            self.old.converter.waiting → RecordsHaveNoMessage options.now
-            (ended_records options.now.record_end self.old.part.items bytes.now)
-            (state_of self.old.converter) → IsOk result }
-        ensures part_capacity { vec_capacity self.old.part ≤ vec_capacity self.new.part }
-        ensures waiting_capacity { vec_capacity self.old.converter.waiting
-            ≤ vec_capacity self.new.converter.waiting }
     {
         // Before the loop: it calls functions after each of which the compiler would read this again.
         let end = options.record_end;
@@ -320,8 +229,6 @@ const MESSAGE: usize = 128;
 /// Returns the most bytes that a run reads at once into a buffer of `len` bytes: fewer if texts are long or there can
 /// be messages, so that few of them wait to be written; and at least one.
 fn read_max(options: &Options, len: usize) -> usize
-    ensures most { result ≡ most_of_read options.now len }
-    ensures texts { most_of_text options.now * result ≤ max texts_max (most_of_text options.now) }
     ensures bound { result ≤ len }
     ensures positive { 0 < len → 0 < result }
 {
@@ -336,27 +243,8 @@ fn read_max(options: &Options, len: usize) -> usize
     len.min((TEXTS_MAX / field).max(1))
 }
 
-/// Returns the most bytes that what is written after a read takes, or `None` if they exceed `usize::MAX`.
-fn read_room(options: &Options, longest: usize, chunk: usize) -> Option<usize>
-    ensures { IfSome result (λ room. room ≡ room_of_read options.now longest chunk) }
-{
-    let fields = match options.delimiter {
-        None => chunk,
-        Some(_) => longest.checked_add(chunk)?,
-    };
-    // While it is appended, a short text takes `AT_ONCE` bytes.
-    let text = AT_ONCE.max(text_max(options));
-    // One text more, since at the end of the input the total follows the last record.
-    let texts = text.checked_mul(fields.checked_add(1)?)?;
-    texts
-        .checked_add(longest)?
-        .checked_add(chunk)?
-        .checked_add(1)
-}
-
 /// Returns the most bytes of the text of a size with the suffix.
 fn text_max(options: &Options) -> usize
-    ensures most { result ≡ most_of_text options.now }
     // The suffix has fewer than 2^63 bytes, as every slice, and the number at most 37 + 65,535.
     ensures bound { result < 2 ^ 63 + 65573 }
     ensures positive { 0 < result }

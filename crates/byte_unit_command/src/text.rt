@@ -1,12 +1,10 @@
 //! Writes and appends the text of a size.
 
-ghost use Rattle.std.specs.Prelude.{◌≡◌, ◌+◌, ◌<◌, ◌≤◌, ◌++◌, ℕ, List, length, max, replicate, OnOk, IsOk};
-ghost use Rattle.std.specs.Prelude.{true, false, None, vec_len, vec_capacity};
+ghost use Rattle.std.specs.Prelude.{◌≡◌, ◌<◌, ◌≤◌, ◌++◌, ℕ, List, length, replicate, OnOk, true, false};
 ghost use Rattle.byte_unit.specs.BinaryString.{has_binary_prefix as is_binary};
 ghost use Rattle.byte_unit.specs.Bounds.{size_limit};
-ghost use Rattle.byte_unit.specs.Forms.{IsText, narrow_text, places_of, text_limit};
+ghost use Rattle.byte_unit.specs.Forms.{IsText, places_of, text_limit};
 ghost use Rattle.byte_unit.specs.Units.{shape_of};
-ghost use Rattle.byte_unit_command.specs.Capacity.{form_max, text_room, unit_text_max};
 ghost use Rattle.byte_unit_stream.specs.Beginnings.{IsBeginningOf};
 ghost use Rattle.byte_unit_command.specs.Formatted.{BeginsWithForm, IsExactText, IsFormText, IsFormatted};
 ghost use Rattle.byte_unit_command.specs.Formatted.{exact_spec as spec_of_exact, padded};
@@ -21,7 +19,7 @@ use byte_unit_math::Steps;
 use std::alloc::{AllocError, Allocator};
 
 /// The most bytes of a text that are copied in one piece of a constant length. Most texts are shorter.
-pub(crate) const AT_ONCE: usize = 64;
+const AT_ONCE: usize = 64;
 
 /// Appends the text of a size in at least `width` columns to `text`. `digits` is a buffer for it.
 ///
@@ -45,10 +43,6 @@ pub(crate) fn add_in_width<A: Allocator>(
         × IsFormatted (record options.now { width = width }) size formatted
         × (text.new.items ≡ text.old.items ++ formatted)) }
     ensures kept { IsBeginningOf text.old.items text.new.items }
-    ensures succeeds { vec_len text.old + max width (text_room options.now) ≤ vec_capacity text.old
-        → IsOk result }
-    ensures len { vec_len text.new ≤ vec_len text.old + max width (text_room options.now) }
-    ensures capacity { vec_capacity text.old ≤ vec_capacity text.new }
 {
     let len = write_size(options, size, digits);
     if width > 0 {
@@ -87,10 +81,6 @@ fn add_suffixed<A: Allocator>(
 ) -> Result<(), AllocError>
     ensures ok { OnOk result (text.new.items ≡ text.old.items ++ (bytes.now ++ suffix.now)) }
     ensures kept { IsBeginningOf text.old.items text.new.items }
-    ensures succeeds { vec_len text.old + (length bytes.now + length suffix.now)
-        ≤ vec_capacity text.old → IsOk result }
-    ensures len { vec_len text.new ≤ vec_len text.old + (length bytes.now + length suffix.now) }
-    ensures capacity { vec_capacity text.old ≤ vec_capacity text.new }
 {
     text.extend_from_slice(bytes)?;
     text.extend_from_slice(suffix)
@@ -111,12 +101,6 @@ fn add_padded<A: Allocator>(
     ensures ok { OnOk result (text.new.items ≡ text.old.items
         ++ padded width align_left (bytes.now ++ suffix.now)) }
     ensures kept { IsBeginningOf text.old.items text.new.items }
-    ensures succeeds { vec_len text.old
-        + max width (length bytes.now + length suffix.now)
-        ≤ vec_capacity text.old → IsOk result }
-    ensures len { vec_len text.new ≤ vec_len text.old
-        + max width (length bytes.now + length suffix.now) }
-    ensures capacity { vec_capacity text.old ≤ vec_capacity text.new }
 {
     let len = bytes.len().saturating_add(suffix.len());
     let missing = width.saturating_sub(len);
@@ -139,9 +123,6 @@ fn add_padded<A: Allocator>(
 fn add_spaces<A: Allocator>(count: usize, text: &mut Vec<u8, A>) -> Result<(), AllocError>
     ensures ok { OnOk result (text.new.items ≡ text.old.items ++ replicate count 32) }
     ensures kept { IsBeginningOf text.old.items text.new.items }
-    ensures succeeds { vec_len text.old + count ≤ vec_capacity text.old → IsOk result }
-    ensures len { vec_len text.new ≤ vec_len text.old + count }
-    ensures capacity { vec_capacity text.old ≤ vec_capacity text.new }
 {
     text.resize(text.len().saturating_add(count), b' ')
 }
@@ -157,7 +138,6 @@ fn write_size(options: &Options, size: u128, out: &mut [u8]) -> usize
         (IsFormText options.now.binary options.now.kind options.now.form options.now.precision size)
         out.new result }
     ensures bound { result < text_limit }
-    ensures narrow { result ≤ form_max options.now.form options.now.precision }
 {
     match options.kind {
         Kind::Byte => write_as::<false>(options, size, out),
@@ -178,7 +158,6 @@ fn write_as<const BITS: bool>(options: &Options, size: u128, out: &mut [u8]) -> 
         (IsFormText options.now.binary (kind_of BITS) options.now.form options.now.precision size)
         out.new result }
     ensures bound { result < text_limit }
-    ensures narrow { result ≤ form_max options.now.form options.now.precision }
 {
     let kind = kind_of(BITS);
     // The precision is read where it counts: digits take fewer instructions then.
@@ -215,7 +194,6 @@ fn write_binary(size: u128, kind: Kind, precision: Option<u16>, out: &mut [u8]) 
     requires capacity { text_limit ≤ length out.old }
     ensures written { BeginsWithForm (IsFormText true kind Form.Exact precision size) out.new result }
     ensures bound { result < text_limit }
-    ensures narrow { result ≤ narrow_text }
 {
     write_text(size, kind, binary_spec(size, kind, precision), out)
 }
@@ -227,7 +205,6 @@ fn binary_spec(size: u128, kind: Kind, precision: Option<u16>) -> FormatSpec
     requires { size < size_limit }
     ensures text { (text : List ℕ) → IsText kind size result text
         → IsExactText true kind precision size text }
-    ensures narrow { result.width ≡ None }
 {
     let places = places_of(precision);
     let (_, unit) = recoverable_unit(size, kind, false, places, &mut Steps::new());
@@ -281,7 +258,6 @@ fn write_number(size: u128, kind: Kind, unit: Unit, precision: Option<u16>, out:
         (IsFormText false kind (Form.NumberOf unit) precision size)
         out.new result }
     ensures bound { result < text_limit }
-    ensures narrow { result ≤ unit_text_max precision }
 {
     let rounded = FormatSpec {
         precision,

@@ -58,8 +58,8 @@ macro_rules! rows {
 mod allocations;
 mod asserting;
 mod command;
+mod command_again;
 mod command_call;
-mod command_capacity;
 mod command_forms;
 mod command_large;
 mod command_line;

@@ -1,7 +1,7 @@
 -- What is appended is the text that `write_size` wrote, with its suffix, padded to the width. Without a width and a
 -- suffix it is appended as it was written: of the bytes that are appended, truncating leaves the first ones. `.ok.0` of
 -- a vector: its length is that of its items.
-use Rattle.std.proofs.Common.{true≢false, ◌≡◌, ◌≤◌, ℕ, List, [], ◌++◌, length, take, ap, sym, ◌∙◌, arith}
+use Rattle.std.proofs.Common.{◌≡◌, ◌≤◌, ℕ, List, [], ◌++◌, length, take, ap, sym, ◌∙◌, arith}
 use Rattle.std.proofs.Common.{append-nil, is_ok, refl}
 use Rattle.std.proofs.lemmas.List.{length-take-le, nil_from_length}
 use Rattle.std.proofs.lemmas.Result.{on_ok_weaker}
@@ -47,14 +47,6 @@ slice_bounds-extend_from_slice-end-in-empty-2 g c =
     let long : 64 ≤ length c.write_size-len.new.out = omega (arith, c.requires.capacity, c.write_size-len.auto.out) in
     omega (arith, length-take-le 64 c.write_size-len.new.out long)
 
--- if the capacity covers 64 bytes more, appending them does not fail
-pub returns-in_err-extend_from_slice-in-empty-clause-succeeds :
-    goal.returns-in_err-extend_from_slice-in-empty-clause-succeeds
-returns-in_err-extend_from_slice-in-empty-clause-succeeds g c = λ room.
-    let long : 64 ≤ length c.write_size-len.new.out = omega (arith, c.requires.capacity, c.write_size-len.auto.out) in
-    let copied = length-take-le 64 c.write_size-len.new.out long in
-    absurd (true≢false (sym (c.in_err-extend_from_slice-in-empty.ensures.succeeds (omega (arith, room, copied)))))
-
 -- after 64 bytes are appended, the length is at least 64, so up to 64 can be taken off
 pub overflow_sub-len-in-empty : goal.overflow_sub-len-in-empty
 overflow_sub-len-in-empty g c =
@@ -89,10 +81,3 @@ returns-in_ok-extend_from_slice-in-empty-clause-ok g c =
 pub returns-in_ok-extend_from_slice-in-empty-clause-kept : goal.returns-in_ok-extend_from_slice-in-empty-clause-kept
 returns-in_ok-extend_from_slice-in-empty-clause-kept g c =
     let added = returns-in_ok-extend_from_slice-in-empty-clause-ok g c in (added.0, added.2)
-
--- the length grows by that of the text, which is at most 64 bytes
-pub returns-in_ok-extend_from_slice-in-empty-clause-len : goal.returns-in_ok-extend_from_slice-in-empty-clause-len
-returns-in_ok-extend_from_slice-in-empty-clause-len g c =
-    let long : 64 ≤ length c.write_size-len.new.out = omega (arith, c.requires.capacity, c.write_size-len.auto.out) in
-    let copied = length-take-le 64 c.write_size-len.new.out long in
-    omega (arith, c.truncate.ensures.len, c.len.ensures, c.in_ok-extend_from_slice-in-empty.ensures.len, copied)

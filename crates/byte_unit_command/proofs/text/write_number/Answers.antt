@@ -2,7 +2,6 @@
 use Rattle.std.proofs.Common.{◌-◌, ◌≤◌, false, List, ℕ, length, arith, ap, sym, subst}
 use Rattle.byte_unit_command.specs.Formatted.{BeginsWithForm, IsFormText}
 use Rattle.byte_unit_command.specs.declared.options.Form.TheVariants.{NumberOf}
-use Rattle.byte_unit_command.proofs.Lengths.{adjusted-narrow}
 use Rattle.byte_unit_command.proofs.Numbers.{begins_with_number, needed_is}
 use Rattle.byte_unit_command.proofs.text.write_number.Goals as goal
 
@@ -25,8 +24,3 @@ returns-clause-written c =
     subst (λ (name : List ℕ). BeginsWithForm IsText c.write_adjusted-len.new.out (len - 1 - length name))
     (sym c.as_str.ensures)
     (begins_with_number _ _ _ _ _ _ _ c.write_adjusted-len.ensures.written room)
-
--- the number is no longer than the text, which is within `unit_text_max`
-pub returns-clause-narrow : goal.returns-clause-narrow
-returns-clause-narrow c =
-    omega (arith, adjusted-narrow c.args.unit c.args.precision c.requires.bound c.write_adjusted-len.ensures.written)

@@ -1,8 +1,7 @@
 -- A field that is not chosen is copied. A size adds its text, and the messages about it if it is beyond a limit.
-use Rattle.std.proofs.Common.{rules, ◌≡◌, ◌∷◌, ℕ, Bool, true, false, true≢false, List, [], ◌++◌, Some, sym, ap, subst}
-use Rattle.std.proofs.Common.{◌∙◌, append-nil, append_assoc, length}
-use Rattle.byte_unit_command.specs.Capacity.{field_room}
-use Rattle.byte_unit_command.specs.CallEnds.{Extends, KeepsMessages}
+use Rattle.std.proofs.Common.{rules, ◌≡◌, ◌∷◌, ℕ, Bool, true, false, List, [], ◌++◌, Some, sym, ap, subst}
+use Rattle.std.proofs.Common.{◌∙◌, append-nil, append_assoc}
+use Rattle.byte_unit_command.specs.CallEnds.{KeepsMessages, KeepsText}
 use Rattle.byte_unit_command.specs.Field.{IsPlaced}
 use Rattle.byte_unit_command.specs.Fields.{at_blanks, gap_by, gap_of, width_by, width_of}
 use Rattle.byte_unit_command.specs.Messages.{AreLimitMessages}
@@ -11,7 +10,6 @@ use Rattle.byte_unit_command.specs.Formatted.{IsFormatted}
 use Rattle.byte_unit_command.proofs.Converting.{AddsField-other, AddsField-size, AreLimitMessages-none, after-is}
 use Rattle.byte_unit_command.proofs.Converting.{kept_messages-same}
 use Rattle.byte_unit_stream.proofs.Beginnings.{IsBeginningOf-same, IsBeginningOf-self, IsBeginningOf-trans}
-use Rattle.byte_unit_command.proofs.Untold.{within-untold}
 use Rattle.byte_unit_command.proofs.converter.Converter.add_field.Given.{Over}
 use Rattle.byte_unit_command.proofs.converter.Converter.add_field.Goals.{After-add_in_width, Joined-add, Joined-this-ne0}
 use Rattle.byte_unit_command.proofs.converter.Converter.add_field.Goals.{then-add+in_ok-add_limit_notice, else-add}
@@ -38,8 +36,8 @@ spaces g c =
       | then-this-ne0 w ↦
           -- `width` is a pair: the blank, or no byte, and the columns
           let at : true ≡ at_blanks options = search rules in (
-            ap (λ both. both.0.now) w.width-is ∙ w.gap_of.ensures.items ∙ ap gap at,
-            ap (λ both. both.1) w.width-is ∙ w.width_of.ensures.width ∙ ap width at,
+            ap (λ both. both.0.now) w.width-is ∙ w.gap_of.ensures ∙ ap gap at,
+            ap (λ both. both.1) w.width-is ∙ w.width_of.ensures ∙ ap width at,
           )
       | else-this-ne0 w ↦
           let at : false ≡ at_blanks options = search rules in
@@ -119,50 +117,29 @@ pub returns-in_err-add_in_width-clause-kept_messages : goal.returns-in_err-add_i
 returns-in_err-add_in_width-clause-kept_messages g c =
     (told g (goal.at.returns-in_err-add_in_width-clause-kept_messages g c).Joined-add).0
 
--- the bytes that are appended have the room of the field
-extends : (g : Over) (c : After-add_in_width g) → c.if-add.self.waiting ≡ c.args.self.now.waiting
-    → Extends (field_room c.args.options.now (length c.args.field.now)) c.args.self.now
-    (record c.if-add.self { waiting = c.add_in_width.new.text })
-extends g c same = record {
-  kept =
-      rw same at (IsBeginningOf-trans c.if-add.self.waiting.items c.extend_from_slice-2.new.self.items
-      c.add_in_width.new.text.items (c.if-this-ne0.width.0.now, c.in_ok-extend_from_slice-2.ensures.items)
-      c.add_in_width.ensures.kept);
-  len = search rules;
-  capacity = search rules;
-}
+-- the text is appended after the blank, and what waited before both is kept
+keeps_text : (g : Over) (c : After-add_in_width g) → c.if-add.self.waiting ≡ c.args.self.now.waiting
+    → KeepsText c.args.self.now (record c.if-add.self { waiting = c.add_in_width.new.text })
+keeps_text g c same =
+    rw same at (IsBeginningOf-trans c.if-add.self.waiting.items c.extend_from_slice-2.new.self.items
+    c.add_in_width.new.text.items (c.if-this-ne0.width.0.now, c.in_ok-extend_from_slice-2.ensures.items)
+    c.add_in_width.ensures.kept)
 
--- what waited is kept, and grows by no more than the room of the field
-pub returns-clause-extends : goal.returns-clause-extends
-returns-clause-extends g c =
-    let at = goal.at.returns-clause-extends g c in extends g at.After-add_in_width (told g at.Joined-add).1
+-- what waited is kept if the text is appended
+pub returns-clause-kept_text : goal.returns-clause-kept_text
+returns-clause-kept_text g c =
+    let at = goal.at.returns-clause-kept_text g c in keeps_text g at.After-add_in_width (told g at.Joined-add).1
 
--- what waited grows by no more than the room of the field if allocation fails for the text, after the blank
-pub returns-in_err-add_in_width-clause-extends : goal.returns-in_err-add_in_width-clause-extends
-returns-in_err-add_in_width-clause-extends g c =
-    let at = goal.at.returns-in_err-add_in_width-clause-extends g c in
-    extends g at.After-add_in_width (told g at.Joined-add).1
+-- what waited is kept if allocation fails for the text, after the blank
+pub returns-in_err-add_in_width-clause-kept_text : goal.returns-in_err-add_in_width-clause-kept_text
+returns-in_err-add_in_width-clause-kept_text g c =
+    let at = goal.at.returns-in_err-add_in_width-clause-kept_text g c in
+    keeps_text g at.After-add_in_width (told g at.Joined-add).1
 
 -- what waited is unchanged if allocation fails for the blank
-pub returns-in_err-extend_from_slice-2-clause-extends : goal.returns-in_err-extend_from_slice-2-clause-extends
-returns-in_err-extend_from_slice-2-clause-extends g c =
-    let same = (told g (goal.at.returns-in_err-extend_from_slice-2-clause-extends g c).Joined-add).1 in
-    let old = c.args.self.now.waiting.items in record {
-      kept =
-          IsBeginningOf-same old (c.in_err-extend_from_slice-2.ensures.items ∙ ap (λ at. at.items) same)
-          (IsBeginningOf-self old);
-      len = search rules;
-      capacity = search rules;
-    }
-
--- a size about which there is no message is beyond no limit
-pub returns-in_err-add_limit_notice-clause-early : goal.returns-in_err-add_limit_notice-clause-early
-returns-in_err-add_limit_notice-clause-early g c = record {
-  error = search rules;
-  succeeds = λ _ untold.
-      let old : State = state_of c.args.self.now in
-      let within = within-untold c.args.options.now old.word old.place c.args.number c.args.field.now
-      c.in-Some.size untold.0 (c.requires.yes c.if-not-chosen.false)
-      c.in-Some.ensures.some untold.1 in
-      absurd (true≢false (sym c.if-add.true ∙ c.add.ensures.beyond ∙ within));
-}
+pub returns-in_err-extend_from_slice-2-clause-kept_text : goal.returns-in_err-extend_from_slice-2-clause-kept_text
+returns-in_err-extend_from_slice-2-clause-kept_text g c =
+    let same = (told g (goal.at.returns-in_err-extend_from_slice-2-clause-kept_text g c).Joined-add).1 in
+    let old = c.args.self.now.waiting.items in
+    IsBeginningOf-same old (c.in_err-extend_from_slice-2.ensures.items ∙ ap (λ at. at.items) same)
+    (IsBeginningOf-self old)

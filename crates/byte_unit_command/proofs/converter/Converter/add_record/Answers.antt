@@ -18,7 +18,7 @@ returns-in-Err-clause-err g c =
     let after = c.append_record.new.self.waiting.items in
     c.truncate.ensures.items
     ∙ ap (λ count. take count after) (omega (arith, c.len-len.ensures, c.args.self.now.waiting.ok.0))
-    ∙ take-IsBeginningOf before after c.in-Err.ensures.extends.kept
+    ∙ take-IsBeginningOf before after c.in-Err.ensures.kept_text
 
 -- if allocation failed, the messages are as they were before
 pub returns-in-Err-clause-memory : goal.returns-in-Err-clause-memory

@@ -1,21 +1,17 @@
 -- Each iteration adds one field with the bytes after it; the last field follows the loop, or a rest without a chosen
 -- field. A field that is rejected in the mode `abort` is one of the record. The parts of the invariant are in
 -- `Invariants.antt`. `.ensures.1` of a `from_residual`: the error in its result is the one that `?` passes on.
-use Rattle.std.proofs.Common.{◌⊎◌, true≢false, ◌≡◌, ◌≤◌, ◌+◌, ◌-◌, ◌∙◌, ◌++◌, [], List, ℕ, take, drop, length, ap, sym}
-use Rattle.std.proofs.Common.{subst, Err, arith, length-drop, vec_len, eqb-true, length-take-le}
+use Rattle.std.proofs.Common.{◌⊎◌, ◌≡◌, ◌≤◌, ◌+◌, ◌∙◌, ◌++◌, [], List, ℕ, take, drop, length, ap, sym}
+use Rattle.std.proofs.Common.{subst, Err, arith, eqb-true}
 use Rattle.std.proofs.lemmas.List.{nil_from_length, take_rest}
-use Rattle.byte_unit_command.specs.Capacity.{text_room}
 use Rattle.byte_unit_command.specs.Fields.{IsChosenField, between_of, fields_of}
-use Rattle.byte_unit_command.specs.Messages.{AreMessagesOfFields}
 use Rattle.byte_unit_command.specs.RunState.{AddsFields, State, messages_of, state_of}
 use Rattle.byte_unit_command.specs.declared.error.RunError.{RunError}
 use Rattle.byte_unit_command.specs.declared.error.RunError.TheVariants.{Memory, Rejected}
 use Rattle.std.proofs.lemmas.Result.{on_ok_weaker}
 use Rattle.byte_unit_command.proofs.Results.{IfErr-passed, error-passed}
-use Rattle.byte_unit_command.proofs.Rooms.{IsSplitWithin-first, IsSplitWithin-fits, split_len-step, split_room-cut}
-use Rattle.byte_unit_command.proofs.Untold.{others-untold}
-use Rattle.byte_unit_command.proofs.Splitting.{EndsFirst, IsSplitting, IsSplitting-at, IsSplitting-start, Aborts-first}
-use Rattle.byte_unit_command.proofs.Splitting.{AddsFields-last, AddsFields-copied, FieldHasNoMessage-now, fields_copied}
+use Rattle.byte_unit_command.proofs.Splitting.{IsSplitting, IsSplitting-at, IsSplitting-start, Aborts-first}
+use Rattle.byte_unit_command.proofs.Splitting.{AddsFields-last, AddsFields-copied, fields_copied}
 use Rattle.byte_unit_command.proofs.converter.Converter.add_split.Goals as goal
 
 -- a field before the last was rejected in the mode `abort`, and so the record is
@@ -34,7 +30,6 @@ returns-in_err-add_field-clause-rejected g c = λ is.
 pub loop-n-init : goal.loop-n-init
 loop-n-init g c = (
   IsSplitting-start c.args.options.now c.args.bytes.now (state_of c.args.self.now),
-  record { len = omega arith; capacity = omega arith; untold = λ none. none },
   c.ranges_from-fields.ensures.same,
   λ yes. c.ranges_from-fields.ensures.in_order (c.is_in_order-in_order.ensures yes),
   c.ranges_from-fields.ensures.goes,
@@ -51,45 +46,19 @@ loop-n-preserved g c =
     let number = c.loop-n.number in
     let between = c.between-between in
     let gap = length between.result.now in
-    let ends = subst (EndsFirst options rest place) (ap length (sym between.ensures)) c.in-Some.ensures.some in
     let stepped = IsSplitting-at c.loop-n.invariant.0 c.args.delimiter c.requires.delimiter between.result.now
     between.ensures place c.in-Some.ensures.some next c.in_ok-add_field.ensures.ok c.extend_from_slice.new.self.items
     c.in_ok-extend_from_slice.ensures.items in
     let behind = drop (place + gap) rest in
     let rest_is = take_rest rest (place + gap) in
-    let within = c.loop-n.invariant.1 in
-    let taken : length (take place rest) ≡ place = length-take-le place rest (omega (arith, ends.1)) in
-    let left : length (take (length rest - (place + gap)) behind) ≡ length rest - (place + gap) =
-    ap length rest_is ∙ length-drop (place + gap) rest in
     let Behind : List ℕ → Type 0 = λ rest. IsSplitting options c.args.bytes.now old (number + 1) rest
     (record next { out = c.extend_from_slice.new.self.items }) in (
       subst Behind (sym rest_is) stepped,
-      record {
-        len = split_len-step (text_room options) (vec_len c.args.self.now.waiting) (length c.args.bytes.now)
-            (vec_len c.loop-n.self.waiting) (length rest) place gap (vec_len c.add_field.new.self.waiting)
-            (vec_len c.extend_from_slice.new.self) (length (take (length rest - (place + gap)) behind)) ends.0 ends.1
-            within.len (omega (arith, c.in_ok-add_field.ensures.extends.len, taken))
-            (omega (arith, c.in_ok-extend_from_slice.ensures.len)) left;
-        capacity =
-            omega (
-              arith,
-              within.capacity,
-              c.in_ok-add_field.ensures.extends.capacity,
-              c.in_ok-extend_from_slice.ensures.capacity,
-            );
-        untold = λ none.
-            let fields = subst (λ fields. AreMessagesOfFields options old.word old.place number fields []) ends.2
-            (within.untold none) in
-            let others = others-untold options old.word old.place number (take place rest) (fields_of options behind)
-            fields in
-            subst (λ rest. AreMessagesOfFields options old.word old.place (number + 1) (fields_of options rest) [])
-            (sym rest_is) others;
-      },
       λ later high.
-          let so_far = c.loop-n.invariant.2 later (omega (arith, high)) in
+          let so_far = c.loop-n.invariant.1 later (omega (arith, high)) in
           let step = c.ranges_from-ranges.ensures.same later high in
           (λ chosen. step.0 (so_far.0 chosen), λ chosen. so_far.1 (step.1 chosen)),
-      λ yes. c.ranges_from-ranges.ensures.in_order (c.loop-n.invariant.3 yes),
+      λ yes. c.ranges_from-ranges.ensures.in_order (c.loop-n.invariant.2 yes),
       c.ranges_from-ranges.ensures.goes,
     )
 
@@ -110,7 +79,7 @@ returns-then-is_empty-clause-ok g c =
     let past : (later : ℕ) → number + 1 ≤ later → ¬ IsChosenField options.fields.now later =
     λ later high chosen.
     let left = (c.ranges_from-ranges.ensures.same later high).0
-    ((c.loop-n.invariant.2 later (omega (arith, high))).0 chosen) in
+    ((c.loop-n.invariant.1 later (omega (arith, high))).0 chosen) in
     subst (λ ranges. IsChosenField ranges later) none left in
     let copied = AddsFields-copied stepped
     (fields_copied options c.args.delimiter c.requires.delimiter behind (number + 1) past) past in
@@ -132,24 +101,8 @@ returns-clause-rejected g c = λ is.
     Aborts-first c.loop-n.invariant.0 c.loop-n.rest.now [] c.in_default.ensures.none
     (messages_of c.add_field-2.new.self.notices) (c.add_field-2.ensures.rejected is)
 
--- with room for the record and no message about it, adding a field before the last cannot fail
+-- a field before the last could not be added: the error is passed on
 pub returns-in_err-add_field-clause-early : goal.returns-in_err-add_field-clause-early
-returns-in_err-add_field-clause-early g c = record {
-  error = IfErr-passed (λ (error : RunError). (error ≡ Memory) ⊎ (error ≡ Rejected)) _ _ c.from_residual.ensures.1
-      c.in_err-add_field.ensures.early.error;
-  succeeds = λ room untold.
-      let options = c.args.options.now in
-      let rest = c.loop-n.rest.now in
-      let place = c.in-Some.n in
-      let gap = length (between_of options) in
-      let field = take place rest in
-      -- a triple, `EndsFirst`: the next field begins after the start, within the rest, and there the fields are cut
-      let ends = c.in-Some.ensures.some in
-      let within = c.loop-n.invariant.1 in
-      let first = IsSplitWithin-first within field (fields_of options (drop (place + gap) rest)) ends.2 untold in
-      let fits = IsSplitWithin-fits within c.args.delimiter c.requires.delimiter room in
-      let taken : length field ≡ place = length-take-le place rest (omega (arith, ends.1)) in
-      let step = split_room-cut (text_room options) (length rest) (place + gap) ends.0 ends.1 in
-      let here = FieldHasNoMessage-now c.loop-n.invariant.0 field first in
-      absurd (true≢false (sym (c.in_err-add_field.ensures.early.succeeds (omega (arith, fits, step, taken)) here)));
-}
+returns-in_err-add_field-clause-early g c =
+    IfErr-passed (λ (error : RunError). (error ≡ Memory) ⊎ (error ≡ Rejected)) _ _ c.from_residual.ensures.1
+    c.in_err-add_field.ensures.early

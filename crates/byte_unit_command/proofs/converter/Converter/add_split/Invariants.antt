@@ -1,19 +1,17 @@
--- The fields before the rest were added, within their room, and the ranges that are left choose the same of the others;
--- the rest gets shorter.
+-- The fields before the rest were added, and the ranges that are left choose the same of the others; the rest gets
+-- shorter.
 use Rattle.std.proofs.Common.{ℕ, ◌≤◌, ◌↔◌, length, IsTrue}
 use Rattle.byte_unit_command.specs.Fields.{GoesTo, IsChosenField, IsInOrder}
 use Rattle.byte_unit_command.specs.RunState.{state_of}
-use Rattle.byte_unit_command.proofs.Rooms.{IsSplitWithin}
 use Rattle.byte_unit_command.proofs.Splitting.{IsSplitting}
 use Rattle.byte_unit_command.proofs.converter.Converter.add_split.Given as goal
 
--- five parts: the fields before the rest are added; the lengths; which later fields are chosen, by the options and by
+-- four parts: the fields before the rest are added; which later fields are chosen, by the options and by
 -- the ranges that are left; the order of these; and that the first of them has not ended yet
 abbrev pub invariant-loop-n : goal.invariant-loop-n
 invariant-loop-n g l =
     let old = state_of l.initial.self in
     IsSplitting l.options l.bytes old l.number l.rest (state_of l.self)
-    × IsSplitWithin l.options old l.bytes l.initial.self.waiting l.number l.rest l.self.waiting
     × ((later : ℕ) → l.number ≤ later → IsChosenField l.options.fields.now later ↔ IsChosenField l.ranges later)
     × (IsTrue l.in_order → IsInOrder l.ranges) × GoesTo l.ranges l.number
 

@@ -29,7 +29,7 @@ returns-in_err-added-clause-written g c =
     -- empty
     let AbortsAt : List ℕ → List ℕ → Type 0 = λ out told. (before.header ≡ 0)
     × Aborts options part (at_next (record before { out = out; messages = told })) messages in
-    let at = IsFinished-early options part (idle before) messages error failed.ensures.early.error
+    let at = IsFinished-early options part (idle before) messages error failed.ensures.early
     (λ is. failed.ensures.memory (ap Err is) ∙ c.requires.untold)
     (λ is.
     let aborts = subst (λ out. AbortsAt out []) c.requires.empty

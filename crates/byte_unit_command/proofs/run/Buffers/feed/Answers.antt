@@ -1,17 +1,14 @@
 -- Each iteration adds one record, the first of the rest: with the part that was read before, or alone. If it ends
--- early, what was appended is that of the records before. Of the invariant, `.0` is what was converted, and `.1` are
--- the bounds (`IsFedWithin`). `.ok.0` of a vector: its length is that of its items. `.ensures.1` of a
--- `from_residual`: the error in its result is the one that `?` passes on.
-use Rattle.std.proofs.Common.{true≢false, ◌≡◌, ◌+◌, ◌-◌, ◌∷◌, [], length, take, drop, refl, sym, ap, subst, ◌∙◌}
-use Rattle.std.proofs.Common.{Err, arith, length-drop, vec_capacity, vec_len}
-use Rattle.std.proofs.lemmas.List.{take_rest, length-take-le}
+-- early, what was appended is that of the records before. `.ok.0` of a vector: its length is that of its items.
+-- `.ensures.1` of a `from_residual`: the error in its result is the one that `?` passes on.
+use Rattle.std.proofs.Common.{◌+◌, ◌-◌, ◌∷◌, [], length, take, drop, refl, sym, ap, subst, ◌∙◌, Err, vec_len}
+use Rattle.std.proofs.lemmas.List.{take_rest}
 use Rattle.byte_unit_command.specs.RunState.{AddsRecords, messages_of, state_of}
 use Rattle.byte_unit_command.proofs.Converting.{AddsRecords-append, AddsRecords-none}
-use Rattle.byte_unit_command.proofs.Feeding.{EndsEarly-record, IsNext-untold, feed_of}
+use Rattle.byte_unit_command.proofs.Feeding.{EndsEarly-record, feed_of}
 use Rattle.byte_unit_command.proofs.Results.{IfErr-passed}
-use Rattle.byte_unit_command.proofs.Rooms.{IsFedWithin-fits, feed_room-step}
 use Rattle.byte_unit_stream.proofs.ChunkRecords.{empty_from_length}
-use Rattle.byte_unit_stream.proofs.Feeding.{IsFed-step, IsFedWithin-step, IsNext, IsNext-alone}
+use Rattle.byte_unit_stream.proofs.Feeding.{IsFed-step, IsNext, IsNext-alone}
 use Rattle.byte_unit_command.proofs.run.Buffers.feed.Goals.{then-is_empty+in_ok-add_record}
 use Rattle.byte_unit_command.proofs.run.Buffers.feed.Goals.{else-is_empty+in_ok-extend_from_slice+in_ok-add_record-2}
 use Rattle.byte_unit_command.proofs.run.Buffers.feed.Goals as goal
@@ -28,8 +25,8 @@ returns-in_err-add_record-clause-error g c =
     let error = failed.field-0.0 in
     let after = c.add_record.new.self in
     IfErr-passed _ c.from_residual.result error c.from_residual.ensures.1
-    (EndsEarly-record c.loop-n.invariant.0 next after.waiting.items (messages_of after.notices) (sym failed.ensures.err)
-    error failed.ensures.early.error (λ is. failed.ensures.memory (ap Err is))
+    (EndsEarly-record c.loop-n.invariant next after.waiting.items (messages_of after.notices) (sym failed.ensures.err)
+    error failed.ensures.early (λ is. failed.ensures.memory (ap Err is))
     (λ is. failed.ensures.rejected (ap Err is)))
 
 -- a record that has begun in an earlier read could not be added: what was appended is that of the records before
@@ -42,23 +39,16 @@ returns-in_err-add_record-2-clause-error g c =
     let passed = c.from_residual-in_err-add_record-2 in
     let after = c.add_record-else-is_empty.new.self in
     IfErr-passed _ passed.result failed.field-0.0 passed.ensures.1
-    (EndsEarly-record c.loop-n.invariant.0 next after.waiting.items (messages_of after.notices) (sym failed.ensures.err)
-    failed.field-0.0 failed.ensures.early.error (λ is. failed.ensures.memory (ap Err is))
+    (EndsEarly-record c.loop-n.invariant next after.waiting.items (messages_of after.notices) (sym failed.ensures.err)
+    failed.field-0.0 failed.ensures.early (λ is. failed.ensures.memory (ap Err is))
     (λ is. failed.ensures.rejected (ap Err is)))
 
--- at the start no record is added, and no buffer has grown
+-- at the start no record is added
 pub loop-n-init : goal.loop-n-init
-loop-n-init g c = (
-  record { records = []; added = AddsRecords-none c.args.options.now _; ended = refl; begun = refl },
-  record {
-    part_len = omega arith;
-    waiting_len = omega arith;
-    part_capacity = omega arith;
-    waiting_capacity = omega arith;
-  },
-)
+loop-n-init g c =
+    record { records = []; added = AddsRecords-none c.args.options.now _; ended = refl; begun = refl }
 
--- the invariant, a pair of what is fed and of the lengths, holds after one more record
+-- the invariant holds after one more record
 pub loop-n-preserved : goal.loop-n-preserved
 loop-n-preserved g c =
     let options = c.args.options.now in
@@ -69,87 +59,20 @@ loop-n-preserved g c =
     let now = feed_of c.loop-n.self rest in
     let next = feed_of c.if-is_empty.self (take (length rest - (place + 1)) (drop (place + 1) rest)) in
     let rest_is = take_rest rest (place + 1) in
-    let taken : length (take place rest) ≡ place = length-take-le place rest (omega (arith, ends.0)) in
-    let left : length next.rest ≡ length rest - (place + 1) = ap length rest_is ∙ length-drop (place + 1) rest in
-    let room = feed_room-step options (vec_len part) (length rest) place ends.0 in
     -- the cases of the `if`: the record lies wholly in this read, or has begun in an earlier one
     elim c.if-is_empty.branch [
       | then-is_empty+in_ok-add_record w ↦
           let none = empty_from_length part.items (vec_len part) part.ok.0 w.if-is_empty.ensures in
-          let empty : vec_len part ≡ 0 = part.ok.0 ∙ ap length none in
           let adds = subst (AddsRecords options (take place rest ∷ []) now.state)
-          (sym (ap (λ at. state_of at.converter) w.self-is)) w.in_ok-add_record.ensures.ok in (
-            IsFed-step c.loop-n.invariant.0 (IsNext-alone options.record_end now place ends none)
-                (AddsRecords-append options) next adds (ap (λ at. at.part.items) w.self-is ∙ none) rest_is,
-            IsFedWithin-step c.loop-n.invariant.1 place ends.0 left (ap (λ at. vec_len at.part) w.self-is ∙ empty)
-                (omega (
-                  arith,
-                  ap (λ at. vec_len at.converter.waiting) w.self-is,
-                  w.add_record.ensures.len,
-                  room (length (take place rest)) (omega (arith, taken, empty)),
-                )) (omega (arith, ap (λ at. vec_capacity at.part) w.self-is))
-                (omega (arith, ap (λ at. vec_capacity at.converter.waiting) w.self-is, w.add_record.ensures.capacity)),
-          )
+          (sym (ap (λ at. state_of at.converter) w.self-is)) w.in_ok-add_record.ensures.ok in
+          IsFed-step c.loop-n.invariant (IsNext-alone options.record_end now place ends none)
+          (AddsRecords-append options) next adds (ap (λ at. at.part.items) w.self-is ∙ none) rest_is
       | else-is_empty+in_ok-extend_from_slice+in_ok-add_record-2 w ↦
           let bytes = w.deref.result.now in
           let bytes_are = w.deref.ensures.value ∙ w.in_ok-extend_from_slice.ensures.items in
           let is_next : IsNext options.record_end now place bytes = record { ends = ends; bytes_are = bytes_are } in
           let adds = subst (AddsRecords options (bytes ∷ []) now.state)
           (sym (ap (λ at. state_of at.converter) w.self-is)) w.in_ok-add_record-2.ensures.ok in
-          let lens = w.in_ok-extend_from_slice.ensures.len in
-          let joined : length bytes ≡ vec_len part + place =
-          omega (arith, ap length w.deref.ensures.value, w.extend_from_slice.new.self.ok.0, lens, taken) in
-          let added = w.add_record-else-is_empty.ensures in (
-            IsFed-step c.loop-n.invariant.0 is_next (AddsRecords-append options) next adds
-                (ap (λ at. at.part.items) w.self-is ∙ w.clear.ensures.items) rest_is,
-            IsFedWithin-step c.loop-n.invariant.1 place ends.0 left
-                (ap (λ at. vec_len at.part) w.self-is ∙ w.clear.ensures.len)
-                (omega (
-                  arith,
-                  ap (λ at. vec_len at.converter.waiting) w.self-is,
-                  added.len,
-                  room (length bytes) joined,
-                )) (omega (
-                  arith,
-                  ap (λ at. vec_capacity at.part) w.self-is,
-                  w.extend_from_slice.ensures.capacity,
-                  w.clear.ensures.capacity,
-                )) (omega (arith, ap (λ at. vec_capacity at.converter.waiting) w.self-is, added.capacity)),
-          )
+          IsFed-step c.loop-n.invariant is_next (AddsRecords-append options) next adds
+          (ap (λ at. at.part.items) w.self-is ∙ w.clear.ensures.items) rest_is
     ]
-
--- a record that lies wholly in the read can be added, if the capacity suffices and there is no message about it
-pub returns-in_err-add_record-clause-succeeds : goal.returns-in_err-add_record-clause-succeeds
-returns-in_err-add_record-clause-succeeds g c = λ suffice untold.
-    let rest = c.loop-n.rest.now in
-    let place = c.in-Some.n in
-    let ends = c.in-Some.ensures.some in
-    let part = c.loop-n.self.part in
-    let none = empty_from_length part.items (vec_len part) part.ok.0 c.if-is_empty.ensures in
-    let taken : length (take place rest) ≡ place = length-take-le place rest (omega (arith, ends.0)) in
-    let next = IsNext-alone c.args.options.now.record_end (feed_of c.loop-n.self rest) place ends none in
-    let room = IsFedWithin-fits c.args.options.now c.loop-n.invariant.1 suffice place (length (take place rest)) ends.0
-    (omega (arith, taken, part.ok.0, ap length none)) in
-    let told = IsNext-untold c.loop-n.invariant.0 next untold in
-    absurd (true≢false (sym (c.in_err-add_record.ensures.early.succeeds room told)))
-
--- a record that has begun in an earlier read can be added, if the capacity suffices and there is no message about it
-pub returns-in_err-add_record-2-clause-succeeds : goal.returns-in_err-add_record-2-clause-succeeds
-returns-in_err-add_record-2-clause-succeeds g c = λ suffice untold.
-    let rest = c.loop-n.rest.now in
-    let place = c.in-Some.n in
-    let bytes = c.deref.result.now in
-    let bytes_are = c.deref.ensures.value ∙ c.in_ok-extend_from_slice.ensures.items in
-    let next : IsNext c.args.options.now.record_end (feed_of c.loop-n.self rest) place bytes =
-    record { ends = c.in-Some.ensures.some; bytes_are = bytes_are } in
-    let within = c.in-Some.ensures.some.0 in
-    let joined : length bytes ≡ vec_len c.loop-n.self.part + place = omega (
-      arith,
-      ap length c.deref.ensures.value,
-      c.extend_from_slice.new.self.ok.0,
-      c.in_ok-extend_from_slice.ensures.len,
-      length-take-le place rest (omega (arith, within)),
-    ) in
-    let room = IsFedWithin-fits c.args.options.now c.loop-n.invariant.1 suffice place (length bytes) within joined in
-    absurd (true≢false (sym (c.in_err-add_record-2.ensures.early.succeeds room
-    (IsNext-untold c.loop-n.invariant.0 next untold))))
