@@ -1,7 +1,6 @@
 -- Lemmas: a loop over the records that end in a chunk, whatever it makes of each of them.
-use Rattle.std.proofs.Common.{◌≡◌, ◌≤◌, ◌<◌, ℕ, ◌+◌, ◌-◌, List, [], ◌∷◌, ◌++◌, take, drop, length, refl, sym, ap}
-use Rattle.std.proofs.Common.{append_assoc, arith, vec_len, vec_capacity}
-use Rattle.std.specs.declared.vec.Vec.{Vec}
+use Rattle.std.proofs.Common.{◌≡◌, ℕ, ◌+◌, List, [], ◌∷◌, ◌++◌, take, drop, refl, sym, ap}
+use Rattle.std.proofs.Common.{append_assoc}
 use Rattle.byte_unit_stream.specs.Chunks.{ended_records, begun_record}
 use Rattle.byte_unit_stream.proofs.Ends.{EndsAt, ended_records-EndsAt, begun_record-EndsAt}
 
@@ -50,29 +49,3 @@ module _ {S : Type 0} {end place : ℕ} {Adds : List (List ℕ) → S → S → 
         (sym (append_assoc fed.records (bytes ∷ []) (ended_records end [] (drop (place + 1) now.rest))));
     begun = rw (fed.begun, begun_record-EndsAt end now.part now.rest place next.ends, part_is, rest_is) refl;
   }
-
--- from the start to now, the part has grown by no more bytes than the rest has lost, what waits by no more than `room`
--- of the lengths of both has fallen, and no capacity has fallen
-pub record IsFedWithin {Z : Type 0} (room : ℕ → ℕ → ℕ) (part waiting : Vec ℕ Z) (bytes : List ℕ)
-    (part_now waiting_now : Vec ℕ Z) (rest : List ℕ) : Type 0 where
-  pub part_len : vec_len part_now + length rest ≤ vec_len part + length bytes
-  pub waiting_len : vec_len waiting_now + room (vec_len part_now) (length rest)
-      ≤ vec_len waiting + room (vec_len part) (length bytes)
-  pub part_capacity : vec_capacity part ≤ vec_capacity part_now
-  pub waiting_capacity : vec_capacity waiting ≤ vec_capacity waiting_now
-
--- the bounds on the buffers hold after one more record, if the part is empty after it, what waits has grown by no more
--- than `room` has fallen, and no capacity has fallen
-pub IsFedWithin-step : {Z : Type 0} {room : ℕ → ℕ → ℕ} {part waiting : Vec ℕ Z} {bytes : List ℕ}
-    {part_now waiting_now : Vec ℕ Z} {rest : List ℕ} → IsFedWithin room part waiting bytes part_now waiting_now rest
-    → (place : ℕ) → place < length rest → {part_next waiting_next : Vec ℕ Z} {left : List ℕ}
-    → length left ≡ length rest - (place + 1) → vec_len part_next ≡ 0 → vec_len waiting_next
-    + room 0 (length rest - (place + 1)) ≤ vec_len waiting_now + room (vec_len part_now) (length rest)
-    → vec_capacity part_now ≤ vec_capacity part_next → vec_capacity waiting_now ≤ vec_capacity waiting_next
-    → IsFedWithin room part waiting bytes part_next waiting_next left
-IsFedWithin-step so_far place ends left_is none taken part_kept waiting_kept = record {
-  part_len = omega (arith, so_far.part_len, none, left_is, ends);
-  waiting_len = rw (none, left_is) (omega (arith, so_far.waiting_len, taken));
-  part_capacity = omega (arith, so_far.part_capacity, part_kept);
-  waiting_capacity = omega (arith, so_far.waiting_capacity, waiting_kept);
-}

@@ -1,5 +1,5 @@
 -- The records of an input, which is a list of bytes. A record ends at the end byte, which is not part of it.
-use Rattle.std.specs.Prelude.{ℕ, List, [], ◌∷◌, ◌==◌, length, max}
+use Rattle.std.specs.Prelude.{ℕ, List, [], ◌∷◌, ◌==◌}
 use Rattle.std.specs.List.{slice_split}
 
 -- the subslices between the end bytes, empty ones included
@@ -26,12 +26,3 @@ records_of end bytes = but_empty_last (split_by end bytes)
 -- the records of an input that have an end byte
 abbrev pub finished_records : ℕ → List ℕ → List (List ℕ)
 finished_records end bytes = but_last (split_by end bytes)
-
--- the number of bytes of the longest of these records; 0 if there is none
-abbrev pub longest_of : List (List ℕ) → ℕ
-longest_of [] = 0
-longest_of (bytes ∷ others) = max (length bytes) (longest_of others)
-
--- the number of bytes of the longest record of an input
-abbrev pub longest_record : ℕ → List ℕ → ℕ
-longest_record end bytes = longest_of (records_of end bytes)
