@@ -18,6 +18,8 @@ TESTS = "crates/byte_unit_tests/src/tests"
 USED = "byte_unit_tests: byte_unit_serde byte_unit byte_unit_bit byte_unit_byte byte_unit_format byte_unit_choice " \
     "byte_unit_base byte_unit_math serde serde_json toml"
 MANY = b"".join(b"%d.5 KiB\n" % number for number in range(12_000))
+# Lines with every kind of answer.
+MIXED = b"1.5 KiB\n1KB\r\n\n1Kbi\nx\n\xFF\n1000 RB\n9999999999999999999999999999999999\n1YB"
 # Calls of the command: their words, and standard input. A run reads 65,536 bytes at once.
 CALLS = [
     ("", MANY),
@@ -80,10 +82,10 @@ def shim(tmp_path_factory):
     return str(compiled("cc", tmp_path_factory.mktemp("shim") / "shim.so", *words))
 
 
-def failing_call(program, shim, words, data, number, on):
+def failing_call(program, shim, words, data, number, on, **more):
     """Returns how a call ends as an allocation fails, and whether one failed."""
     told, told_end = os.pipe()
-    given = {"LD_PRELOAD": shim, "FAIL_AT": str(number), "FAIL_ON": str(int(on)), "FAIL_TOLD": str(told_end)}
+    given = {"LD_PRELOAD": shim, "FAIL_AT": str(number), "FAIL_ON": str(int(on)), "FAIL_TOLD": str(told_end), **more}
     got = ended(program, *words.split(), input=data, timeout=60, pass_fds=[told_end], env={**os.environ, **given})
     os.close(told_end)
     with open(told, "rb") as file:
@@ -112,3 +114,26 @@ def test_program(program_of, shim, crate, words, data, on):
                 assert got == wanted or failed and is_out_of_memory(got, wanted, end), number
             if not all(failed for _, failed in runs):
                 break
+
+
+@pytest.mark.parametrize("most", [1, 2, 3, 8, 100])
+def test_lines_before_the_failure(program_of, shim, most):
+    """The line program answers just the lines whose allocations succeed: with the same allocations failing, a run over
+    those lines alone succeeds, and one over the next line, too, does not. At most so many bytes are read at once."""
+    lines, seen = MIXED.splitlines(keepends=True), set()
+    whole = ended(program_of("byte_unit_lines"), input=MIXED)[1].splitlines(keepends=True)
+
+    def answered(number, count):
+        data = b"".join(lines[:count])
+        got, failed = failing_call(program_of("byte_unit_lines"), shim, "", data, number, True, READ_MOST=str(most))
+        assert failed == (got[0] == 1) and got[1] == b"".join(whole[:got[1].count(b"\n")])
+        return got[1].count(b"\n"), failed
+
+    for number in count(1):
+        found, failed = answered(number, len(lines))
+        assert answered(number, found)[0] == found and found >= max(seen, default=0)
+        assert not failed or answered(number, found + 1) == (found, True)
+        seen.add(found)
+        if not failed:
+            break
+    assert {0, len(lines)} < seen and len(seen) > 3

@@ -25,7 +25,6 @@ mod large;
 mod mixed;
 mod names;
 mod order;
-mod refusals;
 mod rows;
 
 /// Asserts that what was found is what is wanted. A name tells which of a test's rows it was.

@@ -1,12 +1,9 @@
 //! Runs in memory, their results, and the assertions on them that several tests share.
 ghost use Rattle.std.specs.Prelude.{◌<◌, length};
 
-use super::mixed::{finished, first_lines};
 use super::*;
 use crate::report::{Buffers, run_with_buffers};
-use bumpalo::Bump;
 use byte_unit_stream::paced::{AT_ONCE, MemoryReader, MemoryWriter, Pace};
-use std::alloc::Allocator;
 
 /// The result of a run, the bytes that it has written, and what is left of its input.
 #[derive(Drop)]
@@ -90,10 +87,9 @@ pub fn streams(
     (Reading::new(reader), Writing::new(writer))
 }
 
-/// Runs with this allocator, and with reads of at most the length of `buffer`. The output is allocated by `alloc`.
-pub fn ran_in<'a, A: Allocator>(
+/// Runs with reads of at most the length of `buffer`.
+pub fn ran_in<'a>(
     alloc: Global,
-    heap: &A,
     buffer: &mut [u8],
     input: &'a [u8],
     reads: Pace,
@@ -101,15 +97,15 @@ pub fn ran_in<'a, A: Allocator>(
 ) -> Ended<'a>
     requires { 0 < length buffer.old }
 {
-    let mut buffers = Buffers::new(heap);
+    let mut buffers = Buffers::new(alloc);
     let paces = (reads, writes);
     ran_with(alloc, &mut buffers, buffer, input, paces)
 }
 
 /// Runs as `ran_in` does, in these buffers.
-pub fn ran_with<'a, A: Allocator>(
+pub fn ran_with<'a>(
     alloc: Global,
-    buffers: &mut Buffers<A>,
+    buffers: &mut Buffers<Global>,
     buffer: &mut [u8],
     input: &'a [u8],
     paces: (Pace, Pace),
@@ -119,44 +115,4 @@ pub fn ran_with<'a, A: Allocator>(
     let (mut reader, mut writer) = streams(alloc, input, paces.0, paces.1);
     let result = run_with_buffers(buffers, buffer, &mut reader, &mut writer, Kind::Byte);
     Ended::new(result, reader, writer)
-}
-
-/// Creates an arena of at least this number of bytes, which gets no more. An allocation that does not fit fails, and
-/// nothing that was given back is used again.
-pub fn arena_of(rt: &(impl Abort + AllocGlobal), bytes: usize) -> Bump {
-    let arena = Bump::try_with_capacity(rt.alloc(), bytes.max(1)).expect(rt, "memory");
-    arena.set_allocation_limit(Some(0));
-    arena
-}
-
-/// Returns a buffer that leaves this number of bytes of the arena.
-pub fn filled<'a>(rt: &impl Abort, arena: &'a Bump, left: usize) -> Vec<u8, &'a Bump> {
-    let rest = arena.chunk_capacity().saturating_sub(left);
-    let buffer = Vec::with_capacity(arena, rest).expect(rt, "memory");
-    assert_is(rt, arena.chunk_capacity(), left, "bytes of the arena");
-    buffer
-}
-
-/// Runs over this input in one read or more with this number of bytes of memory, asserts that the run ends with the
-/// whole report, or out of memory after the answers to some number of first lines, and returns that number.
-pub fn answers_in(
-    rt: &(impl Abort + AllocGlobal),
-    bytes: usize,
-    (input, report): (&[u8], &[u8]),
-    reads: Pace,
-) -> usize {
-    let arena = arena_of(rt, bytes);
-    let _rest = filled(rt, &arena, bytes);
-    // Longer than the inputs of the tests that call this.
-    let mut buffer = [0u8; 80];
-    let ended = ran_in(rt.alloc(), &arena, &mut buffer, input, reads, AT_ONCE);
-    let lines = finished(&ended.taken);
-    let is_whole = ended.taken.len() == report.len();
-    let wanted = if is_whole {
-        Ok(())
-    } else {
-        Err(RunError::Memory)
-    };
-    ended.expect(rt, wanted, first_lines(report, lines), "bytes", &[bytes]);
-    lines
 }

@@ -1,5 +1,5 @@
 //! Inputs in pieces, and streams that slow down, end or fail at any call.
-use super::ended::{answers_in, check, ran_in};
+use super::ended::{check, ran_in};
 use super::mixed::{self, finished, first_lines, repeated};
 use super::*;
 use byte_unit_stream::paced::{ALL_BUT_ONE, AT_ONCE, BYTE_BY_BYTE, Pace, Then};
@@ -177,26 +177,7 @@ fn each_size_of_buffer(rt: HostRuntime) {
     let mut buffer = [0u8; 32];
     for size in 1..=buffer.len() {
         let buffer = &mut buffer[..size];
-        let ended = ran_in(rt.alloc(), &rt.alloc(), buffer, INPUT, AT_ONCE, AT_ONCE);
+        let ended = ran_in(rt.alloc(), buffer, INPUT, AT_ONCE, AT_ONCE);
         ended.expect(&rt, Ok(()), OUTPUT, "size", &[size]);
     }
-}
-
-/// More bytes of memory than a run over the input takes: the answers have 79 and the last line 3, and a vector that
-/// grows doubles its capacity.
-const ENOUGH: usize = 256;
-
-#[test]
-fn each_failed_allocation_of_one_read(rt: HostRuntime) {
-    // The number of lines that are answered with no memory, and with ever more. The first answer takes one allocation,
-    // those after it two more, then the unfinished line one; the last answer fits the capacity.
-    let mut seen = Vec::new(rt.alloc());
-    for bytes in 0..ENOUGH {
-        let lines = answers_in(&rt, bytes, (INPUT, OUTPUT), AT_ONCE);
-        if seen.last() != Some(&lines) {
-            seen.push(lines).expect(&rt, "memory");
-        }
-    }
-    let wanted = [0, 1, 2, 4, 5];
-    assert_is(&rt, seen.as_slice(), wanted.as_slice(), "answered lines");
 }

@@ -76,14 +76,7 @@ fn answers_of_several_megabytes(rt: HostRuntime) {
     let report = repeated(&rt, b"no value\n", 300_000, b"");
     for (writes, wanted, count) in BY_WRITES {
         let mut buffer = b" ".repeat(rt.alloc(), 300_000).expect(&rt, "memory");
-        let ended = ran_in(
-            rt.alloc(),
-            &rt.alloc(),
-            &mut buffer,
-            &input,
-            AT_ONCE,
-            *writes,
-        );
+        let ended = ran_in(rt.alloc(), &mut buffer, &input, AT_ONCE, *writes);
         let front = report.get(..*count).unwrap_or(&report);
         ended.expect(&rt, *wanted, front, "bytes", &[*count]);
     }

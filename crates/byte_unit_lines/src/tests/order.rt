@@ -1,5 +1,5 @@
 //! The order of reads and writes: answers are written before the next read, and nothing is read after a failure.
-use super::ended::{arena_of, filled, ran, ran_in};
+use super::ended::ran;
 use super::*;
 use byte_unit_stream::paced::{AT_ONCE, MemoryReader, MemoryWriter, Pace, Then};
 use std::cell::Cell;
@@ -104,10 +104,4 @@ fn nothing_is_read_after_a_failure(rt: HostRuntime) {
     expect_failing_write(&rt, 0, b"", b"2KB\n3KB\n");
     expect_failing_write(&rt, 1, b"1000 = 1 KB\n", b"3KB\n");
     expect_failing_write(&rt, 2, b"1000 = 1 KB\n2000 = 2 KB\n", b"");
-    // The first allocation is for the answers.
-    let arena = arena_of(&rt, 0);
-    let _rest = filled(&rt, &arena, 0);
-    let ended = ran_in(rt.alloc(), &arena, &mut [0u8; 32], INPUT, BY_LINE, AT_ONCE);
-    ended.expect(&rt, Err(RunError::Memory), b"", "a failed allocation", &[]);
-    assert_is(&rt, ended.left, b"2KB\n3KB\n".as_slice(), "left");
 }
