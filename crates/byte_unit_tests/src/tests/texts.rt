@@ -110,31 +110,6 @@ fn forms_with_a_unit_round_trip(rt: HostRuntime) {
     }
 }
 
-/// Asserts the text of 10,000 bytes, 10,000 bits and the number 10, each appended to the one before.
-fn assert_appended(rt: &impl Abort, alloc: Global) {
-    let mut text = String::from_str(alloc, "ab").expect(rt, "memory");
-    let size = Byte::from_u64(10_000);
-    size.append_text(FormatSpec::ALTERNATE, &mut text)
-        .expect(rt, "memory");
-    let size = Bit::from_u64(10_000);
-    size.append_text(FormatSpec::ALTERNATE, &mut text)
-        .expect(rt, "memory");
-    append_plain(10, FormatSpec::PLAIN, &mut text).expect(rt, "memory");
-    assert_same(rt, text.as_str(), "ab10 KB10 Kb10");
-}
-
-/// Asserts that a text that fits the capacity does not change it.
-fn assert_within_capacity(rt: &impl Abort, alloc: Global) {
-    let mut text = String::with_capacity(alloc, 7).expect(rt, "memory");
-    text.push_str("ab").expect(rt, "memory");
-    assert_is(rt, text.capacity(), 7);
-    let size = Byte::from_u64(10_000);
-    size.append_text(FormatSpec::ALTERNATE, &mut text)
-        .expect(rt, "memory");
-    assert_same(rt, text.as_str(), "ab10 KB");
-    assert_is(rt, text.capacity(), 7);
-}
-
 /// Asserts the number of bytes written, and the bytes at the start of the buffer.
 fn assert_written(rt: &impl Abort, written: usize, len: usize, out: &[u8], front: &[u8]) {
     assert_is(rt, written, len);
@@ -162,6 +137,18 @@ fn texts_in_buffers(rt: HostRuntime) {
     assert_written(&rt, len, 5, &short, b"~~~~");
 }
 
+/// The longest text without a width, of 37 bytes, is written to a buffer that it just fits, and not to a shorter one.
+#[test]
+fn the_longest_text_in_buffers(rt: HostRuntime) {
+    // The largest size below 10^30 with five decimals in KiB.
+    let size = Byte::from_u128(999_999_999_999_999_999_999_999_999_968).expect(&rt, "a size");
+    let mut out = [b'~'; 37];
+    let len = size.write_text(precise!(5), &mut out[..36]);
+    assert_written(&rt, len, 37, &out, &[b'~'; 37]);
+    let len = size.write_text(precise!(5), &mut out);
+    assert_written(&rt, len, 37, &out, b"976562499999999999999999999.96875 KiB");
+}
+
 /// Appends both texts of a size after reserving the capacity for both: the second cannot fail to allocate.
 fn append_both(size: Byte, text: &mut String) -> Result<(), AllocError> {
     let len = size.text_len(FormatSpec::PLAIN) + size.text_len(FormatSpec::ALTERNATE);
@@ -173,10 +160,7 @@ fn append_both(size: Byte, text: &mut String) -> Result<(), AllocError> {
 
 #[test]
 fn appended_texts(rt: HostRuntime) {
-    let alloc = rt.alloc();
-    assert_appended(&rt, alloc);
-    assert_within_capacity(&rt, alloc);
-    let mut text = String::new(alloc);
+    let mut text = String::new(rt.alloc());
     append_both(Byte::from_u64(1536), &mut text).expect(&rt, "memory");
     assert_same(&rt, text.as_str(), "15361.5 KiB");
 }
