@@ -1,31 +1,47 @@
 //! Tests of the calls that read a size from a string, from bytes and from a line, and from numbers of other types. The
 //! rows of `vectors/byte-unit.txt` say what strings and numbers of a unit are.
 
-ghost use Rattle.std.specs.Prelude.{◌≡◌};
+ghost use Rattle.std.specs.Prelude.{◌≡◌, slice_index};
 
 use super::asserting::{assert_are, assert_is};
-use byte_unit::{Bit, Byte, Decimal, Unit};
+use byte_unit::{Bit, Byte, Decimal, ParseError, Unit};
 use std::process::Abort;
 
-/// A line of four bytes, after which there are digits: a call that read past the line would find another number.
-const BUFFER: &[u8] = b"1 kb\n7777";
+/// Returns the line `1 kb` with digits after it: a call that read past the line would find another number.
+fn line_and_digits() -> [u8; 9]
+    ensures { slice_index result 4 ≡ 10 }
+{
+    let mut buffer = *b"1 kb 7777";
+    buffer[4] = b'\n';
+    buffer
+}
+
+/// Asserts the bytes that were read.
+fn assert_bytes_read(rt: &impl Abort, read: Option<Result<Byte, ParseError>>, size: Byte) {
+    assert_is(rt, read.expect(rt, "a text").ok(), Some(size));
+}
+
+/// Asserts the bits that were read.
+fn assert_bits_read(rt: &impl Abort, read: Option<Result<Bit, ParseError>>, size: Bit) {
+    assert_is(rt, read.expect(rt, "a text").ok(), Some(size));
+}
 
 /// Asserts the bytes that a string and a line are by each call.
-fn assert_bytes(rt: &impl Abort, ignore_case: bool, size: u64) {
-    let wanted = Some(Byte::from_u64(size));
-    assert_is(rt, Byte::parse_str("1 kb", ignore_case).ok(), wanted);
-    let read = Byte::parse_bytes(b"1 kb", ignore_case).expect(rt, "a text");
-    assert_is(rt, read.ok(), wanted);
-    let read = Byte::parse_line(BUFFER, 4, ignore_case).expect(rt, "a text");
-    assert_is(rt, read.ok(), wanted);
+fn assert_bytes(rt: &impl Abort, ignore_case: bool, size: Byte) {
+    assert_is(rt, Byte::parse_str("1 kb", ignore_case).ok(), Some(size));
+    assert_bytes_read(rt, Byte::parse_bytes(b"1 kb", ignore_case), size);
+    assert_bytes_read(
+        rt,
+        Byte::parse_line(&line_and_digits(), 4, ignore_case),
+        size,
+    );
 }
 
 #[test]
 fn each_call_that_reads_bytes(rt: HostRuntime) {
-    assert_bytes(&rt, false, 125);
-    assert_bytes(&rt, true, 1000);
-    let read = Byte::parse_bytes_binary(b"1 kb", true).expect(&rt, "a text");
-    assert_is(&rt, read.ok(), Some(Byte::KIBIBYTE));
+    assert_bytes(&rt, false, Byte::from_u64(125));
+    assert_bytes(&rt, true, Byte::from_u64(1000));
+    assert_bytes_read(&rt, Byte::parse_bytes_binary(b"1 kb", true), Byte::KIBIBYTE);
     assert_is(
         &rt,
         Byte::parse_str_binary("1 kb", false).ok(),
@@ -35,14 +51,10 @@ fn each_call_that_reads_bytes(rt: HostRuntime) {
 
 #[test]
 fn each_call_that_reads_bits(rt: HostRuntime) {
-    let wanted = Some(Bit::KILOBIT);
-    assert_is(&rt, Bit::parse_str("1 kb").ok(), wanted);
-    let read = Bit::parse_bytes(b"1 kb").expect(&rt, "a text");
-    assert_is(&rt, read.ok(), wanted);
-    let read = Bit::parse_line(BUFFER, 4).expect(&rt, "a text");
-    assert_is(&rt, read.ok(), wanted);
-    let read = Bit::parse_bytes_binary(b"1 kb").expect(&rt, "a text");
-    assert_is(&rt, read.ok(), Some(Bit::KIBIBIT));
+    assert_is(&rt, Bit::parse_str("1 kb").ok(), Some(Bit::KILOBIT));
+    assert_bits_read(&rt, Bit::parse_bytes(b"1 kb"), Bit::KILOBIT);
+    assert_bits_read(&rt, Bit::parse_line(&line_and_digits(), 4), Bit::KILOBIT);
+    assert_bits_read(&rt, Bit::parse_bytes_binary(b"1 kb"), Bit::KIBIBIT);
     assert_is(&rt, Bit::parse_str_binary("1 kb").ok(), Some(Bit::KIBIBIT));
 }
 
