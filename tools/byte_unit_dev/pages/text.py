@@ -15,7 +15,7 @@ TOTAL, README = 36_000, 1_500
 # Names of std, the kit, the original crate and other programs, and what programs make.
 OTHERS = set("""
 axioms Env CowStr heap rattle_alloc rattle_realloc rattle_dealloc rattle_arg rattle_errno rattle_set_errno rattle_env
-rattle_env_at lseek getcwd isatty ethtool(8) tc(8) SHORTER_PROOFS.md mul_8 div_8 rocket schemars ctypes REINDEX _in Ko
+rattle_env_at lseek getcwd isatty ethtool SHORTER_PROOFS.md mul_8 div_8 rocket schemars ctypes REINDEX _in Ko
 crates/quota/src/main.rt crates/byte_unit_cli/out/byte_unit_cli /usr/local/lib
 crates/byte_unit_lines/out/byte_unit_lines lib/sqlite3/byte_unit.so
 """.split())
