@@ -3,7 +3,7 @@
 //! A row is `ID: CALL = ANSWER`; the head of `vectors/byte-unit.txt` has the forms. Each row whose answer is another is
 //! printed on standard output, as `ID: wanted WANTED, got GOT`. A row that is malformed, or has no such call, is wrong
 //! too. The last line, on standard error, is `N rows, N wrong`. The exit status is 0 if no row is wrong, 1 if some are,
-//! and 2 if the rows cannot be read, the output cannot be written, or memory is out.
+//! and 2 if the rows cannot be read, the output cannot be written, or memory runs out.
 #![tactic(auto)]
 
 /// Evaluates an expression in which a name is the size of a number in a kind: a `Byte` or a `Bit`. Returns
@@ -67,8 +67,7 @@ struct Counts {
 /// Returns `AllocError` if allocation fails.
 fn wrong_in(alloc: Global, line: &str) -> Result<Option<String>, AllocError> {
     match compare(alloc, line) {
-        Ok(None) => Ok(None),
-        Ok(Some(text)) => Ok(Some(text)),
+        Ok(text) => Ok(text),
         Err(RowError::OutOfMemory) => Err(AllocError),
         Err(error) => {
             let reason = error.reason();
