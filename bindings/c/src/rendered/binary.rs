@@ -1,0 +1,51 @@
+// Rendered from crates/byte_unit_c/src/binary.rt by `tools/dev render rust`. Do not edit.
+
+//! Parsing with the flag `BINARY_PREFIXES`: decimal prefixes mean binary ones.
+//!
+//! The calls without the flag are compiled apart from these, so that it costs them no instruction.
+
+use crate::rendered::error::{Error, INVALID_ARGUMENT, OK};
+use crate::rendered::flags::binary_flags_at;
+use crate::rendered::many::{is_layout, parse_each};
+use crate::rendered::offsets::Offsets;
+use crate::rendered::parse::parse_as;
+use crate::rendered::values::Number;
+
+/// Parses as `byte_unit_parse_to` does, with the flag `BINARY_PREFIXES` (8) beside the others: a decimal prefix means
+/// the binary one, so `K` and `KB` are by 1024, as `Ki` and `KiB` are.
+///
+/// Returns `INVALID_ARGUMENT` and writes nothing without that flag, or if another is set.
+///
+/// For example, `10m` in bytes gives `OK` and the size 10,485,760.
+#[unsafe(no_mangle)]
+pub extern "C" fn byte_unit_parse_binary_to(
+    text: *const u8,
+    text_len: usize,
+    flags: u32,
+    size: &mut Number,
+    error: *mut Error,
+    error_len: usize,
+) -> u32 {
+    let text = unsafe { crate::slices::slice(text, text_len) };
+    let error = unsafe { crate::slices::slice_mut(error, error_len) };
+    match binary_flags_at(flags) {
+        Some(asked) => parse_as::<true>(text, asked, size, error),
+        None => INVALID_ARGUMENT,
+    }
+}
+
+/// Parses many texts as `byte_unit_parse_many_to` does with the flag `BINARY_PREFIXES`, with offsets of either width.
+/// Returns `INVALID_ARGUMENT` and writes nothing if that flag is not set, if an unknown flag is, or if the offsets and
+/// lengths do not fit.
+#[cold]
+#[inline(never)]
+pub fn parse_many_binary(data: &[u8], offsets: Offsets<'_>, flags: u32, sizes: &mut [Number], codes: &mut [u8]) -> u32 {
+    let Some(asked) = binary_flags_at(flags) else {
+        return INVALID_ARGUMENT;
+    };
+    if !is_layout(data, offsets, sizes.len(), codes.len()) {
+        return INVALID_ARGUMENT;
+    }
+    parse_each::<true>(data, offsets, asked, sizes, codes);
+    OK
+}

@@ -1,0 +1,146 @@
+// Rendered from crates/byte_unit_c/src/error.rt by `tools/dev render rust`. Do not edit.
+
+//! The errors of parsing in the C API: a code, and a struct of details.
+
+use crate::rendered::values::DecimalParts;
+use byte_unit::rendered::base::{Expected, UnitParseError, ValueParseError};
+
+/// The details of a parse error. A field that the error's code does not use is zero.
+#[repr(C)]
+#[derive(Clone, Copy)]
+pub struct Error {
+    /// With `NOT_NUMBER` and `UNIT`: the code point of the character that was rejected.
+    pub character: u32,
+    /// With `UNIT`: 1 if the string could end before that character, and else 0.
+    pub also_expect_no_character: u8,
+    /// With `UNIT`: the characters that are expected in its place, in ASCII, followed by at least one zero byte.
+    pub expected: [u8; 16],
+    /// With `EXCEEDED_BOUNDS`: the number in the string, without its unit.
+    pub number: DecimalParts,
+    /// With every other code: the index in bytes of the first wrong character, as `byte_unit_error_position` and
+    /// `byte_unit_unit_error_position` write it.
+    pub position: usize,
+}
+
+/// Success: the string represents a size.
+pub const OK: u32 = 0;
+
+/// The string is empty or has only white space.
+pub const NO_VALUE: u32 = 1;
+
+/// A digit is expected in place of the character, or after it if the string ends with a decimal point.
+pub const NOT_NUMBER: u32 = 2;
+
+/// The integer part is 2^112 or more, or more than 28 digits follow the decimal point.
+pub const NUMBER_TOO_LONG: u32 = 3;
+
+/// The size is 10^30 or more.
+pub const EXCEEDED_BOUNDS: u32 = 4;
+
+/// The unit is misspelled.
+pub const UNIT: u32 = 5;
+
+/// The bytes are not UTF-8.
+pub const NOT_UTF8: u32 = 6;
+
+/// A flag is unknown, or the offsets and lengths of many texts do not fit each other.
+pub const INVALID_ARGUMENT: u32 = 7;
+
+impl Error {
+    /// Every field zero: what the details of each error begin with.
+    pub const NONE: Error =
+        Error { character: 0, also_expect_no_character: 0, expected: [0; 16], number: DecimalParts::ZERO, position: 0 };
+
+    /// Returns the code and the details of an error in the number, at a position.
+    pub fn of_value(error: ValueParseError, position: usize) -> (u32, Error) {
+        let base = Error { position, ..Error::NONE };
+        match error {
+            ValueParseError::ExceededBounds(number) => {
+                let number = DecimalParts::new(number);
+                (EXCEEDED_BOUNDS, Error { number, ..base })
+            }
+            ValueParseError::NotNumber(c) => {
+                let character = c as u32;
+                (NOT_NUMBER, Error { character, ..base })
+            }
+            ValueParseError::NoValue => (NO_VALUE, base),
+            ValueParseError::NumberTooLong => (NUMBER_TOO_LONG, base),
+        }
+    }
+
+    /// Returns the details of an error in the unit, at a position. Its code is `UNIT`.
+    pub fn of_unit(error: UnitParseError, position: usize) -> Error {
+        let expected = expected_bytes(error.expected_characters);
+        let may_end = error.also_expect_no_character;
+        Error::of_unit_parts(error.character, expected, may_end, position)
+    }
+
+    /// Returns the details of an error in the unit, from its character, the bytes of the expected characters, whether
+    /// the string could end there, and the position.
+    pub fn of_unit_parts(character: char, expected: [u8; 16], may_end: bool, position: usize) -> Error {
+        Error {
+            character: character as u32,
+            also_expect_no_character: may_end as u8,
+            expected,
+            position,
+            ..Error::NONE
+        }
+    }
+
+    /// Writes the details to the first of `errors`, if it is not empty.
+    pub fn write(self, errors: &mut [Error]) {
+        if !errors.is_empty() {
+            errors[0] = self;
+        }
+    }
+}
+
+/// Returns the first 15 characters as bytes, padded with zeros to 16, so that C can read them as a string. The parsers
+/// expect at most ten characters, all of them ASCII.
+pub fn expected_bytes(characters: &[char]) -> [u8; 16] {
+    let mut bytes = [0; 16];
+    for i in 0..characters.len().min(15) {
+        bytes[i] = as_byte(characters[i]);
+    }
+    bytes
+}
+
+/// Returns the characters that an error names as expected, as `expected_bytes` returns them.
+pub fn bytes_of(expected: Expected) -> [u8; 16] {
+    EXPECTED_BYTES[index_of(expected)]
+}
+
+/// Returns the index of these characters in `EXPECTED_BYTES`.
+fn index_of(expected: Expected) -> usize {
+    match expected {
+        Expected::Beginning => 0,
+        Expected::EitherB => 1,
+        Expected::UpperB => 2,
+        Expected::LowerB => 3,
+        Expected::I => 4,
+        Expected::T => 5,
+        Expected::S => 6,
+        Expected::Nothing => 7,
+    }
+}
+
+/// The bytes of each `Expected`, at its `index_of`. `tools/dev render tables` renders them from its characters.
+static EXPECTED_BYTES: [[u8; 16]; 8] = [
+    *b"BKMGTPEZYR\0\0\0\0\0\0",
+    *b"Bb\0\0\0\0\0\0\0\0\0\0\0\0\0\0",
+    *b"B\0\0\0\0\0\0\0\0\0\0\0\0\0\0\0",
+    *b"b\0\0\0\0\0\0\0\0\0\0\0\0\0\0\0",
+    *b"i\0\0\0\0\0\0\0\0\0\0\0\0\0\0\0",
+    *b"t\0\0\0\0\0\0\0\0\0\0\0\0\0\0\0",
+    *b"s\0\0\0\0\0\0\0\0\0\0\0\0\0\0\0",
+    [0; 16],
+];
+
+/// Returns an ASCII character as its byte, and `?` for any other character.
+fn as_byte(c: char) -> u8 {
+    if c.is_ascii() {
+        c as u8
+    } else {
+        b'?'
+    }
+}

@@ -1,0 +1,123 @@
+// Rendered from crates/byte_unit_c/src/explain.rt by `tools/dev render rust`. Do not edit.
+
+//! Messages for strings that are rejected.
+
+use crate::rendered::flags::{binary_flags_at, parse_flags_at, ParseFlags};
+use crate::rendered::message::{write_message, write_not_utf8, write_unit_message, write_unknown_flag};
+use crate::rendered::parse::{read_unit, unit_flags};
+use byte_unit::rendered::base::size::Outcome;
+use byte_unit::rendered::base::{error_at, size, Flags, ParseError, Reason};
+
+/// Writes the error message for a string that is rejected to the start of `out`, and returns its length, at most 256
+/// bytes. Returns the length and writes nothing if `out` is shorter. Returns 0 if and only if all flags are known and
+/// the string represents a size, and then writes nothing. The flags are those of `byte_unit_parse_to`; for another, the
+/// message is `a flag is unknown`.
+///
+/// For example, `-1` gives 33, the length of `the character '-' is not a number`.
+#[unsafe(no_mangle)]
+pub extern "C" fn byte_unit_explain(
+    text: *const u8,
+    text_len: usize,
+    flags: u32,
+    out: *mut u8,
+    out_len: usize,
+) -> usize {
+    let text = unsafe { crate::slices::slice(text, text_len) };
+    let out = unsafe { crate::slices::slice_mut(out, out_len) };
+    match parse_flags_at(flags) {
+        Some(asked) => explain_as::<false>(text, asked, out),
+        None => match binary_flags_at(flags) {
+            Some(asked) => explain_as::<true>(text, asked, out),
+            None => write_unknown_flag(out),
+        },
+    }
+}
+
+/// Explains as `byte_unit_explain` does, with known flags. With `BINARY` a decimal prefix means the binary one.
+fn explain_as<const BINARY: bool>(text: &[u8], asked: ParseFlags, out: &mut [u8]) -> usize {
+    match size::read_bytes(text, asked.ignore_case, asked.kind) {
+        Outcome::Accepted(unit, number) => explain_size(size::size_of::<BINARY>((number, unit), asked.kind), out),
+        Outcome::Stopped(reason, place) => match size::visible_next(text, place) {
+            Some(next) => {
+                let flags = size::flags_for(asked.kind, asked.ignore_case);
+                write_stop_message(next, place == 0, reason, flags, out)
+            }
+            None => explain_string::<BINARY>(text, asked, out),
+        },
+    }
+}
+
+/// Explains as `explain_as` does, from the string that the bytes are, trimmed.
+#[cold]
+#[inline(never)]
+fn explain_string<const BINARY: bool>(text: &[u8], asked: ParseFlags, out: &mut [u8]) -> usize {
+    match size::read_text(text, asked.ignore_case, asked.kind) {
+        None => write_not_utf8(out),
+        Some(Ok(found)) => {
+            let (unit, number) = found;
+            explain_size(size::size_of::<BINARY>((number, unit), asked.kind), out)
+        }
+        Some(Err(stopped)) => {
+            let (stop, next) = stopped;
+            let flags = size::flags_for(asked.kind, asked.ignore_case);
+            write_stop_message(next, stop.place == 0, stop.reason, flags, out)
+        }
+    }
+}
+
+/// Writes the message of the error of a parser that stops for this reason, by the character there.
+///
+/// `#[inline(always)]`: a call costs a rejected text some 25 instructions.
+#[inline(always)]
+fn write_stop_message(next: Option<char>, at_start: bool, reason: Reason, flags: Flags, out: &mut [u8]) -> usize {
+    match reason {
+        Reason::InUnit(stop) => write_unit_message(stop, next, flags, out),
+        _ => write_message(&error_at(next, at_start, reason, flags), out),
+    }
+}
+
+/// Writes the message that a size is too large, and returns its length. Returns 0 and writes nothing if it is not.
+///
+/// `#[inline(always)]`: the result is then never in memory.
+#[inline(always)]
+fn explain_size(answer: Result<u128, ParseError>, out: &mut [u8]) -> usize {
+    match answer {
+        Ok(_) => 0,
+        Err(error) => write_message(&error, out),
+    }
+}
+
+/// Writes the error message for a string that is not a unit to the start of `out`, and returns its length, at most 256
+/// bytes. Returns the length and writes nothing if `out` is shorter. Returns 0 if and only if all flags are known and
+/// the string spells a unit, and then writes nothing. The flags are those of `byte_unit_parse_unit_to`; for another,
+/// the message is `a flag is unknown`.
+///
+/// For example, `Kx` gives 71, the length of `the character 'x' is incorrect ('B' or 'b' or no character is expected)`.
+#[unsafe(no_mangle)]
+pub extern "C" fn byte_unit_explain_unit(
+    text: *const u8,
+    text_len: usize,
+    flags: u32,
+    out: *mut u8,
+    out_len: usize,
+) -> usize {
+    let text = unsafe { crate::slices::slice(text, text_len) };
+    let out = unsafe { crate::slices::slice_mut(out, out_len) };
+    match parse_flags_at(flags) {
+        Some(asked) => explain_unit_as(text, asked, out),
+        None => write_unknown_flag(out),
+    }
+}
+
+/// Explains as `byte_unit_explain_unit` does, with known flags.
+fn explain_unit_as(text: &[u8], asked: ParseFlags, out: &mut [u8]) -> usize {
+    let flags = unit_flags(asked);
+    match read_unit(text, flags) {
+        Some(Ok(_)) => 0,
+        Some(Err(stopped)) => {
+            let (stop, next, _) = stopped;
+            write_unit_message(stop, next, flags, out)
+        }
+        None => write_not_utf8(out),
+    }
+}

@@ -1,0 +1,113 @@
+// Rendered from crates/byte_unit_c/src/many.rt by `tools/dev render rust`. Do not edit.
+
+//! Parsing of many texts in one call.
+
+use crate::rendered::binary::parse_many_binary;
+use crate::rendered::error::{Error, INVALID_ARGUMENT, NOT_UTF8, OK, UNIT};
+use crate::rendered::flags::{plain_flags, ParseFlags, MOST_PLAIN};
+use crate::rendered::offsets::Offsets;
+use crate::rendered::values::Number;
+use byte_unit::rendered::base::{size, ParseError};
+
+/// Parses many texts, each as `byte_unit_parse_to` does. Text `i` is the bytes of `data` from `offsets[i]` up to
+/// `offsets[i + 1]`, so there is one offset more than texts; if there are no texts, there may be no offset either.
+/// Returns `OK`, and writes the code of each text to `codes`, and its size to `sizes`, or 0 there if it has none.
+///
+/// Returns `INVALID_ARGUMENT` and writes nothing if a flag is unknown, the first offset is negative, an offset is less
+/// than the one before it, the last is past the end of `data`, or `sizes` or `codes` has not one place for each text.
+///
+/// For example, the data `1 KB2x` with the offsets 0, 4, 6 gives the codes `OK` and `UNIT` and the sizes 1000 and 0.
+#[unsafe(no_mangle)]
+pub extern "C" fn byte_unit_parse_many_to(
+    data: *const u8,
+    data_len: usize,
+    offsets: *const i64,
+    offsets_len: usize,
+    flags: u32,
+    sizes: *mut Number,
+    sizes_len: usize,
+    codes: *mut u8,
+    codes_len: usize,
+) -> u32 {
+    let data = unsafe { crate::slices::slice(data, data_len) };
+    let offsets = unsafe { crate::slices::slice(offsets, offsets_len) };
+    let sizes = unsafe { crate::slices::slice_mut(sizes, sizes_len) };
+    let codes = unsafe { crate::slices::slice_mut(codes, codes_len) };
+    parse_many(data, Offsets::Long(offsets), flags, sizes, codes)
+}
+
+/// Parses many texts, as `byte_unit_parse_many_to` does, with offsets of 32 bits.
+#[unsafe(no_mangle)]
+pub extern "C" fn byte_unit_parse_many_32_to(
+    data: *const u8,
+    data_len: usize,
+    offsets: *const i32,
+    offsets_len: usize,
+    flags: u32,
+    sizes: *mut Number,
+    sizes_len: usize,
+    codes: *mut u8,
+    codes_len: usize,
+) -> u32 {
+    let data = unsafe { crate::slices::slice(data, data_len) };
+    let offsets = unsafe { crate::slices::slice(offsets, offsets_len) };
+    let sizes = unsafe { crate::slices::slice_mut(sizes, sizes_len) };
+    let codes = unsafe { crate::slices::slice_mut(codes, codes_len) };
+    parse_many(data, Offsets::Short(offsets), flags, sizes, codes)
+}
+
+/// Parses many texts, as `byte_unit_parse_many_to` does, with offsets of either width.
+fn parse_many(data: &[u8], offsets: Offsets<'_>, flags: u32, sizes: &mut [Number], codes: &mut [u8]) -> u32 {
+    // Only flags with `BINARY_PREFIXES` and unknown ones are greater.
+    if flags > MOST_PLAIN {
+        return parse_many_binary(data, offsets, flags, sizes, codes);
+    }
+    let asked = plain_flags(flags);
+    if !is_layout(data, offsets, sizes.len(), codes.len()) {
+        return INVALID_ARGUMENT;
+    }
+    parse_each::<false>(data, offsets, asked, sizes, codes);
+    OK
+}
+
+/// Returns whether the offsets ascend within the data, and there is a size and a code for each text.
+pub fn is_layout(data: &[u8], offsets: Offsets<'_>, sizes_len: usize, codes_len: usize) -> bool {
+    let texts = offsets.len().saturating_sub(1);
+    sizes_len == texts && codes_len == texts && offsets.ascend_to(data.len())
+}
+
+/// Parses each text, and writes its code and its size. With `BINARY` decimal prefixes mean binary ones.
+///
+/// Precondition: the offsets and lengths are a layout.
+pub fn parse_each<const BINARY: bool>(
+    data: &[u8],
+    offsets: Offsets<'_>,
+    asked: ParseFlags,
+    sizes: &mut [Number],
+    codes: &mut [u8],
+) {
+    for i in 0..codes.len() {
+        let (code, size) = parse_one::<BINARY>(offsets.text_at(data, i), asked);
+        codes[i] = code;
+        sizes[i] = size;
+    }
+}
+
+/// Parses one text to its code and its size, which is 0 if there is none.
+#[inline(always)]
+fn parse_one<const BINARY: bool>(text: &[u8], asked: ParseFlags) -> (u8, Number) {
+    match size::parse_line::<BINARY>(text, text.len(), asked.ignore_case, asked.kind) {
+        Some(Ok(size)) => (OK as u8, Number::new(size)),
+        Some(Err(error)) => (code_of(error), Number::ZERO),
+        None => (NOT_UTF8 as u8, Number::ZERO),
+    }
+}
+
+/// Returns the code of an error. Of an error in the number, the details with their position (0 here) are not used.
+#[cold]
+fn code_of(error: ParseError) -> u8 {
+    match error {
+        ParseError::Value(error) => Error::of_value(error, 0).0 as u8,
+        ParseError::Unit(_) => UNIT as u8,
+    }
+}

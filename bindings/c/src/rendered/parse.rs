@@ -1,0 +1,223 @@
+// Rendered from crates/byte_unit_c/src/parse.rt by `tools/dev render rust`. Do not edit.
+
+//! Parsing of sizes and of units.
+
+use crate::rendered::codes::unit_code;
+use crate::rendered::error::{bytes_of, Error, INVALID_ARGUMENT, NOT_UTF8, OK, UNIT};
+use crate::rendered::flags::{parse_flags_at, ParseFlags};
+use crate::rendered::position;
+use crate::rendered::values::Number;
+use byte_unit::rendered::base::position::read_unit_text;
+use byte_unit::rendered::base::size::Outcome;
+use byte_unit::rendered::base::{error_at, size, Flags, Kind, ParseError, Reason, Unit, UnitStop};
+use core::str;
+
+/// Parses a size, rounded up to the next whole byte, or to the next whole bit with the flag `BITS` (1). Sizes are below
+/// 10^30. With the flag `IGNORE_CASE` (2) the suffix `b` means bytes too. Sizes in bits are always case-sensitive: with
+/// `BITS`, `IGNORE_CASE` has no effect.
+///
+/// Returns `OK` and writes `size` if the string represents a size. Otherwise returns the code of the error and writes
+/// its details to the first of `error`, if it is not empty. Returns `NOT_UTF8` and writes nothing if the bytes are not
+/// UTF-8, and `INVALID_ARGUMENT` and writes nothing if another flag is set. What is not written is unchanged.
+///
+/// For example, `1.5 KiB` in bytes gives `OK` and the size 1536, and `1 x` gives `UNIT` with the character `x`.
+#[unsafe(no_mangle)]
+pub extern "C" fn byte_unit_parse_to(
+    text: *const u8,
+    text_len: usize,
+    flags: u32,
+    size: &mut Number,
+    error: *mut Error,
+    error_len: usize,
+) -> u32 {
+    let text = unsafe { crate::slices::slice(text, text_len) };
+    let error = unsafe { crate::slices::slice_mut(error, error_len) };
+    match parse_flags_at(flags) {
+        Some(asked) => parse_as::<false>(text, asked, size, error),
+        None => INVALID_ARGUMENT,
+    }
+}
+
+/// Parses as `byte_unit_parse_to` does, with known flags. With `BINARY` a decimal prefix means the binary one: a call
+/// without it takes no instruction more for it.
+#[inline(always)]
+pub fn parse_as<const BINARY: bool>(text: &[u8], asked: ParseFlags, size: &mut Number, errors: &mut [Error]) -> u32 {
+    match size::read_bytes(text, asked.ignore_case, asked.kind) {
+        Outcome::Accepted(unit, number) => {
+            let answer = Some(size::size_of::<BINARY>((number, unit), asked.kind));
+            write_result(text, answer, size, errors)
+        }
+        Outcome::Stopped(reason, place) => match reason {
+            Reason::InUnit(_) => parse_stopped::<BINARY>(text, place, reason, asked, size, errors),
+            Reason::NoDigit => parse_stopped::<BINARY>(text, place, reason, asked, size, errors),
+            Reason::TooLong => parse_too_long::<BINARY>(text, place, asked, size, errors),
+        },
+    }
+}
+
+/// Parses as `parse_as` does, from bytes in which the parser stops at this place and for this reason. If the next
+/// character is not visible to it (not ASCII, or trimmed), parses the string that the bytes are.
+///
+/// Each reason has a call of its own, which does not test it again. `#[inline(always)]`: a call costs a rejected text
+/// some 30 instructions.
+#[inline(always)]
+fn parse_stopped<const BINARY: bool>(
+    text: &[u8],
+    place: usize,
+    reason: Reason,
+    asked: ParseFlags,
+    size: &mut Number,
+    errors: &mut [Error],
+) -> u32 {
+    match write_stop(text, place, reason, asked, errors) {
+        Some(code) => code,
+        None => parse_as_string::<BINARY>(text, asked, size, errors),
+    }
+}
+
+/// Does what `parse_stopped` does for a number that is too long, in a function that is not inlined, since that is rare.
+#[cold]
+#[inline(never)]
+fn parse_too_long<const BINARY: bool>(
+    text: &[u8],
+    place: usize,
+    asked: ParseFlags,
+    size: &mut Number,
+    errors: &mut [Error],
+) -> u32 {
+    parse_stopped::<BINARY>(text, place, Reason::TooLong, asked, size, errors)
+}
+
+/// Parses as `parse_as` does, from the string that the bytes are.
+#[cold]
+#[inline(never)]
+fn parse_as_string<const BINARY: bool>(text: &[u8], asked: ParseFlags, size: &mut Number, errors: &mut [Error]) -> u32 {
+    let answer = size::parse_text::<BINARY>(text, asked.ignore_case, asked.kind);
+    write_result(text, answer, size, errors)
+}
+
+/// Writes the error of a parser that stops at this place and for this reason, and returns its code. Returns `None` and
+/// writes nothing if the bytes have to be parsed as a string.
+///
+/// `#[inline(always)]`: the error of a unit, whose parts are written, is then never in memory.
+#[inline(always)]
+fn write_stop(text: &[u8], place: usize, reason: Reason, asked: ParseFlags, errors: &mut [Error]) -> Option<u32> {
+    let next = size::visible_next(text, place)?;
+    let flags = size::flags_for(asked.kind, asked.ignore_case);
+    Some(match reason {
+        Reason::InUnit(stop) => {
+            write_unit_stop(stop, next, flags, place, errors);
+            UNIT
+        }
+        Reason::NoDigit => write_error(error_at(next, place == 0, reason, flags), place, errors),
+        Reason::TooLong => {
+            let error = error_at(next, place == 0, reason, flags);
+            let position = position::of_error(text, &error);
+            write_error(error, position, errors)
+        }
+    })
+}
+
+/// Writes the error of a parser of a unit that stops at this place, by the character there.
+#[inline(always)]
+fn write_unit_stop(stop: UnitStop, next: Option<char>, flags: Flags, place: usize, errors: &mut [Error]) {
+    let expected = bytes_of(stop.expected_before(next, flags));
+    let error = stop.error_before(next, flags);
+    let may_end = error.also_expect_no_character;
+    Error::of_unit_parts(error.character, expected, may_end, place).write(errors);
+}
+
+/// Writes the result of a parser, and returns its code.
+///
+/// `#[inline(always)]`: each caller knows which result it has, which is then never in memory.
+#[inline(always)]
+fn write_result(text: &[u8], answer: Option<Result<u128, ParseError>>, size: &mut Number, errors: &mut [Error]) -> u32 {
+    match answer {
+        Some(Ok(found)) => {
+            *size = Number::new(found);
+            OK
+        }
+        Some(Err(error)) => {
+            let position = position::of_error(text, &error);
+            write_error(error, position, errors)
+        }
+        None => NOT_UTF8,
+    }
+}
+
+/// Writes the details of an error with its position, and returns its code.
+#[inline(always)]
+fn write_error(error: ParseError, position: usize, errors: &mut [Error]) -> u32 {
+    match error {
+        ParseError::Value(error) => {
+            let (code, details) = Error::of_value(error, position);
+            details.write(errors);
+            code
+        }
+        ParseError::Unit(error) => {
+            Error::of_unit(error, position).write(errors);
+            UNIT
+        }
+    }
+}
+
+/// Parses a unit by one of its spellings, as `Unit::parse_str` does, and writes its code to `unit`. A spelling without
+/// a suffix is of bytes, or of bits with the flag `BITS` (1). With the flag `IGNORE_CASE` (2) the suffix `b` means
+/// bytes too.
+///
+/// Returns `OK` and writes `unit` if the string spells a unit. Otherwise returns `UNIT` and writes the details of the
+/// error to the first of `error`, if it is not empty. Returns `NOT_UTF8` and writes nothing if the bytes are not UTF-8,
+/// and `INVALID_ARGUMENT` and writes nothing if another flag is set. What is not written is unchanged.
+///
+/// For example, `KiB` gives `OK` and the unit 5, and `Kx` gives `UNIT` with the character `x`.
+#[unsafe(no_mangle)]
+pub extern "C" fn byte_unit_parse_unit_to(
+    text: *const u8,
+    text_len: usize,
+    flags: u32,
+    unit: &mut u32,
+    error: *mut Error,
+    error_len: usize,
+) -> u32 {
+    let text = unsafe { crate::slices::slice(text, text_len) };
+    let error = unsafe { crate::slices::slice_mut(error, error_len) };
+    match parse_flags_at(flags) {
+        Some(asked) => parse_unit_as(text, asked, unit, error),
+        None => INVALID_ARGUMENT,
+    }
+}
+
+/// Parses as `byte_unit_parse_unit_to` does, with known flags.
+fn parse_unit_as(text: &[u8], asked: ParseFlags, unit: &mut u32, errors: &mut [Error]) -> u32 {
+    let flags = unit_flags(asked);
+    match read_unit(text, flags) {
+        Some(Ok(found)) => {
+            *unit = unit_code(found);
+            OK
+        }
+        Some(Err(stopped)) => {
+            let (stop, next, position) = stopped;
+            write_unit_stop(stop, next, flags, position, errors);
+            UNIT
+        }
+        None => NOT_UTF8,
+    }
+}
+
+/// Parses a unit from bytes, as `read_unit_text` does from a string. Returns `None` if the bytes are not UTF-8.
+#[inline(always)]
+pub(crate) fn read_unit(bytes: &[u8], flags: Flags) -> Option<Result<Unit, (UnitStop, Option<char>, usize)>> {
+    match str::from_utf8(bytes) {
+        Ok(text) => Some(read_unit_text(text, flags)),
+        Err(_) => None,
+    }
+}
+
+/// Returns the flags for parsing a unit: one with no suffix is of the kind of sizes.
+pub(crate) fn unit_flags(asked: ParseFlags) -> Flags {
+    let prefer_byte = match asked.kind {
+        Kind::Byte => true,
+        Kind::Bit => false,
+    };
+    Flags { ignore_case: asked.ignore_case, prefer_byte }
+}

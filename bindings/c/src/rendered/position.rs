@@ -1,0 +1,71 @@
+// Rendered from crates/byte_unit_c/src/position.rt by `tools/dev render rust`. Do not edit.
+
+//! Where a string that is rejected is wrong.
+
+use byte_unit::rendered::base::{position, ParseError, Unit, ValueParseError};
+use core::str;
+
+/// Writes the index in bytes of the first wrong character of a string that `byte_unit_parse_to` rejects: up to there
+/// the string, without the white space at its ends, begins a size, and with that character it begins none. If it ends
+/// too early, the index is that of its end, before white space there; of white space alone, its length. The index is
+/// the same with all flags.
+///
+/// Returns `true` if there is one. Returns `false` and writes nothing if the string represents a size, if only its size
+/// is too large, or if the bytes are not UTF-8.
+///
+/// For example, `1 byte` gives the index 3, of its `y`, and `1.` gives 2.
+#[unsafe(no_mangle)]
+pub extern "C" fn byte_unit_error_position(text: *const u8, text_len: usize, position: &mut usize) -> bool {
+    let text = unsafe { crate::slices::slice(text, text_len) };
+    match str::from_utf8(text) {
+        Ok(text) => write_position(position::of_size_error(text), position),
+        Err(_) => false,
+    }
+}
+
+/// Writes the index in bytes of the first wrong character of a string that `byte_unit_parse_unit_to` rejects, as
+/// `byte_unit_error_position` does of one that is not a size.
+///
+/// For example, `Kx` gives the index 1, and `bi` gives 2.
+#[unsafe(no_mangle)]
+pub extern "C" fn byte_unit_unit_error_position(text: *const u8, text_len: usize, position: &mut usize) -> bool {
+    let text = unsafe { crate::slices::slice(text, text_len) };
+    match str::from_utf8(text) {
+        Ok(text) => write_position(Unit::error_position(text), position),
+        Err(_) => false,
+    }
+}
+
+/// Writes the position, if there is one, and returns whether there is.
+fn write_position(found: Option<usize>, position: &mut usize) -> bool {
+    match found {
+        Some(place) => {
+            *position = place;
+            true
+        }
+        None => false,
+    }
+}
+
+/// Returns the position of the error of a string, or 0 if only its size is too large.
+#[inline(always)]
+pub fn of_error(text: &[u8], error: &ParseError) -> usize {
+    match error {
+        ParseError::Value(value) => match value {
+            ValueParseError::ExceededBounds(_) => 0,
+            _ => of_size(text),
+        },
+        ParseError::Unit(_) => of_size(text),
+    }
+}
+
+/// Returns the position of the error of a string, or 0 if it is a number and a unit.
+///
+/// `#[cold]`, and not inlined: the string is parsed once more, and few callers reach this.
+#[cold]
+#[inline(never)]
+fn of_size(text: &[u8]) -> usize {
+    let mut place = 0;
+    byte_unit_error_position(text.as_ptr(), text.len(), &mut place);
+    place
+}

@@ -1,0 +1,110 @@
+// Rendered from crates/byte_unit_c/src/units.rt by `tools/dev render rust`. Do not edit.
+
+//! Units of sizes: the choice of a unit for a size, and sizes from a number of a unit.
+
+use crate::rendered::codes::{type_at, unit_at, unit_code};
+use crate::rendered::flags::{choice_flags_at, kind_at, ChoiceFlags};
+use crate::rendered::values::{DecimalParts, Number};
+use byte_unit::rendered::base::{size, Kind, Unit};
+use byte_unit::rendered::choice::{appropriate_unit, exact_unit, recoverable_unit};
+use byte_unit::rendered::math::Steps;
+
+/// The code that no unit has.
+pub const NO_UNIT: u32 = u32::MAX;
+
+/// Returns the code of the largest unit, not above the size, that divides it, or of the base unit (`B` or `b`) if none
+/// does, and writes the size in that unit to `count`. The size is in bytes, or in bits with the flag `BITS` (1). The
+/// unit is of the size's kind, or of either kind with the flag `EITHER_KIND` (4). Returns `NO_UNIT` and writes nothing
+/// if the size is out of range or another flag is set.
+///
+/// For example, 50,840,000 bytes gives 4, the code of `KB`, with the count 50,840.
+#[unsafe(no_mangle)]
+pub extern "C" fn byte_unit_exact_unit(size: Number, flags: u32, count: &mut Number) -> u32 {
+    match choice_flags_at(flags) {
+        Some(asked) => exact_unit_as(size, asked, count),
+        None => NO_UNIT,
+    }
+}
+
+/// Chooses as `byte_unit_exact_unit` does, with known flags.
+fn exact_unit_as(size: Number, asked: ChoiceFlags, count: &mut Number) -> u32 {
+    match size::bounded(size.get()) {
+        Some(size) => {
+            let (whole, unit) = exact_unit(size, asked.kind, asked.of_either);
+            *count = Number::new(whole);
+            unit_code(unit)
+        }
+        None => NO_UNIT,
+    }
+}
+
+/// Returns the code of the largest unit, not above the size, that represents it exactly with at most `precision` digits
+/// after the decimal point, or of the base unit (`B` or `b`) if none does, and writes the size in that unit to `count`.
+/// A precision above 28 counts as 28. The size is in bytes, or in bits with the flag `BITS` (1). The unit is of the
+/// size's kind, or of either kind with the flag `EITHER_KIND` (4). Returns `NO_UNIT` and writes nothing if the size is
+/// out of range or another flag is set.
+///
+/// For example, 50,840,000 bytes with precision 2 gives 8, the code of `MB`, with the count 50.84.
+#[unsafe(no_mangle)]
+pub extern "C" fn byte_unit_recoverable_unit(
+    size: Number,
+    flags: u32,
+    precision: usize,
+    count: &mut DecimalParts,
+) -> u32 {
+    match choice_flags_at(flags) {
+        Some(asked) => recoverable_unit_as(size, asked, precision, count),
+        None => NO_UNIT,
+    }
+}
+
+/// Chooses as `byte_unit_recoverable_unit` does, with known flags.
+fn recoverable_unit_as(size: Number, asked: ChoiceFlags, precision: usize, count: &mut DecimalParts) -> u32 {
+    let steps = &mut Steps::new();
+    match size::bounded(size.get()) {
+        Some(size) => {
+            let (number, unit) = recoverable_unit(size, asked.kind, asked.of_either, precision, steps);
+            *count = DecimalParts::new(number);
+            unit_code(unit)
+        }
+        None => NO_UNIT,
+    }
+}
+
+/// Returns the code of the largest unit of the size's kind and of the unit type that is not above the size, or of the
+/// base unit (`B` or `b`) if there is none. The size is in bytes, or in bits with the flag `BITS` (1). The unit type is
+/// 0 for binary, 1 for decimal and 2 for both. Returns `NO_UNIT` if the unit type is unknown or another flag is set.
+/// The number may be 10^30 or more.
+///
+/// For example, 10,000 bytes with the unit type 2 gives 5, the code of `KiB`.
+#[unsafe(no_mangle)]
+pub extern "C" fn byte_unit_appropriate_unit(size: Number, flags: u32, unit_type: u32) -> u32 {
+    match (kind_at(flags), type_at(unit_type)) {
+        (Some(kind), Some(unit_type)) => unit_code(appropriate_unit(size.get(), kind, unit_type)),
+        _ => NO_UNIT,
+    }
+}
+
+/// Writes the size of `count` units, rounded up to the next whole byte, or bit with the flag `BITS` (1), and returns
+/// `true`. Returns `false` and writes nothing if the size is 10^30 or more, the code is not that of a unit, or another
+/// flag is set.
+///
+/// For example, 17 of the unit 0 (`bit`) in bytes gives `true` and the size 3.
+#[unsafe(no_mangle)]
+pub extern "C" fn byte_unit_from_unit(count: Number, unit: u32, flags: u32, size: &mut Number) -> bool {
+    match (kind_at(flags), unit_at(unit)) {
+        (Some(kind), Some(unit)) => write_from_unit(count.get(), unit, kind, size),
+        _ => false,
+    }
+}
+
+/// Writes the size of `count` units, as `byte_unit_from_unit` does, with a known unit.
+fn write_from_unit(count: u128, unit: Unit, kind: Kind, size: &mut Number) -> bool {
+    match size::with_unit(count, unit, kind) {
+        Some(found) => {
+            *size = Number::new(found);
+            true
+        }
+        None => false,
+    }
+}

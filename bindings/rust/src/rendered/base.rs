@@ -1,0 +1,21 @@
+// Rendered from crates/byte_unit_base/src/lib.rt by `tools/dev render rust`. Do not edit.
+
+//! Units of bits and bytes, and the parsers of units and sizes.
+//!
+//! What sizes in bytes and in bits have in common is here once, as functions that take the [`Kind`].
+
+pub use crate::rendered::base::errors::{ExceededBoundsError, ParseError, UnitParseError, ValueParseError};
+pub use crate::rendered::base::kind::Kind;
+pub use crate::rendered::base::read::read_size;
+pub use crate::rendered::base::read::stop::{error_at, Reason, Stop};
+pub use crate::rendered::base::unit::scan::{Expected, Flags, UnitStop};
+pub use crate::rendered::base::unit::tables::{prefix_letter, unit_at, PREFIXES};
+pub use crate::rendered::base::unit::{unit_with_prefix, Unit};
+
+pub mod binary;
+mod errors;
+mod kind;
+pub mod position;
+mod read;
+pub mod size;
+mod unit;

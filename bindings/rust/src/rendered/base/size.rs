@@ -1,0 +1,321 @@
+// Rendered from crates/byte_unit_base/src/size.rt by `tools/dev render rust`. Do not edit.
+
+//! Sizes of either kind, as numbers below the limit: what the size types have in common.
+
+use crate::rendered::base::read::number::read_number_and_unit;
+use crate::rendered::base::read::stop::{error_at, first_ascii, Reason, Stop};
+use crate::rendered::base::read::{has_visible_ends, read_or_stop};
+use crate::rendered::base::unit::scan::Flags;
+use crate::rendered::base::{binary, read_size, Kind, ParseError, Unit, ValueParseError};
+use crate::rendered::math::{least_size, Decimal};
+use core::str;
+
+/// The limit of sizes, 10^30, which is 1000 times the largest decimal prefix: the least number that is not a size.
+const SIZE_LIMIT: u128 = 1_000_000_000_000_000_000_000_000_000_000;
+
+/// Returns the number if it is a size, that is below 10^30. Returns `None` if it is 10^30 or more.
+///
+/// # Examples
+/// ```
+/// # use byte_unit::{rendered::{base::*, choice::*, format::*, math::*}, *};
+/// assert_eq!(size::bounded(1536), Some(1536));
+/// assert_eq!(size::bounded(1_000_000_000_000_000_000_000_000_000_000), None);
+/// ```
+pub fn bounded(size: u128) -> Option<u128> {
+    (size < SIZE_LIMIT).then_some(size)
+}
+
+/// Rounds a number of bits up to a whole number of the kind.
+#[inline]
+fn ceil_to_kind(in_bits: u128, kind: Kind) -> u128 {
+    match kind {
+        Kind::Byte => in_bits.div_ceil(8),
+        Kind::Bit => in_bits,
+    }
+}
+
+/// Converts a number of a unit to a size, rounded up to a whole number of the kind. Returns `None` if the size would be
+/// 10^30 or more.
+///
+/// # Examples
+/// ```
+/// # use byte_unit::{rendered::{base::*, choice::*, format::*, math::*}, *};
+/// assert_eq!(size::with_unit(9, Unit::Bit, Kind::Byte), Some(2));
+/// assert_eq!(size::with_unit(1000, Unit::RB, Kind::Byte), None);
+/// ```
+pub fn with_unit(size: u128, unit: Unit, kind: Kind) -> Option<u128> {
+    let in_bits = size.checked_mul(unit.as_bits_u128())?;
+    bounded(ceil_to_kind(in_bits, kind))
+}
+
+/// Converts a decimal number of a unit to a size: the exact product, rounded up to a whole number of the kind. Returns
+/// `None` if the size would be 10^30 or more.
+///
+/// # Examples
+/// ```
+/// # use byte_unit::{rendered::{base::*, choice::*, format::*, math::*}, *};
+/// let half = Decimal::from_digits(0, 5, 1);
+/// assert_eq!(size::from_decimal(half, Unit::KiB, Kind::Byte), Some(512));
+/// assert_eq!(size::from_decimal(Decimal::from_digits(1000, 0, 0), Unit::RB, Kind::Byte), None);
+/// ```
+#[inline(always)]
+pub fn from_decimal(number: Decimal, unit: Unit, kind: Kind) -> Option<u128> {
+    // One bit more than the greatest size. The product is rounded up twice, to bits and to the kind, which is the same
+    // as once: ceil(ceil(x) / 8) = ceil(x / 8).
+    let limit = (SIZE_LIMIT - 1) * kind.bits() + 1;
+    let in_bits = least_size(number, unit.as_bits_u128(), limit)?;
+    Some(ceil_to_kind(in_bits, kind))
+}
+
+/// Parses a size from a string: the exact product of its number and its unit, rounded up to a whole number of the kind.
+///
+/// The grammar is that of [`read_size`](crate::rendered::base::read_size). If the string names no unit, its number is in bytes for
+/// `Kind::Byte`, and in bits for `Kind::Bit`. A suffix `b` means bits and `B` bytes; with `ignore_case` both mean
+/// bytes. For `Kind::Bit` `ignore_case` has no effect.
+///
+/// # Errors
+/// Returns the error of `read_size` if the string is not in the grammar: `NoValue`, `NotNumber` or `NumberTooLong` for
+/// its number, or `Unit`. Returns `ExceededBounds`, with the number as it was written, if the size would be 10^30 or
+/// more.
+///
+/// # Examples
+/// ```
+/// # use byte_unit::{rendered::{base::*, choice::*, format::*, math::*}, *};
+/// assert_eq!(size::parse("1.5 KiB", false, Kind::Byte)?, 1536);
+/// assert_eq!(size::parse("9 bits", false, Kind::Byte)?, 2);
+/// let error = size::parse("1.", false, Kind::Byte);
+/// assert!(matches!(error, Err(ParseError::Value(ValueParseError::NotNumber('.')))));
+/// # Ok::<(), Box<dyn std::error::Error>>(())
+/// ```
+#[inline(never)]
+pub fn parse(s: &str, ignore_case: bool, kind: Kind) -> Result<u128, ParseError> {
+    parse_as::<false>(s, ignore_case, kind)
+}
+
+/// Parses a size from a string as [`parse`] does, or with `BINARY` as [`binary::parse`] does: a decimal prefix then
+/// means the binary one.
+#[inline(always)]
+pub(crate) fn parse_as<const BINARY: bool>(s: &str, ignore_case: bool, kind: Kind) -> Result<u128, ParseError> {
+    let flags = flags_for(kind, ignore_case);
+    match read_size(s, flags.ignore_case, flags.prefer_byte) {
+        Ok(found) => size_of::<BINARY>(found, kind),
+        Err(error) => Err(error),
+    }
+}
+
+/// Parses a size from bytes, as [`parse`] does from a string. Returns `None` if the bytes are not UTF-8.
+///
+/// # Errors
+/// Returns `Some` with the error of `parse` if the bytes are UTF-8 and `parse` rejects the string.
+///
+/// # Examples
+/// ```
+/// # use byte_unit::{rendered::{base::*, choice::*, format::*, math::*}, *};
+/// assert!(matches!(size::parse_bytes(b"1.5 KiB", false, Kind::Byte), Some(Ok(1536))));
+/// assert!(size::parse_bytes(b"1 KiB\xFF", false, Kind::Byte).is_none());
+/// ```
+#[inline(always)]
+pub fn parse_bytes(bytes: &[u8], ignore_case: bool, kind: Kind) -> Option<Result<u128, ParseError>> {
+    parse_line::<false>(bytes, bytes.len(), ignore_case, kind)
+}
+
+/// Parses a size from the line at the beginning of bytes, its first `len` bytes, as [`parse`] does from a string: it is
+/// a number of bytes for `Kind::Byte`, and of bits for `Kind::Bit`. Returns `None` if the line is not UTF-8.
+///
+/// With `BINARY` a decimal prefix means the binary one. Eight bytes at a time are loaded, past the end of the line too.
+///
+/// Precondition: `len <= bytes.len()`, and the line ends there: the next byte is a line feed, or
+/// there is none.
+///
+/// # Errors
+/// Returns `Some` with the error of `parse` if the line is UTF-8 and `parse` rejects it.
+///
+/// # Examples
+/// ```
+/// # use byte_unit::{rendered::{base::*, choice::*, format::*, math::*}, *};
+/// assert!(matches!(parse_line::<false>(b"1 KB\n12\n", 4, false, Kind::Byte), Some(Ok(1000))));
+/// assert!(matches!(parse_line::<true>(b"1 KB", 4, false, Kind::Bit), Some(Ok(8192))));
+/// assert!(parse_line::<false>(b"1 KB\xFF", 5, false, Kind::Byte).is_none());
+/// ```
+#[inline(always)]
+pub fn parse_line<const BINARY: bool>(
+    bytes: &[u8],
+    len: usize,
+    ignore_case: bool,
+    kind: Kind,
+) -> Option<Result<u128, ParseError>> {
+    let line = &bytes[..len];
+    let flags = flags_for(kind, ignore_case);
+    match read_number_and_unit::<false>(line, bytes, flags) {
+        Ok(found) => Some(size_of::<BINARY>((found.1, found.0), kind)),
+        Err(stop) => {
+            if is_visible_ascii(line, stop.place) {
+                let next = first_ascii(&line[stop.place..]);
+                // Returned here: as one result with that of the call below, LLVM would clear its memory for each line.
+                return Some(Err(error_at(next, stop.place == 0, stop.reason, flags)));
+            }
+            parse_text::<BINARY>(line, ignore_case, kind)
+        }
+    }
+}
+
+/// What a parser of bytes, none of which is trimmed, returns.
+#[derive(Clone, Copy)]
+pub enum Outcome {
+    /// The bytes are a number with this unit: [`size_of`] makes the size.
+    Accepted(Unit, Decimal),
+    /// The parser stops for this reason, and at this index in bytes, or at 0 if the number is too long.
+    /// [`visible_next`] returns the character there, if the bytes need not be parsed as a string.
+    ///
+    /// The index comes last, where no part of the number is: LLVM would otherwise split the number into bytes.
+    Stopped(Reason, usize),
+}
+
+/// Parses the unit and the number of a size from bytes, none of which is trimmed.
+///
+/// What is accepted is ASCII, so there is no test for UTF-8. It starts with a digit, and ends in spaces only after a
+/// number without a unit, where the grammar allows them, so it is the same when trimmed.
+///
+/// # Examples
+/// ```
+/// # use byte_unit::{rendered::{base::*, choice::*, format::*, math::*}, *};
+/// let outcome = size::read_bytes(b"1.5 KiB", false, Kind::Byte);
+/// assert!(matches!(outcome, size::Outcome::Accepted(Unit::KiB, _)));
+/// let outcome = size::read_bytes(b"1 bi", false, Kind::Byte);
+/// assert!(matches!(outcome, size::Outcome::Stopped(_, 4)));
+/// ```
+#[inline(always)]
+pub fn read_bytes(bytes: &[u8], ignore_case: bool, kind: Kind) -> Outcome {
+    match read_number_and_unit::<true>(bytes, bytes, flags_for(kind, ignore_case)) {
+        Ok(found) => Outcome::Accepted(found.0, found.1),
+        Err(stop) => Outcome::Stopped(stop.reason, stop.place),
+    }
+}
+
+/// Returns the character of bytes at the place where a parser stops, or `Some(None)` at their end:
+/// [`error_at`](crate::rendered::base::error_at) makes the error of it, and the place is the position of the error, unless the number
+/// is too long. Returns `None` if there may be white space to trim, or characters past ASCII: [`parse_text`] parses the
+/// bytes.
+///
+/// Precondition: `place <= bytes.len()`.
+///
+/// # Examples
+/// ```
+/// # use byte_unit::{rendered::{base::*, choice::*, format::*, math::*}, *};
+/// assert_eq!(size::visible_next(b"1 bi", 4), Some(None));
+/// assert_eq!(size::visible_next(b" 1 KiB", 0), None);
+/// ```
+#[inline(always)]
+pub fn visible_next(bytes: &[u8], place: usize) -> Option<Option<char>> {
+    if has_visible_ends(bytes) && is_ascii_from(bytes, place) {
+        Some(first_ascii(&bytes[place..]))
+    } else {
+        None
+    }
+}
+
+/// Returns whether the bytes from an index on are ASCII. If these are at most four, the last four bytes are tested at
+/// once: then it returns `false` also if one of those four is before the index and not ASCII.
+#[inline(always)]
+fn is_ascii_from(bytes: &[u8], from: usize) -> bool {
+    let len = bytes.len();
+    if len >= 4 && len - from <= 4 {
+        bytes[len - 4..].is_ascii()
+    } else {
+        bytes[from..].is_ascii()
+    }
+}
+
+/// Returns whether bytes have nothing to trim and are ASCII from an index on, as far as `is_ascii_from` tells.
+///
+/// Not inlined: where these tests are part of `parse_line`, a line that is accepted takes more instructions.
+#[cold]
+#[inline(never)]
+fn is_visible_ascii(bytes: &[u8], from: usize) -> bool {
+    has_visible_ends(bytes) && is_ascii_from(bytes, from)
+}
+
+/// Parses a size as [`parse_line`] does, but from the string that the bytes are, trimmed.
+///
+/// # Errors
+/// As `parse_bytes`.
+///
+/// # Examples
+/// ```
+/// # use byte_unit::{rendered::{base::*, choice::*, format::*, math::*}, *};
+/// assert!(matches!(size::parse_text::<false>(b" 1 KB ", false, Kind::Byte), Some(Ok(1000))));
+/// assert!(matches!(size::parse_text::<true>(b" 1 KB ", false, Kind::Byte), Some(Ok(1024))));
+/// ```
+#[cold]
+#[inline(never)]
+pub fn parse_text<const BINARY: bool>(bytes: &[u8], ignore_case: bool, kind: Kind) -> Option<Result<u128, ParseError>> {
+    let text = str::from_utf8(bytes).ok()?;
+    // These, and not `parse_as`, so that a program has the parser of strings once for each reading.
+    Some(if BINARY { binary::parse(text, ignore_case, kind) } else { parse(text, ignore_case, kind) })
+}
+
+/// Parses the number and the unit of a size from the string that the bytes are, trimmed, and leaves the error to be
+/// made by [`error_at`](crate::rendered::base::error_at). Returns `None` if the bytes are not UTF-8.
+///
+/// # Errors
+/// Returns where the parser stops in the trimmed string (0 if the number is too long) and why, and the character there,
+/// or `None` at the end.
+///
+/// # Examples
+/// ```
+/// # use byte_unit::{rendered::{base::*, choice::*, format::*, math::*}, *};
+/// let stopped = size::read_text(b" 1 Kx ", false, Kind::Byte);
+/// assert!(matches!(stopped, Some(Err((Stop { place: 3, reason: Reason::InUnit(_) }, Some('x'))))));
+/// ```
+#[inline(always)]
+pub fn read_text(bytes: &[u8], ignore_case: bool, kind: Kind) -> Option<Result<(Unit, Decimal), (Stop, Option<char>)>> {
+    let string = str::from_utf8(bytes).ok()?;
+    Some(read_or_stop(string, flags_for(kind, ignore_case)))
+}
+
+/// Returns the result of parsing a string with this number and this unit: the size of the number in this unit, or with
+/// `BINARY` in its binary unit.
+///
+/// `#[inline(always)]`: a call would return the result through memory.
+///
+/// # Errors
+/// Returns `ExceededBounds` with the number if the size would be 10^30 or more.
+///
+/// # Examples
+/// ```
+/// # use byte_unit::{rendered::{base::*, choice::*, format::*, math::*}, *};
+/// let found = (Decimal::from_digits(1, 5, 1), Unit::KB);
+/// assert!(matches!(size::size_of::<false>(found, Kind::Byte), Ok(1500)));
+/// assert!(matches!(size::size_of::<true>(found, Kind::Byte), Ok(1536)));
+/// ```
+#[inline(always)]
+pub fn size_of<const BINARY: bool>(found: (Decimal, Unit), kind: Kind) -> Result<u128, ParseError> {
+    match from_decimal(found.0, unit_meant::<BINARY>(found.1), kind) {
+        Some(size) => Ok(size),
+        None => Err(ParseError::Value(ValueParseError::ExceededBounds(found.0))),
+    }
+}
+
+/// Returns the unit that a reading takes for a unit that is written: with `BINARY` its binary unit, and else itself.
+#[inline(always)]
+fn unit_meant<const BINARY: bool>(unit: Unit) -> Unit {
+    if BINARY {
+        unit.to_binary()
+    } else {
+        unit
+    }
+}
+
+/// Returns the flags for parsing a size of the kind. For bits `ignore_case` has no effect.
+///
+/// # Examples
+/// ```
+/// # use byte_unit::{rendered::{base::*, choice::*, format::*, math::*}, *};
+/// assert!(size::flags_for(Kind::Byte, true).ignore_case);
+/// assert!(!size::flags_for(Kind::Bit, true).ignore_case);
+/// ```
+#[inline]
+pub fn flags_for(kind: Kind, ignore_case: bool) -> Flags {
+    let prefer_byte = matches!(kind, Kind::Byte);
+    Flags { ignore_case: ignore_case && prefer_byte, prefer_byte }
+}

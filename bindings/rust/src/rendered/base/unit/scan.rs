@@ -1,0 +1,145 @@
+// Rendered from crates/byte_unit_base/src/unit/scan.rt by `tools/dev render rust`. Do not edit.
+
+//! Where the parser of a unit stops, and the error there; the options of the parsers.
+
+use crate::rendered::base::unit::tables::BEGINNING;
+use crate::rendered::base::UnitParseError;
+
+/// The letters of a suffix (`B`, `b`, `bit`, `bits`) read so far, in either case.
+#[derive(Clone, Copy)]
+pub enum Word {
+    /// Nothing.
+    Empty,
+    /// `B` or `b`.
+    B,
+    /// `bi`.
+    Bi,
+    /// `bit`.
+    Bit,
+    /// `bits`.
+    Bits,
+}
+
+/// What is kept of a unit in which the parser stops: enough for its error.
+#[derive(Clone, Copy)]
+pub struct UnitStop {
+    /// Whether a prefix has been read.
+    pub has_prefix: bool,
+    /// What has been read of the suffix.
+    pub word: Word,
+}
+
+/// The characters that the error of a unit names as expected.
+#[derive(Clone, Copy)]
+pub enum Expected {
+    /// `B` and the capital letters of the prefixes.
+    Beginning,
+    /// `B` and `b`.
+    EitherB,
+    /// `B`.
+    UpperB,
+    /// `b`.
+    LowerB,
+    /// `i`.
+    I,
+    /// `t`.
+    T,
+    /// `s`.
+    S,
+    /// No character.
+    Nothing,
+}
+
+/// The options of the parsers.
+#[derive(Clone, Copy)]
+pub struct Flags {
+    /// Whether the suffix `b` means bytes.
+    pub ignore_case: bool,
+    /// Whether a unit without a suffix is of bytes.
+    pub prefer_byte: bool,
+}
+
+impl UnitStop {
+    /// Returns the error of a string in which the parser of a unit stops here, by the character there.
+    ///
+    /// # Examples
+    /// ```
+    /// # use byte_unit::{rendered::{base::*, choice::*, format::*, math::*}, *};
+    /// let flags = size::flags_for(Kind::Byte, false);
+    /// let error = position::read_unit_text("Kix", flags).map_err(|(stop, next, _)| stop.error_before(next, flags));
+    /// assert!(matches!(error, Err(UnitParseError { character: 'x', .. })));
+    /// ```
+    #[inline(always)]
+    pub fn error_before(self, next: Option<char>, flags: Flags) -> UnitParseError {
+        match next {
+            Some(c) => UnitParseError {
+                character: c,
+                expected_characters: self.expected(flags).characters(),
+                also_expect_no_character: !matches!(self.word, Word::Bi),
+            },
+            None => UnitParseError::STOPS_AT_BI,
+        }
+    }
+
+    /// Returns what the error of `error_before` names as expected.
+    ///
+    /// # Examples
+    /// ```
+    /// # use byte_unit::{rendered::{base::*, choice::*, format::*, math::*}, *};
+    /// let flags = size::flags_for(Kind::Byte, false);
+    /// let named = position::read_unit_text("Kix", flags).map_err(|(stop, next, _)| stop.expected_before(next, flags));
+    /// assert!(matches!(named, Err(Expected::EitherB)));
+    /// ```
+    #[inline(always)]
+    pub fn expected_before(self, next: Option<char>, flags: Flags) -> Expected {
+        match next {
+            Some(_) => self.expected(flags),
+            None => Expected::Nothing,
+        }
+    }
+
+    /// Returns what is expected in place of a character that cannot continue a unit. After a prefix it is both letters
+    /// if case counts, and else the letter of the preferred kind.
+    #[inline(always)]
+    fn expected(self, flags: Flags) -> Expected {
+        match self.word {
+            Word::Empty if !self.has_prefix => Expected::Beginning,
+            Word::Empty if !flags.ignore_case => Expected::EitherB,
+            Word::Empty if flags.prefer_byte => Expected::UpperB,
+            Word::Empty => Expected::LowerB,
+            Word::B => Expected::I,
+            Word::Bi => Expected::T,
+            Word::Bit => Expected::S,
+            Word::Bits => Expected::Nothing,
+        }
+    }
+}
+
+impl Expected {
+    /// Returns whether the string could end in place of the characters.
+    ///
+    /// # Examples
+    /// ```
+    /// # use byte_unit::{rendered::{base::*, choice::*, format::*, math::*}, *};
+    /// assert!(Expected::S.or_end() && !Expected::T.or_end()); // `bit` is a suffix, and `bi` is not.
+    /// ```
+    #[inline(always)]
+    pub fn or_end(self) -> bool {
+        !matches!(self, Expected::T)
+    }
+
+    /// Returns the characters.
+    #[inline(always)]
+    fn characters(self) -> &'static [char] {
+        match self {
+            Expected::Beginning => &BEGINNING,
+            Expected::EitherB => &['B', 'b'],
+            Expected::UpperB => &['B'],
+            Expected::LowerB => &['b'],
+            Expected::I => &['i'],
+            Expected::T => &['t'],
+            Expected::S => &['s'],
+            Expected::Nothing => &[],
+        }
+    }
+}

@@ -1,0 +1,299 @@
+// Rendered from crates/byte_unit_bit/src/bit.rt by `tools/dev render rust`. Do not edit.
+
+//! `Bit`, a size in bits: constructors, conversions to numbers, comparisons and arithmetic.
+
+use crate::rendered::base::{size, Kind, Unit};
+use core::cmp::Ordering;
+
+mod adjusted;
+mod binary;
+mod built_in_traits;
+mod constants;
+mod decimal;
+mod parse;
+mod position;
+mod units;
+
+pub use adjusted::AdjustedBit;
+
+/// A size in bits: a whole number below 10^30. In a contract a `Bit` is that number.
+///
+/// # Examples
+/// ```
+/// # use byte_unit::{rendered::{base::*, choice::*, format::*, math::*}, *};
+/// let limit = "1.5 Gib".parse::<Bit>()?;
+/// let used = Bit::from_u64(900_000_000);
+/// assert_eq!(limit.subtract(used), Some(Bit::from_u64(710_612_736)));
+/// assert_eq!(used.subtract(limit), None);
+/// # Ok::<(), Box<dyn std::error::Error>>(())
+/// ```
+#[derive(Debug, Clone, Copy, PartialEq, Eq, PartialOrd, Ord, Hash)]
+pub struct Bit {
+    size: u128,
+}
+
+/// Constructors.
+impl Bit {
+    /// Creates a `Bit` from a number of bits. Returns `None` if it is 10^30 or more.
+    ///
+    /// # Examples
+    /// ```
+    /// # use byte_unit::{rendered::{base::*, choice::*, format::*, math::*}, *};
+    /// assert_eq!(Bit::from_u128(15_000_000), Some(Bit::from_u64(15_000_000)));
+    /// assert_eq!(Bit::from_u128(Bit::MAX.as_u128()), Some(Bit::MAX));
+    /// assert_eq!(Bit::from_u128(Bit::MAX.as_u128() + 1), None);
+    /// ```
+    pub fn from_u128(size: u128) -> Option<Bit> {
+        let size = size::bounded(size)?;
+        Some(Bit { size })
+    }
+
+    /// Creates a `Bit` from a number of bits.
+    ///
+    /// # Examples
+    /// ```
+    /// # use byte_unit::{rendered::{base::*, choice::*, format::*, math::*}, *};
+    /// assert_eq!(Bit::from_u64(1024), Bit::KIBIBIT);
+    /// assert_eq!(Bit::from_u64(u64::MAX).as_u128(), u128::from(u64::MAX));
+    /// ```
+    pub fn from_u64(size: u64) -> Bit {
+        Bit { size: u128::from(size) }
+    }
+
+    /// Creates a `Bit` from a number of bits. Returns `None` if it is negative, or 10^30 or more.
+    ///
+    /// # Examples
+    /// ```
+    /// # use byte_unit::{rendered::{base::*, choice::*, format::*, math::*}, *};
+    /// assert_eq!(Bit::from_i128(15_000_000), Some(Bit::from_u64(15_000_000)));
+    /// assert_eq!(Bit::from_i128(-1), None);
+    /// assert_eq!(Bit::from_i128(i128::MAX), None);
+    /// ```
+    pub fn from_i128(size: i128) -> Option<Bit> {
+        Bit::from_u128(u128::try_from(size).ok()?)
+    }
+
+    /// Creates a `Bit` from a number of bits. Returns `None` if it is negative.
+    ///
+    /// # Examples
+    /// ```
+    /// # use byte_unit::{rendered::{base::*, choice::*, format::*, math::*}, *};
+    /// assert_eq!(Bit::from_i64(15_000_000), Some(Bit::from_u64(15_000_000)));
+    /// assert_eq!(Bit::from_i64(-1), None);
+    /// ```
+    pub fn from_i64(size: i64) -> Option<Bit> {
+        Bit::from_i128(i128::from(size))
+    }
+}
+
+/// Constructors from a number of a unit.
+impl Bit {
+    /// Creates a `Bit` from a number of a unit, rounded up to a whole bit.
+    ///
+    /// Returns `None` if the size is 10^30 bits or more.
+    ///
+    /// # Examples
+    /// ```
+    /// # use byte_unit::{rendered::{base::*, choice::*, format::*, math::*}, *};
+    /// assert_eq!(Bit::from_u128_with_unit(15, Unit::Mbit), Some(Bit::from_u64(15_000_000)));
+    /// assert_eq!(Bit::from_u128_with_unit(17, Unit::B), Some(Bit::from_u64(136)));
+    /// assert_eq!(Bit::from_u128_with_unit(1_000, Unit::Rbit), None);
+    /// ```
+    pub fn from_u128_with_unit(size: u128, unit: Unit) -> Option<Bit> {
+        let size = size::with_unit(size, unit, Kind::Bit)?;
+        Some(Bit { size })
+    }
+
+    /// Creates a `Bit` from a number of a unit, rounded up to a whole bit.
+    ///
+    /// Returns `None` if the size is 10^30 bits or more.
+    ///
+    /// # Examples
+    /// ```
+    /// # use byte_unit::{rendered::{base::*, choice::*, format::*, math::*}, *};
+    /// assert_eq!(Bit::from_u64_with_unit(15, Unit::Kibit), Some(Bit::from_u64(15_360)));
+    /// assert_eq!(Bit::from_u64_with_unit(999, Unit::Rbit), Bit::RONNABIT.multiply(999));
+    /// assert_eq!(Bit::from_u64_with_unit(1_000, Unit::Rbit), None);
+    /// ```
+    pub fn from_u64_with_unit(size: u64, unit: Unit) -> Option<Bit> {
+        Bit::from_u128_with_unit(u128::from(size), unit)
+    }
+
+    /// Creates a `Bit` from a number of a unit, rounded up to a whole bit.
+    ///
+    /// Returns `None` if the number is negative, or the size is 10^30 bits or more.
+    ///
+    /// # Examples
+    /// ```
+    /// # use byte_unit::{rendered::{base::*, choice::*, format::*, math::*}, *};
+    /// assert_eq!(Bit::from_i128_with_unit(15, Unit::Kibit), Some(Bit::from_u64(15_360)));
+    /// assert_eq!(Bit::from_i128_with_unit(-15, Unit::Kibit), None);
+    /// assert_eq!(Bit::from_i128_with_unit(1_000, Unit::Rbit), None);
+    /// ```
+    pub fn from_i128_with_unit(size: i128, unit: Unit) -> Option<Bit> {
+        Bit::from_u128_with_unit(u128::try_from(size).ok()?, unit)
+    }
+
+    /// Creates a `Bit` from a number of a unit, rounded up to a whole bit.
+    ///
+    /// Returns `None` if the number is negative, or the size is 10^30 bits or more.
+    ///
+    /// # Examples
+    /// ```
+    /// # use byte_unit::{rendered::{base::*, choice::*, format::*, math::*}, *};
+    /// assert_eq!(Bit::from_i64_with_unit(15, Unit::Kibit), Some(Bit::from_u64(15_360)));
+    /// assert_eq!(Bit::from_i64_with_unit(-15, Unit::Kibit), None);
+    /// ```
+    pub fn from_i64_with_unit(size: i64, unit: Unit) -> Option<Bit> {
+        Bit::from_i128_with_unit(i128::from(size), unit)
+    }
+}
+
+/// Conversions to numbers.
+impl Bit {
+    /// Returns the number of bits, which is below 10^30.
+    ///
+    /// # Examples
+    /// ```
+    /// # use byte_unit::{rendered::{base::*, choice::*, format::*, math::*}, *};
+    /// assert_eq!(Bit::KIBIBIT.as_u128(), 1024);
+    /// assert_eq!(Bit::MAX.as_u128(), 999_999_999_999_999_999_999_999_999_999);
+    /// ```
+    pub fn as_u128(self) -> u128 {
+        self.size
+    }
+
+    /// Returns the number of bits, or 2^64 - 1 if it is larger.
+    ///
+    /// # Examples
+    /// ```
+    /// # use byte_unit::{rendered::{base::*, choice::*, format::*, math::*}, *};
+    /// assert_eq!(Bit::KIBIBIT.as_u64(), 1024);
+    /// assert_eq!(Bit::ZETTABIT.as_u64(), u64::MAX);
+    /// ```
+    pub fn as_u64(self) -> u64 {
+        u64::try_from(self.size).unwrap_or(u64::MAX)
+    }
+
+    /// Returns the number of bits, or `None` if it is larger than 2^64 - 1.
+    ///
+    /// # Examples
+    /// ```
+    /// # use byte_unit::{rendered::{base::*, choice::*, format::*, math::*}, *};
+    /// assert_eq!(Bit::KIBIBIT.as_u64_checked(), Some(1024));
+    /// assert_eq!(Bit::ZETTABIT.as_u64_checked(), None);
+    /// ```
+    pub fn as_u64_checked(self) -> Option<u64> {
+        u64::try_from(self.size).ok()
+    }
+}
+
+/// Comparisons with numbers of bits.
+impl Bit {
+    /// Returns whether the size is equal to a number of bits.
+    ///
+    /// # Examples
+    /// ```
+    /// # use byte_unit::{rendered::{base::*, choice::*, format::*, math::*}, *};
+    /// assert!(Bit::KILOBIT.eq_u64(1000));
+    /// assert!(!Bit::KILOBIT.eq_u64(1024));
+    /// ```
+    pub fn eq_u64(self, other: u64) -> bool {
+        self.size == u128::from(other)
+    }
+
+    /// Returns whether the size is equal to a number of bits.
+    ///
+    /// # Examples
+    /// ```
+    /// # use byte_unit::{rendered::{base::*, choice::*, format::*, math::*}, *};
+    /// assert!(Bit::KILOBIT.eq_u128(1000));
+    /// assert!(!Bit::KILOBIT.eq_u128(1024));
+    /// ```
+    pub fn eq_u128(self, other: u128) -> bool {
+        self.size == other
+    }
+
+    /// Compares the size with a number of bits.
+    ///
+    /// # Examples
+    /// ```
+    /// # use byte_unit::{rendered::{base::*, choice::*, format::*, math::*}, *};
+    /// use std::cmp::Ordering;
+    ///
+    /// assert_eq!(Bit::KILOBIT.cmp_u64(1024), Ordering::Less);
+    /// assert_eq!(Bit::KIBIBIT.cmp_u64(1024), Ordering::Equal);
+    /// ```
+    pub fn cmp_u64(self, other: u64) -> Ordering {
+        self.size.cmp(&u128::from(other))
+    }
+
+    /// Compares the size with a number of bits.
+    ///
+    /// # Examples
+    /// ```
+    /// # use byte_unit::{rendered::{base::*, choice::*, format::*, math::*}, *};
+    /// use std::cmp::Ordering;
+    ///
+    /// assert_eq!(Bit::KILOBIT.cmp_u128(1024), Ordering::Less);
+    /// assert_eq!(Bit::KIBIBIT.cmp_u128(1024), Ordering::Equal);
+    /// ```
+    pub fn cmp_u128(self, other: u128) -> Ordering {
+        self.size.cmp(&other)
+    }
+}
+
+/// Arithmetic. No method overflows, wraps or panics.
+impl Bit {
+    /// Returns the sum, or `None` if it is 10^30 bits or more.
+    ///
+    /// # Examples
+    /// ```
+    /// # use byte_unit::{rendered::{base::*, choice::*, format::*, math::*}, *};
+    /// let size = Bit::from_u64(15_500);
+    /// assert_eq!(size.add(Bit::from_u64(500)), Some(Bit::from_u64(16_000)));
+    /// assert_eq!(size.add(Bit::MAX), None);
+    /// ```
+    pub fn add(self, rhs: Bit) -> Option<Bit> {
+        Bit::from_u128(self.size + rhs.size)
+    }
+
+    /// Returns the difference, or `None` if `rhs` is larger than the size.
+    ///
+    /// # Examples
+    /// ```
+    /// # use byte_unit::{rendered::{base::*, choice::*, format::*, math::*}, *};
+    /// let size = Bit::from_u64(15_500);
+    /// assert_eq!(size.subtract(Bit::from_u64(500)), Some(Bit::from_u64(15_000)));
+    /// assert_eq!(size.subtract(Bit::MAX), None);
+    /// ```
+    pub fn subtract(self, rhs: Bit) -> Option<Bit> {
+        let size = self.size.checked_sub(rhs.size)?;
+        Some(Bit { size })
+    }
+
+    /// Returns the product, or `None` if it is 10^30 bits or more.
+    ///
+    /// # Examples
+    /// ```
+    /// # use byte_unit::{rendered::{base::*, choice::*, format::*, math::*}, *};
+    /// assert_eq!(Bit::from_u64(15_500).multiply(2), Some(Bit::from_u64(31_000)));
+    /// assert_eq!(Bit::MAX.multiply(2), None);
+    /// ```
+    pub fn multiply(self, rhs: usize) -> Option<Bit> {
+        Bit::from_u128(self.size.checked_mul(rhs as u128)?)
+    }
+
+    /// Returns the quotient, rounded down, or `None` if `rhs` is zero.
+    ///
+    /// # Examples
+    /// ```
+    /// # use byte_unit::{rendered::{base::*, choice::*, format::*, math::*}, *};
+    /// assert_eq!(Bit::from_u64(15_500).divide(3), Some(Bit::from_u64(5166)));
+    /// assert_eq!(Bit::from_u64(15_500).divide(0), None);
+    /// ```
+    pub fn divide(self, rhs: usize) -> Option<Bit> {
+        let size = self.size.checked_div(rhs as u128)?;
+        Some(Bit { size })
+    }
+}

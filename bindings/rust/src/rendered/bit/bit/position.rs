@@ -1,0 +1,27 @@
+// Rendered from crates/byte_unit_bit/src/bit/position.rt by `tools/dev render rust`. Do not edit.
+
+//! Where a string that is no size in bits is wrong.
+
+use super::Bit;
+use crate::rendered::base::position;
+
+impl Bit {
+    /// Returns the index in bytes of the first wrong character of a string that [`Bit::parse_str`] rejects: up to
+    /// there the string, without the white space at its ends, begins a size, and with that character it begins none.
+    /// If it ends too early, the index is that of its end, before white space there; of white space alone, its length.
+    ///
+    /// Returns `None` if the string is accepted, or if only its size is too large. If the number is
+    /// too long, it is the index of the digit which makes it so.
+    ///
+    /// # Examples
+    /// ```
+    /// # use byte_unit::{rendered::{base::*, choice::*, format::*, math::*}, *};
+    /// assert_eq!(Bit::error_position("1 bite"), Some(5));
+    /// assert_eq!(Bit::error_position("  1."), Some(4));
+    /// assert_eq!(Bit::error_position("0.12345678901234567890123456789 Kb"), Some(30));
+    /// assert_eq!(Bit::error_position("1.5 Kib"), None);
+    /// ```
+    pub fn error_position(s: &str) -> Option<usize> {
+        position::of_size_error(s)
+    }
+}

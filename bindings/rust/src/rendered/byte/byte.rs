@@ -1,0 +1,299 @@
+// Rendered from crates/byte_unit_byte/src/byte.rt by `tools/dev render rust`. Do not edit.
+
+//! `Byte`, a size in bytes: constructors, conversions to numbers, comparisons and arithmetic.
+
+use crate::rendered::base::{size, Kind, Unit};
+use core::cmp::Ordering;
+
+mod adjusted;
+mod binary;
+mod built_in_traits;
+mod constants;
+mod decimal;
+mod parse;
+mod position;
+mod units;
+
+pub use adjusted::AdjustedByte;
+
+/// A size in bytes: a whole number below 10^30. In a contract a `Byte` is that number.
+///
+/// # Examples
+/// ```
+/// # use byte_unit::{rendered::{base::*, choice::*, format::*, math::*}, *};
+/// let limit = "1.5 GiB".parse::<Byte>()?;
+/// let used = Byte::from_u64(900_000_000);
+/// assert_eq!(limit.subtract(used), Some(Byte::from_u64(710_612_736)));
+/// assert_eq!(used.subtract(limit), None);
+/// # Ok::<(), Box<dyn std::error::Error>>(())
+/// ```
+#[derive(Debug, Clone, Copy, PartialEq, Eq, PartialOrd, Ord, Hash)]
+pub struct Byte {
+    size: u128,
+}
+
+/// Constructors.
+impl Byte {
+    /// Creates a `Byte` from a number of bytes. Returns `None` if it is 10^30 or more.
+    ///
+    /// # Examples
+    /// ```
+    /// # use byte_unit::{rendered::{base::*, choice::*, format::*, math::*}, *};
+    /// assert_eq!(Byte::from_u128(15_000_000), Some(Byte::from_u64(15_000_000)));
+    /// assert_eq!(Byte::from_u128(Byte::MAX.as_u128()), Some(Byte::MAX));
+    /// assert_eq!(Byte::from_u128(Byte::MAX.as_u128() + 1), None);
+    /// ```
+    pub fn from_u128(size: u128) -> Option<Byte> {
+        let size = size::bounded(size)?;
+        Some(Byte { size })
+    }
+
+    /// Creates a `Byte` from a number of bytes.
+    ///
+    /// # Examples
+    /// ```
+    /// # use byte_unit::{rendered::{base::*, choice::*, format::*, math::*}, *};
+    /// assert_eq!(Byte::from_u64(1024), Byte::KIBIBYTE);
+    /// assert_eq!(Byte::from_u64(u64::MAX).as_u128(), u128::from(u64::MAX));
+    /// ```
+    pub fn from_u64(size: u64) -> Byte {
+        Byte { size: u128::from(size) }
+    }
+
+    /// Creates a `Byte` from a number of bytes. Returns `None` if it is negative, or 10^30 or more.
+    ///
+    /// # Examples
+    /// ```
+    /// # use byte_unit::{rendered::{base::*, choice::*, format::*, math::*}, *};
+    /// assert_eq!(Byte::from_i128(15_000_000), Some(Byte::from_u64(15_000_000)));
+    /// assert_eq!(Byte::from_i128(-1), None);
+    /// assert_eq!(Byte::from_i128(i128::MAX), None);
+    /// ```
+    pub fn from_i128(size: i128) -> Option<Byte> {
+        Byte::from_u128(u128::try_from(size).ok()?)
+    }
+
+    /// Creates a `Byte` from a number of bytes. Returns `None` if it is negative.
+    ///
+    /// # Examples
+    /// ```
+    /// # use byte_unit::{rendered::{base::*, choice::*, format::*, math::*}, *};
+    /// assert_eq!(Byte::from_i64(15_000_000), Some(Byte::from_u64(15_000_000)));
+    /// assert_eq!(Byte::from_i64(-1), None);
+    /// ```
+    pub fn from_i64(size: i64) -> Option<Byte> {
+        Byte::from_i128(i128::from(size))
+    }
+}
+
+/// Constructors from a number of a unit.
+impl Byte {
+    /// Creates a `Byte` from a number of a unit, rounded up to a whole byte.
+    ///
+    /// Returns `None` if the size is 10^30 bytes or more.
+    ///
+    /// # Examples
+    /// ```
+    /// # use byte_unit::{rendered::{base::*, choice::*, format::*, math::*}, *};
+    /// assert_eq!(Byte::from_u128_with_unit(15, Unit::MB), Some(Byte::from_u64(15_000_000)));
+    /// assert_eq!(Byte::from_u128_with_unit(17, Unit::Bit), Some(Byte::from_u64(3)));
+    /// assert_eq!(Byte::from_u128_with_unit(1_000, Unit::RB), None);
+    /// ```
+    pub fn from_u128_with_unit(size: u128, unit: Unit) -> Option<Byte> {
+        let size = size::with_unit(size, unit, Kind::Byte)?;
+        Some(Byte { size })
+    }
+
+    /// Creates a `Byte` from a number of a unit, rounded up to a whole byte.
+    ///
+    /// Returns `None` if the size is 10^30 bytes or more.
+    ///
+    /// # Examples
+    /// ```
+    /// # use byte_unit::{rendered::{base::*, choice::*, format::*, math::*}, *};
+    /// assert_eq!(Byte::from_u64_with_unit(15, Unit::KiB), Some(Byte::from_u64(15_360)));
+    /// assert_eq!(Byte::from_u64_with_unit(999, Unit::RB), Byte::RONNABYTE.multiply(999));
+    /// assert_eq!(Byte::from_u64_with_unit(1_000, Unit::RB), None);
+    /// ```
+    pub fn from_u64_with_unit(size: u64, unit: Unit) -> Option<Byte> {
+        Byte::from_u128_with_unit(u128::from(size), unit)
+    }
+
+    /// Creates a `Byte` from a number of a unit, rounded up to a whole byte.
+    ///
+    /// Returns `None` if the number is negative, or the size is 10^30 bytes or more.
+    ///
+    /// # Examples
+    /// ```
+    /// # use byte_unit::{rendered::{base::*, choice::*, format::*, math::*}, *};
+    /// assert_eq!(Byte::from_i128_with_unit(15, Unit::KiB), Some(Byte::from_u64(15_360)));
+    /// assert_eq!(Byte::from_i128_with_unit(-15, Unit::KiB), None);
+    /// assert_eq!(Byte::from_i128_with_unit(1_000, Unit::RB), None);
+    /// ```
+    pub fn from_i128_with_unit(size: i128, unit: Unit) -> Option<Byte> {
+        Byte::from_u128_with_unit(u128::try_from(size).ok()?, unit)
+    }
+
+    /// Creates a `Byte` from a number of a unit, rounded up to a whole byte.
+    ///
+    /// Returns `None` if the number is negative, or the size is 10^30 bytes or more.
+    ///
+    /// # Examples
+    /// ```
+    /// # use byte_unit::{rendered::{base::*, choice::*, format::*, math::*}, *};
+    /// assert_eq!(Byte::from_i64_with_unit(15, Unit::KiB), Some(Byte::from_u64(15_360)));
+    /// assert_eq!(Byte::from_i64_with_unit(-15, Unit::KiB), None);
+    /// ```
+    pub fn from_i64_with_unit(size: i64, unit: Unit) -> Option<Byte> {
+        Byte::from_i128_with_unit(i128::from(size), unit)
+    }
+}
+
+/// Conversions to numbers.
+impl Byte {
+    /// Returns the number of bytes, which is below 10^30.
+    ///
+    /// # Examples
+    /// ```
+    /// # use byte_unit::{rendered::{base::*, choice::*, format::*, math::*}, *};
+    /// assert_eq!(Byte::KIBIBYTE.as_u128(), 1024);
+    /// assert_eq!(Byte::MAX.as_u128(), 999_999_999_999_999_999_999_999_999_999);
+    /// ```
+    pub fn as_u128(self) -> u128 {
+        self.size
+    }
+
+    /// Returns the number of bytes, or 2^64 - 1 if it is larger.
+    ///
+    /// # Examples
+    /// ```
+    /// # use byte_unit::{rendered::{base::*, choice::*, format::*, math::*}, *};
+    /// assert_eq!(Byte::KIBIBYTE.as_u64(), 1024);
+    /// assert_eq!(Byte::ZETTABYTE.as_u64(), u64::MAX);
+    /// ```
+    pub fn as_u64(self) -> u64 {
+        u64::try_from(self.size).unwrap_or(u64::MAX)
+    }
+
+    /// Returns the number of bytes, or `None` if it is larger than 2^64 - 1.
+    ///
+    /// # Examples
+    /// ```
+    /// # use byte_unit::{rendered::{base::*, choice::*, format::*, math::*}, *};
+    /// assert_eq!(Byte::KIBIBYTE.as_u64_checked(), Some(1024));
+    /// assert_eq!(Byte::ZETTABYTE.as_u64_checked(), None);
+    /// ```
+    pub fn as_u64_checked(self) -> Option<u64> {
+        u64::try_from(self.size).ok()
+    }
+}
+
+/// Comparisons with numbers of bytes.
+impl Byte {
+    /// Returns whether the size is equal to a number of bytes.
+    ///
+    /// # Examples
+    /// ```
+    /// # use byte_unit::{rendered::{base::*, choice::*, format::*, math::*}, *};
+    /// assert!(Byte::KILOBYTE.eq_u64(1000));
+    /// assert!(!Byte::KILOBYTE.eq_u64(1024));
+    /// ```
+    pub fn eq_u64(self, other: u64) -> bool {
+        self.size == u128::from(other)
+    }
+
+    /// Returns whether the size is equal to a number of bytes.
+    ///
+    /// # Examples
+    /// ```
+    /// # use byte_unit::{rendered::{base::*, choice::*, format::*, math::*}, *};
+    /// assert!(Byte::KILOBYTE.eq_u128(1000));
+    /// assert!(!Byte::KILOBYTE.eq_u128(1024));
+    /// ```
+    pub fn eq_u128(self, other: u128) -> bool {
+        self.size == other
+    }
+
+    /// Compares the size with a number of bytes.
+    ///
+    /// # Examples
+    /// ```
+    /// # use byte_unit::{rendered::{base::*, choice::*, format::*, math::*}, *};
+    /// use std::cmp::Ordering;
+    ///
+    /// assert_eq!(Byte::KILOBYTE.cmp_u64(1024), Ordering::Less);
+    /// assert_eq!(Byte::KIBIBYTE.cmp_u64(1024), Ordering::Equal);
+    /// ```
+    pub fn cmp_u64(self, other: u64) -> Ordering {
+        self.size.cmp(&u128::from(other))
+    }
+
+    /// Compares the size with a number of bytes.
+    ///
+    /// # Examples
+    /// ```
+    /// # use byte_unit::{rendered::{base::*, choice::*, format::*, math::*}, *};
+    /// use std::cmp::Ordering;
+    ///
+    /// assert_eq!(Byte::KILOBYTE.cmp_u128(1024), Ordering::Less);
+    /// assert_eq!(Byte::KIBIBYTE.cmp_u128(1024), Ordering::Equal);
+    /// ```
+    pub fn cmp_u128(self, other: u128) -> Ordering {
+        self.size.cmp(&other)
+    }
+}
+
+/// Arithmetic. No method overflows, wraps or panics.
+impl Byte {
+    /// Returns the sum, or `None` if it is 10^30 bytes or more.
+    ///
+    /// # Examples
+    /// ```
+    /// # use byte_unit::{rendered::{base::*, choice::*, format::*, math::*}, *};
+    /// let size = Byte::from_u64(15_500);
+    /// assert_eq!(size.add(Byte::from_u64(500)), Some(Byte::from_u64(16_000)));
+    /// assert_eq!(size.add(Byte::MAX), None);
+    /// ```
+    pub fn add(self, rhs: Byte) -> Option<Byte> {
+        Byte::from_u128(self.size + rhs.size)
+    }
+
+    /// Returns the difference, or `None` if `rhs` is larger than the size.
+    ///
+    /// # Examples
+    /// ```
+    /// # use byte_unit::{rendered::{base::*, choice::*, format::*, math::*}, *};
+    /// let size = Byte::from_u64(15_500);
+    /// assert_eq!(size.subtract(Byte::from_u64(500)), Some(Byte::from_u64(15_000)));
+    /// assert_eq!(size.subtract(Byte::MAX), None);
+    /// ```
+    pub fn subtract(self, rhs: Byte) -> Option<Byte> {
+        let size = self.size.checked_sub(rhs.size)?;
+        Some(Byte { size })
+    }
+
+    /// Returns the product, or `None` if it is 10^30 bytes or more.
+    ///
+    /// # Examples
+    /// ```
+    /// # use byte_unit::{rendered::{base::*, choice::*, format::*, math::*}, *};
+    /// assert_eq!(Byte::from_u64(15_500).multiply(2), Some(Byte::from_u64(31_000)));
+    /// assert_eq!(Byte::MAX.multiply(2), None);
+    /// ```
+    pub fn multiply(self, rhs: usize) -> Option<Byte> {
+        Byte::from_u128(self.size.checked_mul(rhs as u128)?)
+    }
+
+    /// Returns the quotient, rounded down, or `None` if `rhs` is zero.
+    ///
+    /// # Examples
+    /// ```
+    /// # use byte_unit::{rendered::{base::*, choice::*, format::*, math::*}, *};
+    /// assert_eq!(Byte::from_u64(15_500).divide(3), Some(Byte::from_u64(5166)));
+    /// assert_eq!(Byte::from_u64(15_500).divide(0), None);
+    /// ```
+    pub fn divide(self, rhs: usize) -> Option<Byte> {
+        let size = self.size.checked_div(rhs as u128)?;
+        Some(Byte { size })
+    }
+}

@@ -1,0 +1,49 @@
+// Rendered from crates/byte_unit_byte/src/byte/binary.rt by `tools/dev render rust`. Do not edit.
+
+//! Parsing of sizes in bytes whose decimal prefixes mean binary ones.
+
+use super::Byte;
+use crate::rendered::base::{binary, Kind, ParseError};
+
+impl Byte {
+    /// Parses a size from a string, as [`Byte::parse_str`] does, except that a decimal prefix means the binary one:
+    /// `K`, `KB` and `k` are by 1024, as `Ki` and `KiB` are. Does not allocate.
+    ///
+    /// So the sizes of other programs are read as they mean them: `10m` of nginx, `512m` of docker, `128MB` of
+    /// PostgreSQL, `1.5K` of `du -h`.
+    ///
+    /// # Errors
+    /// As those of `parse_str`. `ExceededBounds` is by the binary prefix too: `900 RB` are more than 10^30 bytes.
+    ///
+    /// # Examples
+    /// ```
+    /// # use byte_unit::{rendered::{base::*, choice::*, format::*, math::*}, *};
+    /// assert_eq!(Byte::parse_str_binary("10m", false)?, Byte::from_u64(10_485_760));
+    /// assert_eq!(Byte::parse_str_binary("128MB", false)?, Byte::parse_str("128MiB", false)?);
+    /// assert_eq!(Byte::parse_str_binary("1.5 Ki", false)?, Byte::from_u64(1536));
+    /// let result = Byte::parse_str_binary("900 RB", false);
+    /// assert!(matches!(result, Err(ParseError::Value(ValueParseError::ExceededBounds(_)))));
+    /// # Ok::<(), Box<dyn std::error::Error>>(())
+    /// ```
+    pub fn parse_str_binary(s: &str, ignore_case: bool) -> Result<Byte, ParseError> {
+        let size = binary::parse(s, ignore_case, Kind::Byte)?;
+        Ok(Byte { size })
+    }
+
+    /// Parses a size from a string of UTF-8, as [`Byte::parse_str_binary`] does. Returns `None` if the string is not
+    /// UTF-8.
+    ///
+    /// # Examples
+    /// ```
+    /// # use byte_unit::{rendered::{base::*, choice::*, format::*, math::*}, *};
+    /// let size = Byte::parse_bytes_binary(b"1.5 KB", false);
+    /// assert!(matches!(size, Some(Ok(size)) if size == Byte::from_u64(1536)));
+    /// assert!(Byte::parse_bytes_binary(b"1 KB\xFF", false).is_none());
+    /// ```
+    pub fn parse_bytes_binary(bytes: &[u8], ignore_case: bool) -> Option<Result<Byte, ParseError>> {
+        match binary::parse_bytes(bytes, ignore_case, Kind::Byte)? {
+            Ok(size) => Some(Ok(Byte { size })),
+            Err(error) => Some(Err(error)),
+        }
+    }
+}

@@ -1,0 +1,56 @@
+// Rendered from crates/byte_unit_format/src/forms.rt by `tools/dev render rust`. Do not edit.
+
+//! Formatting of a size: digits only, or with a unit.
+
+use crate::rendered::base::Kind;
+use crate::rendered::format::alternate::write_alternate;
+use crate::rendered::format::layout::layout_parts;
+use crate::rendered::format::parts::{Fraction, TextParts};
+use crate::rendered::format::plain::plain_parts;
+use crate::rendered::format::spec::FormatSpec;
+use crate::rendered::format::thousandths::unit_within;
+
+/// The precision of the alternate form if none is set, as in the Rust crate.
+const DEFAULT_PRECISION: usize = 3;
+
+/// Returns the length in bytes of a formatted size: at most 37 if no width is set. Does not allocate.
+///
+/// Precondition: the size is below 10^30.
+pub fn text_len(size: u128, kind: Kind, spec: FormatSpec) -> usize {
+    write_text(size, kind, spec, &mut [])
+}
+
+/// Writes what `append_text` appends to the beginning of `out`, and returns its length: at most 37 if no width is set.
+/// Writes nothing if it does not fit. Does not allocate.
+///
+/// Precondition: the size is below 10^30.
+///
+/// # Examples
+/// ```
+/// # use byte_unit::{rendered::{base::*, choice::*, format::*, math::*}, *};
+/// let mut out = [b'.'; 8];
+/// assert_eq!(write_text(1536, Kind::Byte, FormatSpec::ALTERNATE, &mut out), 7);
+/// assert!(out == *b"1.5 KiB.");
+/// ```
+#[inline(always)]
+pub fn write_text(size: u128, kind: Kind, spec: FormatSpec, out: &mut [u8]) -> usize {
+    if spec == FormatSpec::ALTERNATE {
+        return write_alternate(size, kind, out);
+    }
+    text_parts(size, kind, spec).write(out)
+}
+
+/// Returns the parts of a formatted size. In the alternate form all digits of the number are shown.
+#[inline(always)]
+fn text_parts(size: u128, kind: Kind, spec: FormatSpec) -> TextParts<'static> {
+    if !spec.alternate {
+        return plain_parts(size, spec);
+    }
+    let places = match spec.precision {
+        Some(precision) => usize::from(precision),
+        None => DEFAULT_PRECISION,
+    };
+    let (number, unit) = unit_within(size, kind, places);
+    let fraction = Fraction::Last(number.digits(), number.places());
+    layout_parts(number.whole(), fraction, unit, spec)
+}

@@ -1,0 +1,152 @@
+// Rendered from crates/byte_unit_math/src/dividing.rt by `tools/dev render rust`. Do not edit.
+
+//! Division of 128 bits, with remainder or rounded; by constants; and for one digit of a long division.
+
+/// 10^18, the radix of the groups of digits in which `put_u128_wide` writes a long number.
+const TEN_POW_18: u64 = 1_000_000_000_000_000_000;
+
+/// The reciprocal of `TEN_POW_18`: 2^123 / 10^18, rounded down. With a greater power of 2 it would not fit 64 bits.
+const TEN_POW_18_INVERSE: u64 = 10_633_823_966_279_326_983;
+
+/// The base of a long division by a number of at most 2^24: each step fits 64 bits.
+const BASE: u64 = 1 << 40;
+
+/// Returns the quotient and the remainder. If both numbers fit 64 bits, the division is the faster one of 64 bits.
+///
+/// Precondition: the divisor is not 0.
+///
+/// # Examples
+/// ```
+/// # use byte_unit::{rendered::{base::*, choice::*, format::*, math::*}, *};
+/// assert_eq!(div_rem(1536, 1000), (1, 536));
+/// ```
+#[inline]
+pub fn div_rem(dividend: u128, divisor: u128) -> (u128, u128) {
+    if dividend < 1 << 64 && divisor < 1 << 64 {
+        let (dividend, divisor) = (dividend as u64, divisor as u64);
+        (u128::from(dividend / divisor), u128::from(dividend % divisor))
+    } else {
+        let quotient = dividend / divisor;
+        (quotient, dividend - quotient * divisor)
+    }
+}
+
+/// Returns `numerator / divisor` rounded to the nearest whole number, a tie to the even one.
+///
+/// Precondition: `numerator < 2^127` and `1 <= divisor <= 2^93`.
+///
+/// # Examples
+/// ```
+/// # use byte_unit::{rendered::{base::*, choice::*, format::*, math::*}, *};
+/// assert_eq!((rounded_quotient(5, 2), rounded_quotient(7, 2)), (2, 4));
+/// assert_eq!(rounded_quotient(8, 3), 3);
+/// ```
+#[inline]
+pub fn rounded_quotient(numerator: u128, divisor: u128) -> u128 {
+    let (quotient, rest) = div_rem(numerator, divisor);
+    // Rounds up if more than half of the divisor is left, or just half and the quotient is odd.
+    let odd = quotient % 2;
+    if 2 * rest + odd > divisor {
+        quotient + 1
+    } else {
+        quotient
+    }
+}
+
+/// Returns the quotient and the remainder by a constant, without division: the leading 64 bits of the dividend times
+/// `inverse`, 2^(cut + shift) / divisor rounded down, give an estimate, which is the quotient or one less.
+#[inline(always)]
+pub(crate) fn div_rem_by_inverse(dividend: u128, divisor: u64, inverse: u64, cut: u32, shift: u32) -> (u64, u64) {
+    let leading = (dividend >> cut) as u64;
+    let estimate = ((u128::from(leading) * u128::from(inverse)) >> shift) as u64;
+    let rest = (dividend - u128::from(estimate) * u128::from(divisor)) as u64;
+    if rest < divisor {
+        (estimate, rest)
+    } else {
+        (estimate + 1, rest - divisor)
+    }
+}
+
+/// Returns the quotient and the remainder by a constant of at most 2^24: a long division in base 2^40, each step of
+/// which LLVM compiles to multiplications.
+#[inline(always)]
+pub(crate) fn div_rem_u24(dividend: u128, divisor: u64) -> (u128, u64) {
+    // The dividend is three digits in base 2^40; each remainder is put before the next digit.
+    let high = (dividend >> 80) as u64;
+    let middle = high % divisor * BASE + ((dividend >> 40) % u128::from(BASE)) as u64;
+    let low = middle % divisor * BASE + (dividend % u128::from(BASE)) as u64;
+    let leading = u128::from(high / divisor) * u128::from(BASE) + u128::from(middle / divisor);
+    (leading * u128::from(BASE) + u128::from(low / divisor), low % divisor)
+}
+
+/// Returns the quotient and the remainder by 1000.
+///
+/// Precondition: the number is below 2^120.
+///
+/// # Examples
+/// ```
+/// # use byte_unit::{rendered::{base::*, choice::*, format::*, math::*}, *};
+/// assert_eq!(div_rem_thousand(1_234_567), (1_234, 567));
+/// ```
+#[inline(always)]
+pub fn div_rem_thousand(n: u128) -> (u128, u64) {
+    if n < 1 << 64 {
+        let n = n as u64;
+        return (u128::from(n / 1000), n % 1000);
+    }
+    div_rem_u24(n, 1000)
+}
+
+/// Splits a number into its last 18 digits and those before them. Numbers below 2^122 take no division.
+#[inline(always)]
+pub(crate) fn split_last_18_digits(n: u128) -> (u128, u64) {
+    if n < 1 << 122 {
+        // 58 + 65 is 123, the power of the reciprocal, and at most 64 bits of `n` are left after the cut by 58.
+        let (before, last) = div_rem_by_inverse(n, TEN_POW_18, TEN_POW_18_INVERSE, 58, 65);
+        return (u128::from(before), last);
+    }
+    let (before, last) = div_rem(n, u128::from(TEN_POW_18));
+    (before, last as u64)
+}
+
+/// Gives the quotient, which is a digit, and the remainder: four comparisons, which are faster than a division. It is a
+/// macro, since 128 bits take up to 66 % longer where 64 bits are enough.
+macro_rules! digit_and_rest {
+    ($subtract_multiple:ident, $dividend:expr, $divisor:expr) => {{
+        let (eights, rest) = $subtract_multiple($dividend, 8, $divisor);
+        let (fours, rest) = $subtract_multiple(rest, 4, $divisor);
+        let (twos, rest) = $subtract_multiple(rest, 2, $divisor);
+        let (ones, rest) = $subtract_multiple(rest, 1, $divisor);
+        (eights + fours + twos + ones, rest)
+    }};
+}
+
+/// Returns the quotient, which is a digit, and the remainder.
+pub(crate) fn div_rem_digit(dividend: u128, divisor: u128) -> (u128, u128) {
+    if divisor < 1 << 60 {
+        // Ten times the divisor fits 64 bits, and so does the dividend.
+        let (digit, rest) = digit_and_rest!(subtract_multiple_u64, dividend as u64, divisor as u64);
+        return (u128::from(digit), u128::from(rest));
+    }
+    digit_and_rest!(subtract_multiple, dividend, divisor)
+}
+
+/// Subtracts `times * divisor` if the dividend is at least that. Returns `times`, or else 0, and what is left.
+fn subtract_multiple(dividend: u128, times: u128, divisor: u128) -> (u128, u128) {
+    let multiple = times * divisor;
+    if dividend < multiple {
+        (0, dividend)
+    } else {
+        (times, dividend - multiple)
+    }
+}
+
+/// Subtracts as `subtract_multiple`, in 64 bits.
+fn subtract_multiple_u64(dividend: u64, times: u64, divisor: u64) -> (u64, u64) {
+    let multiple = times * divisor;
+    if dividend < multiple {
+        (0, dividend)
+    } else {
+        (times, dividend - multiple)
+    }
+}

@@ -1,0 +1,97 @@
+// Rendered from crates/byte_unit_math/src/lanes.rt by `tools/dev render rust`. Do not edit.
+
+//! The decimal digits of a number, sixteen at a time.
+
+use crate::rendered::math::decimal_digits::{decimal_len, put_u64};
+use crate::rendered::math::dividing::div_rem_by_inverse;
+use crate::support::lanes::*;
+
+/// The length of the array of [`put_padded_digits`]: two groups of 16 digits, since a number has up to 30.
+pub const PADDED_DIGITS: usize = 32;
+
+/// 10^16, the radix of groups of 16 digits: as many bytes as a vector `u8x16` has.
+pub(crate) const TEN_POW_16: u64 = 10_000_000_000_000_000;
+
+/// The reciprocal of `TEN_POW_16`: 2^117 / 10^16, rounded down. With a greater power of 2 it would not fit 64 bits.
+const TEN_POW_16_INVERSE: u64 = 16_615_349_947_311_448_411;
+
+/// Writes the digits of a number as ASCII to the beginning of an array and the digit 0 to the rest of it, and returns
+/// the number of its digits, 1 to 30.
+///
+/// Precondition: `n < 10^30`.
+///
+/// # Examples
+/// ```
+/// # use byte_unit::{rendered::{base::*, choice::*, format::*, math::*}, *};
+/// let mut digits = [0; PADDED_DIGITS];
+/// assert_eq!(put_padded_digits(1536, &mut digits), 4);
+/// assert_eq!(&digits, b"15360000000000000000000000000000");
+/// ```
+#[inline(always)]
+pub fn put_padded_digits(n: u128, digits: &mut [u8; PADDED_DIGITS]) -> usize {
+    // Four digits are faster one after another.
+    if n < 10_000 {
+        *digits = [b'0'; PADDED_DIGITS];
+        let len = decimal_len(n);
+        put_u64(n as u64, digits, len);
+        return len;
+    }
+    let (all, count) = digits_with_zeros(n);
+    let len = decimal_len(n);
+    let start = count - len;
+    digits.copy_from_slice(&all[start..start + PADDED_DIGITS]);
+    len
+}
+
+/// Returns the digits of a number with leading zeros, and the number of both, 16 or 32. After them is the digit 0.
+#[inline(always)]
+fn digits_with_zeros(n: u128) -> ([u8; 48], usize) {
+    // At most 32 digits, and 16 bytes more, since 32 are copied from the first digit that is not a leading zero.
+    let mut digits = [b'0'; 48];
+    if n < u128::from(TEN_POW_16) {
+        last_16_digits(n as u64).copy_to_slice(&mut digits[..16]);
+        return (digits, 16);
+    }
+    // 36 + 81 is 117, the power of the reciprocal, and at most 64 bits of `n` are left after the cut by 36.
+    let (before, last) = div_rem_by_inverse(n, TEN_POW_16, TEN_POW_16_INVERSE, 36, 81);
+    last_16_digits(before).copy_to_slice(&mut digits[..16]);
+    last_16_digits(last).copy_to_slice(&mut digits[16..32]);
+    (digits, 32)
+}
+
+/// Returns the digits of a number below 10^16, with leading zeros: first four numbers of four digits each, then eight
+/// of two digits, then all.
+#[inline(always)]
+fn last_16_digits(n: u64) -> u8x16 {
+    let (high, low) = ((n / 100_000_000) as u32, (n % 100_000_000) as u32);
+    let fours = u16x8::from_array([
+        (high / 10_000) as u16,
+        (high % 10_000) as u16,
+        (low / 10_000) as u16,
+        (low % 10_000) as u16,
+        0,
+        0,
+        0,
+        0,
+    ]);
+    let hundred = u16x8::splat(100);
+    let pairs = (fours / hundred).shuffle(fours % hundred, [0, 8, 1, 9, 2, 10, 3, 11]);
+    let ten = u16x8::splat(10);
+    // The first digit of two is in the low byte, the second one in the high byte.
+    let digits = (pairs / ten + pairs % ten * u16x8::splat(256)).to_le_bytes();
+    digits + u8x16::splat(b'0')
+}
+
+/// Writes sixteen digits, leading zeros included, and returns the index where they begin.
+#[inline(always)]
+pub(crate) fn put_16_digits(n: u64, bytes: &mut [u8], end: usize) -> usize {
+    let start = end - 16;
+    bytes[start..end].copy_from_slice(&last_16_digits(n).to_array());
+    start
+}
+
+/// Returns the digits of a number below 10^16 as numbers, with leading zeros.
+#[inline(always)]
+pub(crate) fn last_16_values(n: u64) -> u8x16 {
+    last_16_digits(n) - u8x16::splat(b'0')
+}

@@ -1,0 +1,91 @@
+// Rendered from crates/byte_unit_math/src/quotient.rt by `tools/dev render rust`. Do not edit.
+
+//! Exact quotients by long division and by factors.
+
+use crate::rendered::math::dividing::{div_rem, div_rem_digit, div_rem_u24};
+use crate::rendered::math::tens::{power_of_ten, POWERS_OF_FIVE};
+use crate::rendered::math::{Decimal, Factors, Steps, DECIMAL_PLACES};
+
+/// The limit of numbers of 64 bits, which are divided faster.
+const TWO_POW_64: u128 = 1 << 64;
+
+/// Returns `size / unit` if it is exact within `places` digits after the point, and `None` otherwise. More than 28
+/// places count as 28.
+///
+/// Precondition: `1 <= unit <= 2^93` and `size < 2^112`.
+///
+/// Long division counts one step for each digit after the point, at most 28. It stops at the first number of places
+/// at which the quotient is exact, or else after all of them.
+///
+/// # Examples
+/// ```
+/// # use byte_unit::{rendered::{base::*, choice::*, format::*, math::*}, *};
+/// let mut steps = Steps::new();
+/// assert_eq!(exact_quotient(1, 8, 3, &mut steps), Some(Decimal::from_digits(0, 125, 3)));
+/// assert_eq!(exact_quotient(1, 8, 2, &mut steps), None);
+/// assert_eq!(steps.count(), 3 + 2);
+/// ```
+pub fn exact_quotient(size: u128, unit: u128, places: u32, steps: &mut Steps) -> Option<Decimal> {
+    let most = places.min(DECIMAL_PLACES);
+    let (whole, mut rest) = div_rem(size, unit);
+    let mut fraction = 0;
+    let mut digits = 0;
+    while rest > 0 && digits < most {
+        steps.advance_by(1);
+        let (digit, left) = div_rem_digit(rest * 10, unit);
+        fraction = fraction * 10 + digit;
+        rest = left;
+        digits += 1;
+    }
+    if rest > 0 {
+        return None;
+    }
+    Some(Decimal::from_digits(whole, fraction, digits))
+}
+
+/// Returns `number / (2^twos * 5^fives)`, from the factors, without long division.
+///
+/// Precondition: `1 <= number.left`, `number.twos` and `number.fives` are below 2^16,
+/// `places <= 28`, `twos <= number.twos + places`, `fives <= number.fives + places`, and the quotient scaled by
+/// `10^places` is below 2^112.
+///
+/// Adds the steps of long division: one for each digit after the point of the result.
+///
+/// # Examples
+/// ```
+/// # use byte_unit::{rendered::{base::*, choice::*, format::*, math::*}, *};
+/// let mut steps = Steps::new();
+/// let twelve = Factors { left: 3, twos: 2, fives: 0 };
+/// assert_eq!(factored_quotient(twelve, 3, 0, 1, &mut steps), Decimal::from_digits(1, 5, 1));
+/// assert_eq!(steps.count(), 1);
+/// ```
+#[inline(always)]
+pub fn factored_quotient(number: Factors, twos: u32, fives: u32, places: u32, steps: &mut Steps) -> Decimal {
+    // The quotient times 10^places, a whole number: the exponents are those of the number plus the places, less the
+    // unit's, and the power of 2 is a shift.
+    let power = POWERS_OF_FIVE[(number.fives + places - fives) as usize];
+    let count = (number.left << (number.twos + places - twos)) * power;
+    let (whole, digits) = match places {
+        0 => (count, 0),
+        // LLVM compiles a division by a constant to multiplications.
+        1 => div_rem_small(count, 10),
+        2 => div_rem_small(count, 100),
+        3 => div_rem_small(count, 1000),
+        _ => div_rem(count, power_of_ten(places)),
+    };
+    let quotient = Decimal::from_digits(whole, digits, places);
+    steps.advance_by(quotient.places());
+    quotient
+}
+
+/// Splits a fixed-point value into its integer and fractional parts; `divisor`, its scale, is a constant: 10, 100 or
+/// 1000.
+#[inline(always)]
+fn div_rem_small(count: u128, divisor: u64) -> (u128, u128) {
+    if count < TWO_POW_64 {
+        let count = count as u64;
+        return (u128::from(count / divisor), u128::from(count % divisor));
+    }
+    let (whole, digits) = div_rem_u24(count, divisor);
+    (whole, u128::from(digits))
+}

@@ -1,0 +1,125 @@
+// Rendered from crates/byte_unit_math/src/short.rt by `tools/dev render rust`. Do not edit.
+
+//! Terminating decimal expansions with few digits after the point, by one product and one division or shift, and exact
+//! quotients by them.
+
+use crate::rendered::math::dividing::div_rem;
+use crate::rendered::math::quotient::exact_quotient;
+use crate::rendered::math::tens::{power_of_five, power_of_ten, power_of_two};
+use crate::rendered::math::{Decimal, Steps, DECIMAL_PLACES};
+
+/// The most digits after the point of a [`ShortExpansion`]: any 38 digits are a number of 128 bits.
+const MOST_PLACES: u32 = 38;
+
+/// The most factors 2 that a decimal unit has beside its factors 10: the eight bits of a byte.
+const BYTE_TWOS: u32 = 3;
+
+/// A terminating decimal expansion with at most 38 digits after the point, the last of which is not 0.
+#[derive(Clone, Copy, Debug)]
+pub struct ShortExpansion {
+    /// The part before the point.
+    pub whole: u128,
+    /// The digits after the point as a number of `places` digits, leading zeros included.
+    pub digits: u128,
+    /// The number of digits after the point.
+    pub places: u32,
+}
+
+/// Returns the expansion of `numerator / (2^twos * 5^fives)`. Returns `None` if it has more than 38 digits after the
+/// point, or may have: for `fives > 0` if `twos` exceeds it by more than 3, or if it may have more than 28.
+///
+/// Precondition: `numerator < 8 * 10^30`, `fives <= twos` and `2^twos * 5^fives <= 2^93`.
+///
+/// # Examples
+/// ```
+/// # use byte_unit::{rendered::{base::*, choice::*, format::*, math::*}, *};
+/// let eighths = short_expansion(13, 3, 0).unwrap();
+/// assert_eq!((eighths.whole, eighths.digits, eighths.places), (1, 625, 3));
+/// let thousandths = short_expansion(12_288, 6, 3).unwrap();
+/// assert_eq!((thousandths.whole, thousandths.digits, thousandths.places), (1, 536, 3));
+/// assert!(short_expansion(3, 38, 0).is_some());
+/// assert!(short_expansion(3, 39, 0).is_none());
+/// ```
+#[inline(always)]
+pub fn short_expansion(numerator: u128, twos: u32, fives: u32) -> Option<ShortExpansion> {
+    // The factors 2 that numerator and denominator share, without those of the denominator's factors 10.
+    let shared = numerator.trailing_zeros().min(twos - fives);
+    let left = twos - fives - shared;
+    let reduced = numerator >> shared;
+    if fives == 0 {
+        binary_expansion(reduced, left)
+    } else {
+        decimal_expansion(reduced, left, fives)
+    }
+}
+
+/// Returns the expansion of `numerator / 2^places`, which is in lowest terms, or `None` if `places` is more than 38.
+#[inline(always)]
+fn binary_expansion(numerator: u128, places: u32) -> Option<ShortExpansion> {
+    if places > MOST_PLACES {
+        return None;
+    }
+    let rest = numerator & ((1 << places) - 1);
+    Some(ShortExpansion {
+        whole: numerator >> places,
+        // 10^places / 2^places is 5^places.
+        digits: rest * power_of_five(places),
+        places,
+    })
+}
+
+/// Returns the expansion of `numerator / (2^twos * 10^tens)`, or `None` if `twos` is more than 3 or it may have more
+/// than 28 digits after the point.
+#[inline(always)]
+fn decimal_expansion(numerator: u128, twos: u32, tens: u32) -> Option<ShortExpansion> {
+    if twos > BYTE_TWOS || tens > DECIMAL_PLACES - twos {
+        return None;
+    }
+    // At most 28, as `Decimal::from_digits` requires.
+    let places = tens + twos;
+    // 10^(tens + twos) / (2^twos * 10^tens) is 5^twos.
+    let scaled = numerator * power_of_five(twos);
+    let (whole, digits) = div_rem(scaled, power_of_ten(places));
+    // Leaves trailing zeros out.
+    let (whole, digits, places) = Decimal::from_digits(whole, digits, places).fields();
+    Some(ShortExpansion { whole, digits, places })
+}
+
+/// Returns `numerator / (2^twos * 5^fives)`, which is exact within `places` digits after the point; more than 28 count
+/// as 28. It takes one product and one division or shift, or else long division.
+///
+/// Precondition: `numerator < 8 * 10^30`, `2^twos * 5^fives <= 2^93`, and the quotient is exact
+/// within these digits.
+///
+/// Adds the steps of long division: one for each digit after the point of the result.
+///
+/// # Examples
+/// ```
+/// # use byte_unit::{rendered::{base::*, choice::*, format::*, math::*}, *};
+/// let mut steps = Steps::new();
+/// assert_eq!(exact_number(13, 3, 0, 3, &mut steps), Decimal::from_digits(1, 625, 3));
+/// assert_eq!(steps.count(), 3);
+/// ```
+#[inline(never)]
+pub fn exact_number(numerator: u128, twos: u32, fives: u32, places: u32, steps: &mut Steps) -> Decimal {
+    if fives > twos {
+        return divided(numerator, twos, fives, places, steps);
+    }
+    match short_expansion(numerator, twos, fives) {
+        Some(parts) => {
+            let number = Decimal::from_trimmed_digits(parts.whole, parts.digits, parts.places);
+            steps.advance_by(number.places());
+            number
+        }
+        None => divided(numerator, twos, fives, places, steps),
+    }
+}
+
+/// Returns the same as `exact_number`, by long division.
+#[inline(never)]
+fn divided(numerator: u128, twos: u32, fives: u32, places: u32, steps: &mut Steps) -> Decimal {
+    let unit = power_of_two(twos) * power_of_five(fives);
+    let number = exact_quotient(numerator, unit, places, &mut Steps::new()).unwrap();
+    steps.advance_by(number.places());
+    number
+}

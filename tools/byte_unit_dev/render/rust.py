@@ -1,0 +1,397 @@
+"""Renders the proved sources as plain Rust: what only the proofs need is dropped, and a few forms are rewritten.
+
+The rules are below, each with its reason. A form that none of them knows is a failure, with its file and line.
+"""
+
+import re
+from collections import namedtuple
+from concurrent.futures import ThreadPoolExecutor
+
+from ..common import Failure, call, files, path, read
+from ..source import QUOTED, sources
+
+HEAD = "// Rendered from {} by `tools/dev render rust`. Do not edit.\n\n".format
+CONFIG = "bindings/rust/rustfmt.toml"
+# The layers of the library, the lowest first: the modules of `byte_unit::rendered`.
+LAYERS = ["math", "base", "choice", "format", "byte", "bit"]
+# The package whose modules are rendered in a folder, by crate: its path there, and its path from elsewhere.
+Home = namedtuple("Home", "folder here elsewhere")
+HOMES = {f"byte_unit_{layer}": Home(f"bindings/rust/src/rendered/{layer}", f"crate::rendered::{layer}",
+                                    f"byte_unit::rendered::{layer}") for layer in LAYERS}  # fmt: skip
+HOMES["byte_unit_c"] = Home("bindings/c/src/rendered", "crate::rendered", None)
+FOLDERS = ("bindings/rust/src/rendered/", "bindings/c/src/rendered/")
+MODULES = "bindings/rust/src/rendered/mod.rs"
+LAYERS_MODULE = HEAD("crates/") + """//! The proved sources of the library as Rust, without their contracts, a module for each crate.
+
+""" + "".join(f"pub mod {layer};\n" for layer in LAYERS)
+
+# Files that are not rendered, by the end of their names.
+LEFT_OUT = {
+    "/laws.rt": "its functions do nothing: the contracts, which are dropped, are the laws",
+    "/json.rt": "the package has serde in place of a type of JSON values",
+    "/text.rt": "by hand in the original's form, over the functions of `format`",
+    "/capacity.rt": "allocators are not stable, and no call of the package allocates",
+    "/approximate.rt": "by hand in the original's form, over the functions of `format`",
+}
+# Items that are not rendered, by their first words, with their comments and attributes.
+ITEMS_LEFT_OUT = {
+    r"impl(<[^>]*>)? Model for \w+": "what a value is in a contract",
+    r"impl Clone for \w+": "Rattle's `clone` can fail; the type is `Copy`, and `Clone` is derived",
+    r"(pub )?mod (laws|json|text|approximate|capacity);": "see `LEFT_OUT`",
+    r"(pub(\(\w+\))? )?fn \w+(<A: Allocator>|\(self, alloc: Global)": "allocators are not stable, and no call of the package allocates",
+    r"pub enum JsonSizeError|impl (\w+::)?\w+ for JsonSizeError": "see `/json.rt`",
+    r"impl fmt::Display for (Unit|Decimal|Byte|Bit|AdjustedByte|AdjustedBit)\b":
+        "by hand: the original's obey the formatter's flags",
+    r"pub fn from_u128_unsafe": "by hand: the original's is `unsafe`, since rustc proves no precondition",
+    r"(?<=    )pub fn (get_value|text_len|write_text)\(self|(?<=    )pub fn get_value":
+        "by hand: the original's returns a float",
+}  # fmt: skip
+# Paths of names that are left out with their items.
+NAMES_LEFT_OUT = re.compile(r".*::(append_\w+|JsonSizeError)|crate::capacity::.*")
+# Attributes, by their first word: whether they are kept. Of `derive` see `derived`.
+ATTRIBUTES = {"tactic": False, "inline": True, "cold": True, "repr": True, "unsafe": True, "derive": True,
+              "macro_export": True}  # fmt: skip
+# Traits that the original's types have, and Rattle's cannot or need not.
+DERIVED = {"Unit": ["Hash"], "UnitType": ["Hash"], "Sign": ["Hash"], "Align": ["Hash"], "FormatSpec": ["Hash"],
+           "ValueParseError": ["PartialEq", "Eq"], "UnitParseError": ["PartialEq", "Eq"],
+           "ParseError": ["PartialEq", "Eq"]}  # fmt: skip
+# Paths of Rattle's std: where the same is in Rust. `None` is what only proofs or allocators need.
+STD = {
+    **{f"std::{name}": f"core::{name}" for name in (
+        "cmp::Ordering", "error::Error", "fmt", "fmt::Display", "num::TryFromIntError", "str", "str::FromStr")},
+    **{f"std::{name}": None for name in ("marker::Model", "alloc::Allocator", "alloc::Global", "alloc::AllocError")},
+    "std::fmt::InlineText": "byte_unit::support::InlineText",
+    "std::simd::prelude::*": "byte_unit::support::lanes::*",
+    "core::dec2flt::read_digits": "byte_unit::support::read_digits",
+    "byte_unit_base::with_prefixes": "byte_unit::with_prefixes",
+}  # fmt: skip
+
+# Forms of code: a pattern, what is in its place, and why.
+FORMS = [
+    (r"<W: fmt::Write>(?=\()", "", "Rattle's formatter has its writer as a parameter"),
+    (r"\bfmt::Formatter<W>", "fmt::Formatter<'_>", "the same"),
+    (r"#\[macro_export\]", "#[doc(hidden)]\n#[macro_export]", "the macro is none of the package's names"),
+    (r"^( *)'\w+: (?=while\b|for\b|loop\b)", r"\1", "labels name loops for proofs alone"),
+]
+# Forms of the examples in comments.
+EXAMPLE_FORMS = [
+    (r"(\bassert\w*!\()rt; ", r"\1", "no runtime argument"),
+    (r"\bformat!\(in alloc; ", "format!(", "no allocator"),
+    (r"(format!\([^;]*\))\?(?=\.as_str)", r"\1", "formatting does not fail"),
+    (r"\.to_text\(alloc, FormatSpec::PLAIN\)\?\.as_str\(\)", ".to_string()", "by hand; see `/text.rt`"),
+    (r"String::new\(alloc\)", "String::new()", "no allocator"),
+    (r"String::from_str\(alloc, ([^)]*)\)\?", r"String::from(\1)", "the same"),
+]
+# What may be in no rendered file: words of contracts and of Rattle's std that no rule has dropped.
+UNKNOWN = re.compile(
+    r"\b(?:ghost|requires|ensures|decreases|invariant|tactic|Allocator|Global|alloc)\b|\bstd::|\bbyte_unit_\w+::|"
+    r"\brt; |[^\x00-\x7f]")  # fmt: skip
+# What each example is preceded by, hidden.
+PRELUDE = "# use byte_unit::{rendered::{base::*, choice::*, format::*, math::*}, *};"
+# Traits that are imported for their methods.
+TRAITS = ["Display"]
+# A comment between blank lines: all of these are on ghost members.
+ALONE = r"(?<=\n\n)(?://(?![/!]).*\n)+(?=\n)"
+CLAUSE = r"^ *(?:requires|ensures|decreases|invariant)\b[^{;]*(?=\{)"
+
+
+def blanked(text):
+    """Returns a text with spaces for comments, strings and characters."""
+    return QUOTED.sub(lambda found: re.sub(r"[^\n]", " ", found[0]), text)
+
+
+class Rendered:
+    """A file while it is rendered. A line that is dropped leaves a mark, so that each place keeps its line."""
+
+    MARK = "\0\n"
+
+    def __init__(self, name, crate):
+        # byte_unit_bit is rendered itself, and says so in its first line.
+        self.name, self.text, self.crate = name, re.sub(r"\A// Rendered.*", "", read(name)), crate
+        # The text with spaces for comments, strings and characters.
+        self.code = blanked(self.text)
+
+    def wrong(self, place, why):
+        return Failure(f"{self.name}:{1 + self.text.count(chr(10), 0, place)}: {why}")
+
+    def closing(self, start, code):
+        """Returns the place after the bracket that closes the one at `start`."""
+        depth = 0
+        for found in re.compile(r"[(\[{]|[)\]}]").finditer(code, start):
+            depth += 1 if found[0] in "([{" else -1
+            if depth == 0:
+                return found.end()
+        raise self.wrong(start, "a bracket is not closed")
+
+    def put(self, start, end, new):
+        """Replaces a part. Lines that are fewer are marked at its end."""
+        new += self.MARK * (self.text.count("\n", start, end) - new.count("\n"))
+        self.text = self.text[:start] + new + self.text[end:]
+        self.code = self.code[:start] + blanked(new) + self.code[end:]
+
+    def drop(self, start, end):
+        """Drops a part and what is left of its lines, if that is white space."""
+        start = self.text.rfind("\n", 0, start) + 1 if not self.text[:start].rpartition("\n")[2].strip() else start
+        rest = re.compile(r"[ \t]*\n").match(self.text, end)
+        self.put(start, rest.end() if rest else end, "")
+
+    def above(self, start, marks):
+        """Returns the place of the first of the lines before `start` that all begin with one of the marks."""
+        start = self.text.rfind("\n", 0, start) + 1
+        for line in reversed(self.text[:start].splitlines(keepends=True)):
+            if not line.lstrip().startswith(marks) and line != self.MARK:
+                break
+            start -= len(line)
+        return start
+
+    def end_of_item(self, start, code):
+        """Returns the place after an item: its `;`, or the brace of its body."""
+        found = re.compile(r"[;{]").search(code, start)
+        while found[0] == ";" and code.count("(", start, found.start()) > code.count(")", start, found.start()):
+            found = re.compile(r"[;{]").search(code, found.end())
+        return found.end() if found[0] == ";" else self.closing(found.start(), code)
+
+    def each(self, pattern, change):
+        """Calls a function with each match in the code, the last first."""
+        for found in reversed([*re.finditer(pattern, self.code, re.M)]):
+            change(found)
+
+
+def without_proofs(file):
+    """Drops attributes of proofs, ghost items and clauses, with the comments on them."""
+    def attribute(found):
+        if found[2] not in ATTRIBUTES:
+            raise file.wrong(found.start(), f"an attribute that no rule knows: {found[0].strip()}")
+        if not ATTRIBUTES[found[2]]:
+            file.drop(found.start(), file.closing(found.start(1), file.code))
+
+    def ghost(found):
+        code, end = file.code, found.end()
+        while code[end] != ";":
+            end = file.closing(end, code) if code[end] in "([{" else end + 1
+        file.drop(file.above(found.start(), ("// ",)), end + 1)
+
+    def clause(found):
+        file.drop(file.above(found.start(), ("// ",)), file.closing(found.end(), file.code))
+
+    for found in reversed([*re.finditer(ALONE, file.text)]):
+        file.put(found.start(), found.end(), "")
+    file.each(r"^ *#!?(\[)(\w+)", attribute)
+    file.each(r"^ *ghost\b", ghost)
+    file.each(CLAUSE, clause)
+
+
+def without_items(file):
+    """Drops the items of `ITEMS_LEFT_OUT`, and private constants that nothing else has used."""
+    def item(found):
+        file.drop(file.above(found.start(), ("//", "#[")), file.end_of_item(found.start(), file.code))
+
+    def constant(found):
+        if len(re.findall(rf"\b{found[1]}\b", file.code)) == 1:
+            item(found)
+
+    for pattern in ITEMS_LEFT_OUT:
+        file.each(rf"^ *(?:{pattern})", item)
+    file.each(r"^const (\w+)", constant)
+
+
+def derived(file):
+    """Adds to each `derive` what the table has, and `Clone` beside `Copy`, and drops Rattle's `Drop`."""
+    def change(found):
+        names = [name.strip() for name in found[1].split(",")]
+        names = ["Clone"] * ("Copy" in names and "Clone" not in names) + [name for name in names if name != "Drop"]
+        names += [name for name in DERIVED.get(found[3], []) if name not in names]
+        file.put(found.start(), found.end(), f"#[derive({', '.join(names)})]{found[2]}" if names else found[2].lstrip())
+
+    file.each(r"#\[derive\(([^)]*)\)\](\s*(?:#\[.*\]\s*)*pub(?:\(\w+\))? (?:struct|enum) (\w+))", change)
+
+
+def path_of(name, crate):
+    """Returns a path as it is in the rendered file of a crate, or None if it is left out there. An unknown one is a
+    failure."""
+    here = HOMES[crate].here
+    own = "crate::" if crate != "byte_unit_c" else "byte_unit::"
+    if name in STD:
+        return STD[name] and STD[name].replace("byte_unit::", own)
+    head, _, rest = name.partition("::")
+    if head == "crate":
+        return f"{here}::{rest}"
+    if head in HOMES:
+        home = HOMES[head]
+        return f"{home.here if own == 'crate::' else home.elsewhere}::{rest}"
+    if head in ("super", "self", "core"):
+        return name
+    raise Failure(f"a path that no rule knows: {name}")
+
+
+def imports(file):
+    """Rewrites `use`, without names that nothing but proofs has used."""
+    modules = re.findall(r"^ *(?:pub(?:\(\w+\))? )?mod (\w+);", file.code, re.M)
+
+    def is_used(name):
+        word = r"[iu]\d+x\d+" if name == "*" else name
+        return name in TRAITS or len(re.findall(rf"\b{word}\b", file.code)) > (name != "*")
+
+    def change(found):
+        start, *names = [part for part in re.split(r"[{},\s]+", found[2]) if part]
+        given = [start + name for name in names] or [start]
+        is_local = start.partition("::")[0] in modules
+        try:
+            new = [name if is_local else path_of(name, file.crate) for name in given
+                   if not NAMES_LEFT_OUT.fullmatch(name)]  # fmt: skip
+        except Failure as failure:
+            raise file.wrong(found.start(), failure) from None
+        groups = {}
+        for each in filter(None, new):
+            parent, _, name = each.rpartition("::")
+            if found[1] or is_used(name):
+                groups.setdefault(parent, []).append(name)
+        lines = [f"{found[1]}use {parent}::{', '.join(names).join('{}' if len(names) > 1 else ['', ''])};"
+                 for parent, names in groups.items()]  # fmt: skip
+        if lines:
+            file.put(found.start(), found.end(), " ".join(lines))
+        else:
+            file.drop(found.start(), found.end())
+
+    file.each(r"^((?:pub(?:\(\w+\))? )?)use ([^;]+);", change)
+
+
+def paths(file):
+    """Rewrites paths in code and in links of comments."""
+    def change(found):
+        if "use " in file.text[file.text.rfind("\n", 0, found.start()) + 1:found.start()]:
+            return
+        new = path_of(found[1] + "::x", file.crate)[:-1]
+        file.put(found.start(1), found.end(), new)
+
+    for found in reversed([*re.finditer(r"(?<![\w$:])(crate|byte_unit_\w+)::", file.text)]):
+        change(found)
+    file.code = blanked(file.text)
+    file.each(r"(?<![\w:])std::(fmt|str|cmp|error)::", lambda found: file.put(found.start(), found.start() + 3, "core"))
+
+
+def exports(file):
+    """Rewrites the functions of the C API: in Rust a slice is not two arguments of C."""
+    def argument(found):
+        const = "mut" if found[2] else "const"
+        return f"{found[1]}: *{const} {found[3]}, {found[1]}_len: usize"
+
+    def change(found):
+        slices = re.findall(r"(\w+): &(mut )?\[\w+\]", found[1])
+        lets = "".join(f" let {name} = unsafe {{ crate::slices::slice{'_mut' * bool(mut)}({name}, {name}_len) }};"
+                       for name, mut in slices)  # fmt: skip
+        head = re.sub(r"(\w+): &(mut )?\[(\w+)\]", argument, found[1])
+        body = file.code.index("{", found.end())
+        file.put(body, body + 1, "{" + lets)
+        file.put(found.start(1), found.end(1), head)
+
+    file.each(r"pub extern\s+fn \w+(\([^)]*\))", change)
+
+
+def calls_of_exports(file, found_exports):
+    """Passes slices to a function of the C API as it takes them."""
+    def change(found):
+        end = file.closing(found.end() - 1, file.code)
+        given = [part.strip() for part in file.text[found.end():end - 1].split(",")]
+        wanted = found_exports[found[1]]
+        new = [f"{part}.as_{'mut_' * (kind == 'mut')}ptr(), {part}.len()" if kind else part
+               for part, kind in zip(given, wanted)]  # fmt: skip
+        file.put(found.end(), end - 1, ", ".join(new))
+
+    if found_exports:
+        file.each(rf"(?<!fn )\b({'|'.join(found_exports)})\(", change)
+
+
+def forms(file):
+    """Rewrites the forms of `FORMS`."""
+    for pattern, new, _ in FORMS:
+        file.each(pattern, lambda found, new=new: file.put(found.start(), found.end(), found.expand(new)))
+
+
+def examples(file):
+    """Rewrites the examples in comments, and returns what each has before and after it."""
+    def change(found):
+        body = found[3]
+        for pattern, new, _ in EXAMPLE_FORMS:
+            body = re.sub(pattern, new, body)
+        bad = re.search(r"\b(?:rt;|alloc\b)", body)
+        if bad:
+            raise file.wrong(found.start(3) + bad.start(), f"a form in an example that no rule knows: {bad[0]}")
+        mark = found[1]
+        end = f"{mark}# Ok::<(), Box<dyn std::error::Error>>(())\n" if re.search(r"\?(?:;|[.,)])", body) else ""
+        return f"{mark}```\n{mark}{PRELUDE}\n{body}{end}{mark}```\n"
+
+    file.text = re.sub(r"^( *//[/!] )```(rust)\n((?:\1?.*\n)*?)\1```\n", change, file.text, flags=re.M)
+
+
+def known(file):
+    """Checks that nothing is left that no rule knows."""
+    code = file.code
+    found = UNKNOWN.search(code)
+    if found:
+        line = file.text[:found.start()].count("\n")
+        raise file.wrong(found.start(), f"a form that no rule knows: {file.text.splitlines()[line].strip()}")
+
+
+def rendered(name, crate, found_exports):
+    """Returns the text of a file in Rust, before rustfmt."""
+    file = Rendered(name, crate)
+    without_proofs(file)
+    without_items(file)
+    derived(file)
+    imports(file)
+    paths(file)
+    if crate == "byte_unit_c":
+        calls_of_exports(file, found_exports)
+        exports(file)
+    forms(file)
+    known(file)
+    examples(file)
+    text = file.text.replace(Rendered.MARK, "").replace(" (proved at every call)", "")
+    return HEAD(name) + re.sub(r"\n{3,}", "\n\n", text).lstrip("\n")
+
+
+def formatted(text):
+    """Returns a text as rustfmt has it."""
+    got = call("rustfmt", "--edition", "2021", "--config-path", path(CONFIG), input=text)
+    if got.returncode:
+        raise Failure(f"rustfmt: {got.stdout}")
+    return got.stdout
+
+
+def target(name, crate):
+    """Returns the name of the rendered file."""
+    home, rest = HOMES[crate].folder, name.removeprefix(f"crates/{crate}/src/").removesuffix(".rt")
+    if rest == "lib":
+        return f"{home}/mod.rs" if crate == "byte_unit_c" else f"{home}.rs"
+    return f"{home}/{rest}.rs"
+
+
+def sources_of(crate):
+    """Returns the names of the files of a crate that are rendered."""
+    left_out = re.compile(r"/laws/|" + "|".join(f"{re.escape(name)}$" for name in LEFT_OUT))
+    return [file.name for file in sources(crate) if not left_out.search(file.name)]
+
+
+def exports_of(crate):
+    """Returns the functions of a C API, by name: for each of its parameters `mut` or `const`, or none if it is no
+    slice."""
+    kinds = {"&mut [": "mut", "&[": "const"}
+    found = {}
+    for file in sources(crate):
+        for name, given in re.findall(r"pub extern \"C\" fn (\w+)\(([^)]*)\)", file.text):
+            found[name] = [kinds.get(kind) for kind in re.findall(r"\w+: (&mut \[|&\[)?", given)]
+    return found
+
+
+def made():
+    """Each file of the two folders."""
+    texts = {MODULES: LAYERS_MODULE}
+    for crate in HOMES:
+        exported = exports_of(crate) if crate == "byte_unit_c" else {}
+        texts |= {target(name, crate): rendered(name, crate, exported) for name in sources_of(crate)}
+    with ThreadPoolExecutor() as pool:
+        texts = dict(zip(texts, pool.map(formatted, texts.values())))
+    there = [name for name in files() if name.startswith(FOLDERS)]
+    for name in sorted({*texts, *there}):
+        yield name, texts.get(name, "")
