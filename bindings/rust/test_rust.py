@@ -3,15 +3,15 @@
 import os
 import re
 import shutil
+import tomllib
+from pathlib import Path
 
 import pytest
+from byte_unit_dev.common import output
 from byte_unit_dev.fixtures import CARGOS, SERDE, is_there, need, read, write
 
 FEATURES = ["--features", "serde"] if all(map(is_there, SERDE)) else []
 AS_WRITTEN, CHANGED = 91, 9  # the examples of the original that run here as they are, and those that need a change
-# A file byte_unit.pc, and an environment in which no library is found.
-PKG_CONFIG = "Name: byte_unit\nDescription: -\nVersion: 5.2.6\nlibdir={}\n"
-NOWHERE = {"BYTE_UNIT_LIBRARY_DIR": None, "PKG_CONFIG": "/nowhere"}
 
 
 @pytest.fixture(scope="module", params=CARGOS, ids=["cargo", "Debian's cargo"][:len(CARGOS)])
@@ -77,30 +77,35 @@ def test_style(cargos, rust_package, program, words):
     cargos(has[0]).output(rust_package, *words)
 
 
-@pytest.mark.parametrize("place, variables", [
-    ("prefix/lib/libbyte_unit.a", {"BYTE_UNIT_LIBRARY_DIR": "prefix"}),
-    ("elsewhere/libbyte_unit.a", {"BYTE_UNIT_LIBRARY_DIR": None, "PKG_CONFIG_PATH": "pkgconfig"}),
-    ("crates/byte_unit_c/out/libbyte_unit_c.a", NOWHERE),
-], ids=["prefix", "pkg-config", "rt lib"])  # fmt: skip
-def test_archive_is_found(library, cargo, rust_package, place, variables):
-    """Puts the archive where the build script finds it: in a prefix, by pkg-config, and where `rt lib` puts it."""
-    work = os.path.dirname(os.path.dirname(rust_package))
-    write(f"{work}/pkgconfig/byte_unit.pc", PKG_CONFIG.format(f"{work}/elsewhere"))
-    os.makedirs(os.path.dirname(f"{work}/{place}"))
-    shutil.copy(f"{library}/libbyte_unit.a", f"{work}/{place}")
-    try:
-        here = {name: value and os.path.join(work, value) for name, value in variables.items()}
-        cargo.output(rust_package, "run", "--example", "example", **here)
-    finally:
-        os.remove(f"{work}/{place}")
+def test_package(cargo, rust_package, tmp_path):
+    """Packs the package, builds what is packed, and adds it to a program by its path, without a registry."""
+    cargo.output(rust_package, "package", "--allow-dirty", "--no-verify")
+    packed = cargo.target / "package/byte-unit-5.2.6.crate"
+    output("tar", "-xzf", packed, "-C", tmp_path)
+    write(f"{tmp_path}/program/Cargo.toml", '[package]\nname = "program"\nversion = "0.1.0"\nedition = "2024"\n')
+    write(f"{tmp_path}/program/src/main.rs", 'fn main() { println!("{:#}", byte_unit::Byte::from_u64(1536)); }\n')
+    cargo.output(tmp_path / "program", "add", "--path", "../byte-unit-5.2.6", CARGO_NET_OFFLINE="true")
+    assert cargo.output(tmp_path / "program", "run") == "1.5 KiB\n"
 
 
-@pytest.mark.parametrize("variables, error", [
-    (NOWHERE, "libbyte_unit.a is not found: run tools/make-libraries DIR and set BYTE_UNIT_LIBRARY_DIR to DIR, or"),
-    ({"BYTE_UNIT_LIBRARY_DIR": "/nowhere"}, "/nowhere/libbyte_unit.a is missing, or not of this version: run"),
-    ({"BYTE_UNIT_LIBRARY_DIR": "."}, "BYTE_UNIT_LIBRARY_DIR is .: it must be an absolute path"),
-])  # fmt: skip
-def test_one_line_says_that_the_archive_is_missing(cargo, rust_package, variables, error):
-    got = cargo.call(rust_package, "build", **variables)
-    found = [line for line in got.stdout.splitlines() if line.strip().startswith(error)]
-    assert got.returncode != 0 and len(found) == 1, got.stdout
+def test_other_pointers_are_refused_by_one_line(cargo, rust_package, tmp_path):
+    """Makes of the width that is refused that of this machine, for which alone there is a `core`."""
+    shutil.copytree(rust_package, tmp_path / "refused")
+    text, width = read(tmp_path / "refused/src/lib.rs"), 'target_pointer_width = "64"'
+    assert text.count(f"not({width})") == 1
+    write(tmp_path / "refused/src/lib.rs", text.replace(f"not({width})", width))
+    said = cargo.call(tmp_path / "refused", "check", "--lib").stdout
+    errors = re.findall(r"^error.*", said, re.M)
+    assert errors[0] == "error: byte-unit is proved for pointers of 64 bits, which this platform does not have"
+    assert len(errors) == 2 and errors[1].startswith("error: could not compile"), said
+
+
+def test_nothing_is_unsafe_or_linked(rust_package):
+    """All `unsafe` is the original's `from_u128_unsafe`, and there is no dependency but serde."""
+    found = {str(name.relative_to(rust_package)): len(re.findall(r"\bunsafe\b", re.sub(r"//.*", "", read(name))))
+             for name in Path(rust_package).glob("src/**/*.rs")}  # fmt: skip
+    assert {name: count for name, count in found.items() if count} == {"src/sizes.rs": 3}
+    assert not any('extern "C"' in read(name) for name in Path(rust_package).glob("**/*.rs"))
+    manifest = tomllib.loads(read("bindings/rust/Cargo.toml"))
+    assert not manifest["package"].keys() & {"links", "build"} and not os.path.exists(f"{rust_package}/build.rs")
+    assert [(name, more["optional"]) for name, more in manifest["dependencies"].items()] == [("serde", True)]

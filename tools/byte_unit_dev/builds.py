@@ -77,14 +77,14 @@ def original(given, work):
     return crate
 
 
-def program(source, crate, library=None):
-    """Builds a program in a copy of a crate, over the C library in `library`, and returns its path."""
+def program(source, crate):
+    """Builds a program in a copy of a crate, and returns its path."""
     missing = [need for need in NEEDS if not is_there(need)]
     if missing:
         raise Failure(f"{missing[0]} is missing: `tools/dev setup --compared` installs it")
     os.makedirs(os.path.join(crate, "src/bin"), exist_ok=True)
     shutil.copy(path(source), os.path.join(crate, "src/bin/program.rs"))
     write(f"{crate}/.cargo/config.toml", CONFIG)
-    env = environment(**PROFILE, CARGO_HOME=os.path.join(crate, "home"), BYTE_UNIT_LIBRARY_DIR=library)
+    env = environment(**PROFILE, CARGO_HOME=os.path.join(crate, "home"))
     output("cargo", "build", "--bin", "program", *OPTIONS, cwd=crate, env=env)
     return os.path.join(crate, "target/release/program")

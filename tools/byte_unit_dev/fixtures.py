@@ -242,12 +242,12 @@ def python_aarch64(aarch64, tmp_path_factory):
 class Cargo:
     """A cargo and the rustc in its folder, with the environment of its calls, which build in a folder for work."""
 
-    def __init__(self, cargo, library, work):
+    def __init__(self, cargo, work):
         beside = os.path.dirname(cargo)
         assert os.path.exists(f"{beside}/rustc"), f"{beside} has no rustc"
         self.cargo, self.target = cargo, work / "target"
         self.variables = {"RUSTC": f"{beside}/rustc", "RUSTDOC": f"{beside}/rustdoc", "CARGO_HOME": work / "home",
-                          "CARGO_TARGET_DIR": self.target, "BYTE_UNIT_LIBRARY_DIR": library}  # fmt: skip
+                          "CARGO_TARGET_DIR": self.target}  # fmt: skip
 
     def call(self, where, *words, by=call, **variables):
         return by(self.cargo, *words, cwd=where, env=environment(**{**self.variables, **variables}))
@@ -261,14 +261,18 @@ class Cargo:
 
 
 @pytest.fixture(scope="session")
-def cargos(library, tmp_path_factory):
-    """Returns the Cargo of a path, made once."""
+def cargos(tmp_path_factory):
+    """Returns the Cargo of a path, made once. One that is older than the Rust package states is skipped."""
     work = tmp_path_factory.mktemp("cargo").resolve()
+    oldest = re.search(r'^rust-version = "(.*)"', read("bindings/rust/Cargo.toml"), re.M)[1]
 
     @functools.lru_cache(maxsize=None)
     def made(cargo):
-        need("cc", "pkg-config", *(["cargo", "rustc"] if cargo == CARGOS[0] else ["/usr/bin/cargo", "/usr/bin/rustc"]))
-        return Cargo(cargo, os.path.realpath(library), work / str(CARGOS.index(cargo)))
+        need("cc", *(["cargo", "rustc"] if cargo == CARGOS[0] else ["/usr/bin/cargo", "/usr/bin/rustc"]))
+        found = output(cargo, "--version").split()[1]
+        if [*map(int, found.split(".")[:2])] < [*map(int, oldest.split("."))]:
+            pytest.skip(f"{cargo} is {found}, and {oldest} is the oldest (Debian: {PACKAGES['/usr/bin/cargo']})")
+        return Cargo(cargo, work / str(CARGOS.index(cargo)))
 
     yield made
     shutil.rmtree(work, ignore_errors=True)  # hundreds of megabytes

@@ -26,11 +26,7 @@ fn error_of(error: ParseError) -> String {
 }
 
 fn parsed(text: &str, in_bits: bool, ignore_case: bool) -> Result<u128, ParseError> {
-    if in_bits {
-        Bit::parse_str(text).map(Bit::as_u128)
-    } else {
-        Byte::parse_str(text, ignore_case).map(Byte::as_u128)
-    }
+    if in_bits { Bit::parse_str(text).map(Bit::as_u128) } else { Byte::parse_str(text, ignore_case).map(Byte::as_u128) }
 }
 
 fn parsed_binary(text: &str, in_bits: bool, ignore_case: bool) -> Result<u128, ParseError> {

@@ -1,7 +1,7 @@
 //! Exact sizes in bytes and in bits.
 //!
-//! The names and signatures are those of the crate byte-unit 5.2.6 by magiclen. Sizes are parsed and formatted, and
-//! units are chosen, by the library `libbyte_unit.a`, which is written in Rattle and proved: no digit is lost.
+//! The names and signatures are those of the crate byte-unit 5.2.6 by magiclen. The code that parses and formats sizes
+//! and chooses units is written and proved in Rattle, which is Rust with contracts, and rendered as Rust without them.
 //!
 //! # Examples
 //!
@@ -40,52 +40,48 @@
 //! # Without std
 //!
 //! No call allocates but `approximate_text`, which the feature `std` has. Without that feature, the package needs
-//! `core` alone; the errors then implement `core::error::Error` from rustc 1.81 on.
+//! `core` alone.
 #![no_std]
 #![warn(missing_docs)]
 
-#[cfg(any(feature = "std", test))]
+#[cfg(not(target_pointer_width = "64"))]
+compile_error!("byte-unit is proved for pointers of 64 bits, which this platform does not have");
+
+#[cfg(feature = "std")]
 extern crate std;
 
-// Modules of macros are before those that call them.
-#[macro_use]
-mod size;
-#[macro_use]
-mod methods;
-#[macro_use]
-mod many;
-#[macro_use]
-mod adjusted;
-#[macro_use]
-mod convert;
-#[macro_use]
-mod constants;
-
-mod bit;
-mod byte;
 mod decimal;
 mod errors;
-mod library;
+mod many;
+// The forms of the sources are those of Rattle: its proofs and its compiler have theirs for a reason.
+#[allow(
+    clippy::char_lit_as_u8,
+    clippy::derived_hash_with_manual_eq,
+    clippy::len_without_is_empty,
+    clippy::manual_div_ceil,
+    clippy::manual_map,
+    clippy::module_inception,
+    clippy::new_without_default,
+    clippy::type_complexity,
+    missing_docs
+)]
+#[doc(hidden)]
+pub mod rendered;
 #[cfg(feature = "serde")]
 mod serde_traits;
-mod spec;
-mod sys;
+mod sizes;
+#[allow(missing_docs)]
+#[doc(hidden)]
+pub mod support;
 mod text;
-mod unit;
 
-#[cfg(test)]
-mod tests;
-
-pub use bit::{AdjustedBit, Bit};
-pub use byte::{AdjustedByte, Byte};
 pub use core::num::TryFromIntError;
-pub use decimal::Decimal;
-pub use errors::{
-    BuffersError, ExceededBoundsError, InexactFloatError, Needed, ParseError, RowError, UnitParseError, ValueParseError,
-};
-pub use many::Offset;
-pub use spec::{Align, FormatSpec, Sign};
-pub use unit::{Unit, UnitType};
 
-/// Sizes are below this: 10^30.
-const SIZE_LIMIT: u128 = 10u128.pow(30);
+pub use errors::{BuffersError, InexactFloatError, Needed, RowError};
+pub use many::Offset;
+pub use rendered::base::{ExceededBoundsError, ParseError, Unit, UnitParseError, ValueParseError};
+pub use rendered::bit::{AdjustedBit, Bit};
+pub use rendered::byte::{AdjustedByte, Byte};
+pub use rendered::choice::UnitType;
+pub use rendered::format::{Align, FormatSpec, Sign};
+pub use rendered::math::Decimal;

@@ -1,7 +1,6 @@
 //! The parsing of columns of texts: the types of offsets, and the methods of sizes.
 
-use crate::errors::BuffersError;
-use crate::library::{self, Size};
+use crate::{Bit, BuffersError, Byte, ParseError, RowError, ValueParseError};
 
 /// An offset in the data of a column: `i32` or `i64`.
 pub trait Offset: sealed::Offset {}
@@ -11,48 +10,83 @@ impl Offset for i64 {}
 
 /// Keeps other crates from implementing `Offset` for more types.
 mod sealed {
-    use crate::library::ManyCall;
-    use crate::sys;
-
-    pub trait Offset: Sized {
-        /// The call of the library that takes such offsets.
-        const CALL: ManyCall<Self>;
+    pub trait Offset: Copy {
+        /// Returns the index, or `None` if it is negative.
+        fn index(self) -> Option<usize>;
     }
 
     impl Offset for i32 {
-        const CALL: ManyCall<i32> = sys::byte_unit_parse_many_32_to;
+        fn index(self) -> Option<usize> {
+            self.try_into().ok()
+        }
     }
 
     impl Offset for i64 {
-        const CALL: ManyCall<i64> = sys::byte_unit_parse_many_to;
+        fn index(self) -> Option<usize> {
+            self.try_into().ok()
+        }
     }
 }
 
-/// Parses the texts of a column, and returns the number of those that are no sizes.
-pub(crate) fn parse<O: Offset, T: Size>(
+/// Returns the code of a text's error, which is zero for a size.
+fn code_of<T>(parsed: &Option<Result<T, ParseError>>) -> u8 {
+    match parsed {
+        Some(Ok(_)) => 0,
+        Some(Err(ParseError::Value(ValueParseError::NoValue))) => 1,
+        Some(Err(ParseError::Value(ValueParseError::NotNumber(_)))) => 2,
+        Some(Err(ParseError::Value(ValueParseError::NumberTooLong))) => 3,
+        Some(Err(ParseError::Value(ValueParseError::ExceededBounds(_)))) => 4,
+        Some(Err(ParseError::Unit(_))) => 5,
+        None => 6,
+    }
+}
+
+/// Returns whether the offsets ascend within the data, and each text has an element of both buffers.
+fn do_fit<O: Offset>(data: &[u8], offsets: &[O], sizes_len: usize, codes_len: usize) -> bool {
+    let texts = offsets.len().saturating_sub(1);
+    let mut least = 0;
+    sizes_len == texts
+        && codes_len == texts
+        && offsets.iter().all(|offset| match offset.index() {
+            Some(index) if least <= index && index <= data.len() => {
+                least = index;
+                true
+            }
+            _ => false,
+        })
+}
+
+/// Parses the texts of a column, each by `parse`, and returns the number of those that are no sizes.
+#[inline(always)]
+fn parse_column<O: Offset, T: Default>(
     data: &[u8],
     offsets: &[O],
-    flags: u32,
     sizes: &mut [T],
     codes: &mut [u8],
+    parse: impl Fn(&[u8]) -> Option<Result<T, ParseError>>,
 ) -> Result<usize, BuffersError> {
-    if library::parse_many(O::CALL, (data, offsets), flags, sizes, codes) {
-        Ok(codes.iter().filter(|&&code| code != 0).count())
-    } else {
-        Err(BuffersError)
+    if !do_fit(data, offsets, sizes.len(), codes.len()) {
+        return Err(BuffersError);
     }
+    let mut rejected = 0;
+    for ((ends, size), code) in offsets.windows(2).zip(sizes).zip(codes) {
+        let text = ends[0].index().zip(ends[1].index()).and_then(|(start, end)| data.get(start..end));
+        let parsed = parse(text.unwrap_or_default());
+        *code = code_of(&parsed);
+        rejected += usize::from(*code != 0);
+        *size = parsed.and_then(Result::ok).unwrap_or_default();
+    }
+    Ok(rejected)
 }
 
 /// Defines the calls of a type of sizes that parse many texts; `ignore_case` is a parameter of bytes alone. `$K`, a unit
 /// of 1000, and `$false`, the argument for `ignore_case`, are for the examples.
 macro_rules! column_methods {
-    ($Size:ident, $kind:expr, $K:literal $(, $ignore_case:ident, $false:literal)?) => {
-        // SAFETY: a size is laid out as its `u128`, whose low half is first on x86-64.
-        unsafe impl $crate::library::Size for $Size {}
-
+    ($Size:ident, $K:literal $(, $ignore_case:ident, $false:literal)?) => {
         /// Columns.
         impl $Size {
-            /// Parses texts, one after the other: each gives a size, or a `RowError` with its row. The first row is 0.
+            /// Parses texts, one after the other: each gives a size, or a [`RowError`] with its row. The first row is
+            /// 0.
             ///
             /// # Examples
             ///
@@ -65,23 +99,14 @@ macro_rules! column_methods {
             /// let error = sizes.next().unwrap().unwrap_err();
             /// assert_eq!((error.row, error.to_string().get(..27)), (1, Some("row 1: the character 'x' is")));
             /// assert_eq!(sizes.next().unwrap().unwrap().as_u64(), 2000);
-            ///
-            /// // All sizes, or the first error.
-            #[doc = concat!(
-                "let all: Result<Vec<", stringify!($Size), ">, _> = ", stringify!($Size), "::parse_many(texts"
-                $(, ", ", $false)?, ").collect();"
-            )]
-            /// assert_eq!(all, Err(error));
             /// ```
-            pub fn parse_many<I>(
-                texts: I $(, $ignore_case: bool)?
-            ) -> impl Iterator<Item = Result<Self, $crate::RowError>>
+            pub fn parse_many<I>(texts: I $(, $ignore_case: bool)?) -> impl Iterator<Item = Result<Self, RowError>>
             where
                 I: IntoIterator,
                 I::Item: AsRef<str>,
             {
                 texts.into_iter().enumerate().map(move |(row, text)| {
-                    Self::parse_str(text $(, $ignore_case)?).map_err(|error| $crate::RowError { row, error })
+                    Self::parse_str(text $(, $ignore_case)?).map_err(|error| RowError { row, error })
                 })
             }
 
@@ -92,22 +117,20 @@ macro_rules! column_methods {
             /// ```
             #[doc = concat!("use byte_unit::", stringify!($Size), ";")]
             ///
-            #[doc = concat!(
-                "let sizes = ", stringify!($Size), "::parse_many_binary([\"512m\", \"1 ", $K, "\"]" $(, ", ", $false)?,
-                ");"
-            )]
+            #[doc = concat!("let texts = [\"512m\", \"1 ", $K, "\"];")]
+            #[doc = concat!("let sizes = ", stringify!($Size), "::parse_many_binary(texts" $(, ", ", $false)?, ");")]
             /// let total: u64 = sizes.map(|size| size.unwrap().as_u64()).sum();
             /// assert_eq!(total, 536_870_912 + 1024);
             /// ```
             pub fn parse_many_binary<I>(
                 texts: I $(, $ignore_case: bool)?
-            ) -> impl Iterator<Item = Result<Self, $crate::RowError>>
+            ) -> impl Iterator<Item = Result<Self, RowError>>
             where
                 I: IntoIterator,
                 I::Item: AsRef<str>,
             {
                 texts.into_iter().enumerate().map(move |(row, text)| {
-                    Self::parse_str_binary(text $(, $ignore_case)?).map_err(|error| $crate::RowError { row, error })
+                    Self::parse_str_binary(text $(, $ignore_case)?).map_err(|error| RowError { row, error })
                 })
             }
 
@@ -121,8 +144,8 @@ macro_rules! column_methods {
             ///
             /// # Errors
             ///
-            /// Returns `BuffersError` and writes nothing if an offset is negative, less than the one before it or past
-            /// the end of `data`, or if `sizes` and `codes` do not have one element for each text.
+            /// Returns [`BuffersError`] and writes nothing if an offset is negative, less than the one before it or
+            /// past the end of `data`, or if `sizes` and `codes` do not have one element for each text.
             ///
             /// # Examples
             ///
@@ -139,15 +162,14 @@ macro_rules! column_methods {
             #[doc = concat!("assert_eq!(sizes.map(", stringify!($Size), "::as_u64), [1000, 0, 3]);")]
             /// # Ok::<(), byte_unit::BuffersError>(())
             /// ```
-            pub fn parse_buffers<O: $crate::Offset>(
+            pub fn parse_buffers<O: Offset>(
                 data: &[u8],
                 offsets: &[O],
                 $($ignore_case: bool,)?
                 sizes: &mut [Self],
                 codes: &mut [u8],
-            ) -> Result<usize, $crate::BuffersError> {
-                let flags = $kind.flag() $(| $crate::library::case_flag($ignore_case))?;
-                $crate::many::parse(data, offsets, flags, sizes, codes)
+            ) -> Result<usize, BuffersError> {
+                parse_column(data, offsets, sizes, codes, |text| Self::parse_bytes(text $(, $ignore_case)?))
             }
 
             /// Parses the texts of a column as `parse_buffers` does, with decimal prefixes that mean binary ones.
@@ -155,31 +177,18 @@ macro_rules! column_methods {
             /// # Errors
             ///
             /// As those of `parse_buffers`.
-            ///
-            /// # Examples
-            ///
-            /// ```
-            #[doc = concat!("use byte_unit::", stringify!($Size), ";")]
-            ///
-            #[doc = concat!("let (mut sizes, mut codes) = ([", stringify!($Size), "::MIN; 1], [0; 1]);")]
-            #[doc = concat!(
-                stringify!($Size), "::parse_buffers_binary(b\"1 ", $K, "\", &[0i64, 4]", $(", ", $false,)?
-                ", &mut sizes, &mut codes)?;"
-            )]
-            /// assert_eq!(sizes[0].as_u64(), 1024);
-            /// # Ok::<(), byte_unit::BuffersError>(())
-            /// ```
-            pub fn parse_buffers_binary<O: $crate::Offset>(
+            pub fn parse_buffers_binary<O: Offset>(
                 data: &[u8],
                 offsets: &[O],
                 $($ignore_case: bool,)?
                 sizes: &mut [Self],
                 codes: &mut [u8],
-            ) -> Result<usize, $crate::BuffersError> {
-                let flags = $kind.flag() $(| $crate::library::case_flag($ignore_case))?;
-                let flags = flags | $crate::sys::BYTE_UNIT_BINARY_PREFIXES;
-                $crate::many::parse(data, offsets, flags, sizes, codes)
+            ) -> Result<usize, BuffersError> {
+                parse_column(data, offsets, sizes, codes, |text| Self::parse_bytes_binary(text $(, $ignore_case)?))
             }
         }
     };
 }
+
+column_methods! { Byte, "KB", ignore_case, "false" }
+column_methods! { Bit, "Kb" }

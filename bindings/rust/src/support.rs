@@ -89,3 +89,15 @@ impl<const N: usize> Write for InlineText<N> {
         Ok(())
     }
 }
+
+/// Returns the number if it is not negative: `try_from` is no `const fn`.
+#[inline]
+pub const fn u128_of(number: i128) -> Option<u128> {
+    if number >= 0 { Some(number as u128) } else { None }
+}
+
+/// Returns the number if it is below 2^64: `try_from` is no `const fn`.
+#[inline]
+pub const fn u64_of(number: u128) -> Option<u64> {
+    if number <= u64::MAX as u128 { Some(number as u64) } else { None }
+}

@@ -1,13 +1,12 @@
 //! Texts of sizes: into a formatter with its flags, and into a caller's buffer.
 
-use core::fmt::{self, Alignment, Formatter, Write};
-use core::mem::MaybeUninit;
+use core::fmt::{self, Alignment, Display, Formatter, Write};
 use core::str;
 
-use crate::errors::Needed;
-use crate::library::{self, Kind};
-use crate::spec::{FormatSpec, Sign};
-use crate::unit::Unit;
+use crate::rendered::base::Kind;
+use crate::rendered::format::{write_adjusted, write_text};
+use crate::rendered::math::fmt_u128;
+use crate::{FormatSpec, Needed, Sign, Unit};
 
 /// The most digits after the point of a size in a unit, which are those of one bit in `RiB`.
 const MOST_PLACES: usize = 93;
@@ -15,27 +14,28 @@ const MOST_PLACES: usize = 93;
 /// More than the length of each text without a width, with at most `MOST_PLACES` digits after the point.
 pub(crate) const TEXT_LEN: usize = 160;
 
-/// A buffer for such a text, which only the library writes.
-type Buffer = [MaybeUninit<u8>; TEXT_LEN];
-
-/// A buffer that is not written yet.
-const UNWRITTEN: Buffer = [MaybeUninit::uninit(); TEXT_LEN];
-
-/// Formats a size with the unit that represents it exactly within the precision.
-pub(crate) fn format_with_unit(size: u128, kind: Kind, f: &mut Formatter<'_>) -> fmt::Result {
-    // Above 28, each precision is as 28.
-    let (spec, _) = spec_of(f, 28);
-    let mut out = UNWRITTEN;
-    let len = library::text(size, kind, spec, &mut out);
-    lay_out(text_in(&out, len)?, 0, f)
+/// Formats the digits of a size as those of an integer, or with `#` the size in the unit that represents it exactly
+/// within the precision.
+pub(crate) fn format_size(size: u128, kind: Kind, f: &mut Formatter<'_>) -> fmt::Result {
+    if f.alternate() {
+        // Above 28, each precision is as 28.
+        let (spec, _) = spec_of(f, 28);
+        let mut out = [0; 40];
+        let len = write_text(size, kind, spec, &mut out);
+        return lay_out(text_in(&out, len)?, 0, f);
+    }
+    if f.width().is_none() && !f.sign_plus() {
+        return fmt_u128(size, f);
+    }
+    Display::fmt(&size, f)
 }
 
-/// Formats a size in a unit. The library is asked for `MOST_PLACES` digits after the point at most: with a greater
-/// precision zeros follow them, but not if it writes fewer, as it does in some units and in the alternate form.
+/// Formats a size in a unit, with `MOST_PLACES` digits after the point at most: with a greater precision zeros follow
+/// them, but not if there are fewer, as in some units and in the alternate form.
 pub(crate) fn format_adjusted(size: u128, kind: Kind, unit: Unit, f: &mut Formatter<'_>) -> fmt::Result {
     let (spec, left_out) = spec_of(f, MOST_PLACES);
-    let mut out = UNWRITTEN;
-    let len = library::adjusted_text(size, kind, unit, spec, &mut out);
+    let mut out = [0; TEXT_LEN];
+    let len = write_adjusted(size, kind, unit, spec, &mut out);
     let text = text_in(&out, len)?;
     let all_shown = left_out > 0 && places_of(text) == MOST_PLACES;
     lay_out(text, if all_shown { left_out } else { 0 }, f)
@@ -43,44 +43,33 @@ pub(crate) fn format_adjusted(size: u128, kind: Kind, unit: Unit, f: &mut Format
 
 /// Returns the 64-bit float that is nearest to a size in a unit.
 pub(crate) fn nearest_float(size: u128, kind: Kind, unit: Unit) -> f64 {
-    let mut out = UNWRITTEN;
-    let len = library::adjusted_text(size, kind, unit, FormatSpec::PLAIN, &mut out);
-    let text = text_in(&out, len).unwrap_or_default();
-    number_of(text).parse().unwrap_or_default()
+    let mut out = [0; TEXT_LEN];
+    let len = write_adjusted(size, kind, unit, FormatSpec::PLAIN, &mut out);
+    number_of(text_in(&out, len).unwrap_or_default()).parse().unwrap_or_default()
 }
 
-/// Returns the text of a size in the largest unit of the type, rounded.
+/// Returns the text of a size in a unit, rounded.
 #[cfg(feature = "std")]
-pub(crate) fn approximate_text(
-    size: u128,
-    kind: Kind,
-    unit_type: crate::UnitType,
-    precision: u16,
-) -> std::string::String {
+pub(crate) fn rounded(size: u128, kind: Kind, unit: Unit, precision: u16) -> std::string::String {
     let spec = FormatSpec { precision: Some(precision), ..FormatSpec::PLAIN };
-    let mut out = UNWRITTEN;
-    let len = library::approximate_text(size, kind, unit_type, spec, &mut out);
+    let mut out = [0; TEXT_LEN];
+    let len = write_adjusted(size, kind, unit, spec, &mut out);
     if let Ok(text) = text_in(&out, len) {
         return text.into();
     }
     let mut long = std::vec![0; len];
-    library::approximate_text(size, kind, unit_type, spec, library::maybe_unwritten(&mut long));
+    write_adjusted(size, kind, unit, spec, &mut long);
     std::string::String::from_utf8(long).unwrap_or_default()
 }
 
 /// Returns the text that a call wrote to the beginning of a caller's buffer, or the length that it needs.
 pub(crate) fn written(out: &[u8], len: usize) -> Result<&str, Needed> {
-    match out.get(..len) {
-        Some(text) => Ok(str::from_utf8(text).unwrap_or_default()),
-        None => Err(Needed { len }),
-    }
+    text_in(out, len).map_err(|_| Needed { len })
 }
 
-/// Returns the text of a length that a call of the library wrote to the beginning of a buffer, if it fits there.
-fn text_in(out: &Buffer, len: usize) -> Result<&str, fmt::Error> {
-    let text = out.get(..len).ok_or(fmt::Error)?;
-    // SAFETY: the library has written these bytes, since they fit, and they are ASCII.
-    Ok(unsafe { str::from_utf8_unchecked(&*(text as *const [MaybeUninit<u8>] as *const [u8])) })
+/// Returns the text of a length that a call wrote to the beginning of a buffer, if it fits there. It is ASCII.
+fn text_in(out: &[u8], len: usize) -> Result<&str, fmt::Error> {
+    str::from_utf8(out.get(..len).ok_or(fmt::Error)?).map_err(|_| fmt::Error)
 }
 
 /// Returns the digits and the point at the beginning of a text.

@@ -184,11 +184,10 @@ def python_aarch64(parts):
 
 
 def cargo(parts):
-    """Returns the Rust package, as cargo reads it in a folder of vendored sources, with the archive inside."""
+    """Returns the Rust package, as cargo reads it in a folder of vendored sources."""
     files = archives.files_in(copied("rust", parts.work))
     files = {name: data for name, data in files.items() if not name.startswith(("checks/", "test_", "."))}
     files["README.md"] = readme("rust", files)
-    files[f"library/{ARCHIVE}"] = (parts.x86 / ARCHIVE).read_bytes()
     sums = {name: hashlib.sha256(data).hexdigest() for name, data in sorted(files.items())}
     files[".cargo-checksum.json"] = json.dumps({"files": sums, "package": None}).encode()
     return {"byte-unit-5.2.6-cargo.tar.gz": archives.tarball("byte-unit-5.2.6", files, parts.seconds)}

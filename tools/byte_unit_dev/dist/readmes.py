@@ -33,7 +33,7 @@ venv/bin/pip install --no-index --find-links . byte_unit
 distribution, for x86-64, which needs one and the headers of Python (Debian: gcc, python3-dev, python3-setuptools,
 python3-wheel). The library is inside of each. `venv/bin/pip uninstall byte_unit` removes it.
 """,
-    "rust": """For Linux and x86-64, without a network. In the folder of a program whose `Cargo.toml` has
+    "rust": """Without a network. In the folder of a program whose `Cargo.toml` has
 `byte-unit = "5"` among its `[dependencies]`:
 
 ```sh
@@ -55,8 +55,6 @@ cargo then takes all packages from `vendor`. With others from crates.io, unpack 
 [patch.crates-io]
 byte-unit = { path = "vendor/byte-unit-5.2.6" }
 ```
-
-The library is inside.
 """,
     "js": """The folder in the archive is the package. It needs an engine with 64-bit memory (memory64), as Chromium 156
 has, and Node 18 and 20 with `--experimental-wasm-memory64`; others were not tried.

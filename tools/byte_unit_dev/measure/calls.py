@@ -31,9 +31,9 @@ def by_c(name, library, work):
     return lambda: output(*ONE_PROCESSOR, made)
 
 
-def by_rust(crate, library):
-    """Builds a program in Rust over the library, and returns a function that runs it."""
-    made = builds.program("bindings/rust/checks/speed.rs", crate, library)
+def by_rust(crate):
+    """Builds a program in Rust over a crate, and returns a function that runs it."""
+    made = builds.program("bindings/rust/checks/speed.rs", crate)
     return lambda: output(*ONE_PROCESSOR, made)
 
 
@@ -74,12 +74,12 @@ def by_postgresql(library):
 def programs(given, library, work):
     """Builds the programs. Yields each as a function that returns what it prints, with the column of its figures."""
     ways = [("C", ["cc"], by_c, ("speed", library, work)), ("A text", ["cc"], by_c, ("speed_many", library, work)),
-            ("Rust", builds.NEEDS, by_rust, (builds.copied("rust", work), library)),
+            ("Rust", builds.NEEDS, by_rust, (builds.copied("rust", work),)),
             ("Python", PYTHON_PACKAGE, by_python, (library, work)),
             ("Seconds", ["sqlite3", "sqlite3ext.h"], by_sqlite, (library,)),
             ("Seconds of the server", POSTGRESQL, by_postgresql, (library,))]
     if given.original:
-        ways.append(("Original", builds.NEEDS, by_rust, (builds.original(given.original, work), None)))
+        ways.append(("Original", builds.NEEDS, by_rust, (builds.original(given.original, work),)))
     for column, needs, make, words in ways:
         missing = [need for need in needs if not is_there(need)]
         if missing:

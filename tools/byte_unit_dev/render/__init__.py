@@ -3,7 +3,7 @@
     tables       tables of byte_unit_base and byte_unit_c, from the prefixes and the lists of expected characters
     bits         byte_unit_bit from byte_unit_byte
     rust         the packages of Rust from the sources of the library: their code without its contracts
-    bindings     the lists of units, constants and expected characters in `bindings/`, from tables of the library
+    bindings     the lists of units and prefixes in `bindings/`, from tables of the library
     calling      the contracts in CALLING.md, from what `byte_unit` exports
     definitions  the lists of docs/DEFINITIONS.md, from the definitions that contracts lead to
     laws         the table of laws in docs/PROVED.md, from their comments

@@ -1,15 +1,13 @@
-"""The lists of the bindings that follow from tables of the library: units, their names and codes, constants, and the
-characters that errors name as expected."""
+"""The lists of the bindings that follow from tables of the library: the codes of units in C's header, and the letters of
+the prefixes for JavaScript. The lists of expected characters are for render/tables.py."""
 
 import re
-import textwrap
 
 from ..source import line_of, source
 from .pages import with_parts
 
 TABLES, SCAN = "crates/byte_unit_base/src/unit/tables.rt", "crates/byte_unit_base/src/unit/scan.rt"
-CONSTANTS = "crates/byte_unit_byte/src/byte/constants.rt"
-HEADER, RUST, JAVASCRIPT = "bindings/c/byte_unit.h", "bindings/rust/src", "bindings/js/library.js"
+HEADER, JAVASCRIPT = "bindings/c/byte_unit.h", "bindings/js/library.js"
 
 
 def prefixes():
@@ -29,29 +27,8 @@ def expected():
     return [re.findall(r"'(\w)'", row) for row in re.findall(r"\[[^\]]+\]", line_of(body))]
 
 
-def constants():
-    """Returns the names and units of the constants of each paragraph that has any, in lines."""
-    for paragraph in source(CONSTANTS).text.split("\n\n"):
-        found = re.findall(r"/// 1 (\w+) is .*\n *pub const (\w+):", paragraph)
-        pairs = ", ".join(f"{name}_{unit}" for unit, name in found)
-        if pairs:
-            # 119 columns, for a comma comes after a paragraph.
-            indent = " " * 12
-            yield textwrap.fill(pairs, 119, initial_indent=indent, subsequent_indent=indent).replace("_", " ")
-
-
 def made():
-    codes, units = in_lines(lambda unit: f"BYTE_UNIT_{unit.upper()}"), in_lines(lambda unit: f"Unit::{unit}")
-    names = in_lines(lambda unit: '"%s"' % unit.replace("Bit", "b").replace("bit", "b"))
+    codes = in_lines(lambda unit: f"BYTE_UNIT_{unit.upper()}")
     yield HEADER, with_parts(HEADER, (r"The codes of the units\. \*/\nenum \{\n", r"\n\};", codes))
-    yield f"{RUST}/unit.rs", with_parts(
-        f"{RUST}/unit.rs", (r"^pub enum Unit \{\n", r",\n\}", in_lines(str)),
-        (r"^const NAMES: .*?\[\n", r",\n\];", names),
-        (r"^pub\(crate\) const UNITS: ", r",\n\];", f"[Unit; {2 + 4 * len(prefixes())}] = [\n{units}"))
-    yield f"{RUST}/constants.rs", with_parts(
-        f"{RUST}/constants.rs", (r"constants! \{ @units \$Size \$kind,\n", r"\n        \}", ",\n".join(constants())))
-    lists = ["    &[%s]," % ", ".join(map(repr, row)) for row in expected()]
-    yield f"{RUST}/library.rs", with_parts(
-        f"{RUST}/library.rs", (r"^const EXPECTED: ", r"\n\];", f"[&[char]; {len(lists)}] = [\n" + "\n".join(lists)))
     letters = "".join(prefixes())
     yield JAVASCRIPT, with_parts(JAVASCRIPT, (r'^const PREFIXES = \[\.\.\."', r'"\];', letters))

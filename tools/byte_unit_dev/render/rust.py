@@ -1,7 +1,5 @@
-"""Renders the proved sources as plain Rust: what only the proofs need is dropped, and a few forms are rewritten.
-
-The rules are below, each with its reason. A form that none of them knows is a failure, with its file and line.
-"""
+"""Renders the proved sources as plain Rust, by the rules of render/rust_rules.py: what only the proofs need is dropped, and
+a few forms are rewritten. A form that no rule knows is a failure, with its file and line."""
 
 import re
 from collections import namedtuple
@@ -9,6 +7,10 @@ from concurrent.futures import ThreadPoolExecutor
 
 from ..common import Failure, call, files, path, read
 from ..source import QUOTED, sources
+from .rust_rules import (
+    ALONE, ATTRIBUTES, CLAUSE, COMMENT_FORMS, CONST, CONST_FORMS, DERIVED, EXAMPLE_FORMS, FORMS, HIDDEN, INLINED,
+    ITEMS_LEFT_OUT, LEFT_OUT, NAMES_LEFT_OUT, PRELUDE, STD, TRAITS, UNKNOWN,
+)  # fmt: skip
 
 HEAD = "// Rendered from {} by `tools/dev render rust`. Do not edit.\n\n".format
 CONFIG = "bindings/rust/rustfmt.toml"
@@ -24,76 +26,6 @@ MODULES = "bindings/rust/src/rendered/mod.rs"
 LAYERS_MODULE = HEAD("crates/") + """//! The proved sources of the library as Rust, without their contracts, a module for each crate.
 
 """ + "".join(f"pub mod {layer};\n" for layer in LAYERS)
-
-# Files that are not rendered, by the end of their names.
-LEFT_OUT = {
-    "/laws.rt": "its functions do nothing: the contracts, which are dropped, are the laws",
-    "/json.rt": "the package has serde in place of a type of JSON values",
-    "/text.rt": "by hand in the original's form, over the functions of `format`",
-    "/capacity.rt": "allocators are not stable, and no call of the package allocates",
-    "/approximate.rt": "by hand in the original's form, over the functions of `format`",
-}
-# Items that are not rendered, by their first words, with their comments and attributes.
-ITEMS_LEFT_OUT = {
-    r"impl(<[^>]*>)? Model for \w+": "what a value is in a contract",
-    r"impl Clone for \w+": "Rattle's `clone` can fail; the type is `Copy`, and `Clone` is derived",
-    r"(pub )?mod (laws|json|text|approximate|capacity);": "see `LEFT_OUT`",
-    r"(pub(\(\w+\))? )?fn \w+(<A: Allocator>|\(self, alloc: Global)": "allocators are not stable, and no call of the package allocates",
-    r"pub enum JsonSizeError|impl (\w+::)?\w+ for JsonSizeError": "see `/json.rt`",
-    r"impl fmt::Display for (Unit|Decimal|Byte|Bit|AdjustedByte|AdjustedBit)\b":
-        "by hand: the original's obey the formatter's flags",
-    r"pub fn from_u128_unsafe": "by hand: the original's is `unsafe`, since rustc proves no precondition",
-    r"(?<=    )pub fn (get_value|text_len|write_text)\(self|(?<=    )pub fn get_value":
-        "by hand: the original's returns a float",
-}  # fmt: skip
-# Paths of names that are left out with their items.
-NAMES_LEFT_OUT = re.compile(r".*::(append_\w+|JsonSizeError)|crate::capacity::.*")
-# Attributes, by their first word: whether they are kept. Of `derive` see `derived`.
-ATTRIBUTES = {"tactic": False, "inline": True, "cold": True, "repr": True, "unsafe": True, "derive": True,
-              "macro_export": True}  # fmt: skip
-# Traits that the original's types have, and Rattle's cannot or need not.
-DERIVED = {"Unit": ["Hash"], "UnitType": ["Hash"], "Sign": ["Hash"], "Align": ["Hash"], "FormatSpec": ["Hash"],
-           "ValueParseError": ["PartialEq", "Eq"], "UnitParseError": ["PartialEq", "Eq"],
-           "ParseError": ["PartialEq", "Eq"]}  # fmt: skip
-# Paths of Rattle's std: where the same is in Rust. `None` is what only proofs or allocators need.
-STD = {
-    **{f"std::{name}": f"core::{name}" for name in (
-        "cmp::Ordering", "error::Error", "fmt", "fmt::Display", "num::TryFromIntError", "str", "str::FromStr")},
-    **{f"std::{name}": None for name in ("marker::Model", "alloc::Allocator", "alloc::Global", "alloc::AllocError")},
-    "std::fmt::InlineText": "byte_unit::support::InlineText",
-    "std::simd::prelude::*": "byte_unit::support::lanes::*",
-    "core::dec2flt::read_digits": "byte_unit::support::read_digits",
-    "byte_unit_base::with_prefixes": "byte_unit::with_prefixes",
-}  # fmt: skip
-
-# Forms of code: a pattern, what is in its place, and why.
-FORMS = [
-    (r"<W: fmt::Write>(?=\()", "", "Rattle's formatter has its writer as a parameter"),
-    (r"\bfmt::Formatter<W>", "fmt::Formatter<'_>", "the same"),
-    (r"#\[macro_export\]", "#[doc(hidden)]\n#[macro_export]", "the macro is none of the package's names"),
-    (r"^( *)'\w+: (?=while\b|for\b|loop\b)", r"\1", "labels name loops for proofs alone"),
-]
-# Forms of the examples in comments.
-EXAMPLE_FORMS = [
-    (r"(\bassert\w*!\()rt; ", r"\1", "no runtime argument"),
-    (r"\bformat!\(in alloc; ", "format!(", "no allocator"),
-    (r"(format!\([^;]*\))\?(?=\.as_str)", r"\1", "formatting does not fail"),
-    (r"\.to_text\(alloc, FormatSpec::PLAIN\)\?\.as_str\(\)", ".to_string()", "by hand; see `/text.rt`"),
-    (r"String::new\(alloc\)", "String::new()", "no allocator"),
-    (r"String::from_str\(alloc, ([^)]*)\)\?", r"String::from(\1)", "the same"),
-]
-# What may be in no rendered file: words of contracts and of Rattle's std that no rule has dropped.
-UNKNOWN = re.compile(
-    r"\b(?:ghost|requires|ensures|decreases|invariant|tactic|Allocator|Global|alloc)\b|\bstd::|\bbyte_unit_\w+::|"
-    r"\brt; |[^\x00-\x7f]")  # fmt: skip
-# What each example is preceded by, hidden.
-PRELUDE = "# use byte_unit::{rendered::{base::*, choice::*, format::*, math::*}, *};"
-# Traits that are imported for their methods.
-TRAITS = ["Display"]
-# A comment between blank lines: all of these are on ghost members.
-ALONE = r"(?<=\n\n)(?://(?![/!]).*\n)+(?=\n)"
-CLAUSE = r"^ *(?:requires|ensures|decreases|invariant)\b[^{;]*(?=\{)"
-
 
 def blanked(text):
     """Returns a text with spaces for comments, strings and characters."""
@@ -144,6 +76,11 @@ class Rendered:
             start -= len(line)
         return start
 
+    def mark(self, start, attribute):
+        """Puts an attribute in the line of an item, unless it is in the lines before it."""
+        if attribute not in self.text[self.above(start, ("#[",)):start]:
+            self.put(start, start, attribute + " ")
+
     def end_of_item(self, start, code):
         """Returns the place after an item: its `;`, or the brace of its body."""
         found = re.compile(r"[;{]").search(code, start)
@@ -172,7 +109,10 @@ def without_proofs(file):
         file.drop(file.above(found.start(), ("// ",)), end + 1)
 
     def clause(found):
+        method = found[1] == "requires" and re.search(r"^ +pub (?:const )?fn [^;{}]*\Z", file.code[:found.start()], re.M)
         file.drop(file.above(found.start(), ("// ",)), file.closing(found.end(), file.code))
+        if method:
+            file.mark(method.start(), "#[doc(hidden)]")
 
     for found in reversed([*re.finditer(ALONE, file.text)]):
         file.put(found.start(), found.end(), "")
@@ -191,7 +131,7 @@ def without_items(file):
             item(found)
 
     for pattern in ITEMS_LEFT_OUT:
-        file.each(rf"^ *(?:{pattern})", item)
+        file.each(rf"^(?:#\[\S*\])? *(?:{pattern})", item)
     file.each(r"^const (\w+)", constant)
 
 
@@ -288,18 +228,17 @@ def exports(file):
     file.each(r"pub extern\s+fn \w+(\([^)]*\))", change)
 
 
-def calls_of_exports(file, found_exports):
+def calls_of_exports(file, exported):
     """Passes slices to a function of the C API as it takes them."""
     def change(found):
         end = file.closing(found.end() - 1, file.code)
         given = [part.strip() for part in file.text[found.end():end - 1].split(",")]
-        wanted = found_exports[found[1]]
+        wanted = exported[found[1]]
         new = [f"{part}.as_{'mut_' * (kind == 'mut')}ptr(), {part}.len()" if kind else part
                for part, kind in zip(given, wanted)]  # fmt: skip
         file.put(found.end(), end - 1, ", ".join(new))
 
-    if found_exports:
-        file.each(rf"(?<!fn )\b({'|'.join(found_exports)})\(", change)
+    file.each(rf"(?<!fn )\b({'|'.join(exported)})\(", change)
 
 
 def forms(file):
@@ -308,52 +247,73 @@ def forms(file):
         file.each(pattern, lambda found, new=new: file.put(found.start(), found.end(), found.expand(new)))
 
 
-def examples(file):
-    """Rewrites the examples in comments, and returns what each has before and after it."""
+def functions(file):
+    """Adds `const`, with the forms of `CONST_FORMS` in the body, `#[inline]` and `#[doc(hidden)]` to functions."""
+    place = file.name.removeprefix("crates/byte_unit_").removesuffix(".rt")
+    constant = CONST.get(place, "").split()
+
     def change(found):
-        body = found[3]
+        if found[3] in constant:
+            start = file.code.index("{", found.end())
+            end = file.closing(start, file.code)
+            body = file.text[start:end]
+            for pattern, new in CONST_FORMS:
+                body = re.sub(pattern, new, body)
+            file.put(start, end, body)
+            file.put(found.end(2), found.end(2), "const ")
+            constant.remove(found[3])
+        if found[3] in HIDDEN:
+            file.mark(found.start(), "#[doc(hidden)]")
+        if file.crate in INLINED and "#[inline" not in file.text[file.above(found.start(), ("#[",)):found.start()]:
+            file.mark(found.start(), "#[inline]")
+
+    file.each(r"^( *(?:#\[.*?\] *)*)((?:pub(?:\(\w+\))? )?)fn (\w+)", change)
+    if constant:
+        raise Failure(f"{file.name}: no function is {constant[0]}, which has to be `const`")
+
+
+def examples(file):
+    """Rewrites comments, and the examples in them, which Rust runs as they are."""
+    def change(found):
+        mark, body = found[1], found[2]
         for pattern, new, _ in EXAMPLE_FORMS:
             body = re.sub(pattern, new, body)
         bad = re.search(r"\b(?:rt;|alloc\b)", body)
         if bad:
-            raise file.wrong(found.start(3) + bad.start(), f"a form in an example that no rule knows: {bad[0]}")
-        mark = found[1]
+            raise file.wrong(found.start(2), f"an example has a form that no rule knows: {bad[0]}")
         end = f"{mark}# Ok::<(), Box<dyn std::error::Error>>(())\n" if re.search(r"\?(?:;|[.,)])", body) else ""
         return f"{mark}```\n{mark}{PRELUDE}\n{body}{end}{mark}```\n"
 
-    file.text = re.sub(r"^( *//[/!] )```(rust)\n((?:\1?.*\n)*?)\1```\n", change, file.text, flags=re.M)
+    for pattern, new, _ in COMMENT_FORMS:
+        file.text = re.sub(pattern, new, file.text)
+    return re.sub(r"^( *//[/!] )```rust\n((?:\1?.*\n)*?)\1```\n", change, file.text, flags=re.M)
 
 
 def known(file):
     """Checks that nothing is left that no rule knows."""
-    code = file.code
-    found = UNKNOWN.search(code)
+    found = UNKNOWN.search(file.code)
     if found:
         line = file.text[:found.start()].count("\n")
         raise file.wrong(found.start(), f"a form that no rule knows: {file.text.splitlines()[line].strip()}")
 
 
-def rendered(name, crate, found_exports):
+def rendered(name, crate, exported):
     """Returns the text of a file in Rust, before rustfmt."""
     file = Rendered(name, crate)
-    without_proofs(file)
-    without_items(file)
-    derived(file)
-    imports(file)
-    paths(file)
-    if crate == "byte_unit_c":
-        calls_of_exports(file, found_exports)
+    for step in (without_proofs, without_items, derived, imports, paths):
+        step(file)
+    if exported:
+        calls_of_exports(file, exported)
         exports(file)
-    forms(file)
-    known(file)
-    examples(file)
-    text = file.text.replace(Rendered.MARK, "").replace(" (proved at every call)", "")
+    for step in (forms, functions, known):
+        step(file)
+    text = examples(file).replace(Rendered.MARK, "")
     return HEAD(name) + re.sub(r"\n{3,}", "\n\n", text).lstrip("\n")
 
 
 def formatted(text):
     """Returns a text as rustfmt has it."""
-    got = call("rustfmt", "--edition", "2021", "--config-path", path(CONFIG), input=text)
+    got = call("rustfmt", "--edition", "2024", "--config-path", path(CONFIG), input=text)
     if got.returncode:
         raise Failure(f"rustfmt: {got.stdout}")
     return got.stdout

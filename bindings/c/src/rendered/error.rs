@@ -138,9 +138,5 @@ static EXPECTED_BYTES: [[u8; 16]; 8] = [
 
 /// Returns an ASCII character as its byte, and `?` for any other character.
 fn as_byte(c: char) -> u8 {
-    if c.is_ascii() {
-        c as u8
-    } else {
-        b'?'
-    }
+    if c.is_ascii() { c as u8 } else { b'?' }
 }

@@ -2,11 +2,11 @@
 
 //! Messages for strings that are rejected.
 
-use crate::rendered::flags::{binary_flags_at, parse_flags_at, ParseFlags};
+use crate::rendered::flags::{ParseFlags, binary_flags_at, parse_flags_at};
 use crate::rendered::message::{write_message, write_not_utf8, write_unit_message, write_unknown_flag};
 use crate::rendered::parse::{read_unit, unit_flags};
 use byte_unit::rendered::base::size::Outcome;
-use byte_unit::rendered::base::{error_at, size, Flags, ParseError, Reason};
+use byte_unit::rendered::base::{Flags, ParseError, Reason, error_at, size};
 
 /// Writes the error message for a string that is rejected to the start of `out`, and returns its length, at most 256
 /// bytes. Returns the length and writes nothing if `out` is shorter. Returns 0 if and only if all flags are known and

@@ -78,11 +78,7 @@ pub fn plain_flags(flags: u32) -> ParseFlags {
 /// Returns how to parse, by a word with the flag `BINARY_PREFIXES` and, beside it, `BITS` and `IGNORE_CASE`, one of
 /// them, or none. Returns `None` if the word does not have the flag `BINARY_PREFIXES`, or has another flag.
 pub fn binary_flags_at(flags: u32) -> Option<ParseFlags> {
-    if flags < BINARY_PREFIXES {
-        None
-    } else {
-        parse_flags_at(flags - BINARY_PREFIXES)
-    }
+    if flags < BINARY_PREFIXES { None } else { parse_flags_at(flags - BINARY_PREFIXES) }
 }
 
 /// Returns how to choose a unit, by a word with the flags `BITS` and `EITHER_KIND`, one of them, or none. Returns

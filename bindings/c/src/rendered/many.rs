@@ -4,10 +4,10 @@
 
 use crate::rendered::binary::parse_many_binary;
 use crate::rendered::error::{Error, INVALID_ARGUMENT, NOT_UTF8, OK, UNIT};
-use crate::rendered::flags::{plain_flags, ParseFlags, MOST_PLAIN};
+use crate::rendered::flags::{MOST_PLAIN, ParseFlags, plain_flags};
 use crate::rendered::offsets::Offsets;
 use crate::rendered::values::Number;
-use byte_unit::rendered::base::{size, ParseError};
+use byte_unit::rendered::base::{ParseError, size};
 
 /// Parses many texts, each as `byte_unit_parse_to` does. Text `i` is the bytes of `data` from `offsets[i]` up to
 /// `offsets[i + 1]`, so there is one offset more than texts; if there are no texts, there may be no offset either.

@@ -103,9 +103,5 @@ fn message_of(error: &ParseError) -> InlineText<256> {
 /// Returns the message, or `the text is not a size` if it is empty. No message is empty, but std specifies no message
 /// that quotes a character past ASCII.
 fn some_message(message: &[u8]) -> &[u8] {
-    if message.is_empty() {
-        b"the text is not a size"
-    } else {
-        message
-    }
+    if message.is_empty() { b"the text is not a size" } else { message }
 }

@@ -49,6 +49,7 @@ impl<'a> Offsets<'a> {
     ///
     /// Preconditions: the offsets ascend to at most the length of `data`, and `i + 1` is less
     /// than their number.
+    #[doc(hidden)]
     pub fn text_at<'d>(self, data: &'d [u8], i: usize) -> &'d [u8] {
         let begin = position(self.at(i));
         let end = position(self.at(i + 1));

@@ -3,13 +3,13 @@
 //! Parsing of sizes and of units.
 
 use crate::rendered::codes::unit_code;
-use crate::rendered::error::{bytes_of, Error, INVALID_ARGUMENT, NOT_UTF8, OK, UNIT};
-use crate::rendered::flags::{parse_flags_at, ParseFlags};
+use crate::rendered::error::{Error, INVALID_ARGUMENT, NOT_UTF8, OK, UNIT, bytes_of};
+use crate::rendered::flags::{ParseFlags, parse_flags_at};
 use crate::rendered::position;
 use crate::rendered::values::Number;
 use byte_unit::rendered::base::position::read_unit_text;
 use byte_unit::rendered::base::size::Outcome;
-use byte_unit::rendered::base::{error_at, size, Flags, Kind, ParseError, Reason, Unit, UnitStop};
+use byte_unit::rendered::base::{Flags, Kind, ParseError, Reason, Unit, UnitStop, error_at, size};
 use core::str;
 
 /// Parses a size, rounded up to the next whole byte, or to the next whole bit with the flag `BITS` (1). Sizes are below

@@ -2,7 +2,7 @@
 
 //! Where a string that is rejected is wrong.
 
-use byte_unit::rendered::base::{position, ParseError, Unit, ValueParseError};
+use byte_unit::rendered::base::{ParseError, Unit, ValueParseError, position};
 use core::str;
 
 /// Writes the index in bytes of the first wrong character of a string that `byte_unit_parse_to` rejects: up to there

@@ -6,9 +6,9 @@ use crate::rendered::codes::{type_at, unit_at};
 use crate::rendered::flags::kind_at;
 use crate::rendered::spec::Spec;
 use crate::rendered::values::Number;
-use byte_unit::rendered::base::{size, Kind};
+use byte_unit::rendered::base::{Kind, size};
 use byte_unit::rendered::choice::appropriate_unit;
-use byte_unit::rendered::format::{write_adjusted, write_text, FormatSpec};
+use byte_unit::rendered::format::{FormatSpec, write_adjusted, write_text};
 
 /// Formats a size to the start of `out`, and returns the length of the text. The size is in bytes, or in bits with the
 /// flag `BITS` (1). Returns the length and writes nothing if `out` is shorter. Returns 0 and writes nothing if the size

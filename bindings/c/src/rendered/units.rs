@@ -3,9 +3,9 @@
 //! Units of sizes: the choice of a unit for a size, and sizes from a number of a unit.
 
 use crate::rendered::codes::{type_at, unit_at, unit_code};
-use crate::rendered::flags::{choice_flags_at, kind_at, ChoiceFlags};
+use crate::rendered::flags::{ChoiceFlags, choice_flags_at, kind_at};
 use crate::rendered::values::{DecimalParts, Number};
-use byte_unit::rendered::base::{size, Kind, Unit};
+use byte_unit::rendered::base::{Kind, Unit, size};
 use byte_unit::rendered::choice::{appropriate_unit, exact_unit, recoverable_unit};
 use byte_unit::rendered::math::Steps;
 

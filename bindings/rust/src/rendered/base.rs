@@ -7,10 +7,10 @@
 pub use crate::rendered::base::errors::{ExceededBoundsError, ParseError, UnitParseError, ValueParseError};
 pub use crate::rendered::base::kind::Kind;
 pub use crate::rendered::base::read::read_size;
-pub use crate::rendered::base::read::stop::{error_at, Reason, Stop};
+pub use crate::rendered::base::read::stop::{Reason, Stop, error_at};
 pub use crate::rendered::base::unit::scan::{Expected, Flags, UnitStop};
-pub use crate::rendered::base::unit::tables::{prefix_letter, unit_at, PREFIXES};
-pub use crate::rendered::base::unit::{unit_with_prefix, Unit};
+pub use crate::rendered::base::unit::tables::{PREFIXES, prefix_letter, unit_at};
+pub use crate::rendered::base::unit::{Unit, unit_with_prefix};
 
 pub mod binary;
 mod errors;

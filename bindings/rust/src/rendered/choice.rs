@@ -6,7 +6,7 @@
 //! number of bits of its own unit, 8 or 1.
 
 pub use crate::rendered::choice::choice::{
-    appropriate_unit, choose_unit, exact_unit, largest_unit, recoverable_unit, Family,
+    Family, appropriate_unit, choose_unit, exact_unit, largest_unit, recoverable_unit,
 };
 pub use crate::rendered::choice::unit_type::UnitType;
 

@@ -71,11 +71,7 @@ impl<T: Copy + PartialEq, const N: usize> Lanes<T, N> {
     pub fn shuffle(self, other: Self, indices: [usize; N]) -> Self {
         Lanes(from_fn(|lane| {
             let index = indices[lane];
-            if index < N {
-                self.0[index]
-            } else {
-                other.0[index - N]
-            }
+            if index < N { self.0[index] } else { other.0[index - N] }
         }))
     }
 }

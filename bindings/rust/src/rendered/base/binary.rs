@@ -4,7 +4,7 @@
 //!
 //! The grammar and its errors are those of [`size`]; only the unit is replaced.
 
-use crate::rendered::base::{size, Kind, ParseError};
+use crate::rendered::base::{Kind, ParseError, size};
 
 /// Parses a size from a string, as [`size::parse`] does, but a decimal prefix means the binary one: `K` and `KB` are by
 /// 1024.
@@ -14,7 +14,7 @@ use crate::rendered::base::{size, Kind, ParseError};
 ///
 /// # Examples
 /// ```
-/// # use byte_unit::{rendered::{base::*, choice::*, format::*, math::*}, *};
+/// # use byte_unit::{*, rendered::{base::{size::parse_line, *}, choice::*, format::*, math::*}};
 /// assert_eq!(binary::parse("10m", false, Kind::Byte)?, 10_485_760);
 /// assert_eq!(binary::parse("1.5 KiB", false, Kind::Byte)?, 1536);
 /// let error = binary::parse("900 RB", false, Kind::Byte);
@@ -33,7 +33,7 @@ pub fn parse(s: &str, ignore_case: bool, kind: Kind) -> Result<u128, ParseError>
 ///
 /// # Examples
 /// ```
-/// # use byte_unit::{rendered::{base::*, choice::*, format::*, math::*}, *};
+/// # use byte_unit::{*, rendered::{base::{size::parse_line, *}, choice::*, format::*, math::*}};
 /// assert!(matches!(binary::parse_bytes(b"128MB", false, Kind::Byte), Some(Ok(134_217_728))));
 /// assert!(binary::parse_bytes(b"1 KiB\xFF", false, Kind::Byte).is_none());
 /// ```

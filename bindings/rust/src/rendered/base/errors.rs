@@ -10,7 +10,7 @@ use core::fmt;
 ///
 /// # Examples
 /// ```
-/// # use byte_unit::{rendered::{base::*, choice::*, format::*, math::*}, *};
+/// # use byte_unit::{*, rendered::{base::{size::parse_line, *}, choice::*, format::*, math::*}};
 /// assert!(matches!(Byte::try_from(-1i8), Err(ExceededBoundsError)));
 /// ```
 #[derive(Clone, Copy, Debug, PartialEq, Eq)]
@@ -20,7 +20,7 @@ pub struct ExceededBoundsError;
 ///
 /// # Examples
 /// ```
-/// # use byte_unit::{rendered::{base::*, choice::*, format::*, math::*}, *};
+/// # use byte_unit::{*, rendered::{base::{size::parse_line, *}, choice::*, format::*, math::*}};
 /// let error = Byte::parse_str("x KB", false);
 /// assert!(matches!(error, Err(ParseError::Value(ValueParseError::NotNumber('x')))));
 /// ```
@@ -40,7 +40,7 @@ pub enum ValueParseError {
 ///
 /// # Examples
 /// ```
-/// # use byte_unit::{rendered::{base::*, choice::*, format::*, math::*}, *};
+/// # use byte_unit::{*, rendered::{base::{size::parse_line, *}, choice::*, format::*, math::*}};
 /// let error = Unit::parse_str("Kx", false, true);
 /// assert!(matches!(error, Err(UnitParseError { character: 'x', also_expect_no_character: true, .. })));
 /// ```
@@ -60,7 +60,7 @@ pub struct UnitParseError {
 ///
 /// # Examples
 /// ```
-/// # use byte_unit::{rendered::{base::*, choice::*, format::*, math::*}, *};
+/// # use byte_unit::{*, rendered::{base::{size::parse_line, *}, choice::*, format::*, math::*}};
 /// assert!(matches!(Byte::parse_str("20 mB?", false), Err(ParseError::Unit(_))));
 /// assert_eq!(Byte::parse_str("20 mB?", false).unwrap_or(Byte::GIBIBYTE), Byte::GIBIBYTE);
 /// ```

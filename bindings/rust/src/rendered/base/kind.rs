@@ -18,10 +18,10 @@ impl Kind {
     ///
     /// # Examples
     /// ```
-    /// # use byte_unit::{rendered::{base::*, choice::*, format::*, math::*}, *};
+    /// # use byte_unit::{*, rendered::{base::{size::parse_line, *}, choice::*, format::*, math::*}};
     /// assert_eq!((Kind::Byte.bits(), Kind::Bit.bits()), (8, 1));
     /// ```
-    pub fn bits(self) -> u128 {
+    pub const fn bits(self) -> u128 {
         match self {
             Kind::Byte => 8,
             Kind::Bit => 1,
@@ -32,10 +32,10 @@ impl Kind {
     ///
     /// # Examples
     /// ```
-    /// # use byte_unit::{rendered::{base::*, choice::*, format::*, math::*}, *};
+    /// # use byte_unit::{*, rendered::{base::{size::parse_line, *}, choice::*, format::*, math::*}};
     /// assert_eq!((Kind::Byte.unit(), Kind::Bit.unit()), (Unit::B, Unit::Bit));
     /// ```
-    pub fn unit(self) -> Unit {
+    pub const fn unit(self) -> Unit {
         match self {
             Kind::Byte => Unit::B,
             Kind::Bit => Unit::Bit,

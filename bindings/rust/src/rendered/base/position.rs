@@ -4,10 +4,10 @@
 //!
 //! The calls that return it alone parse the string once more.
 
+use crate::rendered::base::Unit;
 use crate::rendered::base::read::number::{leading_spaces, read_unit};
 use crate::rendered::base::read::stop::first_char;
 use crate::rendered::base::unit::scan::{Flags, UnitStop};
-use crate::rendered::base::Unit;
 use crate::rendered::math::{DECIMAL_PLACES, WHOLE_LIMIT};
 
 /// Returns the index in bytes of the first wrong character of a string that is not in the grammar of sizes: up to there
@@ -19,7 +19,7 @@ use crate::rendered::math::{DECIMAL_PLACES, WHOLE_LIMIT};
 ///
 /// # Examples
 /// ```
-/// # use byte_unit::{rendered::{base::*, choice::*, format::*, math::*}, *};
+/// # use byte_unit::{*, rendered::{base::{size::parse_line, *}, choice::*, format::*, math::*}};
 /// assert_eq!(position::of_size_error("1 byte"), Some(3));
 /// assert_eq!(position::of_size_error("  1."), Some(4));
 /// assert_eq!(position::of_size_error("1 KiB"), None);
@@ -41,12 +41,13 @@ impl Unit {
     ///
     /// # Examples
     /// ```
-    /// # use byte_unit::{rendered::{base::*, choice::*, format::*, math::*}, *};
+    /// # use byte_unit::{*, rendered::{base::{size::parse_line, *}, choice::*, format::*, math::*}};
     /// assert_eq!(Unit::error_position("Kix"), Some(2));
     /// assert_eq!(Unit::error_position(" bi "), Some(3));
     /// assert_eq!(Unit::error_position("Kib"), None);
     /// ```
-    pub fn error_position(s: &str) -> Option<usize> {
+    pub fn error_position<S: AsRef<str>>(s: S) -> Option<usize> {
+        let s = s.as_ref();
         let (text, start) = trimmed(s);
         match unit_place(text, 0) {
             Some(place) => Some(start + place),
@@ -63,7 +64,7 @@ impl Unit {
 ///
 /// # Examples
 /// ```
-/// # use byte_unit::{rendered::{base::*, choice::*, format::*, math::*}, *};
+/// # use byte_unit::{*, rendered::{base::{size::parse_line, *}, choice::*, format::*, math::*}};
 /// let flags = size::flags_for(Kind::Byte, false);
 /// assert!(matches!(position::read_unit_text("KiB", flags), Ok(Unit::KiB)));
 /// assert!(matches!(position::read_unit_text(" Kix", flags), Err((_, Some('x'), 3))));

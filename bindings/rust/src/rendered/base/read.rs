@@ -3,7 +3,7 @@
 //! The parser of a number and a unit, and a test that bytes have nothing to trim.
 
 use crate::rendered::base::read::number::read_number_and_unit;
-use crate::rendered::base::read::stop::{error_at, first_char, Stop};
+use crate::rendered::base::read::stop::{Stop, error_at, first_char};
 use crate::rendered::base::unit::scan::Flags;
 use crate::rendered::base::{ParseError, Unit};
 use crate::rendered::math::Decimal;
@@ -29,7 +29,7 @@ pub(crate) mod stop;
 ///
 /// # Examples
 /// ```
-/// # use byte_unit::{rendered::{base::*, choice::*, format::*, math::*}, *};
+/// # use byte_unit::{*, rendered::{base::{size::parse_line, *}, choice::*, format::*, math::*}};
 /// let read = read_size("1.5 KiB", false, true)?;
 /// assert_eq!(read, (Decimal::from_digits(1, 5, 1), Unit::KiB));
 /// let error = read_size("1.", false, true);
@@ -76,9 +76,5 @@ pub fn has_visible_ends(bytes: &[u8]) -> bool {
 /// Returns the string without the white space at its ends.
 #[inline(always)]
 fn trimmed(s: &str) -> &str {
-    if has_visible_ends(s.as_bytes()) {
-        s
-    } else {
-        s.trim()
-    }
+    if has_visible_ends(s.as_bytes()) { s } else { s.trim() }
 }

@@ -3,11 +3,11 @@
 //! Sizes of either kind, as numbers below the limit: what the size types have in common.
 
 use crate::rendered::base::read::number::read_number_and_unit;
-use crate::rendered::base::read::stop::{error_at, first_ascii, Reason, Stop};
+use crate::rendered::base::read::stop::{Reason, Stop, error_at, first_ascii};
 use crate::rendered::base::read::{has_visible_ends, read_or_stop};
 use crate::rendered::base::unit::scan::Flags;
-use crate::rendered::base::{binary, read_size, Kind, ParseError, Unit, ValueParseError};
-use crate::rendered::math::{least_size, Decimal};
+use crate::rendered::base::{Kind, ParseError, Unit, ValueParseError, binary, read_size};
+use crate::rendered::math::{Decimal, least_size};
 use core::str;
 
 /// The limit of sizes, 10^30, which is 1000 times the largest decimal prefix: the least number that is not a size.
@@ -17,17 +17,17 @@ const SIZE_LIMIT: u128 = 1_000_000_000_000_000_000_000_000_000_000;
 ///
 /// # Examples
 /// ```
-/// # use byte_unit::{rendered::{base::*, choice::*, format::*, math::*}, *};
+/// # use byte_unit::{*, rendered::{base::{size::parse_line, *}, choice::*, format::*, math::*}};
 /// assert_eq!(size::bounded(1536), Some(1536));
 /// assert_eq!(size::bounded(1_000_000_000_000_000_000_000_000_000_000), None);
 /// ```
-pub fn bounded(size: u128) -> Option<u128> {
-    (size < SIZE_LIMIT).then_some(size)
+pub const fn bounded(size: u128) -> Option<u128> {
+    if size < SIZE_LIMIT { Some(size) } else { None }
 }
 
 /// Rounds a number of bits up to a whole number of the kind.
 #[inline]
-fn ceil_to_kind(in_bits: u128, kind: Kind) -> u128 {
+const fn ceil_to_kind(in_bits: u128, kind: Kind) -> u128 {
     match kind {
         Kind::Byte => in_bits.div_ceil(8),
         Kind::Bit => in_bits,
@@ -39,13 +39,15 @@ fn ceil_to_kind(in_bits: u128, kind: Kind) -> u128 {
 ///
 /// # Examples
 /// ```
-/// # use byte_unit::{rendered::{base::*, choice::*, format::*, math::*}, *};
+/// # use byte_unit::{*, rendered::{base::{size::parse_line, *}, choice::*, format::*, math::*}};
 /// assert_eq!(size::with_unit(9, Unit::Bit, Kind::Byte), Some(2));
 /// assert_eq!(size::with_unit(1000, Unit::RB, Kind::Byte), None);
 /// ```
-pub fn with_unit(size: u128, unit: Unit, kind: Kind) -> Option<u128> {
-    let in_bits = size.checked_mul(unit.as_bits_u128())?;
-    bounded(ceil_to_kind(in_bits, kind))
+pub const fn with_unit(size: u128, unit: Unit, kind: Kind) -> Option<u128> {
+    match size.checked_mul(unit.as_bits_u128()) {
+        Some(in_bits) => bounded(ceil_to_kind(in_bits, kind)),
+        None => None,
+    }
 }
 
 /// Converts a decimal number of a unit to a size: the exact product, rounded up to a whole number of the kind. Returns
@@ -53,7 +55,7 @@ pub fn with_unit(size: u128, unit: Unit, kind: Kind) -> Option<u128> {
 ///
 /// # Examples
 /// ```
-/// # use byte_unit::{rendered::{base::*, choice::*, format::*, math::*}, *};
+/// # use byte_unit::{*, rendered::{base::{size::parse_line, *}, choice::*, format::*, math::*}};
 /// let half = Decimal::from_digits(0, 5, 1);
 /// assert_eq!(size::from_decimal(half, Unit::KiB, Kind::Byte), Some(512));
 /// assert_eq!(size::from_decimal(Decimal::from_digits(1000, 0, 0), Unit::RB, Kind::Byte), None);
@@ -80,7 +82,7 @@ pub fn from_decimal(number: Decimal, unit: Unit, kind: Kind) -> Option<u128> {
 ///
 /// # Examples
 /// ```
-/// # use byte_unit::{rendered::{base::*, choice::*, format::*, math::*}, *};
+/// # use byte_unit::{*, rendered::{base::{size::parse_line, *}, choice::*, format::*, math::*}};
 /// assert_eq!(size::parse("1.5 KiB", false, Kind::Byte)?, 1536);
 /// assert_eq!(size::parse("9 bits", false, Kind::Byte)?, 2);
 /// let error = size::parse("1.", false, Kind::Byte);
@@ -110,7 +112,7 @@ pub(crate) fn parse_as<const BINARY: bool>(s: &str, ignore_case: bool, kind: Kin
 ///
 /// # Examples
 /// ```
-/// # use byte_unit::{rendered::{base::*, choice::*, format::*, math::*}, *};
+/// # use byte_unit::{*, rendered::{base::{size::parse_line, *}, choice::*, format::*, math::*}};
 /// assert!(matches!(size::parse_bytes(b"1.5 KiB", false, Kind::Byte), Some(Ok(1536))));
 /// assert!(size::parse_bytes(b"1 KiB\xFF", false, Kind::Byte).is_none());
 /// ```
@@ -132,7 +134,7 @@ pub fn parse_bytes(bytes: &[u8], ignore_case: bool, kind: Kind) -> Option<Result
 ///
 /// # Examples
 /// ```
-/// # use byte_unit::{rendered::{base::*, choice::*, format::*, math::*}, *};
+/// # use byte_unit::{*, rendered::{base::{size::parse_line, *}, choice::*, format::*, math::*}};
 /// assert!(matches!(parse_line::<false>(b"1 KB\n12\n", 4, false, Kind::Byte), Some(Ok(1000))));
 /// assert!(matches!(parse_line::<true>(b"1 KB", 4, false, Kind::Bit), Some(Ok(8192))));
 /// assert!(parse_line::<false>(b"1 KB\xFF", 5, false, Kind::Byte).is_none());
@@ -178,7 +180,7 @@ pub enum Outcome {
 ///
 /// # Examples
 /// ```
-/// # use byte_unit::{rendered::{base::*, choice::*, format::*, math::*}, *};
+/// # use byte_unit::{*, rendered::{base::{size::parse_line, *}, choice::*, format::*, math::*}};
 /// let outcome = size::read_bytes(b"1.5 KiB", false, Kind::Byte);
 /// assert!(matches!(outcome, size::Outcome::Accepted(Unit::KiB, _)));
 /// let outcome = size::read_bytes(b"1 bi", false, Kind::Byte);
@@ -201,17 +203,13 @@ pub fn read_bytes(bytes: &[u8], ignore_case: bool, kind: Kind) -> Outcome {
 ///
 /// # Examples
 /// ```
-/// # use byte_unit::{rendered::{base::*, choice::*, format::*, math::*}, *};
+/// # use byte_unit::{*, rendered::{base::{size::parse_line, *}, choice::*, format::*, math::*}};
 /// assert_eq!(size::visible_next(b"1 bi", 4), Some(None));
 /// assert_eq!(size::visible_next(b" 1 KiB", 0), None);
 /// ```
 #[inline(always)]
 pub fn visible_next(bytes: &[u8], place: usize) -> Option<Option<char>> {
-    if has_visible_ends(bytes) && is_ascii_from(bytes, place) {
-        Some(first_ascii(&bytes[place..]))
-    } else {
-        None
-    }
+    if has_visible_ends(bytes) && is_ascii_from(bytes, place) { Some(first_ascii(&bytes[place..])) } else { None }
 }
 
 /// Returns whether the bytes from an index on are ASCII. If these are at most four, the last four bytes are tested at
@@ -219,11 +217,7 @@ pub fn visible_next(bytes: &[u8], place: usize) -> Option<Option<char>> {
 #[inline(always)]
 fn is_ascii_from(bytes: &[u8], from: usize) -> bool {
     let len = bytes.len();
-    if len >= 4 && len - from <= 4 {
-        bytes[len - 4..].is_ascii()
-    } else {
-        bytes[from..].is_ascii()
-    }
+    if len >= 4 && len - from <= 4 { bytes[len - 4..].is_ascii() } else { bytes[from..].is_ascii() }
 }
 
 /// Returns whether bytes have nothing to trim and are ASCII from an index on, as far as `is_ascii_from` tells.
@@ -242,7 +236,7 @@ fn is_visible_ascii(bytes: &[u8], from: usize) -> bool {
 ///
 /// # Examples
 /// ```
-/// # use byte_unit::{rendered::{base::*, choice::*, format::*, math::*}, *};
+/// # use byte_unit::{*, rendered::{base::{size::parse_line, *}, choice::*, format::*, math::*}};
 /// assert!(matches!(size::parse_text::<false>(b" 1 KB ", false, Kind::Byte), Some(Ok(1000))));
 /// assert!(matches!(size::parse_text::<true>(b" 1 KB ", false, Kind::Byte), Some(Ok(1024))));
 /// ```
@@ -263,7 +257,7 @@ pub fn parse_text<const BINARY: bool>(bytes: &[u8], ignore_case: bool, kind: Kin
 ///
 /// # Examples
 /// ```
-/// # use byte_unit::{rendered::{base::*, choice::*, format::*, math::*}, *};
+/// # use byte_unit::{*, rendered::{base::{size::parse_line, *}, choice::*, format::*, math::*}};
 /// let stopped = size::read_text(b" 1 Kx ", false, Kind::Byte);
 /// assert!(matches!(stopped, Some(Err((Stop { place: 3, reason: Reason::InUnit(_) }, Some('x'))))));
 /// ```
@@ -283,7 +277,7 @@ pub fn read_text(bytes: &[u8], ignore_case: bool, kind: Kind) -> Option<Result<(
 ///
 /// # Examples
 /// ```
-/// # use byte_unit::{rendered::{base::*, choice::*, format::*, math::*}, *};
+/// # use byte_unit::{*, rendered::{base::{size::parse_line, *}, choice::*, format::*, math::*}};
 /// let found = (Decimal::from_digits(1, 5, 1), Unit::KB);
 /// assert!(matches!(size::size_of::<false>(found, Kind::Byte), Ok(1500)));
 /// assert!(matches!(size::size_of::<true>(found, Kind::Byte), Ok(1536)));
@@ -299,18 +293,14 @@ pub fn size_of<const BINARY: bool>(found: (Decimal, Unit), kind: Kind) -> Result
 /// Returns the unit that a reading takes for a unit that is written: with `BINARY` its binary unit, and else itself.
 #[inline(always)]
 fn unit_meant<const BINARY: bool>(unit: Unit) -> Unit {
-    if BINARY {
-        unit.to_binary()
-    } else {
-        unit
-    }
+    if BINARY { unit.to_binary() } else { unit }
 }
 
 /// Returns the flags for parsing a size of the kind. For bits `ignore_case` has no effect.
 ///
 /// # Examples
 /// ```
-/// # use byte_unit::{rendered::{base::*, choice::*, format::*, math::*}, *};
+/// # use byte_unit::{*, rendered::{base::{size::parse_line, *}, choice::*, format::*, math::*}};
 /// assert!(size::flags_for(Kind::Byte, true).ignore_case);
 /// assert!(!size::flags_for(Kind::Bit, true).ignore_case);
 /// ```

@@ -2,9 +2,9 @@
 
 //! The units of bits and bytes: their names, their bits and their prefixes.
 
-use crate::rendered::base::read::number::unit_of;
-use crate::rendered::base::unit::tables::{UNITS, UNIT_BITS};
 use crate::rendered::base::Kind;
+use crate::rendered::base::read::number::unit_of;
+use crate::rendered::base::unit::tables::{UNIT_BITS, UNITS};
 
 pub(crate) mod parse;
 pub(crate) mod scan;
@@ -117,10 +117,10 @@ impl Unit {
     ///
     /// # Examples
     /// ```
-    /// # use byte_unit::{rendered::{base::*, choice::*, format::*, math::*}, *};
+    /// # use byte_unit::{*, rendered::{base::{size::parse_line, *}, choice::*, format::*, math::*}};
     /// assert_eq!((Unit::KiB.as_bits_u128(), Unit::RiB.as_bits_u128()), (8192, 1 << 93));
     /// ```
-    pub fn as_bits_u128(self) -> u128 {
+    pub const fn as_bits_u128(self) -> u128 {
         UNIT_BITS[self as usize]
     }
 
@@ -129,10 +129,10 @@ impl Unit {
     ///
     /// # Examples
     /// ```
-    /// # use byte_unit::{rendered::{base::*, choice::*, format::*, math::*}, *};
+    /// # use byte_unit::{*, rendered::{base::{size::parse_line, *}, choice::*, format::*, math::*}};
     /// assert_eq!((Unit::Kibit.as_str(), Unit::MB.as_str()), ("Kib", "MB"));
     /// ```
-    pub fn as_str(self) -> &'static str {
+    pub const fn as_str(self) -> &'static str {
         UNITS[self as usize].name
     }
 
@@ -140,10 +140,10 @@ impl Unit {
     ///
     /// # Examples
     /// ```
-    /// # use byte_unit::{rendered::{base::*, choice::*, format::*, math::*}, *};
+    /// # use byte_unit::{*, rendered::{base::{size::parse_line, *}, choice::*, format::*, math::*}};
     /// assert!(Unit::Kbit.is_bit() && !Unit::KB.is_bit());
     /// ```
-    pub fn is_bit(self) -> bool {
+    pub const fn is_bit(self) -> bool {
         UNITS[self as usize].shape.bit
     }
 
@@ -152,11 +152,11 @@ impl Unit {
     ///
     /// # Examples
     /// ```
-    /// # use byte_unit::{rendered::{base::*, choice::*, format::*, math::*}, *};
+    /// # use byte_unit::{*, rendered::{base::{size::parse_line, *}, choice::*, format::*, math::*}};
     /// assert!(Unit::KiB.is_binary_multiples() && !Unit::KB.is_binary_multiples());
     /// assert!(Unit::B.is_binary_multiples() && !Unit::Bit.is_binary_multiples());
     /// ```
-    pub fn is_binary_multiples(self) -> bool {
+    pub const fn is_binary_multiples(self) -> bool {
         UNITS[self as usize].shape.binary
     }
 
@@ -164,18 +164,14 @@ impl Unit {
     ///
     /// # Examples
     /// ```
-    /// # use byte_unit::{rendered::{base::*, choice::*, format::*, math::*}, *};
+    /// # use byte_unit::{*, rendered::{base::{size::parse_line, *}, choice::*, format::*, math::*}};
     /// assert_eq!(Unit::KB.powers(), (6, 3)); // 8000 is 2^6 * 5^3.
     /// ```
     pub fn powers(self) -> (u32, u32) {
         let Shape { power, binary, bit } = self.shape();
         // A byte is 2^3 bits, and a decimal prefix is (2^3 * 5^3)^power.
         let byte = if bit { 0 } else { 3 };
-        if binary {
-            (10 * power + byte, 0)
-        } else {
-            (3 * power + byte, 3 * power)
-        }
+        if binary { (10 * power + byte, 0) } else { (3 * power + byte, 3 * power) }
     }
 
     /// Returns the unit with the binary (IEC) prefix of the same letter, in bits or bytes as before. A unit without a
@@ -183,7 +179,7 @@ impl Unit {
     ///
     /// # Examples
     /// ```
-    /// # use byte_unit::{rendered::{base::*, choice::*, format::*, math::*}, *};
+    /// # use byte_unit::{*, rendered::{base::{size::parse_line, *}, choice::*, format::*, math::*}};
     /// assert_eq!((Unit::MB.to_binary(), Unit::Kbit.to_binary()), (Unit::MiB, Unit::Kibit));
     /// assert_eq!((Unit::B.to_binary(), Unit::GiB.to_binary()), (Unit::B, Unit::GiB));
     /// ```
@@ -212,7 +208,7 @@ impl From<Unit> for u128 {
 ///
 /// # Examples
 /// ```
-/// # use byte_unit::{rendered::{base::*, choice::*, format::*, math::*}, *};
+/// # use byte_unit::{*, rendered::{base::{size::parse_line, *}, choice::*, format::*, math::*}};
 /// assert_eq!(unit_with_prefix(1, true, Kind::Byte), Unit::KiB);
 /// assert_eq!(unit_with_prefix(9, false, Kind::Bit), Unit::Rbit);
 /// ```

@@ -2,7 +2,7 @@
 
 //! `Bit`, a size in bits: constructors, conversions to numbers, comparisons and arithmetic.
 
-use crate::rendered::base::{size, Kind, Unit};
+use crate::rendered::base::{Kind, Unit, size};
 use core::cmp::Ordering;
 
 mod adjusted;
@@ -16,11 +16,11 @@ mod units;
 
 pub use adjusted::AdjustedBit;
 
-/// A size in bits: a whole number below 10^30. In a contract a `Bit` is that number.
+/// A size in bits: a whole number below 10^30.
 ///
 /// # Examples
 /// ```
-/// # use byte_unit::{rendered::{base::*, choice::*, format::*, math::*}, *};
+/// # use byte_unit::{*, rendered::{base::{size::parse_line, *}, choice::*, format::*, math::*}};
 /// let limit = "1.5 Gib".parse::<Bit>()?;
 /// let used = Bit::from_u64(900_000_000);
 /// assert_eq!(limit.subtract(used), Some(Bit::from_u64(710_612_736)));
@@ -38,51 +38,60 @@ impl Bit {
     ///
     /// # Examples
     /// ```
-    /// # use byte_unit::{rendered::{base::*, choice::*, format::*, math::*}, *};
+    /// # use byte_unit::{*, rendered::{base::{size::parse_line, *}, choice::*, format::*, math::*}};
     /// assert_eq!(Bit::from_u128(15_000_000), Some(Bit::from_u64(15_000_000)));
     /// assert_eq!(Bit::from_u128(Bit::MAX.as_u128()), Some(Bit::MAX));
     /// assert_eq!(Bit::from_u128(Bit::MAX.as_u128() + 1), None);
     /// ```
-    pub fn from_u128(size: u128) -> Option<Bit> {
-        let size = size::bounded(size)?;
-        Some(Bit { size })
+    #[inline]
+    pub const fn from_u128(size: u128) -> Option<Bit> {
+        match size::bounded(size) {
+            Some(size) => Some(Bit { size }),
+            None => None,
+        }
     }
 
     /// Creates a `Bit` from a number of bits.
     ///
     /// # Examples
     /// ```
-    /// # use byte_unit::{rendered::{base::*, choice::*, format::*, math::*}, *};
+    /// # use byte_unit::{*, rendered::{base::{size::parse_line, *}, choice::*, format::*, math::*}};
     /// assert_eq!(Bit::from_u64(1024), Bit::KIBIBIT);
     /// assert_eq!(Bit::from_u64(u64::MAX).as_u128(), u128::from(u64::MAX));
     /// ```
-    pub fn from_u64(size: u64) -> Bit {
-        Bit { size: u128::from(size) }
+    #[inline]
+    pub const fn from_u64(size: u64) -> Bit {
+        Bit { size: size as u128 }
     }
 
     /// Creates a `Bit` from a number of bits. Returns `None` if it is negative, or 10^30 or more.
     ///
     /// # Examples
     /// ```
-    /// # use byte_unit::{rendered::{base::*, choice::*, format::*, math::*}, *};
+    /// # use byte_unit::{*, rendered::{base::{size::parse_line, *}, choice::*, format::*, math::*}};
     /// assert_eq!(Bit::from_i128(15_000_000), Some(Bit::from_u64(15_000_000)));
     /// assert_eq!(Bit::from_i128(-1), None);
     /// assert_eq!(Bit::from_i128(i128::MAX), None);
     /// ```
-    pub fn from_i128(size: i128) -> Option<Bit> {
-        Bit::from_u128(u128::try_from(size).ok()?)
+    #[inline]
+    pub const fn from_i128(size: i128) -> Option<Bit> {
+        match crate::support::u128_of(size) {
+            Some(n) => Bit::from_u128(n),
+            None => None,
+        }
     }
 
     /// Creates a `Bit` from a number of bits. Returns `None` if it is negative.
     ///
     /// # Examples
     /// ```
-    /// # use byte_unit::{rendered::{base::*, choice::*, format::*, math::*}, *};
+    /// # use byte_unit::{*, rendered::{base::{size::parse_line, *}, choice::*, format::*, math::*}};
     /// assert_eq!(Bit::from_i64(15_000_000), Some(Bit::from_u64(15_000_000)));
     /// assert_eq!(Bit::from_i64(-1), None);
     /// ```
-    pub fn from_i64(size: i64) -> Option<Bit> {
-        Bit::from_i128(i128::from(size))
+    #[inline]
+    pub const fn from_i64(size: i64) -> Option<Bit> {
+        Bit::from_i128(size as i128)
     }
 }
 
@@ -94,14 +103,17 @@ impl Bit {
     ///
     /// # Examples
     /// ```
-    /// # use byte_unit::{rendered::{base::*, choice::*, format::*, math::*}, *};
+    /// # use byte_unit::{*, rendered::{base::{size::parse_line, *}, choice::*, format::*, math::*}};
     /// assert_eq!(Bit::from_u128_with_unit(15, Unit::Mbit), Some(Bit::from_u64(15_000_000)));
     /// assert_eq!(Bit::from_u128_with_unit(17, Unit::B), Some(Bit::from_u64(136)));
     /// assert_eq!(Bit::from_u128_with_unit(1_000, Unit::Rbit), None);
     /// ```
-    pub fn from_u128_with_unit(size: u128, unit: Unit) -> Option<Bit> {
-        let size = size::with_unit(size, unit, Kind::Bit)?;
-        Some(Bit { size })
+    #[inline]
+    pub const fn from_u128_with_unit(size: u128, unit: Unit) -> Option<Bit> {
+        match size::with_unit(size, unit, Kind::Bit) {
+            Some(size) => Some(Bit { size }),
+            None => None,
+        }
     }
 
     /// Creates a `Bit` from a number of a unit, rounded up to a whole bit.
@@ -110,13 +122,14 @@ impl Bit {
     ///
     /// # Examples
     /// ```
-    /// # use byte_unit::{rendered::{base::*, choice::*, format::*, math::*}, *};
+    /// # use byte_unit::{*, rendered::{base::{size::parse_line, *}, choice::*, format::*, math::*}};
     /// assert_eq!(Bit::from_u64_with_unit(15, Unit::Kibit), Some(Bit::from_u64(15_360)));
     /// assert_eq!(Bit::from_u64_with_unit(999, Unit::Rbit), Bit::RONNABIT.multiply(999));
     /// assert_eq!(Bit::from_u64_with_unit(1_000, Unit::Rbit), None);
     /// ```
-    pub fn from_u64_with_unit(size: u64, unit: Unit) -> Option<Bit> {
-        Bit::from_u128_with_unit(u128::from(size), unit)
+    #[inline]
+    pub const fn from_u64_with_unit(size: u64, unit: Unit) -> Option<Bit> {
+        Bit::from_u128_with_unit(size as u128, unit)
     }
 
     /// Creates a `Bit` from a number of a unit, rounded up to a whole bit.
@@ -125,13 +138,17 @@ impl Bit {
     ///
     /// # Examples
     /// ```
-    /// # use byte_unit::{rendered::{base::*, choice::*, format::*, math::*}, *};
+    /// # use byte_unit::{*, rendered::{base::{size::parse_line, *}, choice::*, format::*, math::*}};
     /// assert_eq!(Bit::from_i128_with_unit(15, Unit::Kibit), Some(Bit::from_u64(15_360)));
     /// assert_eq!(Bit::from_i128_with_unit(-15, Unit::Kibit), None);
     /// assert_eq!(Bit::from_i128_with_unit(1_000, Unit::Rbit), None);
     /// ```
-    pub fn from_i128_with_unit(size: i128, unit: Unit) -> Option<Bit> {
-        Bit::from_u128_with_unit(u128::try_from(size).ok()?, unit)
+    #[inline]
+    pub const fn from_i128_with_unit(size: i128, unit: Unit) -> Option<Bit> {
+        match crate::support::u128_of(size) {
+            Some(n) => Bit::from_u128_with_unit(n, unit),
+            None => None,
+        }
     }
 
     /// Creates a `Bit` from a number of a unit, rounded up to a whole bit.
@@ -140,12 +157,13 @@ impl Bit {
     ///
     /// # Examples
     /// ```
-    /// # use byte_unit::{rendered::{base::*, choice::*, format::*, math::*}, *};
+    /// # use byte_unit::{*, rendered::{base::{size::parse_line, *}, choice::*, format::*, math::*}};
     /// assert_eq!(Bit::from_i64_with_unit(15, Unit::Kibit), Some(Bit::from_u64(15_360)));
     /// assert_eq!(Bit::from_i64_with_unit(-15, Unit::Kibit), None);
     /// ```
-    pub fn from_i64_with_unit(size: i64, unit: Unit) -> Option<Bit> {
-        Bit::from_i128_with_unit(i128::from(size), unit)
+    #[inline]
+    pub const fn from_i64_with_unit(size: i64, unit: Unit) -> Option<Bit> {
+        Bit::from_i128_with_unit(size as i128, unit)
     }
 }
 
@@ -155,11 +173,12 @@ impl Bit {
     ///
     /// # Examples
     /// ```
-    /// # use byte_unit::{rendered::{base::*, choice::*, format::*, math::*}, *};
+    /// # use byte_unit::{*, rendered::{base::{size::parse_line, *}, choice::*, format::*, math::*}};
     /// assert_eq!(Bit::KIBIBIT.as_u128(), 1024);
     /// assert_eq!(Bit::MAX.as_u128(), 999_999_999_999_999_999_999_999_999_999);
     /// ```
-    pub fn as_u128(self) -> u128 {
+    #[inline]
+    pub const fn as_u128(self) -> u128 {
         self.size
     }
 
@@ -167,24 +186,29 @@ impl Bit {
     ///
     /// # Examples
     /// ```
-    /// # use byte_unit::{rendered::{base::*, choice::*, format::*, math::*}, *};
+    /// # use byte_unit::{*, rendered::{base::{size::parse_line, *}, choice::*, format::*, math::*}};
     /// assert_eq!(Bit::KIBIBIT.as_u64(), 1024);
     /// assert_eq!(Bit::ZETTABIT.as_u64(), u64::MAX);
     /// ```
-    pub fn as_u64(self) -> u64 {
-        u64::try_from(self.size).unwrap_or(u64::MAX)
+    #[inline]
+    pub const fn as_u64(self) -> u64 {
+        match crate::support::u64_of(self.size) {
+            Some(n) => n,
+            None => u64::MAX,
+        }
     }
 
     /// Returns the number of bits, or `None` if it is larger than 2^64 - 1.
     ///
     /// # Examples
     /// ```
-    /// # use byte_unit::{rendered::{base::*, choice::*, format::*, math::*}, *};
+    /// # use byte_unit::{*, rendered::{base::{size::parse_line, *}, choice::*, format::*, math::*}};
     /// assert_eq!(Bit::KIBIBIT.as_u64_checked(), Some(1024));
     /// assert_eq!(Bit::ZETTABIT.as_u64_checked(), None);
     /// ```
-    pub fn as_u64_checked(self) -> Option<u64> {
-        u64::try_from(self.size).ok()
+    #[inline]
+    pub const fn as_u64_checked(self) -> Option<u64> {
+        crate::support::u64_of(self.size)
     }
 }
 
@@ -194,10 +218,11 @@ impl Bit {
     ///
     /// # Examples
     /// ```
-    /// # use byte_unit::{rendered::{base::*, choice::*, format::*, math::*}, *};
+    /// # use byte_unit::{*, rendered::{base::{size::parse_line, *}, choice::*, format::*, math::*}};
     /// assert!(Bit::KILOBIT.eq_u64(1000));
     /// assert!(!Bit::KILOBIT.eq_u64(1024));
     /// ```
+    #[inline]
     pub fn eq_u64(self, other: u64) -> bool {
         self.size == u128::from(other)
     }
@@ -206,10 +231,11 @@ impl Bit {
     ///
     /// # Examples
     /// ```
-    /// # use byte_unit::{rendered::{base::*, choice::*, format::*, math::*}, *};
+    /// # use byte_unit::{*, rendered::{base::{size::parse_line, *}, choice::*, format::*, math::*}};
     /// assert!(Bit::KILOBIT.eq_u128(1000));
     /// assert!(!Bit::KILOBIT.eq_u128(1024));
     /// ```
+    #[inline]
     pub fn eq_u128(self, other: u128) -> bool {
         self.size == other
     }
@@ -218,12 +244,13 @@ impl Bit {
     ///
     /// # Examples
     /// ```
-    /// # use byte_unit::{rendered::{base::*, choice::*, format::*, math::*}, *};
+    /// # use byte_unit::{*, rendered::{base::{size::parse_line, *}, choice::*, format::*, math::*}};
     /// use std::cmp::Ordering;
     ///
     /// assert_eq!(Bit::KILOBIT.cmp_u64(1024), Ordering::Less);
     /// assert_eq!(Bit::KIBIBIT.cmp_u64(1024), Ordering::Equal);
     /// ```
+    #[inline]
     pub fn cmp_u64(self, other: u64) -> Ordering {
         self.size.cmp(&u128::from(other))
     }
@@ -232,12 +259,13 @@ impl Bit {
     ///
     /// # Examples
     /// ```
-    /// # use byte_unit::{rendered::{base::*, choice::*, format::*, math::*}, *};
+    /// # use byte_unit::{*, rendered::{base::{size::parse_line, *}, choice::*, format::*, math::*}};
     /// use std::cmp::Ordering;
     ///
     /// assert_eq!(Bit::KILOBIT.cmp_u128(1024), Ordering::Less);
     /// assert_eq!(Bit::KIBIBIT.cmp_u128(1024), Ordering::Equal);
     /// ```
+    #[inline]
     pub fn cmp_u128(self, other: u128) -> Ordering {
         self.size.cmp(&other)
     }
@@ -249,12 +277,13 @@ impl Bit {
     ///
     /// # Examples
     /// ```
-    /// # use byte_unit::{rendered::{base::*, choice::*, format::*, math::*}, *};
+    /// # use byte_unit::{*, rendered::{base::{size::parse_line, *}, choice::*, format::*, math::*}};
     /// let size = Bit::from_u64(15_500);
     /// assert_eq!(size.add(Bit::from_u64(500)), Some(Bit::from_u64(16_000)));
     /// assert_eq!(size.add(Bit::MAX), None);
     /// ```
-    pub fn add(self, rhs: Bit) -> Option<Bit> {
+    #[inline]
+    pub const fn add(self, rhs: Bit) -> Option<Bit> {
         Bit::from_u128(self.size + rhs.size)
     }
 
@@ -262,38 +291,48 @@ impl Bit {
     ///
     /// # Examples
     /// ```
-    /// # use byte_unit::{rendered::{base::*, choice::*, format::*, math::*}, *};
+    /// # use byte_unit::{*, rendered::{base::{size::parse_line, *}, choice::*, format::*, math::*}};
     /// let size = Bit::from_u64(15_500);
     /// assert_eq!(size.subtract(Bit::from_u64(500)), Some(Bit::from_u64(15_000)));
     /// assert_eq!(size.subtract(Bit::MAX), None);
     /// ```
-    pub fn subtract(self, rhs: Bit) -> Option<Bit> {
-        let size = self.size.checked_sub(rhs.size)?;
-        Some(Bit { size })
+    #[inline]
+    pub const fn subtract(self, rhs: Bit) -> Option<Bit> {
+        match self.size.checked_sub(rhs.size) {
+            Some(size) => Some(Bit { size }),
+            None => None,
+        }
     }
 
     /// Returns the product, or `None` if it is 10^30 bits or more.
     ///
     /// # Examples
     /// ```
-    /// # use byte_unit::{rendered::{base::*, choice::*, format::*, math::*}, *};
+    /// # use byte_unit::{*, rendered::{base::{size::parse_line, *}, choice::*, format::*, math::*}};
     /// assert_eq!(Bit::from_u64(15_500).multiply(2), Some(Bit::from_u64(31_000)));
     /// assert_eq!(Bit::MAX.multiply(2), None);
     /// ```
-    pub fn multiply(self, rhs: usize) -> Option<Bit> {
-        Bit::from_u128(self.size.checked_mul(rhs as u128)?)
+    #[inline]
+    pub const fn multiply(self, rhs: usize) -> Option<Bit> {
+        match self.size.checked_mul(rhs as u128) {
+            Some(n) => Bit::from_u128(n),
+            None => None,
+        }
     }
 
     /// Returns the quotient, rounded down, or `None` if `rhs` is zero.
     ///
     /// # Examples
     /// ```
-    /// # use byte_unit::{rendered::{base::*, choice::*, format::*, math::*}, *};
+    /// # use byte_unit::{*, rendered::{base::{size::parse_line, *}, choice::*, format::*, math::*}};
     /// assert_eq!(Bit::from_u64(15_500).divide(3), Some(Bit::from_u64(5166)));
     /// assert_eq!(Bit::from_u64(15_500).divide(0), None);
     /// ```
-    pub fn divide(self, rhs: usize) -> Option<Bit> {
-        let size = self.size.checked_div(rhs as u128)?;
-        Some(Bit { size })
+    #[inline]
+    pub const fn divide(self, rhs: usize) -> Option<Bit> {
+        match self.size.checked_div(rhs as u128) {
+            Some(size) => Some(Bit { size }),
+            None => None,
+        }
     }
 }

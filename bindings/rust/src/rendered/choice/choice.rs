@@ -3,16 +3,16 @@
 //! The choice of a unit for a size: unit sets, the largest unit of a set in which a size is exact, and the largest that
 //! is not above it.
 
-use crate::rendered::base::{Kind, Unit, PREFIXES};
-use crate::rendered::choice::tables::{UnitRow, ALL, BITS, BYTES};
+use crate::rendered::base::{Kind, PREFIXES, Unit};
 use crate::rendered::choice::UnitType;
-use crate::rendered::math::{exact_number, factored_quotient, factors_of, Decimal, Factors, Steps, DECIMAL_PLACES};
+use crate::rendered::choice::tables::{ALL, BITS, BYTES, UnitRow};
+use crate::rendered::math::{DECIMAL_PLACES, Decimal, Factors, Steps, exact_number, factored_quotient, factors_of};
 
 /// The set of units that a choice may take. All of them have a prefix: `Bit` and `B` are in no set.
 ///
 /// # Examples
 /// ```
-/// # use byte_unit::{rendered::{base::*, choice::*, format::*, math::*}, *};
+/// # use byte_unit::{*, rendered::{base::{size::parse_line, *}, choice::*, format::*, math::*}};
 /// assert_eq!(largest_unit(1000, Family::All, UnitType::Both, 8), Some(Unit::KB));
 /// assert_eq!(largest_unit(1000, Family::Bits, UnitType::Both, 8), Some(Unit::Kibit));
 /// ```
@@ -46,7 +46,7 @@ const FEW_PLACES: u32 = 5;
 ///
 /// # Examples
 /// ```
-/// # use byte_unit::{rendered::{base::*, choice::*, format::*, math::*}, *};
+/// # use byte_unit::{*, rendered::{base::{size::parse_line, *}, choice::*, format::*, math::*}};
 /// let mut steps = Steps::new();
 /// let chosen = choose_unit(1536, Family::Bytes, 8, 3, &mut steps);
 /// assert_eq!(chosen, Some((Decimal::from_digits(1, 5, 1), Unit::KiB)));
@@ -104,7 +104,7 @@ pub fn choose_unit(
 ///
 /// # Examples
 /// ```
-/// # use byte_unit::{rendered::{base::*, choice::*, format::*, math::*}, *};
+/// # use byte_unit::{*, rendered::{base::{size::parse_line, *}, choice::*, format::*, math::*}};
 /// let (number, unit) = recoverable_unit(50_840_000, Kind::Byte, false, 2, &mut Steps::new());
 /// assert!(number == Decimal::from_digits(50, 84, 2) && unit == Unit::MB);
 /// ```
@@ -130,7 +130,7 @@ pub fn recoverable_unit(size: u128, kind: Kind, allow: bool, precision: usize, s
 ///
 /// # Examples
 /// ```
-/// # use byte_unit::{rendered::{base::*, choice::*, format::*, math::*}, *};
+/// # use byte_unit::{*, rendered::{base::{size::parse_line, *}, choice::*, format::*, math::*}};
 /// assert_eq!(exact_unit(50_840_000, Kind::Byte, false), (50_840, Unit::KB));
 /// assert_eq!(exact_unit(16, Kind::Bit, true), (16, Unit::Bit));
 /// ```
@@ -148,7 +148,7 @@ pub fn exact_unit(size: u128, kind: Kind, allow: bool) -> (u128, Unit) {
 ///
 /// # Examples
 /// ```
-/// # use byte_unit::{rendered::{base::*, choice::*, format::*, math::*}, *};
+/// # use byte_unit::{*, rendered::{base::{size::parse_line, *}, choice::*, format::*, math::*}};
 /// assert_eq!(largest_unit(10_000, Family::Bytes, UnitType::Both, 8), Some(Unit::KiB));
 /// assert_eq!(largest_unit(1000, Family::Bytes, UnitType::Binary, 8), None);
 /// ```
@@ -179,7 +179,7 @@ pub fn largest_unit(size: u128, family: Family, unit_type: UnitType, own_bits: u
 ///
 /// # Examples
 /// ```
-/// # use byte_unit::{rendered::{base::*, choice::*, format::*, math::*}, *};
+/// # use byte_unit::{*, rendered::{base::{size::parse_line, *}, choice::*, format::*, math::*}};
 /// assert_eq!(appropriate_unit(10_000, Kind::Byte, UnitType::Both), Unit::KiB);
 /// assert_eq!(appropriate_unit(1000, Kind::Byte, UnitType::Binary), Unit::B);
 /// ```

@@ -6,7 +6,7 @@
 ///
 /// # Examples
 /// ```
-/// # use byte_unit::{rendered::{base::*, choice::*, format::*, math::*}, *};
+/// # use byte_unit::{*, rendered::{base::{size::parse_line, *}, choice::*, format::*, math::*}};
 /// assert_eq!(largest_unit(2000, Family::Bytes, UnitType::Binary, 8), Some(Unit::KiB));
 /// assert_eq!(largest_unit(2000, Family::Bytes, UnitType::Decimal, 8), Some(Unit::KB));
 /// ```

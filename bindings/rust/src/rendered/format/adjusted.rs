@@ -3,11 +3,11 @@
 //! Formatting of a size in a given unit.
 
 use crate::rendered::base::{Kind, Unit};
+use crate::rendered::format::FormatSpec;
 use crate::rendered::format::layout::{layout_len, layout_parts, write_layout};
 use crate::rendered::format::parts::{Fraction, TextParts};
-use crate::rendered::format::FormatSpec;
 use crate::rendered::math::{
-    div_rem, power_of_ten, rounded_quotient, short_expansion, Expansion, ShortExpansion, Ties, DECIMAL_PLACES,
+    DECIMAL_PLACES, Expansion, ShortExpansion, Ties, div_rem, power_of_ten, rounded_quotient, short_expansion,
 };
 use core::fmt;
 use core::fmt::Display;
@@ -48,7 +48,7 @@ enum Rounding {
 ///
 /// # Examples
 /// ```
-/// # use byte_unit::{rendered::{base::*, choice::*, format::*, math::*}, *};
+/// # use byte_unit::{*, rendered::{base::{size::parse_line, *}, choice::*, format::*, math::*}};
 /// let unset = FormatSpec::PLAIN;
 /// assert_eq!(adjusted_len(1536, Kind::Byte, Unit::KB, unset), "1.536 KB".len());
 /// ```
@@ -71,7 +71,7 @@ pub fn adjusted_len(size: u128, kind: Kind, unit: Unit, spec: FormatSpec) -> usi
 ///
 /// # Examples
 /// ```
-/// # use byte_unit::{rendered::{base::*, choice::*, format::*, math::*}, *};
+/// # use byte_unit::{*, rendered::{base::{size::parse_line, *}, choice::*, format::*, math::*}};
 /// let mut out = [b'.'; 9];
 /// assert_eq!(write_adjusted(1536, Kind::Byte, Unit::KB, FormatSpec::PLAIN, &mut out), 8);
 /// assert!(out == *b"1.536 KB.");
@@ -203,7 +203,7 @@ fn scaled_parts<'a>(number: u128, places: u32, unit: Unit, spec: FormatSpec) -> 
 ///
 /// # Examples
 /// ```
-/// # use byte_unit::{rendered::{base::*, choice::*, format::*, math::*}, *};
+/// # use byte_unit::{*, rendered::{base::{size::parse_line, *}, choice::*, format::*, math::*}};
 /// let number = number_in_unit(1536, Kind::Byte, Unit::KiB);
 /// assert_eq!((number.whole(), number.digit(1)), (1, 5));
 /// assert_eq!(number_in_unit(1, Kind::Bit, Unit::KB).places(), 6);

@@ -2,9 +2,9 @@
 
 //! The alternate form with no other option set, written from the beginning to the end.
 
-use crate::rendered::base::{prefix_letter, Kind};
+use crate::rendered::base::{Kind, prefix_letter};
 use crate::rendered::format::parts::put;
-use crate::rendered::format::thousandths::{split, UnitFraction};
+use crate::rendered::format::thousandths::{UnitFraction, split};
 use crate::rendered::math::{decimal_len, put_u128};
 
 /// The most bytes of a text without a width: 27 digits, a point, 5 digits, a space and three letters, as of some sizes
@@ -18,11 +18,7 @@ pub(crate) fn write_alternate(size: u128, kind: Kind, out: &mut [u8]) -> usize {
         return write_if_fits(size, kind, out);
     }
     // The cast tells the compiler that it can divide in 64 bits.
-    if size < 1 << 64 {
-        put_form(u128::from(size as u64), kind, out)
-    } else {
-        put_form_wide(size, kind, out)
-    }
+    if size < 1 << 64 { put_form(u128::from(size as u64), kind, out) } else { put_form_wide(size, kind, out) }
 }
 
 /// Writes as `write_alternate`, by way of an array: the slow path, for a buffer that some texts do not fit.

@@ -27,7 +27,7 @@ pub fn text_len(size: u128, kind: Kind, spec: FormatSpec) -> usize {
 ///
 /// # Examples
 /// ```
-/// # use byte_unit::{rendered::{base::*, choice::*, format::*, math::*}, *};
+/// # use byte_unit::{*, rendered::{base::{size::parse_line, *}, choice::*, format::*, math::*}};
 /// let mut out = [b'.'; 8];
 /// assert_eq!(write_text(1536, Kind::Byte, FormatSpec::ALTERNATE, &mut out), 7);
 /// assert!(out == *b"1.5 KiB.");

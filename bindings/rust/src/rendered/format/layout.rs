@@ -5,7 +5,7 @@
 use crate::rendered::base::Unit;
 use crate::rendered::format::parts::{Fraction, TextParts};
 use crate::rendered::format::spec::{Align, FormatSpec, Sign};
-use crate::rendered::math::{decimal_len, Expansion};
+use crate::rendered::math::{Expansion, decimal_len};
 
 /// Returns the length in bytes of a decimal with `places` digits after the point and its unit. Does not allocate.
 pub fn layout_len(e: &Expansion, places: u32, unit: Unit, spec: FormatSpec) -> usize {

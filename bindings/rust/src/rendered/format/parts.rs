@@ -2,7 +2,7 @@
 
 //! The parts of a formatted text, and writing backwards into a buffer.
 
-use crate::rendered::math::{glyphs_of, put_fraction, put_u128, Expansion};
+use crate::rendered::math::{Expansion, glyphs_of, put_fraction, put_u128};
 
 /// The digits after the point, and their number.
 #[derive(Clone, Copy)]
@@ -64,11 +64,7 @@ impl Fraction<'_> {
         let places = match self {
             Fraction::Last(_, places) | Fraction::First(_, places) => *places,
         };
-        if places == 0 {
-            0
-        } else {
-            1 + places as usize
-        }
+        if places == 0 { 0 } else { 1 + places as usize }
     }
 }
 

@@ -29,7 +29,7 @@ pub enum Align {
 ///
 /// # Examples
 /// ```
-/// # use byte_unit::{rendered::{base::*, choice::*, format::*, math::*}, *};
+/// # use byte_unit::{*, rendered::{base::{size::parse_line, *}, choice::*, format::*, math::*}};
 /// let wide = FormatSpec { width: Some(10), ..FormatSpec::ALTERNATE };
 /// assert!(wide.alternate && wide.precision == None);
 /// ```

@@ -2,9 +2,9 @@
 
 //! The unit of a size at a precision of at most three places, found without a search.
 
-use crate::rendered::base::{unit_with_prefix, Kind, Unit};
+use crate::rendered::base::{Kind, Unit, unit_with_prefix};
 use crate::rendered::choice::recoverable_unit;
-use crate::rendered::math::{div_rem_thousand, power_of_ten, Decimal, Steps};
+use crate::rendered::math::{Decimal, Steps, div_rem_thousand, power_of_ten};
 
 /// The precision up to which the unit is found without a search: the size is then a number of eighths of a binary
 /// prefix, or of thousandths of a decimal one.

@@ -2,11 +2,11 @@
 
 //! The digits of a size and the size in its unit, as one text.
 
-use crate::rendered::base::{prefix_letter, Kind};
+use crate::rendered::base::{Kind, prefix_letter};
 use crate::rendered::format::alternate::{own_letter, put_split};
 use crate::rendered::format::parts::put;
-use crate::rendered::format::thousandths::{binary_power, in_eighths, UnitFraction};
-use crate::rendered::math::{put_padded_digits, PADDED_DIGITS};
+use crate::rendered::format::thousandths::{UnitFraction, binary_power, in_eighths};
+use crate::rendered::math::{PADDED_DIGITS, put_padded_digits};
 use crate::support::lanes::*;
 
 /// Writes the digits of a size, `between`, and the size in its unit (the alternate form with no other option) to the
@@ -18,7 +18,7 @@ use crate::support::lanes::*;
 ///
 /// # Examples
 /// ```
-/// # use byte_unit::{rendered::{base::*, choice::*, format::*, math::*}, *};
+/// # use byte_unit::{*, rendered::{base::{size::parse_line, *}, choice::*, format::*, math::*}};
 /// let mut out = [0; 70];
 /// let len = write_with_digits(1536, Kind::Byte, *b" = ", &mut out);
 /// assert_eq!(&out[..len], b"1536 = 1.5 KiB".as_slice());

@@ -2,9 +2,9 @@
 
 //! The digits after the point of a fraction with a binary denominator, sixteen at a time.
 
+use crate::rendered::math::EXPANSION_PLACES;
 use crate::rendered::math::lanes::last_16_values;
 use crate::rendered::math::tens::POWERS_OF_FIVE;
-use crate::rendered::math::EXPANSION_PLACES;
 
 /// The number of digits that one product gives: as many as `last_16_values` returns.
 const DIGITS_AT_ONCE: u32 = 16;

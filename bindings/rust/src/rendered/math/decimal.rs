@@ -17,7 +17,7 @@ pub const WHOLE_LIMIT: u128 = 5_192_296_858_534_827_628_530_496_329_220_096;
 
 /// A non-negative decimal with at most 28 digits after the point and a whole part below 2^112.
 ///
-/// In contracts it is its value scaled by 10^28: `1.5` is 15 * 10^27. Equality, order and hash are those of the value.
+/// Equality, order and hash are those of the value.
 #[derive(Clone, Copy, Debug, Hash)]
 pub struct Decimal {
     /// The part before the point.
@@ -36,12 +36,12 @@ impl Decimal {
     ///
     /// # Examples
     /// ```
-    /// # use byte_unit::{rendered::{base::*, choice::*, format::*, math::*}, *};
+    /// # use byte_unit::{*, rendered::{base::{size::parse_line, *}, choice::*, format::*, math::*}};
     /// let half = Decimal::new(1, 5 * 10u128.pow(27)).unwrap();
     /// assert_eq!(half.digits(), 5);
     /// assert_eq!(Decimal::new(1, 10u128.pow(28)), None);
     /// ```
-    pub fn new(whole: u128, fraction: u128) -> Option<Decimal> {
+    pub const fn new(whole: u128, fraction: u128) -> Option<Decimal> {
         if whole < WHOLE_LIMIT && fraction < ONE {
             Some(Decimal::from_digits(whole, fraction, DECIMAL_PLACES))
         } else {
@@ -53,23 +53,19 @@ impl Decimal {
     ///
     /// # Examples
     /// ```
-    /// # use byte_unit::{rendered::{base::*, choice::*, format::*, math::*}, *};
+    /// # use byte_unit::{*, rendered::{base::{size::parse_line, *}, choice::*, format::*, math::*}};
     /// assert_eq!(Decimal::from_u128(7), Some(Decimal::from(7u8)));
     /// assert_eq!(Decimal::from_u128(1 << 112), None);
     /// ```
-    pub fn from_u128(n: u128) -> Option<Decimal> {
-        if n < WHOLE_LIMIT {
-            Some(Decimal::from_digits(n, 0, 0))
-        } else {
-            None
-        }
+    pub const fn from_u128(n: u128) -> Option<Decimal> {
+        if n < WHOLE_LIMIT { Some(Decimal::from_digits(n, 0, 0)) } else { None }
     }
 
     /// Creates `mantissa / 10^places`. Returns `None` if `places` exceeds 28 or the whole part is 2^112 or more.
     ///
     /// # Examples
     /// ```
-    /// # use byte_unit::{rendered::{base::*, choice::*, format::*, math::*}, *};
+    /// # use byte_unit::{*, rendered::{base::{size::parse_line, *}, choice::*, format::*, math::*}};
     /// let d = Decimal::from_u128_with_scale(5084, 2).unwrap();
     /// assert_eq!((d.whole(), d.digits(), d.places()), (50, 84, 2));
     /// assert_eq!(Decimal::from_u128_with_scale(1, 29), None);
@@ -80,11 +76,7 @@ impl Decimal {
         }
         let unit = power_of_ten(places);
         let whole = mantissa / unit;
-        if whole < WHOLE_LIMIT {
-            Some(Decimal::from_digits(whole, mantissa % unit, places))
-        } else {
-            None
-        }
+        if whole < WHOLE_LIMIT { Some(Decimal::from_digits(whole, mantissa % unit, places)) } else { None }
     }
 
     /// Creates `whole + digits / 10^places`.
@@ -93,12 +85,13 @@ impl Decimal {
     ///
     /// # Examples
     /// ```
-    /// # use byte_unit::{rendered::{base::*, choice::*, format::*, math::*}, *};
+    /// # use byte_unit::{*, rendered::{base::{size::parse_line, *}, choice::*, format::*, math::*}};
     /// assert_eq!(Some(Decimal::from_digits(50, 84, 3)), Decimal::from_u128_with_scale(50_084, 3));
     /// assert_eq!(Decimal::from_digits(1, 500, 3).places(), 1);
     /// ```
     #[inline(always)]
-    pub fn from_digits(whole: u128, digits: u128, places: u32) -> Decimal {
+    #[doc(hidden)]
+    pub const fn from_digits(whole: u128, digits: u128, places: u32) -> Decimal {
         if digits >= 1 << 64 {
             return Decimal::from_wide_digits(whole, digits, places);
         }
@@ -109,11 +102,11 @@ impl Decimal {
             short /= 10;
             left -= 1;
         }
-        Decimal::from_trimmed_digits(whole, u128::from(short), left)
+        Decimal::from_trimmed_digits(whole, short as u128, left)
     }
 
     /// Creates the same number from digits that need more than 64 bits, whose divisions take longer.
-    fn from_wide_digits(whole: u128, digits: u128, places: u32) -> Decimal {
+    const fn from_wide_digits(whole: u128, digits: u128, places: u32) -> Decimal {
         let mut short = digits;
         let mut left = places;
         while left > 0 && short % 10 == 0 {
@@ -125,7 +118,7 @@ impl Decimal {
 
     /// Creates the same number from digits of which the last is not 0.
     #[inline(always)]
-    pub(crate) fn from_trimmed_digits(whole: u128, digits: u128, places: u32) -> Decimal {
+    pub(crate) const fn from_trimmed_digits(whole: u128, digits: u128, places: u32) -> Decimal {
         Decimal { whole, digits, places }
     }
 
@@ -133,11 +126,11 @@ impl Decimal {
     ///
     /// # Examples
     /// ```
-    /// # use byte_unit::{rendered::{base::*, choice::*, format::*, math::*}, *};
+    /// # use byte_unit::{*, rendered::{base::{size::parse_line, *}, choice::*, format::*, math::*}};
     /// assert_eq!(Decimal::from_digits(50, 84, 3).whole(), 50);
     /// assert_eq!(Decimal::from(7u8).whole(), 7);
     /// ```
-    pub fn whole(self) -> u128 {
+    pub const fn whole(self) -> u128 {
         self.whole
     }
 
@@ -145,11 +138,11 @@ impl Decimal {
     ///
     /// # Examples
     /// ```
-    /// # use byte_unit::{rendered::{base::*, choice::*, format::*, math::*}, *};
+    /// # use byte_unit::{*, rendered::{base::{size::parse_line, *}, choice::*, format::*, math::*}};
     /// assert_eq!(Decimal::from_digits(1, 5, 1).fraction(), 5 * 10u128.pow(27));
     /// assert_eq!(Decimal::from(7u8).fraction(), 0);
     /// ```
-    pub fn fraction(self) -> u128 {
+    pub const fn fraction(self) -> u128 {
         self.digits * power_of_ten(DECIMAL_PLACES - self.places)
     }
 
@@ -157,7 +150,7 @@ impl Decimal {
     ///
     /// # Examples
     /// ```
-    /// # use byte_unit::{rendered::{base::*, choice::*, format::*, math::*}, *};
+    /// # use byte_unit::{*, rendered::{base::{size::parse_line, *}, choice::*, format::*, math::*}};
     /// assert_eq!(Decimal::from_digits(50, 840, 4).places(), 3);
     /// assert_eq!(Decimal::from(7u8).places(), 0);
     /// ```
@@ -169,7 +162,7 @@ impl Decimal {
     ///
     /// # Examples
     /// ```
-    /// # use byte_unit::{rendered::{base::*, choice::*, format::*, math::*}, *};
+    /// # use byte_unit::{*, rendered::{base::{size::parse_line, *}, choice::*, format::*, math::*}};
     /// assert_eq!(Decimal::from_digits(50, 84, 3).digits(), 84);
     /// assert_eq!(Decimal::from(7u8).digits(), 0);
     /// ```

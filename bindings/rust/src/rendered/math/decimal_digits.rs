@@ -3,7 +3,7 @@
 //! The decimal digits of a number, or of a fraction after its point, as ASCII, and the number of digits.
 
 use crate::rendered::math::dividing::split_last_18_digits;
-use crate::rendered::math::lanes::{put_16_digits, TEN_POW_16};
+use crate::rendered::math::lanes::{TEN_POW_16, put_16_digits};
 use crate::rendered::math::tens::power_of_ten;
 use core::{fmt, str};
 
@@ -18,11 +18,11 @@ static PAIRS: [u8; 200] = *b"\
     6061626364656667686970717273747576777879\
     8081828384858687888990919293949596979899";
 
-/// The decimal digits of a number, as ASCII. In contracts it is the list of these bytes.
+/// The decimal digits of a number, as ASCII.
 ///
 /// # Examples
 /// ```
-/// # use byte_unit::{rendered::{base::*, choice::*, format::*, math::*}, *};
+/// # use byte_unit::{*, rendered::{base::{size::parse_line, *}, choice::*, format::*, math::*}};
 /// assert_eq!(DecimalDigits::of(1536).as_slice(), b"1536".as_slice());
 /// assert_eq!(DecimalDigits::of(0).as_slice(), b"0".as_slice());
 /// ```
@@ -38,7 +38,7 @@ impl DecimalDigits {
     ///
     /// # Examples
     /// ```
-    /// # use byte_unit::{rendered::{base::*, choice::*, format::*, math::*}, *};
+    /// # use byte_unit::{*, rendered::{base::{size::parse_line, *}, choice::*, format::*, math::*}};
     /// assert_eq!(DecimalDigits::of(1536).as_slice(), b"1536".as_slice());
     /// ```
     pub fn of(n: u128) -> DecimalDigits {
@@ -51,7 +51,7 @@ impl DecimalDigits {
     ///
     /// # Examples
     /// ```
-    /// # use byte_unit::{rendered::{base::*, choice::*, format::*, math::*}, *};
+    /// # use byte_unit::{*, rendered::{base::{size::parse_line, *}, choice::*, format::*, math::*}};
     /// assert_eq!(DecimalDigits::of(1536).len(), 4);
     /// assert_eq!(DecimalDigits::of(u128::MAX).len(), 39);
     /// ```
@@ -64,7 +64,7 @@ impl DecimalDigits {
     ///
     /// # Examples
     /// ```
-    /// # use byte_unit::{rendered::{base::*, choice::*, format::*, math::*}, *};
+    /// # use byte_unit::{*, rendered::{base::{size::parse_line, *}, choice::*, format::*, math::*}};
     /// assert_eq!(DecimalDigits::of(1000).as_slice(), b"1000".as_slice());
     /// ```
     #[inline]
@@ -80,12 +80,12 @@ impl DecimalDigits {
 ///
 /// # Examples
 /// ```
-/// # use byte_unit::{rendered::{base::*, choice::*, format::*, math::*}, *};
+/// # use byte_unit::{*, rendered::{base::{size::parse_line, *}, choice::*, format::*, math::*}};
 /// use std::fmt;
 ///
 /// struct Number(u128);
 /// impl fmt::Display for Number {
-///     fn fmt<W: fmt::Write>(&self, f: &mut fmt::Formatter<W>) -> fmt::Result {
+///     fn fmt(&self, f: &mut fmt::Formatter<'_>) -> fmt::Result {
 ///         fmt_u128(self.0, f)
 ///     }
 /// }
@@ -100,7 +100,7 @@ pub fn fmt_u128(n: u128, f: &mut fmt::Formatter<'_>) -> fmt::Result {
 ///
 /// # Examples
 /// ```
-/// # use byte_unit::{rendered::{base::*, choice::*, format::*, math::*}, *};
+/// # use byte_unit::{*, rendered::{base::{size::parse_line, *}, choice::*, format::*, math::*}};
 /// assert_eq!(decimal_len(1536), 4);
 /// assert_eq!(decimal_len(0), 1);
 /// ```
@@ -137,7 +137,7 @@ fn decimal_len_u64(n: u64) -> usize {
 ///
 /// # Examples
 /// ```
-/// # use byte_unit::{rendered::{base::*, choice::*, format::*, math::*}, *};
+/// # use byte_unit::{*, rendered::{base::{size::parse_line, *}, choice::*, format::*, math::*}};
 /// let mut bytes = *b"......";
 /// assert_eq!(put_u128(1536, &mut bytes, 5), 1);
 /// assert_eq!(&bytes, b".1536.");
@@ -158,7 +158,7 @@ pub fn put_u128(n: u128, bytes: &mut [u8], end: usize) -> usize {
 ///
 /// # Examples
 /// ```
-/// # use byte_unit::{rendered::{base::*, choice::*, format::*, math::*}, *};
+/// # use byte_unit::{*, rendered::{base::{size::parse_line, *}, choice::*, format::*, math::*}};
 /// let mut bytes = *b"1.....";
 /// assert_eq!(put_fraction(5, 2, &mut bytes, 4), 1);
 /// assert_eq!(&bytes, b"1.05..");

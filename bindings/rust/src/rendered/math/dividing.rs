@@ -17,7 +17,7 @@ const BASE: u64 = 1 << 40;
 ///
 /// # Examples
 /// ```
-/// # use byte_unit::{rendered::{base::*, choice::*, format::*, math::*}, *};
+/// # use byte_unit::{*, rendered::{base::{size::parse_line, *}, choice::*, format::*, math::*}};
 /// assert_eq!(div_rem(1536, 1000), (1, 536));
 /// ```
 #[inline]
@@ -37,7 +37,7 @@ pub fn div_rem(dividend: u128, divisor: u128) -> (u128, u128) {
 ///
 /// # Examples
 /// ```
-/// # use byte_unit::{rendered::{base::*, choice::*, format::*, math::*}, *};
+/// # use byte_unit::{*, rendered::{base::{size::parse_line, *}, choice::*, format::*, math::*}};
 /// assert_eq!((rounded_quotient(5, 2), rounded_quotient(7, 2)), (2, 4));
 /// assert_eq!(rounded_quotient(8, 3), 3);
 /// ```
@@ -46,11 +46,7 @@ pub fn rounded_quotient(numerator: u128, divisor: u128) -> u128 {
     let (quotient, rest) = div_rem(numerator, divisor);
     // Rounds up if more than half of the divisor is left, or just half and the quotient is odd.
     let odd = quotient % 2;
-    if 2 * rest + odd > divisor {
-        quotient + 1
-    } else {
-        quotient
-    }
+    if 2 * rest + odd > divisor { quotient + 1 } else { quotient }
 }
 
 /// Returns the quotient and the remainder by a constant, without division: the leading 64 bits of the dividend times
@@ -60,11 +56,7 @@ pub(crate) fn div_rem_by_inverse(dividend: u128, divisor: u64, inverse: u64, cut
     let leading = (dividend >> cut) as u64;
     let estimate = ((u128::from(leading) * u128::from(inverse)) >> shift) as u64;
     let rest = (dividend - u128::from(estimate) * u128::from(divisor)) as u64;
-    if rest < divisor {
-        (estimate, rest)
-    } else {
-        (estimate + 1, rest - divisor)
-    }
+    if rest < divisor { (estimate, rest) } else { (estimate + 1, rest - divisor) }
 }
 
 /// Returns the quotient and the remainder by a constant of at most 2^24: a long division in base 2^40, each step of
@@ -85,7 +77,7 @@ pub(crate) fn div_rem_u24(dividend: u128, divisor: u64) -> (u128, u64) {
 ///
 /// # Examples
 /// ```
-/// # use byte_unit::{rendered::{base::*, choice::*, format::*, math::*}, *};
+/// # use byte_unit::{*, rendered::{base::{size::parse_line, *}, choice::*, format::*, math::*}};
 /// assert_eq!(div_rem_thousand(1_234_567), (1_234, 567));
 /// ```
 #[inline(always)]
@@ -134,19 +126,11 @@ pub(crate) fn div_rem_digit(dividend: u128, divisor: u128) -> (u128, u128) {
 /// Subtracts `times * divisor` if the dividend is at least that. Returns `times`, or else 0, and what is left.
 fn subtract_multiple(dividend: u128, times: u128, divisor: u128) -> (u128, u128) {
     let multiple = times * divisor;
-    if dividend < multiple {
-        (0, dividend)
-    } else {
-        (times, dividend - multiple)
-    }
+    if dividend < multiple { (0, dividend) } else { (times, dividend - multiple) }
 }
 
 /// Subtracts as `subtract_multiple`, in 64 bits.
 fn subtract_multiple_u64(dividend: u64, times: u64, divisor: u64) -> (u64, u64) {
     let multiple = times * divisor;
-    if dividend < multiple {
-        (0, dividend)
-    } else {
-        (times, dividend - multiple)
-    }
+    if dividend < multiple { (0, dividend) } else { (times, dividend - multiple) }
 }

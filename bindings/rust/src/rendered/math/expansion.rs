@@ -24,7 +24,6 @@ pub enum Ties {
 
 /// A terminating decimal expansion with at most 93 digits after the point, the last of which is not 0.
 ///
-/// In contracts it is its whole part and the list of its digits.
 #[derive(Debug, Clone, Copy)]
 pub struct Expansion {
     /// The part before the point.
@@ -42,10 +41,11 @@ impl Expansion {
     ///
     /// # Examples
     /// ```
-    /// # use byte_unit::{rendered::{base::*, choice::*, format::*, math::*}, *};
+    /// # use byte_unit::{*, rendered::{base::{size::parse_line, *}, choice::*, format::*, math::*}};
     /// assert_eq!(format!("{}", Expansion::new(13, 3, 0)).as_str(), "1.625");
     /// assert_eq!(format!("{}", Expansion::new(8, 3, 0)).as_str(), "1");
     /// ```
+    #[doc(hidden)]
     pub fn new(numerator: u128, twos: u32, fives: u32) -> Expansion {
         if fives == 0 {
             return Expansion::binary(numerator, twos);
@@ -65,7 +65,7 @@ impl Expansion {
     ///
     /// # Examples
     /// ```
-    /// # use byte_unit::{rendered::{base::*, choice::*, format::*, math::*}, *};
+    /// # use byte_unit::{*, rendered::{base::{size::parse_line, *}, choice::*, format::*, math::*}};
     /// let e = Expansion::from_decimal(Decimal::from_digits(50, 84, 3));
     /// assert_eq!((e.whole(), e.places(), e.digit(3)), (50, 3, 4));
     /// ```
@@ -77,7 +77,7 @@ impl Expansion {
     ///
     /// # Examples
     /// ```
-    /// # use byte_unit::{rendered::{base::*, choice::*, format::*, math::*}, *};
+    /// # use byte_unit::{*, rendered::{base::{size::parse_line, *}, choice::*, format::*, math::*}};
     /// assert_eq!(Expansion::new(13, 3, 0).whole(), 1);
     /// ```
     pub fn whole(&self) -> u128 {
@@ -88,7 +88,7 @@ impl Expansion {
     ///
     /// # Examples
     /// ```
-    /// # use byte_unit::{rendered::{base::*, choice::*, format::*, math::*}, *};
+    /// # use byte_unit::{*, rendered::{base::{size::parse_line, *}, choice::*, format::*, math::*}};
     /// assert_eq!(Expansion::new(13, 3, 0).places(), 3);
     /// assert_eq!(Expansion::new(1, 93, 0).places(), 93);
     /// ```
@@ -102,23 +102,20 @@ impl Expansion {
     ///
     /// # Examples
     /// ```
-    /// # use byte_unit::{rendered::{base::*, choice::*, format::*, math::*}, *};
+    /// # use byte_unit::{*, rendered::{base::{size::parse_line, *}, choice::*, format::*, math::*}};
     /// let e = Expansion::new(13, 3, 0);
     /// assert_eq!((e.digit(1), e.digit(3), e.digit(4)), (6, 5, 0));
     /// ```
+    #[doc(hidden)]
     pub fn digit(&self, i: u32) -> u8 {
-        if i <= self.places {
-            self.digits[i as usize - 1]
-        } else {
-            0
-        }
+        if i <= self.places { self.digits[i as usize - 1] } else { 0 }
     }
 
     /// Rounds to the nearest decimal with at most `places` digits after the point, ties as `ties` says.
     ///
     /// # Examples
     /// ```
-    /// # use byte_unit::{rendered::{base::*, choice::*, format::*, math::*}, *};
+    /// # use byte_unit::{*, rendered::{base::{size::parse_line, *}, choice::*, format::*, math::*}};
     /// assert_eq!(Expansion::new(9_996, 3, 3).rounded(2, Ties::Even).whole(), 10);
     /// let tie = Expansion::new(1_005, 3, 3);
     /// assert_eq!(format!("{}", tie.rounded(2, Ties::Even)).as_str(), "1");
@@ -134,7 +131,7 @@ impl Expansion {
     ///
     /// # Examples
     /// ```
-    /// # use byte_unit::{rendered::{base::*, choice::*, format::*, math::*}, *};
+    /// # use byte_unit::{*, rendered::{base::{size::parse_line, *}, choice::*, format::*, math::*}};
     /// let mut e = Expansion::new(9_996, 3, 3);
     /// e.round(2, Ties::Even);
     /// assert_eq!((e.whole(), e.places()), (10, 0));
@@ -169,11 +166,7 @@ impl Expansion {
 
     /// Returns whether the last digit is odd if the number is rounded down to `places` digits.
     fn is_odd_at(&self, places: u32) -> bool {
-        if places == 0 {
-            self.whole % 2 == 1
-        } else {
-            self.digit(places) % 2 == 1
-        }
+        if places == 0 { self.whole % 2 == 1 } else { self.digit(places) % 2 == 1 }
     }
 
     /// Returns the length of the first `places` digits without those at their end that equal `last`.
@@ -233,7 +226,7 @@ fn fmt_fraction(e: &Expansion, f: &mut fmt::Formatter<'_>) -> fmt::Result {
 ///
 /// # Examples
 /// ```
-/// # use byte_unit::{rendered::{base::*, choice::*, format::*, math::*}, *};
+/// # use byte_unit::{*, rendered::{base::{size::parse_line, *}, choice::*, format::*, math::*}};
 /// assert_eq!(&glyphs_of(&Expansion::new(13, 3, 0))[..4], b"6250".as_slice());
 /// ```
 pub fn glyphs_of(e: &Expansion) -> [u8; EXPANSION_PLACES] {

@@ -3,8 +3,8 @@
 //! Products of a decimal and a unit's size, rounded up to a whole number.
 
 use crate::rendered::math::dividing::{div_rem_by_inverse, div_rem_u24};
-use crate::rendered::math::tens::{power_of_ten, POWERS_OF_TEN};
-use crate::rendered::math::{Decimal, Steps, DECIMAL_PLACES};
+use crate::rendered::math::tens::{POWERS_OF_TEN, power_of_ten};
+use crate::rendered::math::{DECIMAL_PLACES, Decimal, Steps};
 
 /// The radix of groups of seven digits: the product of a group and a unit of at most 40 bits fits a `u64`.
 const GROUP: u64 = 10_000_000;
@@ -27,7 +27,7 @@ const GROUPS: u32 = 4;
 ///
 /// # Examples
 /// ```
-/// # use byte_unit::{rendered::{base::*, choice::*, format::*, math::*}, *};
+/// # use byte_unit::{*, rendered::{base::{size::parse_line, *}, choice::*, format::*, math::*}};
 /// assert_eq!(least_size(Decimal::from_digits(1, 5, 1), 1024, 2000), Some(1536));
 /// assert_eq!(least_size(Decimal::from_digits(0, 1, 1), 1024, 2000), Some(103));
 /// assert_eq!(least_size(Decimal::from_digits(1, 5, 1), 1024, 1536), None);
@@ -61,7 +61,7 @@ pub fn least_size(d: Decimal, unit_size: u128, limit: u128) -> Option<u128> {
 ///
 /// # Examples
 /// ```
-/// # use byte_unit::{rendered::{base::*, choice::*, format::*, math::*}, *};
+/// # use byte_unit::{*, rendered::{base::{size::parse_line, *}, choice::*, format::*, math::*}};
 /// let mut steps = Steps::new();
 /// assert_eq!(least_size_counted(Decimal::from_digits(1, 5, 1), 1024, 2000, &mut steps), Some(1536));
 /// assert_eq!(steps.count(), 4);

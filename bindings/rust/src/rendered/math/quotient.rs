@@ -3,8 +3,8 @@
 //! Exact quotients by long division and by factors.
 
 use crate::rendered::math::dividing::{div_rem, div_rem_digit, div_rem_u24};
-use crate::rendered::math::tens::{power_of_ten, POWERS_OF_FIVE};
-use crate::rendered::math::{Decimal, Factors, Steps, DECIMAL_PLACES};
+use crate::rendered::math::tens::{POWERS_OF_FIVE, power_of_ten};
+use crate::rendered::math::{DECIMAL_PLACES, Decimal, Factors, Steps};
 
 /// The limit of numbers of 64 bits, which are divided faster.
 const TWO_POW_64: u128 = 1 << 64;
@@ -19,7 +19,7 @@ const TWO_POW_64: u128 = 1 << 64;
 ///
 /// # Examples
 /// ```
-/// # use byte_unit::{rendered::{base::*, choice::*, format::*, math::*}, *};
+/// # use byte_unit::{*, rendered::{base::{size::parse_line, *}, choice::*, format::*, math::*}};
 /// let mut steps = Steps::new();
 /// assert_eq!(exact_quotient(1, 8, 3, &mut steps), Some(Decimal::from_digits(0, 125, 3)));
 /// assert_eq!(exact_quotient(1, 8, 2, &mut steps), None);
@@ -53,7 +53,7 @@ pub fn exact_quotient(size: u128, unit: u128, places: u32, steps: &mut Steps) ->
 ///
 /// # Examples
 /// ```
-/// # use byte_unit::{rendered::{base::*, choice::*, format::*, math::*}, *};
+/// # use byte_unit::{*, rendered::{base::{size::parse_line, *}, choice::*, format::*, math::*}};
 /// let mut steps = Steps::new();
 /// let twelve = Factors { left: 3, twos: 2, fives: 0 };
 /// assert_eq!(factored_quotient(twelve, 3, 0, 1, &mut steps), Decimal::from_digits(1, 5, 1));

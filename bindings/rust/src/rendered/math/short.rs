@@ -6,7 +6,7 @@
 use crate::rendered::math::dividing::div_rem;
 use crate::rendered::math::quotient::exact_quotient;
 use crate::rendered::math::tens::{power_of_five, power_of_ten, power_of_two};
-use crate::rendered::math::{Decimal, Steps, DECIMAL_PLACES};
+use crate::rendered::math::{DECIMAL_PLACES, Decimal, Steps};
 
 /// The most digits after the point of a [`ShortExpansion`]: any 38 digits are a number of 128 bits.
 const MOST_PLACES: u32 = 38;
@@ -32,7 +32,7 @@ pub struct ShortExpansion {
 ///
 /// # Examples
 /// ```
-/// # use byte_unit::{rendered::{base::*, choice::*, format::*, math::*}, *};
+/// # use byte_unit::{*, rendered::{base::{size::parse_line, *}, choice::*, format::*, math::*}};
 /// let eighths = short_expansion(13, 3, 0).unwrap();
 /// assert_eq!((eighths.whole, eighths.digits, eighths.places), (1, 625, 3));
 /// let thousandths = short_expansion(12_288, 6, 3).unwrap();
@@ -46,11 +46,7 @@ pub fn short_expansion(numerator: u128, twos: u32, fives: u32) -> Option<ShortEx
     let shared = numerator.trailing_zeros().min(twos - fives);
     let left = twos - fives - shared;
     let reduced = numerator >> shared;
-    if fives == 0 {
-        binary_expansion(reduced, left)
-    } else {
-        decimal_expansion(reduced, left, fives)
-    }
+    if fives == 0 { binary_expansion(reduced, left) } else { decimal_expansion(reduced, left, fives) }
 }
 
 /// Returns the expansion of `numerator / 2^places`, which is in lowest terms, or `None` if `places` is more than 38.
@@ -95,7 +91,7 @@ fn decimal_expansion(numerator: u128, twos: u32, tens: u32) -> Option<ShortExpan
 ///
 /// # Examples
 /// ```
-/// # use byte_unit::{rendered::{base::*, choice::*, format::*, math::*}, *};
+/// # use byte_unit::{*, rendered::{base::{size::parse_line, *}, choice::*, format::*, math::*}};
 /// let mut steps = Steps::new();
 /// assert_eq!(exact_number(13, 3, 0, 3, &mut steps), Decimal::from_digits(1, 625, 3));
 /// assert_eq!(steps.count(), 3);

@@ -51,12 +51,12 @@ pub(crate) const POWERS_OF_TEN: [u128; 39] = [
 ///
 /// # Examples
 /// ```
-/// # use byte_unit::{rendered::{base::*, choice::*, format::*, math::*}, *};
+/// # use byte_unit::{*, rendered::{base::{size::parse_line, *}, choice::*, format::*, math::*}};
 /// assert_eq!(power_of_ten(3), 1_000);
 /// assert_eq!(power_of_ten(38), 10u128.pow(38));
 /// ```
 #[inline]
-pub fn power_of_ten(exponent: u32) -> u128 {
+pub const fn power_of_ten(exponent: u32) -> u128 {
     POWERS_OF_TEN[exponent as usize]
 }
 

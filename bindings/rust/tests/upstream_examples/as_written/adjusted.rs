@@ -5,7 +5,7 @@
 macro_rules! examples {
     ($size:ident, $Size:ident, $k:expr, $m:expr, $mi:expr, $parse:expr, $get:ident, $letter:literal) => {
         mod $size {
-            use byte_unit::{$Size, Unit, UnitType};
+            use byte_unit::{Unit, UnitType, $Size};
 
             /// Compares with an expected text, in which `?` is the letter of the kind.
             fn same(expected: &str, got: String) {

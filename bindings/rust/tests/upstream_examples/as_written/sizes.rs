@@ -7,7 +7,7 @@ use byte_unit::{Bit, Byte, Unit};
 macro_rules! examples {
     ($size:ident, $Size:ident, $thousand:expr, $million:expr, $letter:literal) => {
         mod $size {
-            use byte_unit::{$Size, Unit};
+            use byte_unit::{Unit, $Size};
 
             /// Compares with an expected text, in which `?` is the letter of the kind.
             fn same(expected: &str, got: String) {

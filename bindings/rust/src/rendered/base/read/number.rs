@@ -3,10 +3,10 @@
 //! Parses a number and a unit from a line. Eight bytes are loaded at once, as a `u64` whose lowest byte is the first.
 
 use crate::rendered::base::read::stop::{Reason, Stop};
+use crate::rendered::base::unit::Unit;
 use crate::rendered::base::unit::scan::{Flags, UnitStop, Word};
 use crate::rendered::base::unit::tables::{BY_POWER, LETTER_POWERS};
-use crate::rendered::base::unit::Unit;
-use crate::rendered::math::{Decimal, DECIMAL_PLACES, WHOLE_LIMIT};
+use crate::rendered::math::{DECIMAL_PLACES, Decimal, WHOLE_LIMIT};
 use crate::support::lanes::*;
 use crate::support::read_digits;
 

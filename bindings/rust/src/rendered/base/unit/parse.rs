@@ -3,7 +3,7 @@
 //! The parser of a unit in a string.
 
 use crate::rendered::base::unit::scan::Flags;
-use crate::rendered::base::{position, Unit, UnitParseError};
+use crate::rendered::base::{Unit, UnitParseError, position};
 use core::str::FromStr;
 
 impl Unit {
@@ -21,13 +21,14 @@ impl Unit {
     ///
     /// # Examples
     /// ```
-    /// # use byte_unit::{rendered::{base::*, choice::*, format::*, math::*}, *};
+    /// # use byte_unit::{*, rendered::{base::{size::parse_line, *}, choice::*, format::*, math::*}};
     /// assert_eq!(Unit::parse_str("Kib", false, true)?, Unit::Kibit);
     /// assert_eq!(Unit::parse_str("Kib", true, true)?, Unit::KiB);
     /// assert!(Unit::parse_str("Kx", false, true).is_err());
     /// # Ok::<(), Box<dyn std::error::Error>>(())
     /// ```
-    pub fn parse_str(s: &str, ignore_case: bool, prefer_byte: bool) -> Result<Unit, UnitParseError> {
+    pub fn parse_str<S: AsRef<str>>(s: S, ignore_case: bool, prefer_byte: bool) -> Result<Unit, UnitParseError> {
+        let s = s.as_ref();
         let flags = Flags { ignore_case, prefer_byte };
         match position::read_unit_text(s, flags) {
             Ok(unit) => Ok(unit),

@@ -2,8 +2,8 @@
 
 //! Where the parser of a unit stops, and the error there; the options of the parsers.
 
-use crate::rendered::base::unit::tables::BEGINNING;
 use crate::rendered::base::UnitParseError;
+use crate::rendered::base::unit::tables::BEGINNING;
 
 /// The letters of a suffix (`B`, `b`, `bit`, `bits`) read so far, in either case.
 #[derive(Clone, Copy)]
@@ -64,7 +64,7 @@ impl UnitStop {
     ///
     /// # Examples
     /// ```
-    /// # use byte_unit::{rendered::{base::*, choice::*, format::*, math::*}, *};
+    /// # use byte_unit::{*, rendered::{base::{size::parse_line, *}, choice::*, format::*, math::*}};
     /// let flags = size::flags_for(Kind::Byte, false);
     /// let error = position::read_unit_text("Kix", flags).map_err(|(stop, next, _)| stop.error_before(next, flags));
     /// assert!(matches!(error, Err(UnitParseError { character: 'x', .. })));
@@ -85,7 +85,7 @@ impl UnitStop {
     ///
     /// # Examples
     /// ```
-    /// # use byte_unit::{rendered::{base::*, choice::*, format::*, math::*}, *};
+    /// # use byte_unit::{*, rendered::{base::{size::parse_line, *}, choice::*, format::*, math::*}};
     /// let flags = size::flags_for(Kind::Byte, false);
     /// let named = position::read_unit_text("Kix", flags).map_err(|(stop, next, _)| stop.expected_before(next, flags));
     /// assert!(matches!(named, Err(Expected::EitherB)));
@@ -120,7 +120,7 @@ impl Expected {
     ///
     /// # Examples
     /// ```
-    /// # use byte_unit::{rendered::{base::*, choice::*, format::*, math::*}, *};
+    /// # use byte_unit::{*, rendered::{base::{size::parse_line, *}, choice::*, format::*, math::*}};
     /// assert!(Expected::S.or_end() && !Expected::T.or_end()); // `bit` is a suffix, and `bi` is not.
     /// ```
     #[inline(always)]

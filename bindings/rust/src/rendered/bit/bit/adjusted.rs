@@ -4,7 +4,7 @@
 
 use super::Bit;
 use crate::rendered::base::{Kind, Unit};
-use crate::rendered::choice::{appropriate_unit, UnitType};
+use crate::rendered::choice::{UnitType, appropriate_unit};
 
 mod built_in_traits;
 
@@ -12,7 +12,7 @@ mod built_in_traits;
 ///
 /// # Examples
 /// ```
-/// # use byte_unit::{rendered::{base::*, choice::*, format::*, math::*}, *};
+/// # use byte_unit::{*, rendered::{base::{size::parse_line, *}, choice::*, format::*, math::*}};
 /// let adjusted = Bit::from_u64(123_456).get_adjusted_unit(Unit::Kbit);
 /// assert_eq!(adjusted.to_string(), "123.456 Kb");
 /// assert_eq!(adjusted, Bit::from_u64(123_456).get_adjusted_unit(Unit::Mibit));
@@ -28,10 +28,11 @@ impl AdjustedBit {
     ///
     /// # Examples
     /// ```
-    /// # use byte_unit::{rendered::{base::*, choice::*, format::*, math::*}, *};
+    /// # use byte_unit::{*, rendered::{base::{size::parse_line, *}, choice::*, format::*, math::*}};
     /// assert_eq!(Bit::MEGABIT.get_adjusted_unit(Unit::Kibit).get_unit(), Unit::Kibit);
     /// ```
-    pub fn get_unit(&self) -> Unit {
+    #[inline]
+    pub const fn get_unit(&self) -> Unit {
         self.unit
     }
 
@@ -39,10 +40,11 @@ impl AdjustedBit {
     ///
     /// # Examples
     /// ```
-    /// # use byte_unit::{rendered::{base::*, choice::*, format::*, math::*}, *};
+    /// # use byte_unit::{*, rendered::{base::{size::parse_line, *}, choice::*, format::*, math::*}};
     /// assert_eq!(Bit::MEGABIT.get_adjusted_unit(Unit::Kibit).get_bit(), Bit::MEGABIT);
     /// ```
-    pub fn get_bit(&self) -> Bit {
+    #[inline]
+    pub const fn get_bit(&self) -> Bit {
         self.size
     }
 }
@@ -52,11 +54,12 @@ impl Bit {
     ///
     /// # Examples
     /// ```
-    /// # use byte_unit::{rendered::{base::*, choice::*, format::*, math::*}, *};
+    /// # use byte_unit::{*, rendered::{base::{size::parse_line, *}, choice::*, format::*, math::*}};
     /// let adjusted = Bit::from_u64(123_456).get_adjusted_unit(Unit::Kbit);
     /// assert_eq!(adjusted.to_string(), "123.456 Kb");
     /// ```
-    pub fn get_adjusted_unit(self, unit: Unit) -> AdjustedBit {
+    #[inline]
+    pub const fn get_adjusted_unit(self, unit: Unit) -> AdjustedBit {
         AdjustedBit { size: self, unit }
     }
 
@@ -65,7 +68,7 @@ impl Bit {
     ///
     /// # Examples
     /// ```
-    /// # use byte_unit::{rendered::{base::*, choice::*, format::*, math::*}, *};
+    /// # use byte_unit::{*, rendered::{base::{size::parse_line, *}, choice::*, format::*, math::*}};
     /// let size = Bit::from_u64(10_000);
     /// assert_eq!(size.get_appropriate_unit(UnitType::Both).get_unit(), Unit::Kibit);
     /// assert_eq!(size.get_appropriate_unit(UnitType::Decimal).get_unit(), Unit::Kbit);

@@ -3,7 +3,7 @@
 //! Parsing of sizes in bits whose decimal prefixes mean binary ones.
 
 use super::Bit;
-use crate::rendered::base::{binary, Kind, ParseError};
+use crate::rendered::base::{Kind, ParseError, binary};
 
 impl Bit {
     /// Parses a size from a string, as [`Bit::parse_str`] does, except that a decimal prefix means the binary one:
@@ -16,7 +16,7 @@ impl Bit {
     ///
     /// # Examples
     /// ```
-    /// # use byte_unit::{rendered::{base::*, choice::*, format::*, math::*}, *};
+    /// # use byte_unit::{*, rendered::{base::{size::parse_line, *}, choice::*, format::*, math::*}};
     /// assert_eq!(Bit::parse_str_binary("10m")?, Bit::from_u64(10_485_760));
     /// assert_eq!(Bit::parse_str_binary("128Mb")?, Bit::parse_str("128Mib")?);
     /// assert_eq!(Bit::parse_str_binary("1.5 Ki")?, Bit::from_u64(1536));
@@ -24,7 +24,9 @@ impl Bit {
     /// assert!(matches!(result, Err(ParseError::Value(ValueParseError::ExceededBounds(_)))));
     /// # Ok::<(), Box<dyn std::error::Error>>(())
     /// ```
-    pub fn parse_str_binary(s: &str) -> Result<Bit, ParseError> {
+    #[inline]
+    pub fn parse_str_binary<S: AsRef<str>>(s: S) -> Result<Bit, ParseError> {
+        let s = s.as_ref();
         let size = binary::parse(s, false, Kind::Bit)?;
         Ok(Bit { size })
     }
@@ -34,11 +36,12 @@ impl Bit {
     ///
     /// # Examples
     /// ```
-    /// # use byte_unit::{rendered::{base::*, choice::*, format::*, math::*}, *};
+    /// # use byte_unit::{*, rendered::{base::{size::parse_line, *}, choice::*, format::*, math::*}};
     /// let size = Bit::parse_bytes_binary(b"1.5 Kb");
     /// assert!(matches!(size, Some(Ok(size)) if size == Bit::from_u64(1536)));
     /// assert!(Bit::parse_bytes_binary(b"1 Kb\xFF").is_none());
     /// ```
+    #[inline]
     pub fn parse_bytes_binary(bytes: &[u8]) -> Option<Result<Bit, ParseError>> {
         match binary::parse_bytes(bytes, false, Kind::Bit)? {
             Ok(size) => Some(Ok(Bit { size })),

@@ -9,6 +9,7 @@ use core::str::FromStr;
 
 /// Returns the size zero.
 impl Default for Bit {
+    #[inline]
     fn default() -> Bit {
         Bit::MIN
     }
@@ -18,6 +19,7 @@ impl Default for Bit {
 impl FromStr for Bit {
     type Err = ParseError;
 
+    #[inline]
     fn from_str(s: &str) -> Result<Bit, ParseError> {
         Bit::parse_str(s)
     }
@@ -25,6 +27,7 @@ impl FromStr for Bit {
 
 /// Creates a `Bit` from a number of bits.
 impl From<u8> for Bit {
+    #[inline]
     fn from(size: u8) -> Bit {
         Bit::from_u64(u64::from(size))
     }
@@ -32,6 +35,7 @@ impl From<u8> for Bit {
 
 /// Creates a `Bit` from a number of bits.
 impl From<u16> for Bit {
+    #[inline]
     fn from(size: u16) -> Bit {
         Bit::from_u64(u64::from(size))
     }
@@ -39,6 +43,7 @@ impl From<u16> for Bit {
 
 /// Creates a `Bit` from a number of bits.
 impl From<u32> for Bit {
+    #[inline]
     fn from(size: u32) -> Bit {
         Bit::from_u64(u64::from(size))
     }
@@ -46,6 +51,7 @@ impl From<u32> for Bit {
 
 /// Creates a `Bit` from a number of bits.
 impl From<u64> for Bit {
+    #[inline]
     fn from(size: u64) -> Bit {
         Bit::from_u64(size)
     }
@@ -53,6 +59,7 @@ impl From<u64> for Bit {
 
 /// Creates a `Bit` from a number of bits.
 impl From<usize> for Bit {
+    #[inline]
     fn from(size: usize) -> Bit {
         // `usize` is no wider than `u64`.
         Bit::from_u64(size as u64)
@@ -66,6 +73,7 @@ impl From<usize> for Bit {
 impl TryFrom<u128> for Bit {
     type Error = ExceededBoundsError;
 
+    #[inline]
     fn try_from(size: u128) -> Result<Bit, ExceededBoundsError> {
         Bit::from_u128(size).ok_or(ExceededBoundsError)
     }
@@ -78,6 +86,7 @@ impl TryFrom<u128> for Bit {
 impl TryFrom<i128> for Bit {
     type Error = ExceededBoundsError;
 
+    #[inline]
     fn try_from(size: i128) -> Result<Bit, ExceededBoundsError> {
         Bit::from_i128(size).ok_or(ExceededBoundsError)
     }
@@ -90,6 +99,7 @@ impl TryFrom<i128> for Bit {
 impl TryFrom<i64> for Bit {
     type Error = ExceededBoundsError;
 
+    #[inline]
     fn try_from(size: i64) -> Result<Bit, ExceededBoundsError> {
         Bit::from_i64(size).ok_or(ExceededBoundsError)
     }
@@ -102,6 +112,7 @@ impl TryFrom<i64> for Bit {
 impl TryFrom<i32> for Bit {
     type Error = ExceededBoundsError;
 
+    #[inline]
     fn try_from(size: i32) -> Result<Bit, ExceededBoundsError> {
         Bit::from_i64(i64::from(size)).ok_or(ExceededBoundsError)
     }
@@ -114,6 +125,7 @@ impl TryFrom<i32> for Bit {
 impl TryFrom<i16> for Bit {
     type Error = ExceededBoundsError;
 
+    #[inline]
     fn try_from(size: i16) -> Result<Bit, ExceededBoundsError> {
         Bit::from_i64(i64::from(size)).ok_or(ExceededBoundsError)
     }
@@ -126,6 +138,7 @@ impl TryFrom<i16> for Bit {
 impl TryFrom<i8> for Bit {
     type Error = ExceededBoundsError;
 
+    #[inline]
     fn try_from(size: i8) -> Result<Bit, ExceededBoundsError> {
         Bit::from_i64(i64::from(size)).ok_or(ExceededBoundsError)
     }
@@ -138,6 +151,7 @@ impl TryFrom<i8> for Bit {
 impl TryFrom<isize> for Bit {
     type Error = ExceededBoundsError;
 
+    #[inline]
     fn try_from(size: isize) -> Result<Bit, ExceededBoundsError> {
         Bit::from_i64(size as i64).ok_or(ExceededBoundsError)
     }
@@ -145,6 +159,7 @@ impl TryFrom<isize> for Bit {
 
 /// Returns the number of bits.
 impl From<Bit> for u128 {
+    #[inline]
     fn from(size: Bit) -> u128 {
         size.as_u128()
     }
@@ -152,6 +167,7 @@ impl From<Bit> for u128 {
 
 /// Returns the number of bits, or 2^64 - 1 if it is larger.
 impl From<Bit> for u64 {
+    #[inline]
     fn from(size: Bit) -> u64 {
         size.as_u64()
     }
@@ -164,6 +180,7 @@ impl From<Bit> for u64 {
 impl TryFrom<Bit> for u32 {
     type Error = TryFromIntError;
 
+    #[inline]
     fn try_from(size: Bit) -> Result<u32, TryFromIntError> {
         u32::try_from(size.as_u128())
     }
@@ -176,6 +193,7 @@ impl TryFrom<Bit> for u32 {
 impl TryFrom<Bit> for u16 {
     type Error = TryFromIntError;
 
+    #[inline]
     fn try_from(size: Bit) -> Result<u16, TryFromIntError> {
         u16::try_from(size.as_u128())
     }
@@ -188,6 +206,7 @@ impl TryFrom<Bit> for u16 {
 impl TryFrom<Bit> for u8 {
     type Error = TryFromIntError;
 
+    #[inline]
     fn try_from(size: Bit) -> Result<u8, TryFromIntError> {
         u8::try_from(size.as_u128())
     }
@@ -200,6 +219,7 @@ impl TryFrom<Bit> for u8 {
 impl TryFrom<Bit> for usize {
     type Error = TryFromIntError;
 
+    #[inline]
     fn try_from(size: Bit) -> Result<usize, TryFromIntError> {
         usize::try_from(size.as_u128())
     }

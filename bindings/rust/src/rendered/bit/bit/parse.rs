@@ -3,7 +3,7 @@
 //! Parsing of sizes in bits.
 
 use super::Bit;
-use crate::rendered::base::{size, Kind, ParseError};
+use crate::rendered::base::{Kind, ParseError, size};
 
 impl Bit {
     /// Parses a size from a string, rounded up to a whole bit. Does not allocate.
@@ -26,7 +26,7 @@ impl Bit {
     ///
     /// # Examples
     /// ```
-    /// # use byte_unit::{rendered::{base::*, choice::*, format::*, math::*}, *};
+    /// # use byte_unit::{*, rendered::{base::{size::parse_line, *}, choice::*, format::*, math::*}};
     /// assert_eq!(Bit::parse_str("50.84 Mb")?, Bit::from_u64(50_840_000));
     /// assert_eq!(Bit::parse_str("9 b")?, Bit::from_u64(9));
     /// assert_eq!(Bit::parse_str("9 B")?, Bit::from_u64(72));
@@ -36,7 +36,9 @@ impl Bit {
     /// assert!(matches!(result, Err(ParseError::Value(ValueParseError::ExceededBounds(_)))));
     /// # Ok::<(), Box<dyn std::error::Error>>(())
     /// ```
-    pub fn parse_str(s: &str) -> Result<Bit, ParseError> {
+    #[inline]
+    pub fn parse_str<S: AsRef<str>>(s: S) -> Result<Bit, ParseError> {
+        let s = s.as_ref();
         let size = size::parse(s, false, Kind::Bit)?;
         Ok(Bit { size })
     }
@@ -47,7 +49,7 @@ impl Bit {
     ///
     /// # Examples
     /// ```
-    /// # use byte_unit::{rendered::{base::*, choice::*, format::*, math::*}, *};
+    /// # use byte_unit::{*, rendered::{base::{size::parse_line, *}, choice::*, format::*, math::*}};
     /// let size = Bit::parse_bytes(b"1.5 Kib");
     /// assert!(matches!(size, Some(Ok(size)) if size == Bit::from_u64(1536)));
     /// let result = Bit::parse_bytes(b"1.");
@@ -67,11 +69,12 @@ impl Bit {
     ///
     /// # Examples
     /// ```
-    /// # use byte_unit::{rendered::{base::*, choice::*, format::*, math::*}, *};
+    /// # use byte_unit::{*, rendered::{base::{size::parse_line, *}, choice::*, format::*, math::*}};
     /// let size = Bit::parse_line(b"1.5 Kib\n12\n", 7);
     /// assert!(matches!(size, Some(Ok(size)) if size == Bit::from_u64(1536)));
     /// ```
     #[inline(always)]
+    #[doc(hidden)]
     pub fn parse_line(bytes: &[u8], len: usize) -> Option<Result<Bit, ParseError>> {
         match size::parse_line::<false>(bytes, len, false, Kind::Bit)? {
             Ok(size) => Some(Ok(Bit { size })),

@@ -15,13 +15,15 @@ impl Bit {
     ///
     /// # Examples
     /// ```
-    /// # use byte_unit::{rendered::{base::*, choice::*, format::*, math::*}, *};
+    /// # use byte_unit::{*, rendered::{base::{size::parse_line, *}, choice::*, format::*, math::*}};
     /// assert_eq!(Bit::error_position("1 bite"), Some(5));
     /// assert_eq!(Bit::error_position("  1."), Some(4));
     /// assert_eq!(Bit::error_position("0.12345678901234567890123456789 Kb"), Some(30));
     /// assert_eq!(Bit::error_position("1.5 Kib"), None);
     /// ```
-    pub fn error_position(s: &str) -> Option<usize> {
+    #[inline]
+    pub fn error_position<S: AsRef<str>>(s: S) -> Option<usize> {
+        let s = s.as_ref();
         position::of_size_error(s)
     }
 }

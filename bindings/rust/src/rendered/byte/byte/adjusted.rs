@@ -4,7 +4,7 @@
 
 use super::Byte;
 use crate::rendered::base::{Kind, Unit};
-use crate::rendered::choice::{appropriate_unit, UnitType};
+use crate::rendered::choice::{UnitType, appropriate_unit};
 
 mod built_in_traits;
 
@@ -12,7 +12,7 @@ mod built_in_traits;
 ///
 /// # Examples
 /// ```
-/// # use byte_unit::{rendered::{base::*, choice::*, format::*, math::*}, *};
+/// # use byte_unit::{*, rendered::{base::{size::parse_line, *}, choice::*, format::*, math::*}};
 /// let adjusted = Byte::from_u64(123_456).get_adjusted_unit(Unit::KB);
 /// assert_eq!(adjusted.to_string(), "123.456 KB");
 /// assert_eq!(adjusted, Byte::from_u64(123_456).get_adjusted_unit(Unit::MiB));
@@ -28,10 +28,11 @@ impl AdjustedByte {
     ///
     /// # Examples
     /// ```
-    /// # use byte_unit::{rendered::{base::*, choice::*, format::*, math::*}, *};
+    /// # use byte_unit::{*, rendered::{base::{size::parse_line, *}, choice::*, format::*, math::*}};
     /// assert_eq!(Byte::MEGABYTE.get_adjusted_unit(Unit::KiB).get_unit(), Unit::KiB);
     /// ```
-    pub fn get_unit(&self) -> Unit {
+    #[inline]
+    pub const fn get_unit(&self) -> Unit {
         self.unit
     }
 
@@ -39,10 +40,11 @@ impl AdjustedByte {
     ///
     /// # Examples
     /// ```
-    /// # use byte_unit::{rendered::{base::*, choice::*, format::*, math::*}, *};
+    /// # use byte_unit::{*, rendered::{base::{size::parse_line, *}, choice::*, format::*, math::*}};
     /// assert_eq!(Byte::MEGABYTE.get_adjusted_unit(Unit::KiB).get_byte(), Byte::MEGABYTE);
     /// ```
-    pub fn get_byte(&self) -> Byte {
+    #[inline]
+    pub const fn get_byte(&self) -> Byte {
         self.size
     }
 }
@@ -52,11 +54,12 @@ impl Byte {
     ///
     /// # Examples
     /// ```
-    /// # use byte_unit::{rendered::{base::*, choice::*, format::*, math::*}, *};
+    /// # use byte_unit::{*, rendered::{base::{size::parse_line, *}, choice::*, format::*, math::*}};
     /// let adjusted = Byte::from_u64(123_456).get_adjusted_unit(Unit::KB);
     /// assert_eq!(adjusted.to_string(), "123.456 KB");
     /// ```
-    pub fn get_adjusted_unit(self, unit: Unit) -> AdjustedByte {
+    #[inline]
+    pub const fn get_adjusted_unit(self, unit: Unit) -> AdjustedByte {
         AdjustedByte { size: self, unit }
     }
 
@@ -65,7 +68,7 @@ impl Byte {
     ///
     /// # Examples
     /// ```
-    /// # use byte_unit::{rendered::{base::*, choice::*, format::*, math::*}, *};
+    /// # use byte_unit::{*, rendered::{base::{size::parse_line, *}, choice::*, format::*, math::*}};
     /// let size = Byte::from_u64(10_000);
     /// assert_eq!(size.get_appropriate_unit(UnitType::Both).get_unit(), Unit::KiB);
     /// assert_eq!(size.get_appropriate_unit(UnitType::Decimal).get_unit(), Unit::KB);

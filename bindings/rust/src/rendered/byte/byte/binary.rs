@@ -3,7 +3,7 @@
 //! Parsing of sizes in bytes whose decimal prefixes mean binary ones.
 
 use super::Byte;
-use crate::rendered::base::{binary, Kind, ParseError};
+use crate::rendered::base::{Kind, ParseError, binary};
 
 impl Byte {
     /// Parses a size from a string, as [`Byte::parse_str`] does, except that a decimal prefix means the binary one:
@@ -17,7 +17,7 @@ impl Byte {
     ///
     /// # Examples
     /// ```
-    /// # use byte_unit::{rendered::{base::*, choice::*, format::*, math::*}, *};
+    /// # use byte_unit::{*, rendered::{base::{size::parse_line, *}, choice::*, format::*, math::*}};
     /// assert_eq!(Byte::parse_str_binary("10m", false)?, Byte::from_u64(10_485_760));
     /// assert_eq!(Byte::parse_str_binary("128MB", false)?, Byte::parse_str("128MiB", false)?);
     /// assert_eq!(Byte::parse_str_binary("1.5 Ki", false)?, Byte::from_u64(1536));
@@ -25,7 +25,9 @@ impl Byte {
     /// assert!(matches!(result, Err(ParseError::Value(ValueParseError::ExceededBounds(_)))));
     /// # Ok::<(), Box<dyn std::error::Error>>(())
     /// ```
-    pub fn parse_str_binary(s: &str, ignore_case: bool) -> Result<Byte, ParseError> {
+    #[inline]
+    pub fn parse_str_binary<S: AsRef<str>>(s: S, ignore_case: bool) -> Result<Byte, ParseError> {
+        let s = s.as_ref();
         let size = binary::parse(s, ignore_case, Kind::Byte)?;
         Ok(Byte { size })
     }
@@ -35,11 +37,12 @@ impl Byte {
     ///
     /// # Examples
     /// ```
-    /// # use byte_unit::{rendered::{base::*, choice::*, format::*, math::*}, *};
+    /// # use byte_unit::{*, rendered::{base::{size::parse_line, *}, choice::*, format::*, math::*}};
     /// let size = Byte::parse_bytes_binary(b"1.5 KB", false);
     /// assert!(matches!(size, Some(Ok(size)) if size == Byte::from_u64(1536)));
     /// assert!(Byte::parse_bytes_binary(b"1 KB\xFF", false).is_none());
     /// ```
+    #[inline]
     pub fn parse_bytes_binary(bytes: &[u8], ignore_case: bool) -> Option<Result<Byte, ParseError>> {
         match binary::parse_bytes(bytes, ignore_case, Kind::Byte)? {
             Ok(size) => Some(Ok(Byte { size })),

@@ -9,6 +9,7 @@ use core::str::FromStr;
 
 /// Returns the size zero.
 impl Default for Byte {
+    #[inline]
     fn default() -> Byte {
         Byte::MIN
     }
@@ -18,6 +19,7 @@ impl Default for Byte {
 impl FromStr for Byte {
     type Err = ParseError;
 
+    #[inline]
     fn from_str(s: &str) -> Result<Byte, ParseError> {
         Byte::parse_str(s, false)
     }
@@ -25,6 +27,7 @@ impl FromStr for Byte {
 
 /// Creates a `Byte` from a number of bytes.
 impl From<u8> for Byte {
+    #[inline]
     fn from(size: u8) -> Byte {
         Byte::from_u64(u64::from(size))
     }
@@ -32,6 +35,7 @@ impl From<u8> for Byte {
 
 /// Creates a `Byte` from a number of bytes.
 impl From<u16> for Byte {
+    #[inline]
     fn from(size: u16) -> Byte {
         Byte::from_u64(u64::from(size))
     }
@@ -39,6 +43,7 @@ impl From<u16> for Byte {
 
 /// Creates a `Byte` from a number of bytes.
 impl From<u32> for Byte {
+    #[inline]
     fn from(size: u32) -> Byte {
         Byte::from_u64(u64::from(size))
     }
@@ -46,6 +51,7 @@ impl From<u32> for Byte {
 
 /// Creates a `Byte` from a number of bytes.
 impl From<u64> for Byte {
+    #[inline]
     fn from(size: u64) -> Byte {
         Byte::from_u64(size)
     }
@@ -53,6 +59,7 @@ impl From<u64> for Byte {
 
 /// Creates a `Byte` from a number of bytes.
 impl From<usize> for Byte {
+    #[inline]
     fn from(size: usize) -> Byte {
         // `usize` is no wider than `u64`.
         Byte::from_u64(size as u64)
@@ -66,6 +73,7 @@ impl From<usize> for Byte {
 impl TryFrom<u128> for Byte {
     type Error = ExceededBoundsError;
 
+    #[inline]
     fn try_from(size: u128) -> Result<Byte, ExceededBoundsError> {
         Byte::from_u128(size).ok_or(ExceededBoundsError)
     }
@@ -78,6 +86,7 @@ impl TryFrom<u128> for Byte {
 impl TryFrom<i128> for Byte {
     type Error = ExceededBoundsError;
 
+    #[inline]
     fn try_from(size: i128) -> Result<Byte, ExceededBoundsError> {
         Byte::from_i128(size).ok_or(ExceededBoundsError)
     }
@@ -90,6 +99,7 @@ impl TryFrom<i128> for Byte {
 impl TryFrom<i64> for Byte {
     type Error = ExceededBoundsError;
 
+    #[inline]
     fn try_from(size: i64) -> Result<Byte, ExceededBoundsError> {
         Byte::from_i64(size).ok_or(ExceededBoundsError)
     }
@@ -102,6 +112,7 @@ impl TryFrom<i64> for Byte {
 impl TryFrom<i32> for Byte {
     type Error = ExceededBoundsError;
 
+    #[inline]
     fn try_from(size: i32) -> Result<Byte, ExceededBoundsError> {
         Byte::from_i64(i64::from(size)).ok_or(ExceededBoundsError)
     }
@@ -114,6 +125,7 @@ impl TryFrom<i32> for Byte {
 impl TryFrom<i16> for Byte {
     type Error = ExceededBoundsError;
 
+    #[inline]
     fn try_from(size: i16) -> Result<Byte, ExceededBoundsError> {
         Byte::from_i64(i64::from(size)).ok_or(ExceededBoundsError)
     }
@@ -126,6 +138,7 @@ impl TryFrom<i16> for Byte {
 impl TryFrom<i8> for Byte {
     type Error = ExceededBoundsError;
 
+    #[inline]
     fn try_from(size: i8) -> Result<Byte, ExceededBoundsError> {
         Byte::from_i64(i64::from(size)).ok_or(ExceededBoundsError)
     }
@@ -138,6 +151,7 @@ impl TryFrom<i8> for Byte {
 impl TryFrom<isize> for Byte {
     type Error = ExceededBoundsError;
 
+    #[inline]
     fn try_from(size: isize) -> Result<Byte, ExceededBoundsError> {
         Byte::from_i64(size as i64).ok_or(ExceededBoundsError)
     }
@@ -145,6 +159,7 @@ impl TryFrom<isize> for Byte {
 
 /// Returns the number of bytes.
 impl From<Byte> for u128 {
+    #[inline]
     fn from(size: Byte) -> u128 {
         size.as_u128()
     }
@@ -152,6 +167,7 @@ impl From<Byte> for u128 {
 
 /// Returns the number of bytes, or 2^64 - 1 if it is larger.
 impl From<Byte> for u64 {
+    #[inline]
     fn from(size: Byte) -> u64 {
         size.as_u64()
     }
@@ -164,6 +180,7 @@ impl From<Byte> for u64 {
 impl TryFrom<Byte> for u32 {
     type Error = TryFromIntError;
 
+    #[inline]
     fn try_from(size: Byte) -> Result<u32, TryFromIntError> {
         u32::try_from(size.as_u128())
     }
@@ -176,6 +193,7 @@ impl TryFrom<Byte> for u32 {
 impl TryFrom<Byte> for u16 {
     type Error = TryFromIntError;
 
+    #[inline]
     fn try_from(size: Byte) -> Result<u16, TryFromIntError> {
         u16::try_from(size.as_u128())
     }
@@ -188,6 +206,7 @@ impl TryFrom<Byte> for u16 {
 impl TryFrom<Byte> for u8 {
     type Error = TryFromIntError;
 
+    #[inline]
     fn try_from(size: Byte) -> Result<u8, TryFromIntError> {
         u8::try_from(size.as_u128())
     }
@@ -200,6 +219,7 @@ impl TryFrom<Byte> for u8 {
 impl TryFrom<Byte> for usize {
     type Error = TryFromIntError;
 
+    #[inline]
     fn try_from(size: Byte) -> Result<usize, TryFromIntError> {
         usize::try_from(size.as_u128())
     }

@@ -3,7 +3,7 @@
 //! Sizes in bytes from decimals.
 
 use super::Byte;
-use crate::rendered::base::{size, Kind, Unit};
+use crate::rendered::base::{Kind, Unit, size};
 use crate::rendered::math::Decimal;
 
 impl Byte {
@@ -13,12 +13,13 @@ impl Byte {
     ///
     /// # Examples
     /// ```
-    /// # use byte_unit::{rendered::{base::*, choice::*, format::*, math::*}, *};
+    /// # use byte_unit::{*, rendered::{base::{size::parse_line, *}, choice::*, format::*, math::*}};
     /// let number = Decimal::from_u128_with_scale(5084, 2);
     /// assert_eq!(number.and_then(Byte::from_decimal), Some(Byte::from_u64(51)));
     /// let number = Decimal::from_u128(Byte::MAX.as_u128());
     /// assert_eq!(number.and_then(Byte::from_decimal), Some(Byte::MAX));
     /// ```
+    #[inline]
     pub fn from_decimal(size: Decimal) -> Option<Byte> {
         Byte::from_decimal_with_unit(size, Unit::B)
     }
@@ -29,12 +30,13 @@ impl Byte {
     ///
     /// # Examples
     /// ```
-    /// # use byte_unit::{rendered::{base::*, choice::*, format::*, math::*}, *};
+    /// # use byte_unit::{*, rendered::{base::{size::parse_line, *}, choice::*, format::*, math::*}};
     /// let number = Decimal::from(3u8);
     /// assert_eq!(Byte::from_decimal_with_unit(number, Unit::KiB), Some(Byte::from_u64(3072)));
     /// let number = Decimal::from(1000u16);
     /// assert_eq!(Byte::from_decimal_with_unit(number, Unit::RB), None);
     /// ```
+    #[inline]
     pub fn from_decimal_with_unit(size: Decimal, unit: Unit) -> Option<Byte> {
         let size = size::from_decimal(size, unit, Kind::Byte)?;
         Some(Byte { size })

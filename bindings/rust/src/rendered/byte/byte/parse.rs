@@ -3,7 +3,7 @@
 //! Parsing of sizes in bytes.
 
 use super::Byte;
-use crate::rendered::base::{size, Kind, ParseError};
+use crate::rendered::base::{Kind, ParseError, size};
 
 impl Byte {
     /// Parses a size from a string, rounded up to a whole byte. Does not allocate.
@@ -26,7 +26,7 @@ impl Byte {
     ///
     /// # Examples
     /// ```
-    /// # use byte_unit::{rendered::{base::*, choice::*, format::*, math::*}, *};
+    /// # use byte_unit::{*, rendered::{base::{size::parse_line, *}, choice::*, format::*, math::*}};
     /// assert_eq!(Byte::parse_str("50.84 MB", false)?, Byte::from_u64(50_840_000));
     /// assert_eq!(Byte::parse_str("9 b", true)?, Byte::from_u64(9));
     /// assert_eq!(Byte::parse_str("9 b", false)?, Byte::from_u64(2));
@@ -36,7 +36,9 @@ impl Byte {
     /// assert!(matches!(result, Err(ParseError::Value(ValueParseError::ExceededBounds(_)))));
     /// # Ok::<(), Box<dyn std::error::Error>>(())
     /// ```
-    pub fn parse_str(s: &str, ignore_case: bool) -> Result<Byte, ParseError> {
+    #[inline]
+    pub fn parse_str<S: AsRef<str>>(s: S, ignore_case: bool) -> Result<Byte, ParseError> {
+        let s = s.as_ref();
         let size = size::parse(s, ignore_case, Kind::Byte)?;
         Ok(Byte { size })
     }
@@ -47,7 +49,7 @@ impl Byte {
     ///
     /// # Examples
     /// ```
-    /// # use byte_unit::{rendered::{base::*, choice::*, format::*, math::*}, *};
+    /// # use byte_unit::{*, rendered::{base::{size::parse_line, *}, choice::*, format::*, math::*}};
     /// let size = Byte::parse_bytes(b"1.5 KiB", false);
     /// assert!(matches!(size, Some(Ok(size)) if size == Byte::from_u64(1536)));
     /// let result = Byte::parse_bytes(b"1.", false);
@@ -67,11 +69,12 @@ impl Byte {
     ///
     /// # Examples
     /// ```
-    /// # use byte_unit::{rendered::{base::*, choice::*, format::*, math::*}, *};
+    /// # use byte_unit::{*, rendered::{base::{size::parse_line, *}, choice::*, format::*, math::*}};
     /// let size = Byte::parse_line(b"1.5 KiB\n12\n", 7, false);
     /// assert!(matches!(size, Some(Ok(size)) if size == Byte::from_u64(1536)));
     /// ```
     #[inline(always)]
+    #[doc(hidden)]
     pub fn parse_line(bytes: &[u8], len: usize, ignore_case: bool) -> Option<Result<Byte, ParseError>> {
         match size::parse_line::<false>(bytes, len, ignore_case, Kind::Byte)? {
             Ok(size) => Some(Ok(Byte { size })),

@@ -15,13 +15,15 @@ impl Byte {
     ///
     /// # Examples
     /// ```
-    /// # use byte_unit::{rendered::{base::*, choice::*, format::*, math::*}, *};
+    /// # use byte_unit::{*, rendered::{base::{size::parse_line, *}, choice::*, format::*, math::*}};
     /// assert_eq!(Byte::error_position("1 byte"), Some(3));
     /// assert_eq!(Byte::error_position("  1."), Some(4));
     /// assert_eq!(Byte::error_position("0.12345678901234567890123456789 KB"), Some(30));
     /// assert_eq!(Byte::error_position("1.5 KiB"), None);
     /// ```
-    pub fn error_position(s: &str) -> Option<usize> {
+    #[inline]
+    pub fn error_position<S: AsRef<str>>(s: S) -> Option<usize> {
+        let s = s.as_ref();
         position::of_size_error(s)
     }
 }

@@ -15,11 +15,12 @@ impl Byte {
     ///
     /// # Examples
     /// ```
-    /// # use byte_unit::{rendered::{base::*, choice::*, format::*, math::*}, *};
+    /// # use byte_unit::{*, rendered::{base::{size::parse_line, *}, choice::*, format::*, math::*}};
     /// assert_eq!(Byte::from_u64(50_840_000).get_exact_unit(false), (50_840, Unit::KB));
     /// assert_eq!(Byte::MEGABIT.get_exact_unit(true), (1, Unit::Mbit));
     /// assert_eq!(Byte::from_u64(999).get_exact_unit(false), (999, Unit::B));
     /// ```
+    #[inline]
     pub fn get_exact_unit(self, allow_in_bits: bool) -> (u128, Unit) {
         exact_unit(self.size, Kind::Byte, allow_in_bits)
     }
@@ -33,13 +34,14 @@ impl Byte {
     ///
     /// # Examples
     /// ```
-    /// # use byte_unit::{rendered::{base::*, choice::*, format::*, math::*}, *};
+    /// # use byte_unit::{*, rendered::{base::{size::parse_line, *}, choice::*, format::*, math::*}};
     /// let (number, unit) = Byte::from_u64(50_840_000).get_recoverable_unit(false, 2);
     /// assert_eq!(Some(number), Decimal::from_u128_with_scale(5084, 2));
     /// assert_eq!(unit, Unit::MB);
     /// assert_eq!(Byte::from_u64(50_840_000).get_recoverable_unit(false, 1).1, Unit::KB);
     /// assert_eq!(Byte::MEGABIT.get_recoverable_unit(true, 3).1, Unit::Mbit);
     /// ```
+    #[inline]
     pub fn get_recoverable_unit(self, allow_in_bits: bool, precision: usize) -> (Decimal, Unit) {
         self.get_recoverable_unit_counted(allow_in_bits, precision, &mut Steps::new())
     }
@@ -52,11 +54,13 @@ impl Byte {
     ///
     /// # Examples
     /// ```
-    /// # use byte_unit::{rendered::{base::*, choice::*, format::*, math::*}, *};
+    /// # use byte_unit::{*, rendered::{base::{size::parse_line, *}, choice::*, format::*, math::*}};
     /// let mut steps = Steps::new();
-    /// Byte::from_u128_unsafe(7 << 87).get_recoverable_unit_counted(true, 27, &mut steps);
+    /// unsafe { Byte::from_u128_unsafe(7 << 87) }.get_recoverable_unit_counted(true, 27, &mut steps);
     /// assert_eq!(steps.count(), 116);
     /// ```
+    #[inline]
+    #[doc(hidden)]
     pub fn get_recoverable_unit_counted(
         self,
         allow_in_bits: bool,

@@ -11,6 +11,7 @@ use core::str::FromStr;
 
 /// Compares the sizes for equality, whatever the units.
 impl PartialEq for AdjustedBit {
+    #[inline]
     fn eq(&self, other: &AdjustedBit) -> bool {
         self.get_bit() == other.get_bit()
     }
@@ -20,12 +21,14 @@ impl Eq for AdjustedBit {}
 
 /// Compares the sizes, whatever the units.
 impl Ord for AdjustedBit {
+    #[inline]
     fn cmp(&self, other: &AdjustedBit) -> Ordering {
         self.get_bit().cmp(&other.get_bit())
     }
 }
 
 impl PartialOrd for AdjustedBit {
+    #[inline]
     fn partial_cmp(&self, other: &AdjustedBit) -> Option<Ordering> {
         Some(self.cmp(other))
     }
@@ -33,6 +36,7 @@ impl PartialOrd for AdjustedBit {
 
 /// Returns the size with the largest unit of bits that is at most the size, or with `Unit::Bit` if there is none.
 impl From<Bit> for AdjustedBit {
+    #[inline]
     fn from(size: Bit) -> AdjustedBit {
         size.get_appropriate_unit(UnitType::Both)
     }
@@ -40,6 +44,7 @@ impl From<Bit> for AdjustedBit {
 
 /// Returns the size, exactly.
 impl From<AdjustedBit> for Bit {
+    #[inline]
     fn from(adjusted: AdjustedBit) -> Bit {
         adjusted.get_bit()
     }
@@ -47,6 +52,7 @@ impl From<AdjustedBit> for Bit {
 
 /// Returns the unit.
 impl From<AdjustedBit> for Unit {
+    #[inline]
     fn from(adjusted: AdjustedBit) -> Unit {
         adjusted.get_unit()
     }
@@ -57,6 +63,7 @@ impl From<AdjustedBit> for Unit {
 impl FromStr for AdjustedBit {
     type Err = ParseError;
 
+    #[inline]
     fn from_str(s: &str) -> Result<AdjustedBit, ParseError> {
         let size: Bit = s.parse()?;
         Ok(AdjustedBit::from(size))

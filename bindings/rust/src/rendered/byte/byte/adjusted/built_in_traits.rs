@@ -11,6 +11,7 @@ use core::str::FromStr;
 
 /// Compares the sizes for equality, whatever the units.
 impl PartialEq for AdjustedByte {
+    #[inline]
     fn eq(&self, other: &AdjustedByte) -> bool {
         self.get_byte() == other.get_byte()
     }
@@ -20,12 +21,14 @@ impl Eq for AdjustedByte {}
 
 /// Compares the sizes, whatever the units.
 impl Ord for AdjustedByte {
+    #[inline]
     fn cmp(&self, other: &AdjustedByte) -> Ordering {
         self.get_byte().cmp(&other.get_byte())
     }
 }
 
 impl PartialOrd for AdjustedByte {
+    #[inline]
     fn partial_cmp(&self, other: &AdjustedByte) -> Option<Ordering> {
         Some(self.cmp(other))
     }
@@ -33,6 +36,7 @@ impl PartialOrd for AdjustedByte {
 
 /// Returns the size with the largest unit of bytes that is at most the size, or with `Unit::B` if there is none.
 impl From<Byte> for AdjustedByte {
+    #[inline]
     fn from(size: Byte) -> AdjustedByte {
         size.get_appropriate_unit(UnitType::Both)
     }
@@ -40,6 +44,7 @@ impl From<Byte> for AdjustedByte {
 
 /// Returns the size, exactly.
 impl From<AdjustedByte> for Byte {
+    #[inline]
     fn from(adjusted: AdjustedByte) -> Byte {
         adjusted.get_byte()
     }
@@ -47,6 +52,7 @@ impl From<AdjustedByte> for Byte {
 
 /// Returns the unit.
 impl From<AdjustedByte> for Unit {
+    #[inline]
     fn from(adjusted: AdjustedByte) -> Unit {
         adjusted.get_unit()
     }
@@ -57,6 +63,7 @@ impl From<AdjustedByte> for Unit {
 impl FromStr for AdjustedByte {
     type Err = ParseError;
 
+    #[inline]
     fn from_str(s: &str) -> Result<AdjustedByte, ParseError> {
         let size: Byte = s.parse()?;
         Ok(AdjustedByte::from(size))

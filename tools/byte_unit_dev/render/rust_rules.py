@@ -1,0 +1,117 @@
+"""The rules by which render/rust.py makes plain Rust of the proved sources, each with its reason.
+
+What is in none of these tables is kept as it is: Rattle is Rust with contracts.
+"""
+
+import re
+
+# Files that are not rendered, by the end of their names.
+LEFT_OUT = {
+    "/laws.rt": "its functions do nothing: the contracts, which are dropped, are the laws",
+    "/json.rt": "the package has serde in place of a type of JSON values",
+    "/capacity.rt": "allocators are not stable, and no call of the package allocates",
+    "/text.rt": "by hand in the original's form, over the functions of `format`",
+    "/approximate.rt": "the same",
+}
+# Items that are not rendered, by how they begin, with their comments and attributes.
+ITEMS_LEFT_OUT = {
+    r"impl(?:<[^>]*>)? Model for \w+": "what a value is in a contract",
+    r"impl Clone for \w+": "Rattle's `clone` may fail; the type is `Copy`, and `Clone` is derived",
+    r"(?:pub )?mod (?:laws|json|text|approximate|capacity);": "see `LEFT_OUT`",
+    r"pub enum JsonSizeError|impl (?:\w+::)?\w+ for JsonSizeError": "see `LEFT_OUT` of `/json.rt`",
+    r"(?:pub(?:\(\w+\))? )?fn \w+(?:<A: Allocator>|\(self, alloc: Global)": "see `LEFT_OUT` of `/capacity.rt`",
+    r"impl fmt::Display for (?:Unit|Decimal|Byte|Bit|AdjustedByte|AdjustedBit)\b":
+        "by hand: the original's obeys the flags of the formatter",
+    r"pub fn from_u128_unsafe": "by hand: the original's is `unsafe`",
+    r"pub fn get_value": "by hand: the original's returns a float",
+    r"(?<=    )pub fn (?:text_len|write_text)\(self": "see `LEFT_OUT` of `/text.rt`",
+}  # fmt: skip
+# Paths of names that are left out with their items.
+NAMES_LEFT_OUT = re.compile(r".*::(?:append_\w+|JsonSizeError)|crate::capacity::.*")
+# Attributes, by their first word: whether they are kept. `inline` is added, see `INLINED`.
+ATTRIBUTES = {"tactic": False, "inline": True, "cold": True, "repr": True, "unsafe": True, "derive": True,
+              "macro_export": True}  # fmt: skip
+# Derived traits: those that the original's types have, and Rattle's need not. `Drop` is Rattle's own.
+DERIVED = {"Unit": ["Hash"], "UnitType": ["Hash"], "Sign": ["Hash"], "Align": ["Hash"], "FormatSpec": ["Hash"],
+           "ValueParseError": ["PartialEq", "Eq"], "UnitParseError": ["PartialEq", "Eq"],
+           "ParseError": ["PartialEq", "Eq"]}  # fmt: skip
+# Paths of Rattle's std, and what is in their place. `None` is what nothing that is rendered uses.
+STD = {
+    **{f"std::{name}": f"core::{name}" for name in (
+        "cmp::Ordering", "error::Error", "fmt", "fmt::Display", "num::TryFromIntError", "str", "str::FromStr")},
+    **{f"std::{name}": None for name in ("marker::Model", "alloc::Allocator", "alloc::Global", "alloc::AllocError")},
+    "std::fmt::InlineText": "byte_unit::support::InlineText",
+    "std::simd::prelude::*": "byte_unit::support::lanes::*",
+    "core::dec2flt::read_digits": "byte_unit::support::read_digits",
+    # Rust has an exported macro at the root of its crate.
+    "byte_unit_base::with_prefixes": "byte_unit::with_prefixes",
+}  # fmt: skip
+# Traits that are imported for their methods. Other names are not imported if nothing but proofs has used them.
+TRAITS = ["Display"]
+
+# Forms of code: a pattern, what is in its place, and why.
+FORMATTER = [
+    (r"<W: fmt::Write>(?=\()", "", "Rust's formatter has no parameter for its writer"),
+    (r"\bfmt::Formatter<W>", "fmt::Formatter<'_>", "the same"),
+]
+FORMS = [
+    *FORMATTER,
+    (r"#\[macro_export\]", "#[doc(hidden)]\n#[macro_export]", "the macro is none of the package's names"),
+    (r"^( *)'\w+: (?=while\b|for\b|loop\b)", r"\1", "labels name loops for proofs alone"),
+    (r"(pub fn (?:parse_str(?:_binary)?|error_position))\(s: &str((?:, \w+: bool)*\)[^{]*\{)",
+     r"\1<S: AsRef<str>>(s: S\2 let s = s.as_ref();", "as in the original: any type of strings"),
+]
+# Functions that are `const`, as the original's are, with those that they call, by file.
+CONST = {
+    "math/src/decimal": "new from_u128 whole fraction from_digits from_wide_digits from_trimmed_digits",
+    "math/src/tens": "power_of_ten",
+    "base/src/kind": "bits unit",
+    "base/src/unit": "as_bits_u128 as_str is_bit is_binary_multiples",
+    "base/src/size": "bounded ceil_to_kind with_unit",
+    **{f"{kind}/src/{kind}": "from_u128 from_u64 from_i128 from_i64 from_u128_with_unit from_u64_with_unit "
+       "from_i128_with_unit from_i64_with_unit as_u128 as_u64 as_u64_checked add subtract multiply divide"
+       for kind in ("byte", "bit")},
+    "byte/src/byte/adjusted": "get_unit get_byte get_adjusted_unit",
+    "bit/src/bit/adjusted": "get_unit get_bit get_adjusted_unit",
+}  # fmt: skip
+# Forms in their bodies: Rust's `const fn` has neither `?` nor calls of traits and closures.
+CONST_FORMS = [
+    (r"\b([ui]\d+)::from\(([\w.]+)\)", r"\2 as \1"),
+    (r"\b([ui]\d+)::try_from\(([\w.]+)\)\.ok\(\)", r"crate::support::\1_of(\2)"),
+    (r"\b([ui]\d+)::try_from\(([\w.]+)\)\.unwrap_or\((.*)\)",
+     r"match crate::support::\1_of(\2) { Some(n) => n, None => \3 }"),
+    (r"\((.*)\)\.then_some\((\w+)\)", r"if \1 { Some(\2) } else { None }"),
+    (r"let (\w+) = ([^;]*)\?;((?:.|\n)*)\}$", r"match \2 { Some(\1) => {\3 } None => None } }"),
+    (r"([\w:]+)\(([^;]*)\?((?:, \w+)?)\)(?=\s*\}$)", r"match \2 { Some(n) => \1(n\3), None => None }"),
+]
+# Crates whose functions are `#[inline]` unless they say otherwise: a call of another package is no call in Rattle,
+# whose compiler has all crates at once.
+INLINED = ["byte_unit_byte", "byte_unit_bit"]
+# Functions that users are not shown: `Steps` is the proofs'. Nor are methods with preconditions, which rustc proves not.
+HIDDEN = ["get_recoverable_unit_counted"]
+
+# Forms of comments.
+COMMENT_FORMS = [
+    (r" \(proved at every call\)", "", "proved of the calls in Rattle alone"),
+    (r"(?:\n *///)? In (?:a contract|contracts) (?:[^\n.]|\.(?=\d))*\.(?=\n)", "", "there is no contract"),
+    (r" In contracts (?:[^\n.]|\.(?=\d))*\.(?= )", "", "the same"),
+]
+# Forms of examples in comments.
+EXAMPLE_FORMS = [
+    *FORMATTER,
+    (r"(\bassert\w*!\()rt; ", r"\1", "no argument for the runtime"),
+    (r"\bformat!\(in alloc; ", "format!(", "no argument for the allocator"),
+    (r"(format!\([^;]*\))\?(?=\.as_str)", r"\1", "a call that cannot fail in Rust"),
+    (r"\b(\w+::from_u128_unsafe\([^)]*\))", r"unsafe { \1 }", "the original's is `unsafe`"),
+    (r"\.to_text\(alloc, FormatSpec::PLAIN\)\?\.as_str\(\)", ".to_string()", "see `LEFT_OUT` of `/text.rt`"),
+]
+# What precedes each example, hidden.
+PRELUDE = "# use byte_unit::{*, rendered::{base::{size::parse_line, *}, choice::*, format::*, math::*}};"
+
+# What is in no rendered file: words of contracts and of Rattle's std that no rule has dropped.
+UNKNOWN = re.compile(
+    r"\b(?:ghost|requires|ensures|decreases|invariant|tactic|Allocator|Global|alloc|AllocError)\b|\bstd::|"
+    r"\bbyte_unit_\w+::|\brt; |[^\x00-\x7f]")  # fmt: skip
+# A comment between blank lines: all of these are on ghost members.
+ALONE = r"(?<=\n\n)(?://(?![/!]).*\n)+(?=\n)"
+CLAUSE = r"^ *(requires|ensures|decreases|invariant)\b[^{;]*(?=\{)"
