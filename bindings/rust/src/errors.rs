@@ -66,31 +66,23 @@ pub struct Needed {
 #[derive(Debug, Clone, Copy, PartialEq, Eq)]
 pub struct InexactFloatError;
 
-impl Display for RowError {
-    fn fmt(&self, f: &mut Formatter<'_>) -> fmt::Result {
-        write!(f, "row {}: {}", self.row, self.error)
-    }
+/// Defines what errors say.
+macro_rules! says {
+    ($($Error:ident $error:ident $text:literal $($field:expr)*;)*) => { $(
+        impl Display for $Error {
+            fn fmt(&self, f: &mut Formatter<'_>) -> fmt::Result {
+                let $error = self;
+                write!(f, $text $(, $field)*)
+            }
+        }
+
+        impl Error for $Error {}
+    )* };
 }
 
-impl Display for BuffersError {
-    fn fmt(&self, f: &mut Formatter<'_>) -> fmt::Result {
-        f.write_str("the offsets do not fit the data, or the buffers the number of texts")
-    }
+says! {
+    RowError error "row {}: {}" error.row error.error;
+    BuffersError _error "the offsets do not fit the data, or the buffers the number of texts";
+    Needed error "the text needs a buffer of {} bytes" error.len;
+    InexactFloatError _error "the float is negative, too large, or not exact in 28 decimal places";
 }
-
-impl Display for Needed {
-    fn fmt(&self, f: &mut Formatter<'_>) -> fmt::Result {
-        write!(f, "the text needs a buffer of {} bytes", self.len)
-    }
-}
-
-impl Display for InexactFloatError {
-    fn fmt(&self, f: &mut Formatter<'_>) -> fmt::Result {
-        f.write_str("the float is negative, too large, or not exact in 28 decimal places")
-    }
-}
-
-impl Error for RowError {}
-impl Error for BuffersError {}
-impl Error for Needed {}
-impl Error for InexactFloatError {}

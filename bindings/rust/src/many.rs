@@ -79,64 +79,43 @@ fn parse_column<O: Offset, T: Default>(
     Ok(rejected)
 }
 
-/// Defines the calls of a type of sizes that parse many texts; `ignore_case` is a parameter of bytes alone. `$K`, a unit
-/// of 1000, and `$false`, the argument for `ignore_case`, are for the examples.
+/// Defines the calls of a type of sizes that parse many texts, over the calls for one; `ignore_case` is a parameter of
+/// bytes alone. `$K`, a unit of 1000, `$false`, the argument for `ignore_case`, and `$sum` are for the examples.
 macro_rules! column_methods {
-    ($Size:ident, $K:literal $(, $ignore_case:ident, $false:literal)?) => {
+    ($Size:ident $many:ident $parse:ident $buffers:ident $bytes:ident, $K:literal, $sum:literal
+        $(, $ignore_case:ident, $false:literal)?) => {
         /// Columns.
         impl $Size {
-            /// Parses texts, one after the other: each gives a size, or a [`RowError`] with its row. The first row is
-            /// 0.
+            #[doc = concat!("Parses texts as [`", stringify!($parse), "`](Self::", stringify!($parse), ") does,")]
+            /// one after the other: each gives a size, or a [`RowError`] with its row. The first row is 0.
             ///
             /// # Examples
             ///
             /// ```
             #[doc = concat!("use byte_unit::", stringify!($Size), ";")]
             ///
-            #[doc = concat!("let texts = [\"1.5 KiB\", \"1 Kx\", \"2 ", $K, "\"];")]
-            #[doc = concat!("let mut sizes = ", stringify!($Size), "::parse_many(texts" $(, ", ", $false)?, ");")]
+            #[doc = concat!("let texts = [\"512\", \"1 Kx\", \"2 ", $K, "\"];")]
+            #[doc = concat!(
+                "let mut sizes = ", stringify!($Size), "::", stringify!($many), "(texts" $(, ", ", $false)?, ");"
+            )]
             #[doc = concat!("let first: ", stringify!($Size), " = sizes.next().unwrap().unwrap();")]
             /// let error = sizes.next().unwrap().unwrap_err();
             /// assert_eq!((error.row, error.to_string().get(..27)), (1, Some("row 1: the character 'x' is")));
-            /// assert_eq!(sizes.next().unwrap().unwrap().as_u64(), 2000);
+            #[doc = concat!("assert_eq!(first.as_u64() + sizes.next().unwrap().unwrap().as_u64(), ", $sum, ");")]
             /// ```
-            pub fn parse_many<I>(texts: I $(, $ignore_case: bool)?) -> impl Iterator<Item = Result<Self, RowError>>
+            pub fn $many<I>(texts: I $(, $ignore_case: bool)?) -> impl Iterator<Item = Result<Self, RowError>>
             where
                 I: IntoIterator,
                 I::Item: AsRef<str>,
             {
                 texts.into_iter().enumerate().map(move |(row, text)| {
-                    Self::parse_str(text $(, $ignore_case)?).map_err(|error| RowError { row, error })
+                    Self::$parse(text $(, $ignore_case)?).map_err(|error| RowError { row, error })
                 })
             }
 
-            /// Parses texts as `parse_many` does, with decimal prefixes that mean binary ones.
-            ///
-            /// # Examples
-            ///
-            /// ```
-            #[doc = concat!("use byte_unit::", stringify!($Size), ";")]
-            ///
-            #[doc = concat!("let texts = [\"512m\", \"1 ", $K, "\"];")]
-            #[doc = concat!("let sizes = ", stringify!($Size), "::parse_many_binary(texts" $(, ", ", $false)?, ");")]
-            /// let total: u64 = sizes.map(|size| size.unwrap().as_u64()).sum();
-            /// assert_eq!(total, 536_870_912 + 1024);
-            /// ```
-            pub fn parse_many_binary<I>(
-                texts: I $(, $ignore_case: bool)?
-            ) -> impl Iterator<Item = Result<Self, RowError>>
-            where
-                I: IntoIterator,
-                I::Item: AsRef<str>,
-            {
-                texts.into_iter().enumerate().map(move |(row, text)| {
-                    Self::parse_str_binary(text $(, $ignore_case)?).map_err(|error| RowError { row, error })
-                })
-            }
-
-            /// Parses the texts of a column in Arrow's layout by one call: text `i` is
-            /// `data[offsets[i]..offsets[i + 1]]`, so there is one offset more than texts. Returns the number of texts
-            /// that are no sizes.
+            #[doc = concat!("Parses a column in Arrow's layout, each text as `", stringify!($bytes), "` does:")]
+            /// text `i` is `data[offsets[i]..offsets[i + 1]]`, so there is one offset more than texts. Returns the
+            /// number of texts that are no sizes.
             ///
             /// Writes the size of each text to `sizes`, and zero to `codes`; of a text that is none, zero to `sizes`,
             /// and to `codes` the reason: 1 no value, 2 not a number, 3 a number that is too long, 4 a size that is
@@ -152,43 +131,30 @@ macro_rules! column_methods {
             /// ```
             #[doc = concat!("use byte_unit::", stringify!($Size), ";")]
             ///
-            #[doc = concat!("let (data, offsets) = (b\"1 ", $K, "2 x3\", [0, 4, 7, 8]);")]
+            #[doc = concat!("let (data, offsets) = (b\"2 ", $K, "2 x512\", [0, 4, 7, 10]);")]
             #[doc = concat!("let (mut sizes, mut codes) = ([", stringify!($Size), "::MIN; 3], [0; 3]);")]
-            #[doc = concat!(
-                "let rejected = ", stringify!($Size), "::parse_buffers(data, &offsets", $(", ", $false,)?
-                ", &mut sizes, &mut codes)?;"
-            )]
+            #[doc = concat!("let rejected = ", stringify!($Size), "::", stringify!($buffers), "(data, &offsets",
+                $(", ", $false,)? ", &mut sizes, &mut codes)?;")]
             /// assert_eq!((rejected, codes), (1, [0, 5, 0]));
-            #[doc = concat!("assert_eq!(sizes.map(", stringify!($Size), "::as_u64), [1000, 0, 3]);")]
+            #[doc = concat!("assert_eq!(sizes[0].as_u64() + sizes[2].as_u64(), ", $sum, ");")]
             /// # Ok::<(), byte_unit::BuffersError>(())
             /// ```
-            pub fn parse_buffers<O: Offset>(
+            pub fn $buffers<O: Offset>(
                 data: &[u8],
                 offsets: &[O],
                 $($ignore_case: bool,)?
                 sizes: &mut [Self],
                 codes: &mut [u8],
             ) -> Result<usize, BuffersError> {
-                parse_column(data, offsets, sizes, codes, |text| Self::parse_bytes(text $(, $ignore_case)?))
-            }
-
-            /// Parses the texts of a column as `parse_buffers` does, with decimal prefixes that mean binary ones.
-            ///
-            /// # Errors
-            ///
-            /// As those of `parse_buffers`.
-            pub fn parse_buffers_binary<O: Offset>(
-                data: &[u8],
-                offsets: &[O],
-                $($ignore_case: bool,)?
-                sizes: &mut [Self],
-                codes: &mut [u8],
-            ) -> Result<usize, BuffersError> {
-                parse_column(data, offsets, sizes, codes, |text| Self::parse_bytes_binary(text $(, $ignore_case)?))
+                parse_column(data, offsets, sizes, codes, |text| Self::$bytes(text $(, $ignore_case)?))
             }
         }
     };
 }
 
-column_methods! { Byte, "KB", ignore_case, "false" }
-column_methods! { Bit, "Kb" }
+column_methods! { Byte parse_many parse_str parse_buffers parse_bytes, "KB", "2512", ignore_case, "false" }
+column_methods! {
+    Byte parse_many_binary parse_str_binary parse_buffers_binary parse_bytes_binary, "KB", "2560", ignore_case, "false"
+}
+column_methods! { Bit parse_many parse_str parse_buffers parse_bytes, "Kb", "2512" }
+column_methods! { Bit parse_many_binary parse_str_binary parse_buffers_binary parse_bytes_binary, "Kb", "2560" }

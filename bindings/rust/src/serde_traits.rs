@@ -169,8 +169,8 @@ macro_rules! serde_of_size {
         }
 
         impl Serialize for $Adjusted {
-            /// Writes the size in its unit, or as a size alone is written, if it is the greatest one or has more digits in
-            /// its unit than are parsed.
+            /// Writes the size in its unit, or as a size alone is written, if it is the greatest one or has more digits
+            /// in its unit than are parsed.
             fn serialize<S: Serializer>(&self, serializer: S) -> Result<S::Ok, S::Error> {
                 let (size, readable) = ($Size::from(*self), serializer.is_human_readable());
                 let sign = if readable { Sign::Unset } else { Sign::Minus };

@@ -31,16 +31,6 @@ fn limits_of_constructors() {
 }
 
 #[test]
-fn arithmetic_at_the_limits() {
-    assert_eq!(Byte::MAX.add(Byte::MIN), Some(Byte::MAX));
-    assert_eq!(Byte::MAX.add(Byte::BYTE), None);
-    assert_eq!(Byte::MIN.subtract(Byte::BYTE), None);
-    assert_eq!((Byte::MAX.multiply(2), Byte::MAX.multiply(usize::MAX)), (None, None));
-    assert_eq!(Byte::MAX.multiply(0), Some(Byte::MIN));
-    assert_eq!(Byte::MAX.divide(0), None);
-}
-
-#[test]
 fn conversions_to_integers() {
     assert_eq!(u64::from(Byte::MAX), u64::MAX);
     assert_eq!(u128::from(Byte::MAX), LIMIT - 1);

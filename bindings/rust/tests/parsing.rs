@@ -3,22 +3,10 @@
 use byte_unit::{Bit, BuffersError, Byte, RowError, Unit, UnitType, ValueParseError};
 
 /// Texts of a column: sizes, and each error that a string can have.
+#[rustfmt::skip]
 const TEXTS: [&str; 15] = [
-    "",
-    "12",
-    "1.5 KiB",
-    "1 Kx",
-    "2 mb",
-    "1000.5 RB",
-    "1.",
-    "é",
-    "1 Ké",
-    "9 bits",
-    "0.1 KB",
-    "5192296858534827628530496329220096",
-    "999 RB",
-    " 7 ",
-    "8 Kb",
+    "", "12", "1.5 KiB", "1 Kx", "2 mb", "1000.5 RB", "1.", "é", "1 Ké", "9 bits", "0.1 KB",
+    "5192296858534827628530496329220096", "999 RB", " 7 ", "8 Kb",
 ];
 
 #[test]

@@ -215,8 +215,8 @@ struct Binary;
 
 /// Defines the methods of `Binary` that no type of the package calls: each is an error with its name.
 macro_rules! rejected {
-    ($($method:ident($($value:ty),*) $(-> $result:ty)?;)*) => { $(
-        fn $method(self, $(_: $value),*) -> rejected!(@ $($result)?) {
+    ($($method:ident $(<$T:ident>)? ($($value:ty),*) $(-> $result:ty)?;)*) => { $(
+        fn $method $(<$T: Serialize + ?Sized>)? (self, $(_: $value),*) -> rejected!(@ $($result)?) {
             Err(Error::custom(stringify!($method)))
         }
     )* };
@@ -250,48 +250,16 @@ impl Serializer for Binary {
         Ok(format!("text {text}"))
     }
 
-    fn serialize_some<T: Serialize + ?Sized>(self, _: &T) -> Result<String, Error> {
-        Err(Error::custom("serialize_some"))
-    }
-
-    fn serialize_newtype_struct<T: Serialize + ?Sized>(self, _: &'static str, _: &T) -> Result<String, Error> {
-        Err(Error::custom("serialize_newtype_struct"))
-    }
-
-    fn serialize_newtype_variant<T: Serialize + ?Sized>(
-        self,
-        _: &'static str,
-        _: u32,
-        _: &'static str,
-        _: &T,
-    ) -> Result<String, Error> {
-        Err(Error::custom("serialize_newtype_variant"))
-    }
-
     rejected! {
-        serialize_bool(bool);
-        serialize_i8(i8);
-        serialize_i16(i16);
-        serialize_i32(i32);
-        serialize_i64(i64);
-        serialize_u8(u8);
-        serialize_u16(u16);
-        serialize_u32(u32);
-        serialize_u64(u64);
-        serialize_f32(f32);
-        serialize_f64(f64);
-        serialize_char(char);
-        serialize_bytes(&[u8]);
-        serialize_none();
-        serialize_unit();
-        serialize_unit_struct(&'static str);
-        serialize_unit_variant(&'static str, u32, &'static str);
-        serialize_seq(Option<usize>) -> Never;
-        serialize_tuple(usize) -> Never;
-        serialize_tuple_struct(&'static str, usize) -> Never;
+        serialize_some<T>(&T); serialize_newtype_struct<T>(&'static str, &T);
+        serialize_newtype_variant<T>(&'static str, u32, &'static str, &T); serialize_bool(bool); serialize_i8(i8);
+        serialize_i16(i16); serialize_i32(i32); serialize_i64(i64); serialize_u8(u8); serialize_u16(u16);
+        serialize_u32(u32); serialize_u64(u64); serialize_f32(f32); serialize_f64(f64); serialize_char(char);
+        serialize_bytes(&[u8]); serialize_none(); serialize_unit(); serialize_unit_struct(&'static str);
+        serialize_unit_variant(&'static str, u32, &'static str); serialize_seq(Option<usize>) -> Never;
+        serialize_tuple(usize) -> Never; serialize_tuple_struct(&'static str, usize) -> Never;
         serialize_tuple_variant(&'static str, u32, &'static str, usize) -> Never;
-        serialize_map(Option<usize>) -> Never;
-        serialize_struct(&'static str, usize) -> Never;
+        serialize_map(Option<usize>) -> Never; serialize_struct(&'static str, usize) -> Never;
         serialize_struct_variant(&'static str, u32, &'static str, usize) -> Never;
     }
 }

@@ -4,5 +4,21 @@
 //! `as_written` has the 91 whose calls compile here and return what is stated, a test each. `changed` has the other
 //! nine, with what takes the place of a float or of the `Decimal` of `rust_decimal`.
 
-mod as_written;
+/// Defines tests, each by its name and its lines.
+macro_rules! tests {
+    ($($name:ident { $($lines:tt)* })*) => { $(
+        #[test]
+        fn $name() {
+            $($lines)*
+        }
+    )* };
+}
+
+mod as_written {
+    mod adjusted;
+    mod choices;
+    mod readme;
+    mod sizes;
+    mod unit;
+}
 mod changed;

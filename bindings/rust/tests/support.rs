@@ -1,0 +1,96 @@
+//! What the rendered sources use in place of Rattle's std, each beside a plain function on random input.
+
+use byte_unit::support::lanes::{u8x4, u8x8, u8x16, u8x32, u16x8, u32x1, u64x1};
+use byte_unit::support::{InlineText, read_digits, u64_of, u128_of};
+
+/// Numbers of a linear congruential generator: the upper half of its state.
+struct Random(u128);
+
+impl Random {
+    fn next(&mut self) -> u64 {
+        self.0 = self.0.wrapping_mul(0x2360_ed05_1fc6_5da4_4385_df64_9fcc_f645).wrapping_add(1);
+        (self.0 >> 64) as u64
+    }
+
+    fn below(&mut self, limit: usize) -> usize {
+        self.next() as usize % limit
+    }
+
+    /// Returns bytes of which most are digits.
+    fn digits(&mut self, len: usize) -> Vec<u8> {
+        let near = [b'/', b':', b'0' ^ 0x80, b'9' | 0x80, 0, 255];
+        (0..len).map(|_| if self.below(12) > 0 { b'0' + self.below(10) as u8 } else { near[self.below(6)] }).collect()
+    }
+
+    fn bytes<const N: usize>(&mut self) -> [u8; N] {
+        std::array::from_fn(|_| self.next() as u8)
+    }
+}
+
+#[test]
+fn digits_are_read_as_one_by_one() {
+    let mut random = Random(1);
+    for _ in 0..100_000 {
+        let len = random.below(40);
+        let (bytes, from, so_far) = (random.digits(len), random.below(len + 2), random.next());
+        let digits = bytes.iter().skip(from).take_while(|byte| byte.is_ascii_digit());
+        let plain = |(at, n): (usize, u64), d: &u8| (at + 1, n.wrapping_mul(10).wrapping_add(u64::from(d - b'0')));
+        assert_eq!(read_digits(&bytes, from, so_far), digits.fold((from, so_far), plain), "{bytes:?} {from}");
+    }
+}
+
+/// Compares the operations of vectors of bytes, of any number of lanes, with those of each lane.
+macro_rules! compare_bytes {
+    ($random:ident, $($vector:ident $lanes:literal),*) => { $({
+        let (a, b) = ($random.bytes::<$lanes>(), $random.bytes::<$lanes>().map(|byte| byte % 4));
+        let other = std::array::from_fn(|at| if b[at] == 0 { a[at] } else { b[at] });
+        let (x, y) = ($vector::from_array(a), $vector::from_slice(&[&other[..], &[9]].concat()));
+        let each = |lane: fn(u8, u8) -> u8| std::array::from_fn::<u8, $lanes, _>(|at| lane(a[at], other[at]));
+        assert_eq!((x + y).to_array(), each(u8::wrapping_add));
+        assert_eq!((x - y).to_array(), each(u8::wrapping_sub));
+        assert_eq!((x * y).to_array(), each(u8::wrapping_mul));
+        assert_eq!((x | y).to_array(), each(|a, b| a | b));
+        let equal = (0..$lanes).filter(|&at| a[at] == other[at]).map(|at| 1u64 << at).sum::<u64>();
+        assert_eq!(x.simd_eq(y).to_bitmask(), equal);
+        assert_eq!(x.simd_ne(y).to_bitmask(), equal ^ (u64::MAX >> (64 - $lanes)));
+        let (both, indices) = ([a, other].concat(), [(); $lanes].map(|()| $random.below(2 * $lanes)));
+        assert_eq!(x.shuffle(y, indices).to_array(), indices.map(|index| both[index]));
+        let mut out = [7; $lanes + 1];
+        x.copy_to_slice(&mut out);
+        assert_eq!((&out[..$lanes], out[$lanes], $vector::splat(a[0]).to_array()), (&a[..], 7, [a[0]; $lanes]));
+    })* };
+}
+
+#[test]
+fn lanes_are_as_each_lane() {
+    let mut random = Random(2);
+    for _ in 0..20_000 {
+        compare_bytes!(random, u8x4 4, u8x8 8, u8x16 16, u8x32 32);
+        let [a, b] = [(); 2].map(|()| std::array::from_fn::<u16, 8, _>(|_| (random.next() as u16).max(1)));
+        let (x, y) = (u16x8::from_array(a), u16x8::from_array(b));
+        let each = |lane: fn(u16, u16) -> u16| std::array::from_fn::<u16, 8, _>(|at| lane(a[at], b[at]));
+        assert_eq!((x + y).to_array(), each(u16::wrapping_add));
+        assert_eq!((x * y).to_array(), each(u16::wrapping_mul));
+        assert_eq!(((x / y).to_array(), (x % y).to_array()), (each(|a, b| a / b), each(|a, b| a % b)));
+        assert_eq!(x.to_le_bytes().to_array().to_vec(), a.map(u16::to_le_bytes).concat());
+        let eight = random.bytes::<8>();
+        assert_eq!(u64x1::from_le_bytes(u8x8::from_array(eight)).to_array(), [u64::from_le_bytes(eight)]);
+        assert_eq!(u64x1::splat(u64::from_le_bytes(eight)).to_le_bytes().to_array(), eight);
+        let four = random.bytes::<4>();
+        assert_eq!(u32x1::from_le_bytes(u8x4::from_array(four)).to_array(), [u32::from_le_bytes(four)]);
+    }
+}
+
+#[test]
+fn texts_and_numbers_are_those_of_std() {
+    let mut random = Random(3);
+    for _ in 0..10_000 {
+        let number = random.next() >> random.below(64);
+        let text = number.to_string();
+        assert_eq!(InlineText::<20>::of(&number).as_str(), text);
+        // The parts of a text are whole or left out.
+        assert_eq!(InlineText::<4>::of(&number).as_str(), if text.len() > 4 { "" } else { &text });
+        let wide = (i128::from(number) - (1 << 63)) << random.below(60);
+        assert_eq!((u128_of(wide), u64_of(wide as u128)), (wide.try_into().ok(), (wide as u128).try_into().ok()));
+    }
+}
