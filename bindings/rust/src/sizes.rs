@@ -2,7 +2,7 @@
 //! formatter with its flags.
 
 use core::cmp::Ordering;
-use core::fmt::{self, Display, Formatter};
+use core::fmt::{self, Debug, Display, Formatter};
 use core::hash::{Hash, Hasher};
 
 use crate::rendered::base::Kind;
@@ -105,6 +105,12 @@ macro_rules! of_size {
             pub fn write_text(self, spec: FormatSpec, out: &mut [u8]) -> Result<&str, Needed> {
                 let len = crate::rendered::format::write_text(self.as_u128(), $kind, spec, out);
                 text::written(out, len)
+            }
+        }
+
+        impl Debug for $Size {
+            fn fmt(&self, f: &mut Formatter<'_>) -> fmt::Result {
+                f.debug_tuple(stringify!($Size)).field(&self.as_u128()).finish()
             }
         }
 

@@ -15,7 +15,7 @@ fn constant_expressions() {
     assert_eq!(Byte::MAX.as_u128() + 1, LIMIT);
     assert_eq!((Byte::ROBIBYTE.as_u128(), Bit::RONNABYTE.as_u128()), (1 << 90, 8 * 10u128.pow(27)));
     assert_eq!((Byte::BYTE.as_u64(), Bit::BIT.as_u64(), Byte::KIBIBIT.as_u64()), (1, 1, 128));
-    assert_eq!(Byte::default(), Byte::MIN);
+    assert_eq!((Byte::default(), format!("{:?}", Bit::BIT)), (Byte::MIN, "Bit(1)".to_owned()));
 }
 
 #[test]

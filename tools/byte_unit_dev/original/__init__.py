@@ -2,8 +2,8 @@
 
 FOLDER has the sources of the crate: `src/lib.rs` and so on, or files whose names have `--` in place of `/` and end in
 `.txt`, as `src--lib.rs.txt`. They are built offline, over crates that `tools/dev setup --compared` installs. The crate,
-the Rust package, whose code is rendered from the library's, and an exact model take random requests: texts and spellings of units to
-parse, sizes to format, numbers of units. Prints how many results each rule explains.
+the Rust package, whose code is rendered from the library's, and an exact model take random requests: texts and
+spellings of units to parse, sizes to format, numbers of units. Prints how many results each rule explains.
 
 The status is 1 if a result of the library is not that of the model, if no rule explains a difference, if one of the
 first 20,000 results of the library with one more digit is not found to be wrong, or if docs/DIFFERENCES.md lacks the
@@ -65,7 +65,8 @@ def compared(lines, original, ours):
 def run(folder, *, count=300_000, seed=1):
     with tempfile.TemporaryDirectory() as work:
         lines = list(requests(random.Random(seed), count))
-        programs = [builds.program(PROGRAM, crate) for crate in (builds.original(folder, work), builds.copied("rust", work))]
+        crates = [builds.original(folder, work), builds.copied("rust", work)]
+        programs = [builds.program(PROGRAM, crate) for crate in crates]
         printed = [output(program, input="\n".join([*lines, ""]), stderr=None) for program in programs]
     theirs, ours = ([line.split("\t") for line in text.split("\n")[:-1]] for text in printed)
     found, findings = compared(lines, theirs, ours)

@@ -1,5 +1,5 @@
-"""The lists of the bindings that follow from tables of the library: the codes of units in C's header, and the letters of
-the prefixes for JavaScript. The lists of expected characters are for render/tables.py."""
+"""The lists of the bindings that follow from tables of the library: the codes of units in C's header, and the letters
+of the prefixes for JavaScript. Those of expected characters are for render/tables.py."""
 
 import re
 

@@ -1,5 +1,5 @@
-"""Renders the proved sources as plain Rust, by the rules of render/rust_rules.py: what only the proofs need is dropped, and
-a few forms are rewritten. A form that no rule knows is a failure, with its file and line."""
+"""Renders the proved sources as plain Rust, by the rules of render/rust_rules.py: what only the proofs need is dropped,
+and a few forms are rewritten. A form that no rule knows is a failure, with its file and line."""
 
 import re
 from collections import namedtuple
@@ -8,8 +8,8 @@ from concurrent.futures import ThreadPoolExecutor
 from ..common import Failure, call, files, path, read
 from ..source import QUOTED, sources
 from .rust_rules import (
-    ALONE, ATTRIBUTES, CLAUSE, COMMENT_FORMS, CONST, CONST_FORMS, DERIVED, EXAMPLE_FORMS, FORMS, HIDDEN, INLINED,
-    ITEMS_LEFT_OUT, LEFT_OUT, NAMES_LEFT_OUT, PRELUDE, STD, TRAITS, UNKNOWN,
+    ALONE, ATTRIBUTES, BY_HAND, CLAUSE, COMMENT_FORMS, CONST, CONST_FORMS, DERIVED, EXAMPLE_FORMS, FORMS, HIDDEN,
+    INLINED, ITEMS_LEFT_OUT, LEFT_OUT, NAMES_LEFT_OUT, PRELUDE, PUBLIC, STD, TRAITS, UNKNOWN,
 )  # fmt: skip
 
 HEAD = "// Rendered from {} by `tools/dev render rust`. Do not edit.\n\n".format
@@ -23,9 +23,9 @@ HOMES = {f"byte_unit_{layer}": Home(f"bindings/rust/src/rendered/{layer}", f"cra
 HOMES["byte_unit_c"] = Home("bindings/c/src/rendered", "crate::rendered", None)
 FOLDERS = ("bindings/rust/src/rendered/", "bindings/c/src/rendered/")
 MODULES = "bindings/rust/src/rendered/mod.rs"
-LAYERS_MODULE = HEAD("crates/") + """//! The proved sources of the library as Rust, without their contracts, a module for each crate.
+MODULE = "//! The proved sources of the library as Rust, without their contracts: a module for each crate.\n\n"
+LAYERS_MODULE = HEAD("crates/") + MODULE + "".join(f"pub mod {layer};\n" for layer in LAYERS)
 
-""" + "".join(f"pub mod {layer};\n" for layer in LAYERS)
 
 def blanked(text):
     """Returns a text with spaces for comments, strings and characters."""
@@ -109,7 +109,8 @@ def without_proofs(file):
         file.drop(file.above(found.start(), ("// ",)), end + 1)
 
     def clause(found):
-        method = found[1] == "requires" and re.search(r"^ +pub (?:const )?fn [^;{}]*\Z", file.code[:found.start()], re.M)
+        before = file.code[:found.start()]
+        method = found[1] == "requires" and re.search(r"^ +pub (?:const )?fn [^;{}]*\Z", before, re.M)
         file.drop(file.above(found.start(), ("// ",)), file.closing(found.end(), file.code))
         if method:
             file.mark(method.start(), "#[doc(hidden)]")
@@ -136,11 +137,12 @@ def without_items(file):
 
 
 def derived(file):
-    """Adds to each `derive` what the table has, and `Clone` beside `Copy`, and drops Rattle's `Drop`."""
+    """Adds to each `derive` what the table has, and `Clone` beside `Copy`, and drops Rattle's `Drop` and `BY_HAND`."""
     def change(found):
         names = [name.strip() for name in found[1].split(",")]
-        names = ["Clone"] * ("Copy" in names and "Clone" not in names) + [name for name in names if name != "Drop"]
+        names = ["Clone"] * ("Copy" in names and "Clone" not in names) + names
         names += [name for name in DERIVED.get(found[3], []) if name not in names]
+        names = [name for name in names if name not in ["Drop", *BY_HAND.get(found[3], [])]]
         file.put(found.start(), found.end(), f"#[derive({', '.join(names)})]{found[2]}" if names else found[2].lstrip())
 
     file.each(r"#\[derive\(([^)]*)\)\](\s*(?:#\[.*\]\s*)*pub(?:\(\w+\))? (?:struct|enum) (\w+))", change)
@@ -273,7 +275,7 @@ def functions(file):
 
 
 def examples(file):
-    """Rewrites comments, and the examples in them, which Rust runs as they are."""
+    """Returns the text with comments rewritten, and the examples in them, which Rust runs as they are."""
     def change(found):
         mark, body = found[1], found[2]
         for pattern, new, _ in EXAMPLE_FORMS:
@@ -281,6 +283,9 @@ def examples(file):
         bad = re.search(r"\b(?:rt;|alloc\b)", body)
         if bad:
             raise file.wrong(found.start(2), f"an example has a form that no rule knows: {bad[0]}")
+        names = sorted(PUBLIC.intersection(re.findall(r"\w+", body)))
+        use = ", ".join(names).join("{}" if len(names) > 1 else ["", ""])
+        body = f"{mark}use byte_unit::{use};\n{mark.rstrip()}\n" * bool(names) + body
         end = f"{mark}# Ok::<(), Box<dyn std::error::Error>>(())\n" if re.search(r"\?(?:;|[.,)])", body) else ""
         return f"{mark}```\n{mark}{PRELUDE}\n{body}{end}{mark}```\n"
 

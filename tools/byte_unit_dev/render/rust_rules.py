@@ -31,10 +31,12 @@ NAMES_LEFT_OUT = re.compile(r".*::(?:append_\w+|JsonSizeError)|crate::capacity::
 # Attributes, by their first word: whether they are kept. `inline` is added, see `INLINED`.
 ATTRIBUTES = {"tactic": False, "inline": True, "cold": True, "repr": True, "unsafe": True, "derive": True,
               "macro_export": True}  # fmt: skip
-# Derived traits: those that the original's types have, and Rattle's need not. `Drop` is Rattle's own.
+# Derived traits that the original's types have, and Rattle's need not.
 DERIVED = {"Unit": ["Hash"], "UnitType": ["Hash"], "Sign": ["Hash"], "Align": ["Hash"], "FormatSpec": ["Hash"],
            "ValueParseError": ["PartialEq", "Eq"], "UnitParseError": ["PartialEq", "Eq"],
            "ParseError": ["PartialEq", "Eq"]}  # fmt: skip
+# Derived traits that are by hand: `Debug` of the original is that of a tuple.
+BY_HAND = {"Byte": ["Debug"], "Bit": ["Debug"]}
 # Paths of Rattle's std, and what is in their place. `None` is what nothing that is rendered uses.
 STD = {
     **{f"std::{name}": f"core::{name}" for name in (
@@ -87,7 +89,8 @@ CONST_FORMS = [
 # Crates whose functions are `#[inline]` unless they say otherwise: a call of another package is no call in Rattle,
 # whose compiler has all crates at once.
 INLINED = ["byte_unit_byte", "byte_unit_bit"]
-# Functions that users are not shown: `Steps` is the proofs'. Nor are methods with preconditions, which rustc proves not.
+# Functions that users are not shown: `Steps` is for proofs. Nor are methods with preconditions, since rustc does not
+# prove these.
 HIDDEN = ["get_recoverable_unit_counted"]
 
 # Forms of comments.
@@ -105,8 +108,10 @@ EXAMPLE_FORMS = [
     (r"\b(\w+::from_u128_unsafe\([^)]*\))", r"unsafe { \1 }", "the original's is `unsafe`"),
     (r"\.to_text\(alloc, FormatSpec::PLAIN\)\?\.as_str\(\)", ".to_string()", "see `LEFT_OUT` of `/text.rt`"),
 ]
-# What precedes each example, hidden.
-PRELUDE = "# use byte_unit::{*, rendered::{base::{size::parse_line, *}, choice::*, format::*, math::*}};"
+# The package's names, which each example imports as it is shown, and what precedes it, hidden, for all other names.
+PUBLIC = {"AdjustedBit", "AdjustedByte", "Align", "Bit", "Byte", "Decimal", "ExceededBoundsError", "FormatSpec",
+          "ParseError", "Sign", "Unit", "UnitParseError", "UnitType", "ValueParseError"}  # fmt: skip
+PRELUDE = "# use byte_unit::rendered::{base::{size::parse_line, *}, bit::*, byte::*, choice::*, format::*, math::*};"
 
 # What is in no rendered file: words of contracts and of Rattle's std that no rule has dropped.
 UNKNOWN = re.compile(

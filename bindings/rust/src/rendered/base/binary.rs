@@ -14,7 +14,9 @@ use crate::rendered::base::{Kind, ParseError, size};
 ///
 /// # Examples
 /// ```
-/// # use byte_unit::{*, rendered::{base::{size::parse_line, *}, choice::*, format::*, math::*}};
+/// # use byte_unit::rendered::{base::{size::parse_line, *}, bit::*, byte::*, choice::*, format::*, math::*};
+/// use byte_unit::{Byte, ParseError, ValueParseError};
+///
 /// assert_eq!(binary::parse("10m", false, Kind::Byte)?, 10_485_760);
 /// assert_eq!(binary::parse("1.5 KiB", false, Kind::Byte)?, 1536);
 /// let error = binary::parse("900 RB", false, Kind::Byte);
@@ -33,7 +35,9 @@ pub fn parse(s: &str, ignore_case: bool, kind: Kind) -> Result<u128, ParseError>
 ///
 /// # Examples
 /// ```
-/// # use byte_unit::{*, rendered::{base::{size::parse_line, *}, choice::*, format::*, math::*}};
+/// # use byte_unit::rendered::{base::{size::parse_line, *}, bit::*, byte::*, choice::*, format::*, math::*};
+/// use byte_unit::Byte;
+///
 /// assert!(matches!(binary::parse_bytes(b"128MB", false, Kind::Byte), Some(Ok(134_217_728))));
 /// assert!(binary::parse_bytes(b"1 KiB\xFF", false, Kind::Byte).is_none());
 /// ```

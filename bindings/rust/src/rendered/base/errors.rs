@@ -10,7 +10,9 @@ use core::fmt;
 ///
 /// # Examples
 /// ```
-/// # use byte_unit::{*, rendered::{base::{size::parse_line, *}, choice::*, format::*, math::*}};
+/// # use byte_unit::rendered::{base::{size::parse_line, *}, bit::*, byte::*, choice::*, format::*, math::*};
+/// use byte_unit::{Byte, ExceededBoundsError};
+///
 /// assert!(matches!(Byte::try_from(-1i8), Err(ExceededBoundsError)));
 /// ```
 #[derive(Clone, Copy, Debug, PartialEq, Eq)]
@@ -20,7 +22,9 @@ pub struct ExceededBoundsError;
 ///
 /// # Examples
 /// ```
-/// # use byte_unit::{*, rendered::{base::{size::parse_line, *}, choice::*, format::*, math::*}};
+/// # use byte_unit::rendered::{base::{size::parse_line, *}, bit::*, byte::*, choice::*, format::*, math::*};
+/// use byte_unit::{Byte, ParseError, ValueParseError};
+///
 /// let error = Byte::parse_str("x KB", false);
 /// assert!(matches!(error, Err(ParseError::Value(ValueParseError::NotNumber('x')))));
 /// ```
@@ -40,7 +44,9 @@ pub enum ValueParseError {
 ///
 /// # Examples
 /// ```
-/// # use byte_unit::{*, rendered::{base::{size::parse_line, *}, choice::*, format::*, math::*}};
+/// # use byte_unit::rendered::{base::{size::parse_line, *}, bit::*, byte::*, choice::*, format::*, math::*};
+/// use byte_unit::{Unit, UnitParseError};
+///
 /// let error = Unit::parse_str("Kx", false, true);
 /// assert!(matches!(error, Err(UnitParseError { character: 'x', also_expect_no_character: true, .. })));
 /// ```
@@ -60,7 +66,9 @@ pub struct UnitParseError {
 ///
 /// # Examples
 /// ```
-/// # use byte_unit::{*, rendered::{base::{size::parse_line, *}, choice::*, format::*, math::*}};
+/// # use byte_unit::rendered::{base::{size::parse_line, *}, bit::*, byte::*, choice::*, format::*, math::*};
+/// use byte_unit::{Byte, ParseError, Unit};
+///
 /// assert!(matches!(Byte::parse_str("20 mB?", false), Err(ParseError::Unit(_))));
 /// assert_eq!(Byte::parse_str("20 mB?", false).unwrap_or(Byte::GIBIBYTE), Byte::GIBIBYTE);
 /// ```

@@ -18,7 +18,9 @@ impl Kind {
     ///
     /// # Examples
     /// ```
-    /// # use byte_unit::{*, rendered::{base::{size::parse_line, *}, choice::*, format::*, math::*}};
+    /// # use byte_unit::rendered::{base::{size::parse_line, *}, bit::*, byte::*, choice::*, format::*, math::*};
+    /// use byte_unit::{Bit, Byte};
+    ///
     /// assert_eq!((Kind::Byte.bits(), Kind::Bit.bits()), (8, 1));
     /// ```
     pub const fn bits(self) -> u128 {
@@ -32,7 +34,9 @@ impl Kind {
     ///
     /// # Examples
     /// ```
-    /// # use byte_unit::{*, rendered::{base::{size::parse_line, *}, choice::*, format::*, math::*}};
+    /// # use byte_unit::rendered::{base::{size::parse_line, *}, bit::*, byte::*, choice::*, format::*, math::*};
+    /// use byte_unit::{Bit, Byte, Unit};
+    ///
     /// assert_eq!((Kind::Byte.unit(), Kind::Bit.unit()), (Unit::B, Unit::Bit));
     /// ```
     pub const fn unit(self) -> Unit {

@@ -19,7 +19,7 @@ use crate::rendered::math::{DECIMAL_PLACES, WHOLE_LIMIT};
 ///
 /// # Examples
 /// ```
-/// # use byte_unit::{*, rendered::{base::{size::parse_line, *}, choice::*, format::*, math::*}};
+/// # use byte_unit::rendered::{base::{size::parse_line, *}, bit::*, byte::*, choice::*, format::*, math::*};
 /// assert_eq!(position::of_size_error("1 byte"), Some(3));
 /// assert_eq!(position::of_size_error("  1."), Some(4));
 /// assert_eq!(position::of_size_error("1 KiB"), None);
@@ -41,7 +41,9 @@ impl Unit {
     ///
     /// # Examples
     /// ```
-    /// # use byte_unit::{*, rendered::{base::{size::parse_line, *}, choice::*, format::*, math::*}};
+    /// # use byte_unit::rendered::{base::{size::parse_line, *}, bit::*, byte::*, choice::*, format::*, math::*};
+    /// use byte_unit::Unit;
+    ///
     /// assert_eq!(Unit::error_position("Kix"), Some(2));
     /// assert_eq!(Unit::error_position(" bi "), Some(3));
     /// assert_eq!(Unit::error_position("Kib"), None);
@@ -64,7 +66,9 @@ impl Unit {
 ///
 /// # Examples
 /// ```
-/// # use byte_unit::{*, rendered::{base::{size::parse_line, *}, choice::*, format::*, math::*}};
+/// # use byte_unit::rendered::{base::{size::parse_line, *}, bit::*, byte::*, choice::*, format::*, math::*};
+/// use byte_unit::{Byte, Unit};
+///
 /// let flags = size::flags_for(Kind::Byte, false);
 /// assert!(matches!(position::read_unit_text("KiB", flags), Ok(Unit::KiB)));
 /// assert!(matches!(position::read_unit_text(" Kix", flags), Err((_, Some('x'), 3))));

@@ -29,7 +29,9 @@ pub(crate) mod stop;
 ///
 /// # Examples
 /// ```
-/// # use byte_unit::{*, rendered::{base::{size::parse_line, *}, choice::*, format::*, math::*}};
+/// # use byte_unit::rendered::{base::{size::parse_line, *}, bit::*, byte::*, choice::*, format::*, math::*};
+/// use byte_unit::{Decimal, ParseError, Unit, ValueParseError};
+///
 /// let read = read_size("1.5 KiB", false, true)?;
 /// assert_eq!(read, (Decimal::from_digits(1, 5, 1), Unit::KiB));
 /// let error = read_size("1.", false, true);

@@ -17,7 +17,7 @@ const SIZE_LIMIT: u128 = 1_000_000_000_000_000_000_000_000_000_000;
 ///
 /// # Examples
 /// ```
-/// # use byte_unit::{*, rendered::{base::{size::parse_line, *}, choice::*, format::*, math::*}};
+/// # use byte_unit::rendered::{base::{size::parse_line, *}, bit::*, byte::*, choice::*, format::*, math::*};
 /// assert_eq!(size::bounded(1536), Some(1536));
 /// assert_eq!(size::bounded(1_000_000_000_000_000_000_000_000_000_000), None);
 /// ```
@@ -39,7 +39,9 @@ const fn ceil_to_kind(in_bits: u128, kind: Kind) -> u128 {
 ///
 /// # Examples
 /// ```
-/// # use byte_unit::{*, rendered::{base::{size::parse_line, *}, choice::*, format::*, math::*}};
+/// # use byte_unit::rendered::{base::{size::parse_line, *}, bit::*, byte::*, choice::*, format::*, math::*};
+/// use byte_unit::{Bit, Byte, Unit};
+///
 /// assert_eq!(size::with_unit(9, Unit::Bit, Kind::Byte), Some(2));
 /// assert_eq!(size::with_unit(1000, Unit::RB, Kind::Byte), None);
 /// ```
@@ -55,7 +57,9 @@ pub const fn with_unit(size: u128, unit: Unit, kind: Kind) -> Option<u128> {
 ///
 /// # Examples
 /// ```
-/// # use byte_unit::{*, rendered::{base::{size::parse_line, *}, choice::*, format::*, math::*}};
+/// # use byte_unit::rendered::{base::{size::parse_line, *}, bit::*, byte::*, choice::*, format::*, math::*};
+/// use byte_unit::{Byte, Decimal, Unit};
+///
 /// let half = Decimal::from_digits(0, 5, 1);
 /// assert_eq!(size::from_decimal(half, Unit::KiB, Kind::Byte), Some(512));
 /// assert_eq!(size::from_decimal(Decimal::from_digits(1000, 0, 0), Unit::RB, Kind::Byte), None);
@@ -82,7 +86,9 @@ pub fn from_decimal(number: Decimal, unit: Unit, kind: Kind) -> Option<u128> {
 ///
 /// # Examples
 /// ```
-/// # use byte_unit::{*, rendered::{base::{size::parse_line, *}, choice::*, format::*, math::*}};
+/// # use byte_unit::rendered::{base::{size::parse_line, *}, bit::*, byte::*, choice::*, format::*, math::*};
+/// use byte_unit::{Byte, ParseError, ValueParseError};
+///
 /// assert_eq!(size::parse("1.5 KiB", false, Kind::Byte)?, 1536);
 /// assert_eq!(size::parse("9 bits", false, Kind::Byte)?, 2);
 /// let error = size::parse("1.", false, Kind::Byte);
@@ -112,7 +118,9 @@ pub(crate) fn parse_as<const BINARY: bool>(s: &str, ignore_case: bool, kind: Kin
 ///
 /// # Examples
 /// ```
-/// # use byte_unit::{*, rendered::{base::{size::parse_line, *}, choice::*, format::*, math::*}};
+/// # use byte_unit::rendered::{base::{size::parse_line, *}, bit::*, byte::*, choice::*, format::*, math::*};
+/// use byte_unit::Byte;
+///
 /// assert!(matches!(size::parse_bytes(b"1.5 KiB", false, Kind::Byte), Some(Ok(1536))));
 /// assert!(size::parse_bytes(b"1 KiB\xFF", false, Kind::Byte).is_none());
 /// ```
@@ -134,7 +142,9 @@ pub fn parse_bytes(bytes: &[u8], ignore_case: bool, kind: Kind) -> Option<Result
 ///
 /// # Examples
 /// ```
-/// # use byte_unit::{*, rendered::{base::{size::parse_line, *}, choice::*, format::*, math::*}};
+/// # use byte_unit::rendered::{base::{size::parse_line, *}, bit::*, byte::*, choice::*, format::*, math::*};
+/// use byte_unit::{Bit, Byte};
+///
 /// assert!(matches!(parse_line::<false>(b"1 KB\n12\n", 4, false, Kind::Byte), Some(Ok(1000))));
 /// assert!(matches!(parse_line::<true>(b"1 KB", 4, false, Kind::Bit), Some(Ok(8192))));
 /// assert!(parse_line::<false>(b"1 KB\xFF", 5, false, Kind::Byte).is_none());
@@ -180,7 +190,9 @@ pub enum Outcome {
 ///
 /// # Examples
 /// ```
-/// # use byte_unit::{*, rendered::{base::{size::parse_line, *}, choice::*, format::*, math::*}};
+/// # use byte_unit::rendered::{base::{size::parse_line, *}, bit::*, byte::*, choice::*, format::*, math::*};
+/// use byte_unit::{Byte, Unit};
+///
 /// let outcome = size::read_bytes(b"1.5 KiB", false, Kind::Byte);
 /// assert!(matches!(outcome, size::Outcome::Accepted(Unit::KiB, _)));
 /// let outcome = size::read_bytes(b"1 bi", false, Kind::Byte);
@@ -203,7 +215,7 @@ pub fn read_bytes(bytes: &[u8], ignore_case: bool, kind: Kind) -> Outcome {
 ///
 /// # Examples
 /// ```
-/// # use byte_unit::{*, rendered::{base::{size::parse_line, *}, choice::*, format::*, math::*}};
+/// # use byte_unit::rendered::{base::{size::parse_line, *}, bit::*, byte::*, choice::*, format::*, math::*};
 /// assert_eq!(size::visible_next(b"1 bi", 4), Some(None));
 /// assert_eq!(size::visible_next(b" 1 KiB", 0), None);
 /// ```
@@ -236,7 +248,9 @@ fn is_visible_ascii(bytes: &[u8], from: usize) -> bool {
 ///
 /// # Examples
 /// ```
-/// # use byte_unit::{*, rendered::{base::{size::parse_line, *}, choice::*, format::*, math::*}};
+/// # use byte_unit::rendered::{base::{size::parse_line, *}, bit::*, byte::*, choice::*, format::*, math::*};
+/// use byte_unit::Byte;
+///
 /// assert!(matches!(size::parse_text::<false>(b" 1 KB ", false, Kind::Byte), Some(Ok(1000))));
 /// assert!(matches!(size::parse_text::<true>(b" 1 KB ", false, Kind::Byte), Some(Ok(1024))));
 /// ```
@@ -257,7 +271,9 @@ pub fn parse_text<const BINARY: bool>(bytes: &[u8], ignore_case: bool, kind: Kin
 ///
 /// # Examples
 /// ```
-/// # use byte_unit::{*, rendered::{base::{size::parse_line, *}, choice::*, format::*, math::*}};
+/// # use byte_unit::rendered::{base::{size::parse_line, *}, bit::*, byte::*, choice::*, format::*, math::*};
+/// use byte_unit::Byte;
+///
 /// let stopped = size::read_text(b" 1 Kx ", false, Kind::Byte);
 /// assert!(matches!(stopped, Some(Err((Stop { place: 3, reason: Reason::InUnit(_) }, Some('x'))))));
 /// ```
@@ -277,7 +293,9 @@ pub fn read_text(bytes: &[u8], ignore_case: bool, kind: Kind) -> Option<Result<(
 ///
 /// # Examples
 /// ```
-/// # use byte_unit::{*, rendered::{base::{size::parse_line, *}, choice::*, format::*, math::*}};
+/// # use byte_unit::rendered::{base::{size::parse_line, *}, bit::*, byte::*, choice::*, format::*, math::*};
+/// use byte_unit::{Byte, Decimal, Unit};
+///
 /// let found = (Decimal::from_digits(1, 5, 1), Unit::KB);
 /// assert!(matches!(size::size_of::<false>(found, Kind::Byte), Ok(1500)));
 /// assert!(matches!(size::size_of::<true>(found, Kind::Byte), Ok(1536)));
@@ -300,7 +318,9 @@ fn unit_meant<const BINARY: bool>(unit: Unit) -> Unit {
 ///
 /// # Examples
 /// ```
-/// # use byte_unit::{*, rendered::{base::{size::parse_line, *}, choice::*, format::*, math::*}};
+/// # use byte_unit::rendered::{base::{size::parse_line, *}, bit::*, byte::*, choice::*, format::*, math::*};
+/// use byte_unit::{Bit, Byte};
+///
 /// assert!(size::flags_for(Kind::Byte, true).ignore_case);
 /// assert!(!size::flags_for(Kind::Bit, true).ignore_case);
 /// ```

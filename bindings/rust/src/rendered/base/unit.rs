@@ -117,7 +117,9 @@ impl Unit {
     ///
     /// # Examples
     /// ```
-    /// # use byte_unit::{*, rendered::{base::{size::parse_line, *}, choice::*, format::*, math::*}};
+    /// # use byte_unit::rendered::{base::{size::parse_line, *}, bit::*, byte::*, choice::*, format::*, math::*};
+    /// use byte_unit::Unit;
+    ///
     /// assert_eq!((Unit::KiB.as_bits_u128(), Unit::RiB.as_bits_u128()), (8192, 1 << 93));
     /// ```
     pub const fn as_bits_u128(self) -> u128 {
@@ -129,7 +131,9 @@ impl Unit {
     ///
     /// # Examples
     /// ```
-    /// # use byte_unit::{*, rendered::{base::{size::parse_line, *}, choice::*, format::*, math::*}};
+    /// # use byte_unit::rendered::{base::{size::parse_line, *}, bit::*, byte::*, choice::*, format::*, math::*};
+    /// use byte_unit::Unit;
+    ///
     /// assert_eq!((Unit::Kibit.as_str(), Unit::MB.as_str()), ("Kib", "MB"));
     /// ```
     pub const fn as_str(self) -> &'static str {
@@ -140,7 +144,9 @@ impl Unit {
     ///
     /// # Examples
     /// ```
-    /// # use byte_unit::{*, rendered::{base::{size::parse_line, *}, choice::*, format::*, math::*}};
+    /// # use byte_unit::rendered::{base::{size::parse_line, *}, bit::*, byte::*, choice::*, format::*, math::*};
+    /// use byte_unit::Unit;
+    ///
     /// assert!(Unit::Kbit.is_bit() && !Unit::KB.is_bit());
     /// ```
     pub const fn is_bit(self) -> bool {
@@ -152,7 +158,9 @@ impl Unit {
     ///
     /// # Examples
     /// ```
-    /// # use byte_unit::{*, rendered::{base::{size::parse_line, *}, choice::*, format::*, math::*}};
+    /// # use byte_unit::rendered::{base::{size::parse_line, *}, bit::*, byte::*, choice::*, format::*, math::*};
+    /// use byte_unit::{Bit, Unit};
+    ///
     /// assert!(Unit::KiB.is_binary_multiples() && !Unit::KB.is_binary_multiples());
     /// assert!(Unit::B.is_binary_multiples() && !Unit::Bit.is_binary_multiples());
     /// ```
@@ -164,7 +172,9 @@ impl Unit {
     ///
     /// # Examples
     /// ```
-    /// # use byte_unit::{*, rendered::{base::{size::parse_line, *}, choice::*, format::*, math::*}};
+    /// # use byte_unit::rendered::{base::{size::parse_line, *}, bit::*, byte::*, choice::*, format::*, math::*};
+    /// use byte_unit::Unit;
+    ///
     /// assert_eq!(Unit::KB.powers(), (6, 3)); // 8000 is 2^6 * 5^3.
     /// ```
     pub fn powers(self) -> (u32, u32) {
@@ -179,7 +189,9 @@ impl Unit {
     ///
     /// # Examples
     /// ```
-    /// # use byte_unit::{*, rendered::{base::{size::parse_line, *}, choice::*, format::*, math::*}};
+    /// # use byte_unit::rendered::{base::{size::parse_line, *}, bit::*, byte::*, choice::*, format::*, math::*};
+    /// use byte_unit::Unit;
+    ///
     /// assert_eq!((Unit::MB.to_binary(), Unit::Kbit.to_binary()), (Unit::MiB, Unit::Kibit));
     /// assert_eq!((Unit::B.to_binary(), Unit::GiB.to_binary()), (Unit::B, Unit::GiB));
     /// ```
@@ -208,7 +220,9 @@ impl From<Unit> for u128 {
 ///
 /// # Examples
 /// ```
-/// # use byte_unit::{*, rendered::{base::{size::parse_line, *}, choice::*, format::*, math::*}};
+/// # use byte_unit::rendered::{base::{size::parse_line, *}, bit::*, byte::*, choice::*, format::*, math::*};
+/// use byte_unit::{Bit, Byte, Unit};
+///
 /// assert_eq!(unit_with_prefix(1, true, Kind::Byte), Unit::KiB);
 /// assert_eq!(unit_with_prefix(9, false, Kind::Bit), Unit::Rbit);
 /// ```

@@ -20,14 +20,16 @@ pub use adjusted::AdjustedBit;
 ///
 /// # Examples
 /// ```
-/// # use byte_unit::{*, rendered::{base::{size::parse_line, *}, choice::*, format::*, math::*}};
+/// # use byte_unit::rendered::{base::{size::parse_line, *}, bit::*, byte::*, choice::*, format::*, math::*};
+/// use byte_unit::Bit;
+///
 /// let limit = "1.5 Gib".parse::<Bit>()?;
 /// let used = Bit::from_u64(900_000_000);
 /// assert_eq!(limit.subtract(used), Some(Bit::from_u64(710_612_736)));
 /// assert_eq!(used.subtract(limit), None);
 /// # Ok::<(), Box<dyn std::error::Error>>(())
 /// ```
-#[derive(Debug, Clone, Copy, PartialEq, Eq, PartialOrd, Ord, Hash)]
+#[derive(Clone, Copy, PartialEq, Eq, PartialOrd, Ord, Hash)]
 pub struct Bit {
     size: u128,
 }
@@ -38,7 +40,9 @@ impl Bit {
     ///
     /// # Examples
     /// ```
-    /// # use byte_unit::{*, rendered::{base::{size::parse_line, *}, choice::*, format::*, math::*}};
+    /// # use byte_unit::rendered::{base::{size::parse_line, *}, bit::*, byte::*, choice::*, format::*, math::*};
+    /// use byte_unit::Bit;
+    ///
     /// assert_eq!(Bit::from_u128(15_000_000), Some(Bit::from_u64(15_000_000)));
     /// assert_eq!(Bit::from_u128(Bit::MAX.as_u128()), Some(Bit::MAX));
     /// assert_eq!(Bit::from_u128(Bit::MAX.as_u128() + 1), None);
@@ -55,7 +59,9 @@ impl Bit {
     ///
     /// # Examples
     /// ```
-    /// # use byte_unit::{*, rendered::{base::{size::parse_line, *}, choice::*, format::*, math::*}};
+    /// # use byte_unit::rendered::{base::{size::parse_line, *}, bit::*, byte::*, choice::*, format::*, math::*};
+    /// use byte_unit::Bit;
+    ///
     /// assert_eq!(Bit::from_u64(1024), Bit::KIBIBIT);
     /// assert_eq!(Bit::from_u64(u64::MAX).as_u128(), u128::from(u64::MAX));
     /// ```
@@ -68,7 +74,9 @@ impl Bit {
     ///
     /// # Examples
     /// ```
-    /// # use byte_unit::{*, rendered::{base::{size::parse_line, *}, choice::*, format::*, math::*}};
+    /// # use byte_unit::rendered::{base::{size::parse_line, *}, bit::*, byte::*, choice::*, format::*, math::*};
+    /// use byte_unit::Bit;
+    ///
     /// assert_eq!(Bit::from_i128(15_000_000), Some(Bit::from_u64(15_000_000)));
     /// assert_eq!(Bit::from_i128(-1), None);
     /// assert_eq!(Bit::from_i128(i128::MAX), None);
@@ -85,7 +93,9 @@ impl Bit {
     ///
     /// # Examples
     /// ```
-    /// # use byte_unit::{*, rendered::{base::{size::parse_line, *}, choice::*, format::*, math::*}};
+    /// # use byte_unit::rendered::{base::{size::parse_line, *}, bit::*, byte::*, choice::*, format::*, math::*};
+    /// use byte_unit::Bit;
+    ///
     /// assert_eq!(Bit::from_i64(15_000_000), Some(Bit::from_u64(15_000_000)));
     /// assert_eq!(Bit::from_i64(-1), None);
     /// ```
@@ -103,7 +113,9 @@ impl Bit {
     ///
     /// # Examples
     /// ```
-    /// # use byte_unit::{*, rendered::{base::{size::parse_line, *}, choice::*, format::*, math::*}};
+    /// # use byte_unit::rendered::{base::{size::parse_line, *}, bit::*, byte::*, choice::*, format::*, math::*};
+    /// use byte_unit::{Bit, Unit};
+    ///
     /// assert_eq!(Bit::from_u128_with_unit(15, Unit::Mbit), Some(Bit::from_u64(15_000_000)));
     /// assert_eq!(Bit::from_u128_with_unit(17, Unit::B), Some(Bit::from_u64(136)));
     /// assert_eq!(Bit::from_u128_with_unit(1_000, Unit::Rbit), None);
@@ -122,7 +134,9 @@ impl Bit {
     ///
     /// # Examples
     /// ```
-    /// # use byte_unit::{*, rendered::{base::{size::parse_line, *}, choice::*, format::*, math::*}};
+    /// # use byte_unit::rendered::{base::{size::parse_line, *}, bit::*, byte::*, choice::*, format::*, math::*};
+    /// use byte_unit::{Bit, Unit};
+    ///
     /// assert_eq!(Bit::from_u64_with_unit(15, Unit::Kibit), Some(Bit::from_u64(15_360)));
     /// assert_eq!(Bit::from_u64_with_unit(999, Unit::Rbit), Bit::RONNABIT.multiply(999));
     /// assert_eq!(Bit::from_u64_with_unit(1_000, Unit::Rbit), None);
@@ -138,7 +152,9 @@ impl Bit {
     ///
     /// # Examples
     /// ```
-    /// # use byte_unit::{*, rendered::{base::{size::parse_line, *}, choice::*, format::*, math::*}};
+    /// # use byte_unit::rendered::{base::{size::parse_line, *}, bit::*, byte::*, choice::*, format::*, math::*};
+    /// use byte_unit::{Bit, Unit};
+    ///
     /// assert_eq!(Bit::from_i128_with_unit(15, Unit::Kibit), Some(Bit::from_u64(15_360)));
     /// assert_eq!(Bit::from_i128_with_unit(-15, Unit::Kibit), None);
     /// assert_eq!(Bit::from_i128_with_unit(1_000, Unit::Rbit), None);
@@ -157,7 +173,9 @@ impl Bit {
     ///
     /// # Examples
     /// ```
-    /// # use byte_unit::{*, rendered::{base::{size::parse_line, *}, choice::*, format::*, math::*}};
+    /// # use byte_unit::rendered::{base::{size::parse_line, *}, bit::*, byte::*, choice::*, format::*, math::*};
+    /// use byte_unit::{Bit, Unit};
+    ///
     /// assert_eq!(Bit::from_i64_with_unit(15, Unit::Kibit), Some(Bit::from_u64(15_360)));
     /// assert_eq!(Bit::from_i64_with_unit(-15, Unit::Kibit), None);
     /// ```
@@ -173,7 +191,9 @@ impl Bit {
     ///
     /// # Examples
     /// ```
-    /// # use byte_unit::{*, rendered::{base::{size::parse_line, *}, choice::*, format::*, math::*}};
+    /// # use byte_unit::rendered::{base::{size::parse_line, *}, bit::*, byte::*, choice::*, format::*, math::*};
+    /// use byte_unit::Bit;
+    ///
     /// assert_eq!(Bit::KIBIBIT.as_u128(), 1024);
     /// assert_eq!(Bit::MAX.as_u128(), 999_999_999_999_999_999_999_999_999_999);
     /// ```
@@ -186,7 +206,9 @@ impl Bit {
     ///
     /// # Examples
     /// ```
-    /// # use byte_unit::{*, rendered::{base::{size::parse_line, *}, choice::*, format::*, math::*}};
+    /// # use byte_unit::rendered::{base::{size::parse_line, *}, bit::*, byte::*, choice::*, format::*, math::*};
+    /// use byte_unit::Bit;
+    ///
     /// assert_eq!(Bit::KIBIBIT.as_u64(), 1024);
     /// assert_eq!(Bit::ZETTABIT.as_u64(), u64::MAX);
     /// ```
@@ -202,7 +224,9 @@ impl Bit {
     ///
     /// # Examples
     /// ```
-    /// # use byte_unit::{*, rendered::{base::{size::parse_line, *}, choice::*, format::*, math::*}};
+    /// # use byte_unit::rendered::{base::{size::parse_line, *}, bit::*, byte::*, choice::*, format::*, math::*};
+    /// use byte_unit::Bit;
+    ///
     /// assert_eq!(Bit::KIBIBIT.as_u64_checked(), Some(1024));
     /// assert_eq!(Bit::ZETTABIT.as_u64_checked(), None);
     /// ```
@@ -218,7 +242,9 @@ impl Bit {
     ///
     /// # Examples
     /// ```
-    /// # use byte_unit::{*, rendered::{base::{size::parse_line, *}, choice::*, format::*, math::*}};
+    /// # use byte_unit::rendered::{base::{size::parse_line, *}, bit::*, byte::*, choice::*, format::*, math::*};
+    /// use byte_unit::Bit;
+    ///
     /// assert!(Bit::KILOBIT.eq_u64(1000));
     /// assert!(!Bit::KILOBIT.eq_u64(1024));
     /// ```
@@ -231,7 +257,9 @@ impl Bit {
     ///
     /// # Examples
     /// ```
-    /// # use byte_unit::{*, rendered::{base::{size::parse_line, *}, choice::*, format::*, math::*}};
+    /// # use byte_unit::rendered::{base::{size::parse_line, *}, bit::*, byte::*, choice::*, format::*, math::*};
+    /// use byte_unit::Bit;
+    ///
     /// assert!(Bit::KILOBIT.eq_u128(1000));
     /// assert!(!Bit::KILOBIT.eq_u128(1024));
     /// ```
@@ -244,7 +272,9 @@ impl Bit {
     ///
     /// # Examples
     /// ```
-    /// # use byte_unit::{*, rendered::{base::{size::parse_line, *}, choice::*, format::*, math::*}};
+    /// # use byte_unit::rendered::{base::{size::parse_line, *}, bit::*, byte::*, choice::*, format::*, math::*};
+    /// use byte_unit::Bit;
+    ///
     /// use std::cmp::Ordering;
     ///
     /// assert_eq!(Bit::KILOBIT.cmp_u64(1024), Ordering::Less);
@@ -259,7 +289,9 @@ impl Bit {
     ///
     /// # Examples
     /// ```
-    /// # use byte_unit::{*, rendered::{base::{size::parse_line, *}, choice::*, format::*, math::*}};
+    /// # use byte_unit::rendered::{base::{size::parse_line, *}, bit::*, byte::*, choice::*, format::*, math::*};
+    /// use byte_unit::Bit;
+    ///
     /// use std::cmp::Ordering;
     ///
     /// assert_eq!(Bit::KILOBIT.cmp_u128(1024), Ordering::Less);
@@ -277,7 +309,9 @@ impl Bit {
     ///
     /// # Examples
     /// ```
-    /// # use byte_unit::{*, rendered::{base::{size::parse_line, *}, choice::*, format::*, math::*}};
+    /// # use byte_unit::rendered::{base::{size::parse_line, *}, bit::*, byte::*, choice::*, format::*, math::*};
+    /// use byte_unit::Bit;
+    ///
     /// let size = Bit::from_u64(15_500);
     /// assert_eq!(size.add(Bit::from_u64(500)), Some(Bit::from_u64(16_000)));
     /// assert_eq!(size.add(Bit::MAX), None);
@@ -291,7 +325,9 @@ impl Bit {
     ///
     /// # Examples
     /// ```
-    /// # use byte_unit::{*, rendered::{base::{size::parse_line, *}, choice::*, format::*, math::*}};
+    /// # use byte_unit::rendered::{base::{size::parse_line, *}, bit::*, byte::*, choice::*, format::*, math::*};
+    /// use byte_unit::Bit;
+    ///
     /// let size = Bit::from_u64(15_500);
     /// assert_eq!(size.subtract(Bit::from_u64(500)), Some(Bit::from_u64(15_000)));
     /// assert_eq!(size.subtract(Bit::MAX), None);
@@ -308,7 +344,9 @@ impl Bit {
     ///
     /// # Examples
     /// ```
-    /// # use byte_unit::{*, rendered::{base::{size::parse_line, *}, choice::*, format::*, math::*}};
+    /// # use byte_unit::rendered::{base::{size::parse_line, *}, bit::*, byte::*, choice::*, format::*, math::*};
+    /// use byte_unit::Bit;
+    ///
     /// assert_eq!(Bit::from_u64(15_500).multiply(2), Some(Bit::from_u64(31_000)));
     /// assert_eq!(Bit::MAX.multiply(2), None);
     /// ```
@@ -324,7 +362,9 @@ impl Bit {
     ///
     /// # Examples
     /// ```
-    /// # use byte_unit::{*, rendered::{base::{size::parse_line, *}, choice::*, format::*, math::*}};
+    /// # use byte_unit::rendered::{base::{size::parse_line, *}, bit::*, byte::*, choice::*, format::*, math::*};
+    /// use byte_unit::Bit;
+    ///
     /// assert_eq!(Bit::from_u64(15_500).divide(3), Some(Bit::from_u64(5166)));
     /// assert_eq!(Bit::from_u64(15_500).divide(0), None);
     /// ```

@@ -20,14 +20,16 @@ pub use adjusted::AdjustedByte;
 ///
 /// # Examples
 /// ```
-/// # use byte_unit::{*, rendered::{base::{size::parse_line, *}, choice::*, format::*, math::*}};
+/// # use byte_unit::rendered::{base::{size::parse_line, *}, bit::*, byte::*, choice::*, format::*, math::*};
+/// use byte_unit::Byte;
+///
 /// let limit = "1.5 GiB".parse::<Byte>()?;
 /// let used = Byte::from_u64(900_000_000);
 /// assert_eq!(limit.subtract(used), Some(Byte::from_u64(710_612_736)));
 /// assert_eq!(used.subtract(limit), None);
 /// # Ok::<(), Box<dyn std::error::Error>>(())
 /// ```
-#[derive(Debug, Clone, Copy, PartialEq, Eq, PartialOrd, Ord, Hash)]
+#[derive(Clone, Copy, PartialEq, Eq, PartialOrd, Ord, Hash)]
 pub struct Byte {
     size: u128,
 }
@@ -38,7 +40,9 @@ impl Byte {
     ///
     /// # Examples
     /// ```
-    /// # use byte_unit::{*, rendered::{base::{size::parse_line, *}, choice::*, format::*, math::*}};
+    /// # use byte_unit::rendered::{base::{size::parse_line, *}, bit::*, byte::*, choice::*, format::*, math::*};
+    /// use byte_unit::Byte;
+    ///
     /// assert_eq!(Byte::from_u128(15_000_000), Some(Byte::from_u64(15_000_000)));
     /// assert_eq!(Byte::from_u128(Byte::MAX.as_u128()), Some(Byte::MAX));
     /// assert_eq!(Byte::from_u128(Byte::MAX.as_u128() + 1), None);
@@ -55,7 +59,9 @@ impl Byte {
     ///
     /// # Examples
     /// ```
-    /// # use byte_unit::{*, rendered::{base::{size::parse_line, *}, choice::*, format::*, math::*}};
+    /// # use byte_unit::rendered::{base::{size::parse_line, *}, bit::*, byte::*, choice::*, format::*, math::*};
+    /// use byte_unit::Byte;
+    ///
     /// assert_eq!(Byte::from_u64(1024), Byte::KIBIBYTE);
     /// assert_eq!(Byte::from_u64(u64::MAX).as_u128(), u128::from(u64::MAX));
     /// ```
@@ -68,7 +74,9 @@ impl Byte {
     ///
     /// # Examples
     /// ```
-    /// # use byte_unit::{*, rendered::{base::{size::parse_line, *}, choice::*, format::*, math::*}};
+    /// # use byte_unit::rendered::{base::{size::parse_line, *}, bit::*, byte::*, choice::*, format::*, math::*};
+    /// use byte_unit::Byte;
+    ///
     /// assert_eq!(Byte::from_i128(15_000_000), Some(Byte::from_u64(15_000_000)));
     /// assert_eq!(Byte::from_i128(-1), None);
     /// assert_eq!(Byte::from_i128(i128::MAX), None);
@@ -85,7 +93,9 @@ impl Byte {
     ///
     /// # Examples
     /// ```
-    /// # use byte_unit::{*, rendered::{base::{size::parse_line, *}, choice::*, format::*, math::*}};
+    /// # use byte_unit::rendered::{base::{size::parse_line, *}, bit::*, byte::*, choice::*, format::*, math::*};
+    /// use byte_unit::Byte;
+    ///
     /// assert_eq!(Byte::from_i64(15_000_000), Some(Byte::from_u64(15_000_000)));
     /// assert_eq!(Byte::from_i64(-1), None);
     /// ```
@@ -103,7 +113,9 @@ impl Byte {
     ///
     /// # Examples
     /// ```
-    /// # use byte_unit::{*, rendered::{base::{size::parse_line, *}, choice::*, format::*, math::*}};
+    /// # use byte_unit::rendered::{base::{size::parse_line, *}, bit::*, byte::*, choice::*, format::*, math::*};
+    /// use byte_unit::{Bit, Byte, Unit};
+    ///
     /// assert_eq!(Byte::from_u128_with_unit(15, Unit::MB), Some(Byte::from_u64(15_000_000)));
     /// assert_eq!(Byte::from_u128_with_unit(17, Unit::Bit), Some(Byte::from_u64(3)));
     /// assert_eq!(Byte::from_u128_with_unit(1_000, Unit::RB), None);
@@ -122,7 +134,9 @@ impl Byte {
     ///
     /// # Examples
     /// ```
-    /// # use byte_unit::{*, rendered::{base::{size::parse_line, *}, choice::*, format::*, math::*}};
+    /// # use byte_unit::rendered::{base::{size::parse_line, *}, bit::*, byte::*, choice::*, format::*, math::*};
+    /// use byte_unit::{Byte, Unit};
+    ///
     /// assert_eq!(Byte::from_u64_with_unit(15, Unit::KiB), Some(Byte::from_u64(15_360)));
     /// assert_eq!(Byte::from_u64_with_unit(999, Unit::RB), Byte::RONNABYTE.multiply(999));
     /// assert_eq!(Byte::from_u64_with_unit(1_000, Unit::RB), None);
@@ -138,7 +152,9 @@ impl Byte {
     ///
     /// # Examples
     /// ```
-    /// # use byte_unit::{*, rendered::{base::{size::parse_line, *}, choice::*, format::*, math::*}};
+    /// # use byte_unit::rendered::{base::{size::parse_line, *}, bit::*, byte::*, choice::*, format::*, math::*};
+    /// use byte_unit::{Byte, Unit};
+    ///
     /// assert_eq!(Byte::from_i128_with_unit(15, Unit::KiB), Some(Byte::from_u64(15_360)));
     /// assert_eq!(Byte::from_i128_with_unit(-15, Unit::KiB), None);
     /// assert_eq!(Byte::from_i128_with_unit(1_000, Unit::RB), None);
@@ -157,7 +173,9 @@ impl Byte {
     ///
     /// # Examples
     /// ```
-    /// # use byte_unit::{*, rendered::{base::{size::parse_line, *}, choice::*, format::*, math::*}};
+    /// # use byte_unit::rendered::{base::{size::parse_line, *}, bit::*, byte::*, choice::*, format::*, math::*};
+    /// use byte_unit::{Byte, Unit};
+    ///
     /// assert_eq!(Byte::from_i64_with_unit(15, Unit::KiB), Some(Byte::from_u64(15_360)));
     /// assert_eq!(Byte::from_i64_with_unit(-15, Unit::KiB), None);
     /// ```
@@ -173,7 +191,9 @@ impl Byte {
     ///
     /// # Examples
     /// ```
-    /// # use byte_unit::{*, rendered::{base::{size::parse_line, *}, choice::*, format::*, math::*}};
+    /// # use byte_unit::rendered::{base::{size::parse_line, *}, bit::*, byte::*, choice::*, format::*, math::*};
+    /// use byte_unit::Byte;
+    ///
     /// assert_eq!(Byte::KIBIBYTE.as_u128(), 1024);
     /// assert_eq!(Byte::MAX.as_u128(), 999_999_999_999_999_999_999_999_999_999);
     /// ```
@@ -186,7 +206,9 @@ impl Byte {
     ///
     /// # Examples
     /// ```
-    /// # use byte_unit::{*, rendered::{base::{size::parse_line, *}, choice::*, format::*, math::*}};
+    /// # use byte_unit::rendered::{base::{size::parse_line, *}, bit::*, byte::*, choice::*, format::*, math::*};
+    /// use byte_unit::Byte;
+    ///
     /// assert_eq!(Byte::KIBIBYTE.as_u64(), 1024);
     /// assert_eq!(Byte::ZETTABYTE.as_u64(), u64::MAX);
     /// ```
@@ -202,7 +224,9 @@ impl Byte {
     ///
     /// # Examples
     /// ```
-    /// # use byte_unit::{*, rendered::{base::{size::parse_line, *}, choice::*, format::*, math::*}};
+    /// # use byte_unit::rendered::{base::{size::parse_line, *}, bit::*, byte::*, choice::*, format::*, math::*};
+    /// use byte_unit::Byte;
+    ///
     /// assert_eq!(Byte::KIBIBYTE.as_u64_checked(), Some(1024));
     /// assert_eq!(Byte::ZETTABYTE.as_u64_checked(), None);
     /// ```
@@ -218,7 +242,9 @@ impl Byte {
     ///
     /// # Examples
     /// ```
-    /// # use byte_unit::{*, rendered::{base::{size::parse_line, *}, choice::*, format::*, math::*}};
+    /// # use byte_unit::rendered::{base::{size::parse_line, *}, bit::*, byte::*, choice::*, format::*, math::*};
+    /// use byte_unit::Byte;
+    ///
     /// assert!(Byte::KILOBYTE.eq_u64(1000));
     /// assert!(!Byte::KILOBYTE.eq_u64(1024));
     /// ```
@@ -231,7 +257,9 @@ impl Byte {
     ///
     /// # Examples
     /// ```
-    /// # use byte_unit::{*, rendered::{base::{size::parse_line, *}, choice::*, format::*, math::*}};
+    /// # use byte_unit::rendered::{base::{size::parse_line, *}, bit::*, byte::*, choice::*, format::*, math::*};
+    /// use byte_unit::Byte;
+    ///
     /// assert!(Byte::KILOBYTE.eq_u128(1000));
     /// assert!(!Byte::KILOBYTE.eq_u128(1024));
     /// ```
@@ -244,7 +272,9 @@ impl Byte {
     ///
     /// # Examples
     /// ```
-    /// # use byte_unit::{*, rendered::{base::{size::parse_line, *}, choice::*, format::*, math::*}};
+    /// # use byte_unit::rendered::{base::{size::parse_line, *}, bit::*, byte::*, choice::*, format::*, math::*};
+    /// use byte_unit::Byte;
+    ///
     /// use std::cmp::Ordering;
     ///
     /// assert_eq!(Byte::KILOBYTE.cmp_u64(1024), Ordering::Less);
@@ -259,7 +289,9 @@ impl Byte {
     ///
     /// # Examples
     /// ```
-    /// # use byte_unit::{*, rendered::{base::{size::parse_line, *}, choice::*, format::*, math::*}};
+    /// # use byte_unit::rendered::{base::{size::parse_line, *}, bit::*, byte::*, choice::*, format::*, math::*};
+    /// use byte_unit::Byte;
+    ///
     /// use std::cmp::Ordering;
     ///
     /// assert_eq!(Byte::KILOBYTE.cmp_u128(1024), Ordering::Less);
@@ -277,7 +309,9 @@ impl Byte {
     ///
     /// # Examples
     /// ```
-    /// # use byte_unit::{*, rendered::{base::{size::parse_line, *}, choice::*, format::*, math::*}};
+    /// # use byte_unit::rendered::{base::{size::parse_line, *}, bit::*, byte::*, choice::*, format::*, math::*};
+    /// use byte_unit::Byte;
+    ///
     /// let size = Byte::from_u64(15_500);
     /// assert_eq!(size.add(Byte::from_u64(500)), Some(Byte::from_u64(16_000)));
     /// assert_eq!(size.add(Byte::MAX), None);
@@ -291,7 +325,9 @@ impl Byte {
     ///
     /// # Examples
     /// ```
-    /// # use byte_unit::{*, rendered::{base::{size::parse_line, *}, choice::*, format::*, math::*}};
+    /// # use byte_unit::rendered::{base::{size::parse_line, *}, bit::*, byte::*, choice::*, format::*, math::*};
+    /// use byte_unit::Byte;
+    ///
     /// let size = Byte::from_u64(15_500);
     /// assert_eq!(size.subtract(Byte::from_u64(500)), Some(Byte::from_u64(15_000)));
     /// assert_eq!(size.subtract(Byte::MAX), None);
@@ -308,7 +344,9 @@ impl Byte {
     ///
     /// # Examples
     /// ```
-    /// # use byte_unit::{*, rendered::{base::{size::parse_line, *}, choice::*, format::*, math::*}};
+    /// # use byte_unit::rendered::{base::{size::parse_line, *}, bit::*, byte::*, choice::*, format::*, math::*};
+    /// use byte_unit::Byte;
+    ///
     /// assert_eq!(Byte::from_u64(15_500).multiply(2), Some(Byte::from_u64(31_000)));
     /// assert_eq!(Byte::MAX.multiply(2), None);
     /// ```
@@ -324,7 +362,9 @@ impl Byte {
     ///
     /// # Examples
     /// ```
-    /// # use byte_unit::{*, rendered::{base::{size::parse_line, *}, choice::*, format::*, math::*}};
+    /// # use byte_unit::rendered::{base::{size::parse_line, *}, bit::*, byte::*, choice::*, format::*, math::*};
+    /// use byte_unit::Byte;
+    ///
     /// assert_eq!(Byte::from_u64(15_500).divide(3), Some(Byte::from_u64(5166)));
     /// assert_eq!(Byte::from_u64(15_500).divide(0), None);
     /// ```

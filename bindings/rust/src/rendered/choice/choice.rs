@@ -12,7 +12,9 @@ use crate::rendered::math::{DECIMAL_PLACES, Decimal, Factors, Steps, exact_numbe
 ///
 /// # Examples
 /// ```
-/// # use byte_unit::{*, rendered::{base::{size::parse_line, *}, choice::*, format::*, math::*}};
+/// # use byte_unit::rendered::{base::{size::parse_line, *}, bit::*, byte::*, choice::*, format::*, math::*};
+/// use byte_unit::{Unit, UnitType};
+///
 /// assert_eq!(largest_unit(1000, Family::All, UnitType::Both, 8), Some(Unit::KB));
 /// assert_eq!(largest_unit(1000, Family::Bits, UnitType::Both, 8), Some(Unit::Kibit));
 /// ```
@@ -46,7 +48,9 @@ const FEW_PLACES: u32 = 5;
 ///
 /// # Examples
 /// ```
-/// # use byte_unit::{*, rendered::{base::{size::parse_line, *}, choice::*, format::*, math::*}};
+/// # use byte_unit::rendered::{base::{size::parse_line, *}, bit::*, byte::*, choice::*, format::*, math::*};
+/// use byte_unit::{Decimal, Unit};
+///
 /// let mut steps = Steps::new();
 /// let chosen = choose_unit(1536, Family::Bytes, 8, 3, &mut steps);
 /// assert_eq!(chosen, Some((Decimal::from_digits(1, 5, 1), Unit::KiB)));
@@ -104,7 +108,9 @@ pub fn choose_unit(
 ///
 /// # Examples
 /// ```
-/// # use byte_unit::{*, rendered::{base::{size::parse_line, *}, choice::*, format::*, math::*}};
+/// # use byte_unit::rendered::{base::{size::parse_line, *}, bit::*, byte::*, choice::*, format::*, math::*};
+/// use byte_unit::{Byte, Decimal, Unit};
+///
 /// let (number, unit) = recoverable_unit(50_840_000, Kind::Byte, false, 2, &mut Steps::new());
 /// assert!(number == Decimal::from_digits(50, 84, 2) && unit == Unit::MB);
 /// ```
@@ -130,7 +136,9 @@ pub fn recoverable_unit(size: u128, kind: Kind, allow: bool, precision: usize, s
 ///
 /// # Examples
 /// ```
-/// # use byte_unit::{*, rendered::{base::{size::parse_line, *}, choice::*, format::*, math::*}};
+/// # use byte_unit::rendered::{base::{size::parse_line, *}, bit::*, byte::*, choice::*, format::*, math::*};
+/// use byte_unit::{Bit, Byte, Unit};
+///
 /// assert_eq!(exact_unit(50_840_000, Kind::Byte, false), (50_840, Unit::KB));
 /// assert_eq!(exact_unit(16, Kind::Bit, true), (16, Unit::Bit));
 /// ```
@@ -148,7 +156,9 @@ pub fn exact_unit(size: u128, kind: Kind, allow: bool) -> (u128, Unit) {
 ///
 /// # Examples
 /// ```
-/// # use byte_unit::{*, rendered::{base::{size::parse_line, *}, choice::*, format::*, math::*}};
+/// # use byte_unit::rendered::{base::{size::parse_line, *}, bit::*, byte::*, choice::*, format::*, math::*};
+/// use byte_unit::{Unit, UnitType};
+///
 /// assert_eq!(largest_unit(10_000, Family::Bytes, UnitType::Both, 8), Some(Unit::KiB));
 /// assert_eq!(largest_unit(1000, Family::Bytes, UnitType::Binary, 8), None);
 /// ```
@@ -179,7 +189,9 @@ pub fn largest_unit(size: u128, family: Family, unit_type: UnitType, own_bits: u
 ///
 /// # Examples
 /// ```
-/// # use byte_unit::{*, rendered::{base::{size::parse_line, *}, choice::*, format::*, math::*}};
+/// # use byte_unit::rendered::{base::{size::parse_line, *}, bit::*, byte::*, choice::*, format::*, math::*};
+/// use byte_unit::{Byte, Unit, UnitType};
+///
 /// assert_eq!(appropriate_unit(10_000, Kind::Byte, UnitType::Both), Unit::KiB);
 /// assert_eq!(appropriate_unit(1000, Kind::Byte, UnitType::Binary), Unit::B);
 /// ```

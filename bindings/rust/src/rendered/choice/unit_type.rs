@@ -6,7 +6,9 @@
 ///
 /// # Examples
 /// ```
-/// # use byte_unit::{*, rendered::{base::{size::parse_line, *}, choice::*, format::*, math::*}};
+/// # use byte_unit::rendered::{base::{size::parse_line, *}, bit::*, byte::*, choice::*, format::*, math::*};
+/// use byte_unit::{Decimal, Unit, UnitType};
+///
 /// assert_eq!(largest_unit(2000, Family::Bytes, UnitType::Binary, 8), Some(Unit::KiB));
 /// assert_eq!(largest_unit(2000, Family::Bytes, UnitType::Decimal, 8), Some(Unit::KB));
 /// ```

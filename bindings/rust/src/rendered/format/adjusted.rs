@@ -48,7 +48,9 @@ enum Rounding {
 ///
 /// # Examples
 /// ```
-/// # use byte_unit::{*, rendered::{base::{size::parse_line, *}, choice::*, format::*, math::*}};
+/// # use byte_unit::rendered::{base::{size::parse_line, *}, bit::*, byte::*, choice::*, format::*, math::*};
+/// use byte_unit::{Byte, FormatSpec, Unit};
+///
 /// let unset = FormatSpec::PLAIN;
 /// assert_eq!(adjusted_len(1536, Kind::Byte, Unit::KB, unset), "1.536 KB".len());
 /// ```
@@ -71,7 +73,9 @@ pub fn adjusted_len(size: u128, kind: Kind, unit: Unit, spec: FormatSpec) -> usi
 ///
 /// # Examples
 /// ```
-/// # use byte_unit::{*, rendered::{base::{size::parse_line, *}, choice::*, format::*, math::*}};
+/// # use byte_unit::rendered::{base::{size::parse_line, *}, bit::*, byte::*, choice::*, format::*, math::*};
+/// use byte_unit::{Byte, FormatSpec, Unit};
+///
 /// let mut out = [b'.'; 9];
 /// assert_eq!(write_adjusted(1536, Kind::Byte, Unit::KB, FormatSpec::PLAIN, &mut out), 8);
 /// assert!(out == *b"1.536 KB.");
@@ -203,7 +207,9 @@ fn scaled_parts<'a>(number: u128, places: u32, unit: Unit, spec: FormatSpec) -> 
 ///
 /// # Examples
 /// ```
-/// # use byte_unit::{*, rendered::{base::{size::parse_line, *}, choice::*, format::*, math::*}};
+/// # use byte_unit::rendered::{base::{size::parse_line, *}, bit::*, byte::*, choice::*, format::*, math::*};
+/// use byte_unit::{Bit, Byte, Unit};
+///
 /// let number = number_in_unit(1536, Kind::Byte, Unit::KiB);
 /// assert_eq!((number.whole(), number.digit(1)), (1, 5));
 /// assert_eq!(number_in_unit(1, Kind::Bit, Unit::KB).places(), 6);

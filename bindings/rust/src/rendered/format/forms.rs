@@ -27,7 +27,9 @@ pub fn text_len(size: u128, kind: Kind, spec: FormatSpec) -> usize {
 ///
 /// # Examples
 /// ```
-/// # use byte_unit::{*, rendered::{base::{size::parse_line, *}, choice::*, format::*, math::*}};
+/// # use byte_unit::rendered::{base::{size::parse_line, *}, bit::*, byte::*, choice::*, format::*, math::*};
+/// use byte_unit::{Byte, FormatSpec};
+///
 /// let mut out = [b'.'; 8];
 /// assert_eq!(write_text(1536, Kind::Byte, FormatSpec::ALTERNATE, &mut out), 7);
 /// assert!(out == *b"1.5 KiB.");

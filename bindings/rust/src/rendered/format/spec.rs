@@ -29,7 +29,9 @@ pub enum Align {
 ///
 /// # Examples
 /// ```
-/// # use byte_unit::{*, rendered::{base::{size::parse_line, *}, choice::*, format::*, math::*}};
+/// # use byte_unit::rendered::{base::{size::parse_line, *}, bit::*, byte::*, choice::*, format::*, math::*};
+/// use byte_unit::FormatSpec;
+///
 /// let wide = FormatSpec { width: Some(10), ..FormatSpec::ALTERNATE };
 /// assert!(wide.alternate && wide.precision == None);
 /// ```

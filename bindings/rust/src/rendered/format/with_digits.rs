@@ -18,7 +18,9 @@ use crate::support::lanes::*;
 ///
 /// # Examples
 /// ```
-/// # use byte_unit::{*, rendered::{base::{size::parse_line, *}, choice::*, format::*, math::*}};
+/// # use byte_unit::rendered::{base::{size::parse_line, *}, bit::*, byte::*, choice::*, format::*, math::*};
+/// use byte_unit::Byte;
+///
 /// let mut out = [0; 70];
 /// let len = write_with_digits(1536, Kind::Byte, *b" = ", &mut out);
 /// assert_eq!(&out[..len], b"1536 = 1.5 KiB".as_slice());

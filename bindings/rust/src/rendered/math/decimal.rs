@@ -36,7 +36,9 @@ impl Decimal {
     ///
     /// # Examples
     /// ```
-    /// # use byte_unit::{*, rendered::{base::{size::parse_line, *}, choice::*, format::*, math::*}};
+    /// # use byte_unit::rendered::{base::{size::parse_line, *}, bit::*, byte::*, choice::*, format::*, math::*};
+    /// use byte_unit::Decimal;
+    ///
     /// let half = Decimal::new(1, 5 * 10u128.pow(27)).unwrap();
     /// assert_eq!(half.digits(), 5);
     /// assert_eq!(Decimal::new(1, 10u128.pow(28)), None);
@@ -53,7 +55,9 @@ impl Decimal {
     ///
     /// # Examples
     /// ```
-    /// # use byte_unit::{*, rendered::{base::{size::parse_line, *}, choice::*, format::*, math::*}};
+    /// # use byte_unit::rendered::{base::{size::parse_line, *}, bit::*, byte::*, choice::*, format::*, math::*};
+    /// use byte_unit::Decimal;
+    ///
     /// assert_eq!(Decimal::from_u128(7), Some(Decimal::from(7u8)));
     /// assert_eq!(Decimal::from_u128(1 << 112), None);
     /// ```
@@ -65,7 +69,9 @@ impl Decimal {
     ///
     /// # Examples
     /// ```
-    /// # use byte_unit::{*, rendered::{base::{size::parse_line, *}, choice::*, format::*, math::*}};
+    /// # use byte_unit::rendered::{base::{size::parse_line, *}, bit::*, byte::*, choice::*, format::*, math::*};
+    /// use byte_unit::Decimal;
+    ///
     /// let d = Decimal::from_u128_with_scale(5084, 2).unwrap();
     /// assert_eq!((d.whole(), d.digits(), d.places()), (50, 84, 2));
     /// assert_eq!(Decimal::from_u128_with_scale(1, 29), None);
@@ -85,7 +91,9 @@ impl Decimal {
     ///
     /// # Examples
     /// ```
-    /// # use byte_unit::{*, rendered::{base::{size::parse_line, *}, choice::*, format::*, math::*}};
+    /// # use byte_unit::rendered::{base::{size::parse_line, *}, bit::*, byte::*, choice::*, format::*, math::*};
+    /// use byte_unit::Decimal;
+    ///
     /// assert_eq!(Some(Decimal::from_digits(50, 84, 3)), Decimal::from_u128_with_scale(50_084, 3));
     /// assert_eq!(Decimal::from_digits(1, 500, 3).places(), 1);
     /// ```
@@ -126,7 +134,9 @@ impl Decimal {
     ///
     /// # Examples
     /// ```
-    /// # use byte_unit::{*, rendered::{base::{size::parse_line, *}, choice::*, format::*, math::*}};
+    /// # use byte_unit::rendered::{base::{size::parse_line, *}, bit::*, byte::*, choice::*, format::*, math::*};
+    /// use byte_unit::Decimal;
+    ///
     /// assert_eq!(Decimal::from_digits(50, 84, 3).whole(), 50);
     /// assert_eq!(Decimal::from(7u8).whole(), 7);
     /// ```
@@ -138,7 +148,9 @@ impl Decimal {
     ///
     /// # Examples
     /// ```
-    /// # use byte_unit::{*, rendered::{base::{size::parse_line, *}, choice::*, format::*, math::*}};
+    /// # use byte_unit::rendered::{base::{size::parse_line, *}, bit::*, byte::*, choice::*, format::*, math::*};
+    /// use byte_unit::Decimal;
+    ///
     /// assert_eq!(Decimal::from_digits(1, 5, 1).fraction(), 5 * 10u128.pow(27));
     /// assert_eq!(Decimal::from(7u8).fraction(), 0);
     /// ```
@@ -150,7 +162,9 @@ impl Decimal {
     ///
     /// # Examples
     /// ```
-    /// # use byte_unit::{*, rendered::{base::{size::parse_line, *}, choice::*, format::*, math::*}};
+    /// # use byte_unit::rendered::{base::{size::parse_line, *}, bit::*, byte::*, choice::*, format::*, math::*};
+    /// use byte_unit::Decimal;
+    ///
     /// assert_eq!(Decimal::from_digits(50, 840, 4).places(), 3);
     /// assert_eq!(Decimal::from(7u8).places(), 0);
     /// ```
@@ -162,7 +176,9 @@ impl Decimal {
     ///
     /// # Examples
     /// ```
-    /// # use byte_unit::{*, rendered::{base::{size::parse_line, *}, choice::*, format::*, math::*}};
+    /// # use byte_unit::rendered::{base::{size::parse_line, *}, bit::*, byte::*, choice::*, format::*, math::*};
+    /// use byte_unit::Decimal;
+    ///
     /// assert_eq!(Decimal::from_digits(50, 84, 3).digits(), 84);
     /// assert_eq!(Decimal::from(7u8).digits(), 0);
     /// ```

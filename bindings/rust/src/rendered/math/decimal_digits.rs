@@ -22,7 +22,7 @@ static PAIRS: [u8; 200] = *b"\
 ///
 /// # Examples
 /// ```
-/// # use byte_unit::{*, rendered::{base::{size::parse_line, *}, choice::*, format::*, math::*}};
+/// # use byte_unit::rendered::{base::{size::parse_line, *}, bit::*, byte::*, choice::*, format::*, math::*};
 /// assert_eq!(DecimalDigits::of(1536).as_slice(), b"1536".as_slice());
 /// assert_eq!(DecimalDigits::of(0).as_slice(), b"0".as_slice());
 /// ```
@@ -38,7 +38,7 @@ impl DecimalDigits {
     ///
     /// # Examples
     /// ```
-    /// # use byte_unit::{*, rendered::{base::{size::parse_line, *}, choice::*, format::*, math::*}};
+    /// # use byte_unit::rendered::{base::{size::parse_line, *}, bit::*, byte::*, choice::*, format::*, math::*};
     /// assert_eq!(DecimalDigits::of(1536).as_slice(), b"1536".as_slice());
     /// ```
     pub fn of(n: u128) -> DecimalDigits {
@@ -51,7 +51,7 @@ impl DecimalDigits {
     ///
     /// # Examples
     /// ```
-    /// # use byte_unit::{*, rendered::{base::{size::parse_line, *}, choice::*, format::*, math::*}};
+    /// # use byte_unit::rendered::{base::{size::parse_line, *}, bit::*, byte::*, choice::*, format::*, math::*};
     /// assert_eq!(DecimalDigits::of(1536).len(), 4);
     /// assert_eq!(DecimalDigits::of(u128::MAX).len(), 39);
     /// ```
@@ -64,7 +64,7 @@ impl DecimalDigits {
     ///
     /// # Examples
     /// ```
-    /// # use byte_unit::{*, rendered::{base::{size::parse_line, *}, choice::*, format::*, math::*}};
+    /// # use byte_unit::rendered::{base::{size::parse_line, *}, bit::*, byte::*, choice::*, format::*, math::*};
     /// assert_eq!(DecimalDigits::of(1000).as_slice(), b"1000".as_slice());
     /// ```
     #[inline]
@@ -80,7 +80,7 @@ impl DecimalDigits {
 ///
 /// # Examples
 /// ```
-/// # use byte_unit::{*, rendered::{base::{size::parse_line, *}, choice::*, format::*, math::*}};
+/// # use byte_unit::rendered::{base::{size::parse_line, *}, bit::*, byte::*, choice::*, format::*, math::*};
 /// use std::fmt;
 ///
 /// struct Number(u128);
@@ -100,7 +100,7 @@ pub fn fmt_u128(n: u128, f: &mut fmt::Formatter<'_>) -> fmt::Result {
 ///
 /// # Examples
 /// ```
-/// # use byte_unit::{*, rendered::{base::{size::parse_line, *}, choice::*, format::*, math::*}};
+/// # use byte_unit::rendered::{base::{size::parse_line, *}, bit::*, byte::*, choice::*, format::*, math::*};
 /// assert_eq!(decimal_len(1536), 4);
 /// assert_eq!(decimal_len(0), 1);
 /// ```
@@ -137,7 +137,7 @@ fn decimal_len_u64(n: u64) -> usize {
 ///
 /// # Examples
 /// ```
-/// # use byte_unit::{*, rendered::{base::{size::parse_line, *}, choice::*, format::*, math::*}};
+/// # use byte_unit::rendered::{base::{size::parse_line, *}, bit::*, byte::*, choice::*, format::*, math::*};
 /// let mut bytes = *b"......";
 /// assert_eq!(put_u128(1536, &mut bytes, 5), 1);
 /// assert_eq!(&bytes, b".1536.");
@@ -158,7 +158,7 @@ pub fn put_u128(n: u128, bytes: &mut [u8], end: usize) -> usize {
 ///
 /// # Examples
 /// ```
-/// # use byte_unit::{*, rendered::{base::{size::parse_line, *}, choice::*, format::*, math::*}};
+/// # use byte_unit::rendered::{base::{size::parse_line, *}, bit::*, byte::*, choice::*, format::*, math::*};
 /// let mut bytes = *b"1.....";
 /// assert_eq!(put_fraction(5, 2, &mut bytes, 4), 1);
 /// assert_eq!(&bytes, b"1.05..");

@@ -17,7 +17,7 @@ const BASE: u64 = 1 << 40;
 ///
 /// # Examples
 /// ```
-/// # use byte_unit::{*, rendered::{base::{size::parse_line, *}, choice::*, format::*, math::*}};
+/// # use byte_unit::rendered::{base::{size::parse_line, *}, bit::*, byte::*, choice::*, format::*, math::*};
 /// assert_eq!(div_rem(1536, 1000), (1, 536));
 /// ```
 #[inline]
@@ -37,7 +37,7 @@ pub fn div_rem(dividend: u128, divisor: u128) -> (u128, u128) {
 ///
 /// # Examples
 /// ```
-/// # use byte_unit::{*, rendered::{base::{size::parse_line, *}, choice::*, format::*, math::*}};
+/// # use byte_unit::rendered::{base::{size::parse_line, *}, bit::*, byte::*, choice::*, format::*, math::*};
 /// assert_eq!((rounded_quotient(5, 2), rounded_quotient(7, 2)), (2, 4));
 /// assert_eq!(rounded_quotient(8, 3), 3);
 /// ```
@@ -77,7 +77,7 @@ pub(crate) fn div_rem_u24(dividend: u128, divisor: u64) -> (u128, u64) {
 ///
 /// # Examples
 /// ```
-/// # use byte_unit::{*, rendered::{base::{size::parse_line, *}, choice::*, format::*, math::*}};
+/// # use byte_unit::rendered::{base::{size::parse_line, *}, bit::*, byte::*, choice::*, format::*, math::*};
 /// assert_eq!(div_rem_thousand(1_234_567), (1_234, 567));
 /// ```
 #[inline(always)]

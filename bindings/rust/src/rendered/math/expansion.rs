@@ -41,7 +41,7 @@ impl Expansion {
     ///
     /// # Examples
     /// ```
-    /// # use byte_unit::{*, rendered::{base::{size::parse_line, *}, choice::*, format::*, math::*}};
+    /// # use byte_unit::rendered::{base::{size::parse_line, *}, bit::*, byte::*, choice::*, format::*, math::*};
     /// assert_eq!(format!("{}", Expansion::new(13, 3, 0)).as_str(), "1.625");
     /// assert_eq!(format!("{}", Expansion::new(8, 3, 0)).as_str(), "1");
     /// ```
@@ -65,7 +65,9 @@ impl Expansion {
     ///
     /// # Examples
     /// ```
-    /// # use byte_unit::{*, rendered::{base::{size::parse_line, *}, choice::*, format::*, math::*}};
+    /// # use byte_unit::rendered::{base::{size::parse_line, *}, bit::*, byte::*, choice::*, format::*, math::*};
+    /// use byte_unit::Decimal;
+    ///
     /// let e = Expansion::from_decimal(Decimal::from_digits(50, 84, 3));
     /// assert_eq!((e.whole(), e.places(), e.digit(3)), (50, 3, 4));
     /// ```
@@ -77,7 +79,7 @@ impl Expansion {
     ///
     /// # Examples
     /// ```
-    /// # use byte_unit::{*, rendered::{base::{size::parse_line, *}, choice::*, format::*, math::*}};
+    /// # use byte_unit::rendered::{base::{size::parse_line, *}, bit::*, byte::*, choice::*, format::*, math::*};
     /// assert_eq!(Expansion::new(13, 3, 0).whole(), 1);
     /// ```
     pub fn whole(&self) -> u128 {
@@ -88,7 +90,7 @@ impl Expansion {
     ///
     /// # Examples
     /// ```
-    /// # use byte_unit::{*, rendered::{base::{size::parse_line, *}, choice::*, format::*, math::*}};
+    /// # use byte_unit::rendered::{base::{size::parse_line, *}, bit::*, byte::*, choice::*, format::*, math::*};
     /// assert_eq!(Expansion::new(13, 3, 0).places(), 3);
     /// assert_eq!(Expansion::new(1, 93, 0).places(), 93);
     /// ```
@@ -102,7 +104,7 @@ impl Expansion {
     ///
     /// # Examples
     /// ```
-    /// # use byte_unit::{*, rendered::{base::{size::parse_line, *}, choice::*, format::*, math::*}};
+    /// # use byte_unit::rendered::{base::{size::parse_line, *}, bit::*, byte::*, choice::*, format::*, math::*};
     /// let e = Expansion::new(13, 3, 0);
     /// assert_eq!((e.digit(1), e.digit(3), e.digit(4)), (6, 5, 0));
     /// ```
@@ -115,7 +117,7 @@ impl Expansion {
     ///
     /// # Examples
     /// ```
-    /// # use byte_unit::{*, rendered::{base::{size::parse_line, *}, choice::*, format::*, math::*}};
+    /// # use byte_unit::rendered::{base::{size::parse_line, *}, bit::*, byte::*, choice::*, format::*, math::*};
     /// assert_eq!(Expansion::new(9_996, 3, 3).rounded(2, Ties::Even).whole(), 10);
     /// let tie = Expansion::new(1_005, 3, 3);
     /// assert_eq!(format!("{}", tie.rounded(2, Ties::Even)).as_str(), "1");
@@ -131,7 +133,7 @@ impl Expansion {
     ///
     /// # Examples
     /// ```
-    /// # use byte_unit::{*, rendered::{base::{size::parse_line, *}, choice::*, format::*, math::*}};
+    /// # use byte_unit::rendered::{base::{size::parse_line, *}, bit::*, byte::*, choice::*, format::*, math::*};
     /// let mut e = Expansion::new(9_996, 3, 3);
     /// e.round(2, Ties::Even);
     /// assert_eq!((e.whole(), e.places()), (10, 0));
@@ -226,7 +228,7 @@ fn fmt_fraction(e: &Expansion, f: &mut fmt::Formatter<'_>) -> fmt::Result {
 ///
 /// # Examples
 /// ```
-/// # use byte_unit::{*, rendered::{base::{size::parse_line, *}, choice::*, format::*, math::*}};
+/// # use byte_unit::rendered::{base::{size::parse_line, *}, bit::*, byte::*, choice::*, format::*, math::*};
 /// assert_eq!(&glyphs_of(&Expansion::new(13, 3, 0))[..4], b"6250".as_slice());
 /// ```
 pub fn glyphs_of(e: &Expansion) -> [u8; EXPANSION_PLACES] {

@@ -25,7 +25,7 @@ pub struct Factors {
 ///
 /// # Examples
 /// ```
-/// # use byte_unit::{*, rendered::{base::{size::parse_line, *}, choice::*, format::*, math::*}};
+/// # use byte_unit::rendered::{base::{size::parse_line, *}, bit::*, byte::*, choice::*, format::*, math::*};
 /// let mut steps = Steps::new();
 /// assert_eq!(two_five(1_000, &mut steps), (3, 3));
 /// assert_eq!(two_five(7, &mut steps), (0, 0));
@@ -40,7 +40,7 @@ pub fn two_five(size: u128, steps: &mut Steps) -> (u32, u32) {
 ///
 /// # Examples
 /// ```
-/// # use byte_unit::{*, rendered::{base::{size::parse_line, *}, choice::*, format::*, math::*}};
+/// # use byte_unit::rendered::{base::{size::parse_line, *}, bit::*, byte::*, choice::*, format::*, math::*};
 /// let mut steps = Steps::new();
 /// let factors = factors_of(7_000, &mut steps);
 /// assert_eq!((factors.left, factors.twos, factors.fives), (7, 3, 3));

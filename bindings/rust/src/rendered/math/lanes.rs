@@ -22,7 +22,7 @@ const TEN_POW_16_INVERSE: u64 = 16_615_349_947_311_448_411;
 ///
 /// # Examples
 /// ```
-/// # use byte_unit::{*, rendered::{base::{size::parse_line, *}, choice::*, format::*, math::*}};
+/// # use byte_unit::rendered::{base::{size::parse_line, *}, bit::*, byte::*, choice::*, format::*, math::*};
 /// let mut digits = [0; PADDED_DIGITS];
 /// assert_eq!(put_padded_digits(1536, &mut digits), 4);
 /// assert_eq!(&digits, b"15360000000000000000000000000000");

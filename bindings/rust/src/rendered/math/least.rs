@@ -27,7 +27,9 @@ const GROUPS: u32 = 4;
 ///
 /// # Examples
 /// ```
-/// # use byte_unit::{*, rendered::{base::{size::parse_line, *}, choice::*, format::*, math::*}};
+/// # use byte_unit::rendered::{base::{size::parse_line, *}, bit::*, byte::*, choice::*, format::*, math::*};
+/// use byte_unit::Decimal;
+///
 /// assert_eq!(least_size(Decimal::from_digits(1, 5, 1), 1024, 2000), Some(1536));
 /// assert_eq!(least_size(Decimal::from_digits(0, 1, 1), 1024, 2000), Some(103));
 /// assert_eq!(least_size(Decimal::from_digits(1, 5, 1), 1024, 1536), None);
@@ -61,7 +63,9 @@ pub fn least_size(d: Decimal, unit_size: u128, limit: u128) -> Option<u128> {
 ///
 /// # Examples
 /// ```
-/// # use byte_unit::{*, rendered::{base::{size::parse_line, *}, choice::*, format::*, math::*}};
+/// # use byte_unit::rendered::{base::{size::parse_line, *}, bit::*, byte::*, choice::*, format::*, math::*};
+/// use byte_unit::Decimal;
+///
 /// let mut steps = Steps::new();
 /// assert_eq!(least_size_counted(Decimal::from_digits(1, 5, 1), 1024, 2000, &mut steps), Some(1536));
 /// assert_eq!(steps.count(), 4);

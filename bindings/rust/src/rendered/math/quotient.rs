@@ -19,7 +19,9 @@ const TWO_POW_64: u128 = 1 << 64;
 ///
 /// # Examples
 /// ```
-/// # use byte_unit::{*, rendered::{base::{size::parse_line, *}, choice::*, format::*, math::*}};
+/// # use byte_unit::rendered::{base::{size::parse_line, *}, bit::*, byte::*, choice::*, format::*, math::*};
+/// use byte_unit::Decimal;
+///
 /// let mut steps = Steps::new();
 /// assert_eq!(exact_quotient(1, 8, 3, &mut steps), Some(Decimal::from_digits(0, 125, 3)));
 /// assert_eq!(exact_quotient(1, 8, 2, &mut steps), None);
@@ -53,7 +55,9 @@ pub fn exact_quotient(size: u128, unit: u128, places: u32, steps: &mut Steps) ->
 ///
 /// # Examples
 /// ```
-/// # use byte_unit::{*, rendered::{base::{size::parse_line, *}, choice::*, format::*, math::*}};
+/// # use byte_unit::rendered::{base::{size::parse_line, *}, bit::*, byte::*, choice::*, format::*, math::*};
+/// use byte_unit::Decimal;
+///
 /// let mut steps = Steps::new();
 /// let twelve = Factors { left: 3, twos: 2, fives: 0 };
 /// assert_eq!(factored_quotient(twelve, 3, 0, 1, &mut steps), Decimal::from_digits(1, 5, 1));

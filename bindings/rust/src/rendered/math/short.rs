@@ -32,7 +32,7 @@ pub struct ShortExpansion {
 ///
 /// # Examples
 /// ```
-/// # use byte_unit::{*, rendered::{base::{size::parse_line, *}, choice::*, format::*, math::*}};
+/// # use byte_unit::rendered::{base::{size::parse_line, *}, bit::*, byte::*, choice::*, format::*, math::*};
 /// let eighths = short_expansion(13, 3, 0).unwrap();
 /// assert_eq!((eighths.whole, eighths.digits, eighths.places), (1, 625, 3));
 /// let thousandths = short_expansion(12_288, 6, 3).unwrap();
@@ -91,7 +91,9 @@ fn decimal_expansion(numerator: u128, twos: u32, tens: u32) -> Option<ShortExpan
 ///
 /// # Examples
 /// ```
-/// # use byte_unit::{*, rendered::{base::{size::parse_line, *}, choice::*, format::*, math::*}};
+/// # use byte_unit::rendered::{base::{size::parse_line, *}, bit::*, byte::*, choice::*, format::*, math::*};
+/// use byte_unit::Decimal;
+///
 /// let mut steps = Steps::new();
 /// assert_eq!(exact_number(13, 3, 0, 3, &mut steps), Decimal::from_digits(1, 625, 3));
 /// assert_eq!(steps.count(), 3);

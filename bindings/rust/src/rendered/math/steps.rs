@@ -9,7 +9,7 @@
 ///
 /// # Examples
 /// ```
-/// # use byte_unit::{*, rendered::{base::{size::parse_line, *}, choice::*, format::*, math::*}};
+/// # use byte_unit::rendered::{base::{size::parse_line, *}, bit::*, byte::*, choice::*, format::*, math::*};
 /// let mut steps = Steps::new();
 /// assert_eq!(two_five(1_000, &mut steps), (3, 3));
 /// assert_eq!(steps.count(), 8);
@@ -25,7 +25,7 @@ impl Steps {
     ///
     /// # Examples
     /// ```
-    /// # use byte_unit::{*, rendered::{base::{size::parse_line, *}, choice::*, format::*, math::*}};
+    /// # use byte_unit::rendered::{base::{size::parse_line, *}, bit::*, byte::*, choice::*, format::*, math::*};
     /// assert_eq!(Steps::new().count(), 0);
     /// ```
     pub fn new() -> Steps {
@@ -36,7 +36,7 @@ impl Steps {
     ///
     /// # Examples
     /// ```
-    /// # use byte_unit::{*, rendered::{base::{size::parse_line, *}, choice::*, format::*, math::*}};
+    /// # use byte_unit::rendered::{base::{size::parse_line, *}, bit::*, byte::*, choice::*, format::*, math::*};
     /// let mut steps = Steps::new();
     /// two_five(7, &mut steps);
     /// assert_eq!(steps.count(), 2);

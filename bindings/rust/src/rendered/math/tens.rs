@@ -51,7 +51,7 @@ pub(crate) const POWERS_OF_TEN: [u128; 39] = [
 ///
 /// # Examples
 /// ```
-/// # use byte_unit::{*, rendered::{base::{size::parse_line, *}, choice::*, format::*, math::*}};
+/// # use byte_unit::rendered::{base::{size::parse_line, *}, bit::*, byte::*, choice::*, format::*, math::*};
 /// assert_eq!(power_of_ten(3), 1_000);
 /// assert_eq!(power_of_ten(38), 10u128.pow(38));
 /// ```

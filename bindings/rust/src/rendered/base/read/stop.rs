@@ -32,7 +32,9 @@ pub struct Stop {
 ///
 /// # Examples
 /// ```
-/// # use byte_unit::{*, rendered::{base::{size::parse_line, *}, choice::*, format::*, math::*}};
+/// # use byte_unit::rendered::{base::{size::parse_line, *}, bit::*, byte::*, choice::*, format::*, math::*};
+/// use byte_unit::{Byte, ParseError, ValueParseError};
+///
 /// let flags = size::flags_for(Kind::Byte, false);
 /// let error = error_at(Some('x'), true, Reason::NoDigit, flags);
 /// assert!(matches!(error, ParseError::Value(ValueParseError::NotNumber('x'))));

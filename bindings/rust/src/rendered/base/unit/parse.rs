@@ -21,7 +21,9 @@ impl Unit {
     ///
     /// # Examples
     /// ```
-    /// # use byte_unit::{*, rendered::{base::{size::parse_line, *}, choice::*, format::*, math::*}};
+    /// # use byte_unit::rendered::{base::{size::parse_line, *}, bit::*, byte::*, choice::*, format::*, math::*};
+    /// use byte_unit::Unit;
+    ///
     /// assert_eq!(Unit::parse_str("Kib", false, true)?, Unit::Kibit);
     /// assert_eq!(Unit::parse_str("Kib", true, true)?, Unit::KiB);
     /// assert!(Unit::parse_str("Kx", false, true).is_err());

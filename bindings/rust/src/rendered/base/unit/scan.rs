@@ -64,7 +64,9 @@ impl UnitStop {
     ///
     /// # Examples
     /// ```
-    /// # use byte_unit::{*, rendered::{base::{size::parse_line, *}, choice::*, format::*, math::*}};
+    /// # use byte_unit::rendered::{base::{size::parse_line, *}, bit::*, byte::*, choice::*, format::*, math::*};
+    /// use byte_unit::{Byte, UnitParseError};
+    ///
     /// let flags = size::flags_for(Kind::Byte, false);
     /// let error = position::read_unit_text("Kix", flags).map_err(|(stop, next, _)| stop.error_before(next, flags));
     /// assert!(matches!(error, Err(UnitParseError { character: 'x', .. })));
@@ -85,7 +87,9 @@ impl UnitStop {
     ///
     /// # Examples
     /// ```
-    /// # use byte_unit::{*, rendered::{base::{size::parse_line, *}, choice::*, format::*, math::*}};
+    /// # use byte_unit::rendered::{base::{size::parse_line, *}, bit::*, byte::*, choice::*, format::*, math::*};
+    /// use byte_unit::Byte;
+    ///
     /// let flags = size::flags_for(Kind::Byte, false);
     /// let named = position::read_unit_text("Kix", flags).map_err(|(stop, next, _)| stop.expected_before(next, flags));
     /// assert!(matches!(named, Err(Expected::EitherB)));
@@ -120,7 +124,7 @@ impl Expected {
     ///
     /// # Examples
     /// ```
-    /// # use byte_unit::{*, rendered::{base::{size::parse_line, *}, choice::*, format::*, math::*}};
+    /// # use byte_unit::rendered::{base::{size::parse_line, *}, bit::*, byte::*, choice::*, format::*, math::*};
     /// assert!(Expected::S.or_end() && !Expected::T.or_end()); // `bit` is a suffix, and `bi` is not.
     /// ```
     #[inline(always)]

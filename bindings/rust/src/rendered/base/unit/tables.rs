@@ -122,7 +122,7 @@ pub(crate) static BEGINNING: [char; PREFIXES + 1] = with_prefixes!(table expecte
 ///
 /// # Examples
 /// ```
-/// # use byte_unit::{*, rendered::{base::{size::parse_line, *}, choice::*, format::*, math::*}};
+/// # use byte_unit::rendered::{base::{size::parse_line, *}, bit::*, byte::*, choice::*, format::*, math::*};
 /// assert_eq!((prefix_letter(1), prefix_letter(9)), (b'K', b'R'));
 /// ```
 #[inline(always)]
@@ -134,7 +134,9 @@ pub fn prefix_letter(power: u32) -> u8 {
 ///
 /// # Examples
 /// ```
-/// # use byte_unit::{*, rendered::{base::{size::parse_line, *}, choice::*, format::*, math::*}};
+/// # use byte_unit::rendered::{base::{size::parse_line, *}, bit::*, byte::*, choice::*, format::*, math::*};
+/// use byte_unit::{Bit, Unit};
+///
 /// assert_eq!((unit_at(0), unit_at(37), unit_at(38)), (Some(Unit::Bit), Some(Unit::RiB), None));
 /// ```
 pub fn unit_at(index: usize) -> Option<Unit> {

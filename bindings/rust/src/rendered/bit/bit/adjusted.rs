@@ -12,7 +12,9 @@ mod built_in_traits;
 ///
 /// # Examples
 /// ```
-/// # use byte_unit::{*, rendered::{base::{size::parse_line, *}, choice::*, format::*, math::*}};
+/// # use byte_unit::rendered::{base::{size::parse_line, *}, bit::*, byte::*, choice::*, format::*, math::*};
+/// use byte_unit::{Bit, Unit};
+///
 /// let adjusted = Bit::from_u64(123_456).get_adjusted_unit(Unit::Kbit);
 /// assert_eq!(adjusted.to_string(), "123.456 Kb");
 /// assert_eq!(adjusted, Bit::from_u64(123_456).get_adjusted_unit(Unit::Mibit));
@@ -28,7 +30,9 @@ impl AdjustedBit {
     ///
     /// # Examples
     /// ```
-    /// # use byte_unit::{*, rendered::{base::{size::parse_line, *}, choice::*, format::*, math::*}};
+    /// # use byte_unit::rendered::{base::{size::parse_line, *}, bit::*, byte::*, choice::*, format::*, math::*};
+    /// use byte_unit::{Bit, Unit};
+    ///
     /// assert_eq!(Bit::MEGABIT.get_adjusted_unit(Unit::Kibit).get_unit(), Unit::Kibit);
     /// ```
     #[inline]
@@ -40,7 +44,9 @@ impl AdjustedBit {
     ///
     /// # Examples
     /// ```
-    /// # use byte_unit::{*, rendered::{base::{size::parse_line, *}, choice::*, format::*, math::*}};
+    /// # use byte_unit::rendered::{base::{size::parse_line, *}, bit::*, byte::*, choice::*, format::*, math::*};
+    /// use byte_unit::{Bit, Unit};
+    ///
     /// assert_eq!(Bit::MEGABIT.get_adjusted_unit(Unit::Kibit).get_bit(), Bit::MEGABIT);
     /// ```
     #[inline]
@@ -54,7 +60,9 @@ impl Bit {
     ///
     /// # Examples
     /// ```
-    /// # use byte_unit::{*, rendered::{base::{size::parse_line, *}, choice::*, format::*, math::*}};
+    /// # use byte_unit::rendered::{base::{size::parse_line, *}, bit::*, byte::*, choice::*, format::*, math::*};
+    /// use byte_unit::{Bit, Unit};
+    ///
     /// let adjusted = Bit::from_u64(123_456).get_adjusted_unit(Unit::Kbit);
     /// assert_eq!(adjusted.to_string(), "123.456 Kb");
     /// ```
@@ -68,7 +76,9 @@ impl Bit {
     ///
     /// # Examples
     /// ```
-    /// # use byte_unit::{*, rendered::{base::{size::parse_line, *}, choice::*, format::*, math::*}};
+    /// # use byte_unit::rendered::{base::{size::parse_line, *}, bit::*, byte::*, choice::*, format::*, math::*};
+    /// use byte_unit::{Bit, Decimal, Unit, UnitType};
+    ///
     /// let size = Bit::from_u64(10_000);
     /// assert_eq!(size.get_appropriate_unit(UnitType::Both).get_unit(), Unit::Kibit);
     /// assert_eq!(size.get_appropriate_unit(UnitType::Decimal).get_unit(), Unit::Kbit);

@@ -16,7 +16,9 @@ impl Bit {
     ///
     /// # Examples
     /// ```
-    /// # use byte_unit::{*, rendered::{base::{size::parse_line, *}, choice::*, format::*, math::*}};
+    /// # use byte_unit::rendered::{base::{size::parse_line, *}, bit::*, byte::*, choice::*, format::*, math::*};
+    /// use byte_unit::{Bit, ParseError, ValueParseError};
+    ///
     /// assert_eq!(Bit::parse_str_binary("10m")?, Bit::from_u64(10_485_760));
     /// assert_eq!(Bit::parse_str_binary("128Mb")?, Bit::parse_str("128Mib")?);
     /// assert_eq!(Bit::parse_str_binary("1.5 Ki")?, Bit::from_u64(1536));
@@ -36,7 +38,9 @@ impl Bit {
     ///
     /// # Examples
     /// ```
-    /// # use byte_unit::{*, rendered::{base::{size::parse_line, *}, choice::*, format::*, math::*}};
+    /// # use byte_unit::rendered::{base::{size::parse_line, *}, bit::*, byte::*, choice::*, format::*, math::*};
+    /// use byte_unit::Bit;
+    ///
     /// let size = Bit::parse_bytes_binary(b"1.5 Kb");
     /// assert!(matches!(size, Some(Ok(size)) if size == Bit::from_u64(1536)));
     /// assert!(Bit::parse_bytes_binary(b"1 Kb\xFF").is_none());

@@ -13,7 +13,9 @@ impl Bit {
     ///
     /// # Examples
     /// ```
-    /// # use byte_unit::{*, rendered::{base::{size::parse_line, *}, choice::*, format::*, math::*}};
+    /// # use byte_unit::rendered::{base::{size::parse_line, *}, bit::*, byte::*, choice::*, format::*, math::*};
+    /// use byte_unit::{Bit, Decimal};
+    ///
     /// let number = Decimal::from_u128_with_scale(5084, 2);
     /// assert_eq!(number.and_then(Bit::from_decimal), Some(Bit::from_u64(51)));
     /// let number = Decimal::from_u128(Bit::MAX.as_u128());
@@ -30,7 +32,9 @@ impl Bit {
     ///
     /// # Examples
     /// ```
-    /// # use byte_unit::{*, rendered::{base::{size::parse_line, *}, choice::*, format::*, math::*}};
+    /// # use byte_unit::rendered::{base::{size::parse_line, *}, bit::*, byte::*, choice::*, format::*, math::*};
+    /// use byte_unit::{Bit, Decimal, Unit};
+    ///
     /// let number = Decimal::from(3u8);
     /// assert_eq!(Bit::from_decimal_with_unit(number, Unit::Kibit), Some(Bit::from_u64(3072)));
     /// let number = Decimal::from(1000u16);

@@ -26,7 +26,9 @@ impl Bit {
     ///
     /// # Examples
     /// ```
-    /// # use byte_unit::{*, rendered::{base::{size::parse_line, *}, choice::*, format::*, math::*}};
+    /// # use byte_unit::rendered::{base::{size::parse_line, *}, bit::*, byte::*, choice::*, format::*, math::*};
+    /// use byte_unit::{Bit, ParseError, ValueParseError};
+    ///
     /// assert_eq!(Bit::parse_str("50.84 Mb")?, Bit::from_u64(50_840_000));
     /// assert_eq!(Bit::parse_str("9 b")?, Bit::from_u64(9));
     /// assert_eq!(Bit::parse_str("9 B")?, Bit::from_u64(72));
@@ -49,7 +51,9 @@ impl Bit {
     ///
     /// # Examples
     /// ```
-    /// # use byte_unit::{*, rendered::{base::{size::parse_line, *}, choice::*, format::*, math::*}};
+    /// # use byte_unit::rendered::{base::{size::parse_line, *}, bit::*, byte::*, choice::*, format::*, math::*};
+    /// use byte_unit::{Bit, ParseError, ValueParseError};
+    ///
     /// let size = Bit::parse_bytes(b"1.5 Kib");
     /// assert!(matches!(size, Some(Ok(size)) if size == Bit::from_u64(1536)));
     /// let result = Bit::parse_bytes(b"1.");
@@ -69,7 +73,9 @@ impl Bit {
     ///
     /// # Examples
     /// ```
-    /// # use byte_unit::{*, rendered::{base::{size::parse_line, *}, choice::*, format::*, math::*}};
+    /// # use byte_unit::rendered::{base::{size::parse_line, *}, bit::*, byte::*, choice::*, format::*, math::*};
+    /// use byte_unit::Bit;
+    ///
     /// let size = Bit::parse_line(b"1.5 Kib\n12\n", 7);
     /// assert!(matches!(size, Some(Ok(size)) if size == Bit::from_u64(1536)));
     /// ```

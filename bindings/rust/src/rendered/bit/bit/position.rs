@@ -15,7 +15,9 @@ impl Bit {
     ///
     /// # Examples
     /// ```
-    /// # use byte_unit::{*, rendered::{base::{size::parse_line, *}, choice::*, format::*, math::*}};
+    /// # use byte_unit::rendered::{base::{size::parse_line, *}, bit::*, byte::*, choice::*, format::*, math::*};
+    /// use byte_unit::Bit;
+    ///
     /// assert_eq!(Bit::error_position("1 bite"), Some(5));
     /// assert_eq!(Bit::error_position("  1."), Some(4));
     /// assert_eq!(Bit::error_position("0.12345678901234567890123456789 Kb"), Some(30));

@@ -15,7 +15,9 @@ impl Bit {
     ///
     /// # Examples
     /// ```
-    /// # use byte_unit::{*, rendered::{base::{size::parse_line, *}, choice::*, format::*, math::*}};
+    /// # use byte_unit::rendered::{base::{size::parse_line, *}, bit::*, byte::*, choice::*, format::*, math::*};
+    /// use byte_unit::{Bit, Unit};
+    ///
     /// assert_eq!(Bit::from_u64(50_840_000).get_exact_unit(false), (50_840, Unit::Kbit));
     /// assert_eq!(Bit::MEGABYTE.get_exact_unit(true), (1, Unit::MB));
     /// assert_eq!(Bit::from_u64(999).get_exact_unit(false), (999, Unit::Bit));
@@ -34,7 +36,9 @@ impl Bit {
     ///
     /// # Examples
     /// ```
-    /// # use byte_unit::{*, rendered::{base::{size::parse_line, *}, choice::*, format::*, math::*}};
+    /// # use byte_unit::rendered::{base::{size::parse_line, *}, bit::*, byte::*, choice::*, format::*, math::*};
+    /// use byte_unit::{Bit, Decimal, Unit};
+    ///
     /// let (number, unit) = Bit::from_u64(50_840_000).get_recoverable_unit(false, 2);
     /// assert_eq!(Some(number), Decimal::from_u128_with_scale(5084, 2));
     /// assert_eq!(unit, Unit::Mbit);
@@ -54,7 +58,9 @@ impl Bit {
     ///
     /// # Examples
     /// ```
-    /// # use byte_unit::{*, rendered::{base::{size::parse_line, *}, choice::*, format::*, math::*}};
+    /// # use byte_unit::rendered::{base::{size::parse_line, *}, bit::*, byte::*, choice::*, format::*, math::*};
+    /// use byte_unit::Bit;
+    ///
     /// let mut steps = Steps::new();
     /// unsafe { Bit::from_u128_unsafe(7 << 90) }.get_recoverable_unit_counted(true, 27, &mut steps);
     /// assert_eq!(steps.count(), 119);

@@ -12,7 +12,9 @@ mod built_in_traits;
 ///
 /// # Examples
 /// ```
-/// # use byte_unit::{*, rendered::{base::{size::parse_line, *}, choice::*, format::*, math::*}};
+/// # use byte_unit::rendered::{base::{size::parse_line, *}, bit::*, byte::*, choice::*, format::*, math::*};
+/// use byte_unit::{Byte, Unit};
+///
 /// let adjusted = Byte::from_u64(123_456).get_adjusted_unit(Unit::KB);
 /// assert_eq!(adjusted.to_string(), "123.456 KB");
 /// assert_eq!(adjusted, Byte::from_u64(123_456).get_adjusted_unit(Unit::MiB));
@@ -28,7 +30,9 @@ impl AdjustedByte {
     ///
     /// # Examples
     /// ```
-    /// # use byte_unit::{*, rendered::{base::{size::parse_line, *}, choice::*, format::*, math::*}};
+    /// # use byte_unit::rendered::{base::{size::parse_line, *}, bit::*, byte::*, choice::*, format::*, math::*};
+    /// use byte_unit::{Byte, Unit};
+    ///
     /// assert_eq!(Byte::MEGABYTE.get_adjusted_unit(Unit::KiB).get_unit(), Unit::KiB);
     /// ```
     #[inline]
@@ -40,7 +44,9 @@ impl AdjustedByte {
     ///
     /// # Examples
     /// ```
-    /// # use byte_unit::{*, rendered::{base::{size::parse_line, *}, choice::*, format::*, math::*}};
+    /// # use byte_unit::rendered::{base::{size::parse_line, *}, bit::*, byte::*, choice::*, format::*, math::*};
+    /// use byte_unit::{Byte, Unit};
+    ///
     /// assert_eq!(Byte::MEGABYTE.get_adjusted_unit(Unit::KiB).get_byte(), Byte::MEGABYTE);
     /// ```
     #[inline]
@@ -54,7 +60,9 @@ impl Byte {
     ///
     /// # Examples
     /// ```
-    /// # use byte_unit::{*, rendered::{base::{size::parse_line, *}, choice::*, format::*, math::*}};
+    /// # use byte_unit::rendered::{base::{size::parse_line, *}, bit::*, byte::*, choice::*, format::*, math::*};
+    /// use byte_unit::{Byte, Unit};
+    ///
     /// let adjusted = Byte::from_u64(123_456).get_adjusted_unit(Unit::KB);
     /// assert_eq!(adjusted.to_string(), "123.456 KB");
     /// ```
@@ -68,7 +76,9 @@ impl Byte {
     ///
     /// # Examples
     /// ```
-    /// # use byte_unit::{*, rendered::{base::{size::parse_line, *}, choice::*, format::*, math::*}};
+    /// # use byte_unit::rendered::{base::{size::parse_line, *}, bit::*, byte::*, choice::*, format::*, math::*};
+    /// use byte_unit::{Byte, Decimal, Unit, UnitType};
+    ///
     /// let size = Byte::from_u64(10_000);
     /// assert_eq!(size.get_appropriate_unit(UnitType::Both).get_unit(), Unit::KiB);
     /// assert_eq!(size.get_appropriate_unit(UnitType::Decimal).get_unit(), Unit::KB);

@@ -17,7 +17,9 @@ impl Byte {
     ///
     /// # Examples
     /// ```
-    /// # use byte_unit::{*, rendered::{base::{size::parse_line, *}, choice::*, format::*, math::*}};
+    /// # use byte_unit::rendered::{base::{size::parse_line, *}, bit::*, byte::*, choice::*, format::*, math::*};
+    /// use byte_unit::{Byte, ParseError, ValueParseError};
+    ///
     /// assert_eq!(Byte::parse_str_binary("10m", false)?, Byte::from_u64(10_485_760));
     /// assert_eq!(Byte::parse_str_binary("128MB", false)?, Byte::parse_str("128MiB", false)?);
     /// assert_eq!(Byte::parse_str_binary("1.5 Ki", false)?, Byte::from_u64(1536));
@@ -37,7 +39,9 @@ impl Byte {
     ///
     /// # Examples
     /// ```
-    /// # use byte_unit::{*, rendered::{base::{size::parse_line, *}, choice::*, format::*, math::*}};
+    /// # use byte_unit::rendered::{base::{size::parse_line, *}, bit::*, byte::*, choice::*, format::*, math::*};
+    /// use byte_unit::Byte;
+    ///
     /// let size = Byte::parse_bytes_binary(b"1.5 KB", false);
     /// assert!(matches!(size, Some(Ok(size)) if size == Byte::from_u64(1536)));
     /// assert!(Byte::parse_bytes_binary(b"1 KB\xFF", false).is_none());

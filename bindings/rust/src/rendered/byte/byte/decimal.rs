@@ -13,7 +13,9 @@ impl Byte {
     ///
     /// # Examples
     /// ```
-    /// # use byte_unit::{*, rendered::{base::{size::parse_line, *}, choice::*, format::*, math::*}};
+    /// # use byte_unit::rendered::{base::{size::parse_line, *}, bit::*, byte::*, choice::*, format::*, math::*};
+    /// use byte_unit::{Byte, Decimal};
+    ///
     /// let number = Decimal::from_u128_with_scale(5084, 2);
     /// assert_eq!(number.and_then(Byte::from_decimal), Some(Byte::from_u64(51)));
     /// let number = Decimal::from_u128(Byte::MAX.as_u128());
@@ -30,7 +32,9 @@ impl Byte {
     ///
     /// # Examples
     /// ```
-    /// # use byte_unit::{*, rendered::{base::{size::parse_line, *}, choice::*, format::*, math::*}};
+    /// # use byte_unit::rendered::{base::{size::parse_line, *}, bit::*, byte::*, choice::*, format::*, math::*};
+    /// use byte_unit::{Byte, Decimal, Unit};
+    ///
     /// let number = Decimal::from(3u8);
     /// assert_eq!(Byte::from_decimal_with_unit(number, Unit::KiB), Some(Byte::from_u64(3072)));
     /// let number = Decimal::from(1000u16);

@@ -26,7 +26,9 @@ impl Byte {
     ///
     /// # Examples
     /// ```
-    /// # use byte_unit::{*, rendered::{base::{size::parse_line, *}, choice::*, format::*, math::*}};
+    /// # use byte_unit::rendered::{base::{size::parse_line, *}, bit::*, byte::*, choice::*, format::*, math::*};
+    /// use byte_unit::{Byte, ParseError, ValueParseError};
+    ///
     /// assert_eq!(Byte::parse_str("50.84 MB", false)?, Byte::from_u64(50_840_000));
     /// assert_eq!(Byte::parse_str("9 b", true)?, Byte::from_u64(9));
     /// assert_eq!(Byte::parse_str("9 b", false)?, Byte::from_u64(2));
@@ -49,7 +51,9 @@ impl Byte {
     ///
     /// # Examples
     /// ```
-    /// # use byte_unit::{*, rendered::{base::{size::parse_line, *}, choice::*, format::*, math::*}};
+    /// # use byte_unit::rendered::{base::{size::parse_line, *}, bit::*, byte::*, choice::*, format::*, math::*};
+    /// use byte_unit::{Byte, ParseError, ValueParseError};
+    ///
     /// let size = Byte::parse_bytes(b"1.5 KiB", false);
     /// assert!(matches!(size, Some(Ok(size)) if size == Byte::from_u64(1536)));
     /// let result = Byte::parse_bytes(b"1.", false);
@@ -69,7 +73,9 @@ impl Byte {
     ///
     /// # Examples
     /// ```
-    /// # use byte_unit::{*, rendered::{base::{size::parse_line, *}, choice::*, format::*, math::*}};
+    /// # use byte_unit::rendered::{base::{size::parse_line, *}, bit::*, byte::*, choice::*, format::*, math::*};
+    /// use byte_unit::Byte;
+    ///
     /// let size = Byte::parse_line(b"1.5 KiB\n12\n", 7, false);
     /// assert!(matches!(size, Some(Ok(size)) if size == Byte::from_u64(1536)));
     /// ```

@@ -15,7 +15,9 @@ impl Byte {
     ///
     /// # Examples
     /// ```
-    /// # use byte_unit::{*, rendered::{base::{size::parse_line, *}, choice::*, format::*, math::*}};
+    /// # use byte_unit::rendered::{base::{size::parse_line, *}, bit::*, byte::*, choice::*, format::*, math::*};
+    /// use byte_unit::Byte;
+    ///
     /// assert_eq!(Byte::error_position("1 byte"), Some(3));
     /// assert_eq!(Byte::error_position("  1."), Some(4));
     /// assert_eq!(Byte::error_position("0.12345678901234567890123456789 KB"), Some(30));

@@ -15,7 +15,9 @@ impl Byte {
     ///
     /// # Examples
     /// ```
-    /// # use byte_unit::{*, rendered::{base::{size::parse_line, *}, choice::*, format::*, math::*}};
+    /// # use byte_unit::rendered::{base::{size::parse_line, *}, bit::*, byte::*, choice::*, format::*, math::*};
+    /// use byte_unit::{Byte, Unit};
+    ///
     /// assert_eq!(Byte::from_u64(50_840_000).get_exact_unit(false), (50_840, Unit::KB));
     /// assert_eq!(Byte::MEGABIT.get_exact_unit(true), (1, Unit::Mbit));
     /// assert_eq!(Byte::from_u64(999).get_exact_unit(false), (999, Unit::B));
@@ -34,7 +36,9 @@ impl Byte {
     ///
     /// # Examples
     /// ```
-    /// # use byte_unit::{*, rendered::{base::{size::parse_line, *}, choice::*, format::*, math::*}};
+    /// # use byte_unit::rendered::{base::{size::parse_line, *}, bit::*, byte::*, choice::*, format::*, math::*};
+    /// use byte_unit::{Byte, Decimal, Unit};
+    ///
     /// let (number, unit) = Byte::from_u64(50_840_000).get_recoverable_unit(false, 2);
     /// assert_eq!(Some(number), Decimal::from_u128_with_scale(5084, 2));
     /// assert_eq!(unit, Unit::MB);
@@ -54,7 +58,9 @@ impl Byte {
     ///
     /// # Examples
     /// ```
-    /// # use byte_unit::{*, rendered::{base::{size::parse_line, *}, choice::*, format::*, math::*}};
+    /// # use byte_unit::rendered::{base::{size::parse_line, *}, bit::*, byte::*, choice::*, format::*, math::*};
+    /// use byte_unit::Byte;
+    ///
     /// let mut steps = Steps::new();
     /// unsafe { Byte::from_u128_unsafe(7 << 87) }.get_recoverable_unit_counted(true, 27, &mut steps);
     /// assert_eq!(steps.count(), 116);
