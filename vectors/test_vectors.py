@@ -69,9 +69,9 @@ def test_exact_model():
     check(rows(), [answer(row.words, row.text) for row in rows()])
 
 
-def test_c(library, tmp_path):
-    words = ["-std=gnu11", "-O2", "-Wall", "-Wextra", "-I", library, path("bindings/c/checks/vectors.c")]
-    check_program([compiled("cc", tmp_path / "vectors", *words, f"{library}/libbyte_unit.a")])
+def test_c(each_library, tmp_path):
+    words = ["-std=gnu11", "-O2", "-Wall", "-Wextra", "-I", each_library, path("bindings/c/checks/vectors.c")]
+    check_program([compiled("cc", tmp_path / "vectors", *words, f"{each_library}/libbyte_unit.a")])
 
 
 def test_rust(cargo, rust_package):

@@ -1,8 +1,9 @@
 /* byte_unit: exact sizes in bytes and in bits. The C API of a library that is written in Rattle and proved.
  *
  * Link libbyte_unit.a or libbyte_unit.so (`tools/make-libraries DIR` builds both), which run on every x86-64 processor.
- * The library calls memcpy, memmove and memset, and one function of libgcc, __udivti3. It does not allocate, keeps no
- * state between calls and never ends the program, so every call may be made from any thread.
+ * The library calls memcpy, memmove and memset, and one function of libgcc, __udivti3; built by cargo, it names abort
+ * in place of the latter. It does not allocate, keeps no state between calls and never ends the program, so every call
+ * may be made from any thread.
  *
  * Preconditions of every call, which nothing checks:
  *

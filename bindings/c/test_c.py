@@ -4,7 +4,7 @@ import re
 
 import pytest
 from byte_unit_dev.fixtures import compiled, need, output, path, read, write
-from byte_unit_dev.install import functions
+from byte_unit_dev.libraries import functions
 
 WARNINGS = ["-Wall", "-Wextra", "-Wpedantic", "-Wconversion", "-Werror"]
 IN_C, IN_CPP = ["c99", "c11", "c17", "c2x"], ["c++17", "c++20"]
@@ -17,14 +17,14 @@ BUILDS = [(name, compiler, standard) for name, left_out in LEFT_OUT.items()
 
 
 @pytest.fixture
-def program_in_c(library, tmp_path):
-    """Compiles a program of this folder, and returns its path."""
+def program_in_c(each_library, tmp_path):
+    """Compiles a program of this folder with the library of each compiler, and returns its path."""
     def build(source, compiler="cc", standard="c11"):
         # In C++, unlike in C, -Wextra warns of a field that an initializer leaves out.
         language = ["-x", "c++", "-Wno-missing-field-initializers"] if standard.startswith("c++") else []
-        includes = ["-I", library, "-I", tmp_path]
+        includes = ["-I", each_library, "-I", tmp_path]
         words = [f"-std={standard}", "-O2", *WARNINGS, *includes, *language, path("bindings/c", source)]
-        return compiled(compiler, tmp_path / "program", *words, "-x", "none", f"{library}/libbyte_unit.a")
+        return compiled(compiler, tmp_path / "program", *words, "-x", "none", f"{each_library}/libbyte_unit.a")
 
     return build
 
@@ -86,9 +86,9 @@ def uses_of(header):
 
 
 @pytest.fixture
-def comments(library, tmp_path):
+def comments(each_library, tmp_path):
     """Writes what checks/comments.c includes: code in comments of byte_unit.h, and initializers there and in README."""
-    header, page = read(f"{library}/byte_unit.h"), read("bindings/c/README.md")
+    header, page = read(f"{each_library}/byte_unit.h"), read("bindings/c/README.md")
     uses, specs = uses_of(header), [("{ 0 }", "{}"), *specs_of(comments_of(header)), *specs_of(page)]
     assert uses, "the comments have code beside initializers of specs"
     write(f"{tmp_path}/uses.inc", "\n".join(uses) + "\n")

@@ -3,10 +3,12 @@
 import os
 import re
 import shutil
+from pathlib import Path
 
 import pytest
-from byte_unit_dev.fixtures import call, compiled, is_there, need, output, path, read
-from byte_unit_dev.install import calls_of, functions
+from byte_unit_dev.fixtures import call, compiled, copied, environment, is_there, need, output, path, read
+from byte_unit_dev.install import calls_of
+from byte_unit_dev.libraries import exported, functions
 
 INSTALL = [path("tools/dev"), "install"]
 HEADER, PAGE = "include/byte_unit.h", "share/man/man3/byte_unit.3"
@@ -41,11 +43,11 @@ def example():
 
 
 @pytest.fixture(scope="module")
-def prefix(library, tmp_path_factory):
-    """A new folder in which the library is installed."""
+def prefix(each_library, tmp_path_factory):
+    """A new folder in which the library is installed, that of each compiler."""
     need("gcc", "nm", "readelf", "pkg-config")
     made = tmp_path_factory.mktemp("installed") / "prefix"
-    output(*INSTALL, "--from", library, made)
+    output(*INSTALL, "--from", each_library, made)
     return made
 
 
@@ -67,15 +69,16 @@ def test_program(prefix, tmp_path, cc, form, how):
 
 
 def test_shared_library(prefix):
-    """It exports the functions that the header declares and no other, and needs libc alone."""
+    """It exports the functions that the header declares and no other, needs libc alone, and has at most 200 KB."""
     library, version = prefix / "lib/libbyte_unit.so", flags(prefix, "--modversion")[0]
-    declared = [name for name, (_, _, is_inline) in functions(read(prefix / HEADER)).items() if not is_inline]
+    declared = exported(read(prefix / HEADER))
     node = f"BYTE_UNIT_{version.partition('.')[0]}"
-    exported = sorted(output("nm", "-D", "--defined-only", library).split()[2::3])
-    assert exported == sorted([node, *(f"{name}@@{node}" for name in declared)])
+    found = sorted(output("nm", "-D", "--defined-only", library).split()[2::3])
+    assert found == sorted([node, *(f"{name}@@{node}" for name in declared)])
     dynamic, soname = output("readelf", "-d", library), f"libbyte_unit.so.{version.split('.')[0]}"
     assert re.findall(r"soname: \[(.*)\]", dynamic) == [soname]
     assert re.findall(r"NEEDED.*\[(.*)\]", dynamic) == ["libc.so.6"]
+    assert os.path.getsize(library) <= 200_000
     assert [os.readlink(library), os.readlink(prefix / "lib" / soname)] == [soname, f"libbyte_unit.so.{version}"]
 
 
@@ -193,6 +196,57 @@ def test_make_libraries(library, tmp_path):
         shutil.copy(f"{library}/{name}", tmp_path)
     output(make, "--link", tmp_path)
     assert sorted(os.listdir(tmp_path)) == sorted(os.listdir(library))
+
+
+@pytest.mark.parametrize("program, words", [
+    ("cargo-clippy", ["clippy", "--", "-D", "warnings"]),
+    ("cargo-fmt", ["fmt", "--check", "--", "--config-path", path("bindings/rust")]),
+], ids=["clippy", "rustfmt"])  # fmt: skip
+def test_style_of_cargo_package(cargo, tmp_path, program, words):
+    need(program)
+    package, _ = copied("c", tmp_path), copied("rust", tmp_path)
+    cargo.output(package, *words)
+
+
+def fill(folder, c, **variables):
+    """Calls library.sh in a copy of bindings/c, where no archive is made, and cargo makes none."""
+    words = {"CARGO": "/nowhere", "PKG_CONFIG_LIBDIR": "/nowhere", **variables}
+    return call("sh", f"{c}/library.sh", folder, env=environment(**words))
+
+
+@pytest.mark.parametrize("way", ["a folder", "a prefix", "pkg-config", "rt lib"])
+def test_library_for_bindings(library, tmp_path, way):
+    """library.sh copies what was made, from where each of these has it."""
+    c, prefix = copied("c", tmp_path), tmp_path / "prefix"
+    output(*INSTALL, "--from", library, "--without-sqlite", prefix)
+    variables = {"a folder": {"BYTE_UNIT_LIBRARY_DIR": library}, "a prefix": {"BYTE_UNIT_LIBRARY_DIR": prefix},
+                 "pkg-config": {"PKG_CONFIG_PATH": prefix / "lib/pkgconfig"}}.get(way, {})  # fmt: skip
+    if way == "rt lib":
+        (tmp_path / "crates/byte_unit_c/out").mkdir(parents=True)
+        shutil.copy(f"{library}/libbyte_unit.a", tmp_path / "crates/byte_unit_c/out/libbyte_unit_c.a")
+    got = fill(tmp_path / "new/folder", c, **variables)
+    assert (got.returncode, got.stdout) == (0, "")
+    for name in ("libbyte_unit.a", "byte_unit.h"):
+        assert (tmp_path / "new/folder" / name).read_bytes() == Path(library, name).read_bytes()
+
+
+@pytest.mark.parametrize("variables, words", [
+    ({}, "install cargo and rustc 1."),
+    ({"CARGO": "true", "RUSTC": "/nowhere"}, "install cargo and rustc 1."),
+    ({"CARGO": "true", "RUSTC": "OLD"}, "install cargo and rustc 1."),
+    ({"CARGO": "true", "RUSTC": "NEW"}, "cargo made no "),
+    ({"BYTE_UNIT_LIBRARY_DIR": "sizes"}, "is not an absolute path"),
+    ({"BYTE_UNIT_LIBRARY_DIR": "/"}, "has no byte_unit.h and libbyte_unit.a"),
+])  # fmt: skip
+def test_no_library_for_bindings(tmp_path, variables, words):
+    for name, version in (("OLD", "1.63.0"), ("NEW", "1.100.0")):
+        (tmp_path / name).write_text(f"#!/bin/sh\necho rustc {version}\n")
+        (tmp_path / name).chmod(0o755)
+    where = {name: value.replace("OLD", f"{tmp_path}/OLD").replace("NEW", f"{tmp_path}/NEW")
+             for name, value in variables.items()}  # fmt: skip
+    got = fill(tmp_path / "new", copied("c", tmp_path), **where)
+    *_, last = got.stdout.splitlines()
+    assert got.returncode == 1 and last.startswith("byte_unit: ") and words in last and not (tmp_path / "new").exists()
 
 
 def test_without_compiler(library, tmp_path):

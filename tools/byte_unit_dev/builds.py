@@ -25,7 +25,7 @@ PROFILE = {"CARGO_PROFILE_RELEASE_LTO": "fat", "CARGO_PROFILE_RELEASE_CODEGEN_UN
            "CARGO_PROFILE_RELEASE_PANIC": "abort"}
 # Variables by which a build could find another library, other flags or another folder for what it makes.
 UNSET = ["PYTHONPATH", "BYTE_UNIT_LIBRARY_DIR", "PKG_CONFIG", "PKG_CONFIG_PATH", "RUSTFLAGS", "RUSTDOCFLAGS",
-         "CARGO_BUILD_TARGET", "CARGO_TARGET_DIR"]  # fmt: skip
+         "CARGO_BUILD_TARGET", "CARGO_TARGET_DIR", "CARGO", "RUSTC"]  # fmt: skip
 # Builds ask for no network, print little, and leave no bytecode.
 SET = {"PYTHONDONTWRITEBYTECODE": "1", "PYTHONUTF8": "1", "PIP_DISABLE_PIP_VERSION_CHECK": "1",
        "CARGO_TERM_QUIET": "true", "CARGO_NET_OFFLINE": "true", "CARGO_PROFILE_DEV_DEBUG": "0"}  # fmt: skip

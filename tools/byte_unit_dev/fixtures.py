@@ -123,6 +123,21 @@ def library(request, tmp_path_factory):
 
 
 @pytest.fixture(scope="session")
+def library_of_rustc(cargo, tmp_path_factory):
+    """The same, from the archive that cargo builds of the rendered Rust."""
+    folder = str(tmp_path_factory.mktemp("library-of-rustc"))
+    here = environment(CARGO=cargo.cargo, RUSTC=cargo.variables["RUSTC"])
+    output(path("tools/make-libraries"), "--cargo", folder, env=here)
+    return folder
+
+
+@pytest.fixture(scope="session", params=["library", "library_of_rustc"])
+def each_library(request):
+    """The folder of the library of each compiler."""
+    return request.getfixturevalue(request.param)
+
+
+@pytest.fixture(scope="session")
 def seed(request):
     return request.config.getoption("seed")
 

@@ -1,9 +1,10 @@
 """Installs the C library where compilers, pkg-config, man and SQLite look for it, and the command byte-unit.
 
 Proves and builds the library by `tools/make-libraries`, and the command by `rt run` in crates/byte_unit_cli. What
-`rt check`, `rt lib` or `rt run` has proved is not proved again; what `rt ci` alone has proved is. With --from FOLDER
-proves nothing, and takes libbyte_unit.a, byte_unit.h and, if it is there, byte-unit from the folder. Then puts into the
-folder PREFIX, such as /usr/local, but for what --without-sqlite and --without-command leave out:
+`rt check`, `rt lib` or `rt run` has proved is not proved again; what `rt ci` alone has proved is. Without the toolchain
+(rt) cargo builds the library from the rendered Rust, and the command is left out. With --from FOLDER proves nothing,
+and takes libbyte_unit.a, byte_unit.h and, if it is there, byte-unit from the folder. Then puts into the folder PREFIX,
+such as /usr/local, but for what --without-sqlite and --without-command leave out:
 
     bin/byte-unit                   the command, with share/man/man1/byte-unit.1 and its completions for bash in
                                     share/bash-completion/completions
@@ -35,7 +36,7 @@ from pathlib import Path
 
 from . import libraries
 from .common import Failure, path, read, reason, shown
-from .libraries import ARCHIVE, EXTENSION, HEADER
+from .libraries import ARCHIVE, EXTENSION, HEADER, functions
 from .replace import missing_folders, remove, remove_folders, replace
 
 LIST = "share/byte_unit/installed"
@@ -92,18 +93,13 @@ def build(folder, source, with_command):
     if not source:
         libraries.build(folder)
     libraries.link_in(folder)
-    if with_command and not source:
+    if with_command and not source and not shutil.which("rt"):
+        print(f"skipped: bin/{COMMAND}: the Rattle toolchain (rt) is missing")
+    elif with_command and not source:
         print("proving byte_unit_cli, which takes minutes if it is not proved yet", flush=True)
         if shown("rt", "run", "--", "--version", cwd=path("crates/byte_unit_cli"))[0]:
             raise Failure("rt run in crates/byte_unit_cli failed: see above")
         shutil.copy(path("crates/byte_unit_cli/out/byte_unit_cli"), folder / COMMAND)
-
-
-def functions(header):
-    """Returns the result and the parameters of each function of the header, and whether it is inline."""
-    code = re.sub(r"/\*.*?\*/", "", header, flags=re.S)
-    found = re.findall(r"^((?:\w+ )*?)(\w+) (byte_unit_\w+)\(([^()]*)\)\s*[;{]", code, re.M)
-    return {name: (result, " ".join(given.split()), "inline" in before) for before, result, name, given in found}
 
 
 def calls_of(header):

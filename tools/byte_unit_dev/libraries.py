@@ -7,6 +7,9 @@ nothing that other commands of `rt` read. With --after-ci, as in the gate, uses 
 and does not see what has changed since. With --link proves nothing, and links what is in FOLDER: libbyte_unit.a, with
 byte_unit.h beside it.
 
+With --cargo, and wherever the toolchain (rt) is missing, proves nothing: cargo builds the archive, offline, from the
+proved sources as they are rendered in Rust (bindings/c/src/rendered).
+
 With --target, the crate byte_unit_c is proved for another target, over the same libraries. What a call proves is kept
 in crates/byte_unit_c/out/targets, and the next takes it. For wasm64-unknown-unknown, FOLDER then has byte_unit.wasm
 alone, which bindings/js needs; for aarch64-unknown-linux-gnu the archive and the header, and the shared library if
@@ -39,11 +42,13 @@ def existing(folder):
     return Path(folder).resolve()
 
 
-def run(folder: existing, *, after_ci=False, link=False, target=""):
+def run(folder: existing, *, after_ci=False, link=False, cargo=False, target=""):
     if target:
         build_for(target, folder, after_ci)
         return
-    if not link:
+    if cargo:
+        build_by_cargo(folder)
+    elif not link:
         build(folder, after_ci)
     link_in(folder)
 
@@ -82,10 +87,20 @@ def kit_folder():
     return os.path.dirname(output("rt", "doc").strip())
 
 
+def build_by_cargo(folder):
+    """Builds the archive by cargo, from the rendered Rust."""
+    got = call("sh", path("bindings/c/library.sh"), "--cargo", folder)
+    *said, last = got.stdout.strip().splitlines()
+    print(*said, *[last] * (not got.returncode), sep="\n", flush=True)
+    if got.returncode:
+        raise Failure(last.removeprefix("byte_unit: "))
+
+
 def build(folder, after_ci=False):
-    """Proves byte_unit_c and what it needs, and builds the archive."""
+    """Proves byte_unit_c and what it needs, and builds the archive; or builds it by cargo if there is no toolchain."""
     if not shutil.which("rt"):
-        raise Failure("needs the Rattle toolchain (rt): see README.md")
+        build_by_cargo(folder)
+        return
     crate = path("crates/byte_unit_c")
     if not after_ci:
         print("proving byte_unit_c, which takes minutes if only rt ci has proved it and what it needs", flush=True)
@@ -156,15 +171,29 @@ def link_in(folder):
            path("bindings/sqlite/byte_unit_sqlite.c"), archive, "-Wl,--exclude-libs,ALL")
 
 
+def functions(header):
+    """Returns the result and the parameters of each function of the header, and whether it is inline."""
+    code = re.sub(r"/\*.*?\*/", "", header, flags=re.S)
+    found = re.findall(r"^((?:\w+ )*?)(\w+) (byte_unit_\w+)\(([^()]*)\)\s*[;{]", code, re.M)
+    return {name: (result, " ".join(given.split()), "inline" in before) for before, result, name, given in found}
+
+
+def exported(header):
+    """Returns the names of the symbols of the library: the functions of the header that are not inline."""
+    return [name for name, (_, _, is_inline) in functions(header).items() if not is_inline]
+
+
 def link_shared(folder, cc):
-    """Links the shared library of the folder's archive, all of it, if there is the compiler."""
+    """Links the shared library of what the header's functions need of the folder's archive, without the symbols that no
+    loader reads, if there is the compiler."""
     archive = folder / ARCHIVE
     if not shutil.which(cc):
         print(f"skipped: libbyte_unit.so: there is no C compiler {cc}")
         return
     shared, soname, short = shared_names(folder)
-    linked(cc, folder / shared, f"-Wl,-soname,{soname}", f"-Wl,--version-script={path('bindings/c/byte_unit.map')}",
-           "-Wl,--whole-archive", archive, "-Wl,--no-whole-archive")
+    script = f"-Wl,--version-script={path('bindings/c/byte_unit.map')}"
+    needed = [f"-Wl,-u,{name}" for name in exported(read(folder / HEADER))]
+    linked(cc, folder / shared, "-s", f"-Wl,-soname,{soname}", script, *needed, archive)
     for name, target in ((soname, shared), (short, soname)):
         (folder / name).unlink(missing_ok=True)
         (folder / name).symlink_to(target)

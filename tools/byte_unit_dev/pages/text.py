@@ -16,8 +16,8 @@ TOTAL, README = 36_000, 1_500
 OTHERS = set("""
 axioms Env CowStr heap rattle_alloc rattle_realloc rattle_dealloc rattle_arg rattle_errno rattle_set_errno rattle_env
 rattle_env_at lseek getcwd isatty ethtool SHORTER_PROOFS.md mul_8 div_8 rocket schemars ctypes REINDEX _in Ko
-crates/quota/src/main.rt crates/byte_unit_cli/out/byte_unit_cli /usr/local/lib
-crates/byte_unit_lines/out/byte_unit_lines lib/sqlite3/byte_unit.so
+crates/quota/src/main.rt crates/byte_unit_cli/out/byte_unit_cli /usr/local/lib /usr/local
+crates/byte_unit_lines/out/byte_unit_lines lib/sqlite3/byte_unit.so target/release/libbyte_unit.a
 """.split())
 C_HEADER, C_EXAMPLE = "bindings/c/byte_unit.h", "bindings/c/examples/example.c"
 DEFINITION, RATTLE = "crates/byte_unit_c/specs/Version.antt", "crates/byte_unit_c/src/version.rt"
@@ -34,6 +34,7 @@ VERSIONS = [
     ("tools/byte_unit_dev/dist/debian.py", '"libbyte-unit{major}": "exact'),
     ("bindings/c/byte_unit.3", "which is {number} for {version}.\n"),
     ("bindings/c/README.md", "`libbyte_unit.so.{major}`"),
+    ("bindings/c/Cargo.toml", '\nversion = "{version}"\n'),
     (C_EXAMPLE, '"version {version}"'),
     (C_EXAMPLE, "BYTE_UNIT_VERSION == {number})"),
     ("bindings/js/package.json", '"version": "{version}"'),

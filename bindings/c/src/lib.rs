@@ -1,0 +1,22 @@
+//! The C library from Rust: `libbyte_unit.a`, and the shared library with the same functions.
+//!
+//! `rendered` has the functions that `byte_unit.h` declares: the proved sources, rendered as Rust. By hand is what a
+//! library without `std` needs beside them: slices of C, and what a panic does.
+#![no_std]
+
+#[allow(clippy::manual_range_contains, clippy::needless_lifetimes, clippy::type_complexity)]
+mod rendered;
+mod slices;
+
+#[cfg_attr(unix, link(name = "c"))]
+unsafe extern "C" {
+    fn abort() -> !;
+}
+
+/// Ends the process, so that nothing unwinds into C. That none of the functions panics is proved of their sources; what
+/// could call this is a check that rustc adds to the rendered ones.
+#[panic_handler]
+fn panicked(_: &core::panic::PanicInfo<'_>) -> ! {
+    // SAFETY: it is the C library's, takes no argument, and may be called at any time.
+    unsafe { abort() }
+}
