@@ -26,7 +26,8 @@ SERDE = {f"{DEBIAN_RUST}/{name}-[0-9]*": f"librust-{name.replace('_', '-')}-dev"
 # module of Debian's Python.
 PACKAGES = {
     "cc": "gcc", "gcc": "gcc", "g++": "g++", "clang": "clang", "clang++": "clang", "ld.lld": "lld",
-    "musl-gcc": "musl-tools", "nm": "binutils", "readelf": "binutils", "pkg-config": "pkg-config", "mandoc": "mandoc",
+    "musl-gcc": "musl-tools", **dict.fromkeys(["ar", "nm", "objcopy", "readelf"], "binutils"),
+    "pkg-config": "pkg-config", "mandoc": "mandoc",
     "qemu-x86_64": "qemu-user", "sqlite3": "sqlite3", "sqlite3ext.h": "libsqlite3-dev", "mypy": "mypy",
     PYTHON_H: "python3-dev", "import tomllib": "python3",
     "import setuptools": "python3-setuptools", "import wheel": "python3-wheel",
