@@ -5,7 +5,7 @@ The header byte_unit.h and the archive libbyte_unit.a are those of the first of 
 1. the folder BYTE_UNIT_LIBRARY_DIR, which `tools/make-libraries DIR` filled, or a prefix with `include` and `lib`;
 2. the folder `library` beside this file, which a source distribution has;
 3. what `pkg-config byte_unit` names, after `tools/dev install PREFIX`;
-4. the repository around this folder, if `tools/make-libraries` was run in it.
+4. the repository around this folder, in which cargo builds the archive, if `tools/make-libraries` has not.
 """
 
 import os
@@ -26,6 +26,8 @@ NOT_FOUND = (
     f"byte_unit: {HEADER} and {ARCHIVE} are not found. Build them by `tools/make-libraries DIR` in the repository, and "
     "set BYTE_UNIT_LIBRARY_DIR=DIR; or by `tools/dev install PREFIX`, so that `pkg-config byte_unit` finds them."
 )
+# What fills a folder with both, in the repository.
+MAKER = os.path.join(ROOT, "bindings/c/library.sh")
 
 
 def pair(header, archive):
@@ -66,8 +68,11 @@ def from_distribution():
 
 
 def from_repository():
-    """Returns the paths in the repository around this folder."""
-    return pair(os.path.join(ROOT, "bindings/c", HEADER), os.path.join(ROOT, "crates/byte_unit_c/out/libbyte_unit_c.a"))
+    """Returns the paths of what the repository around this folder has, or builds by cargo. If it cannot, it says why."""
+    folder = os.path.join(HERE, "build", "library")
+    if os.path.isfile(MAKER) and subprocess.run(["sh", MAKER, folder]).returncode:
+        sys.exit(1)
+    return pair(os.path.join(folder, HEADER), os.path.join(folder, ARCHIVE))
 
 
 def version_of(header):

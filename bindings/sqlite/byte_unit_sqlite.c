@@ -11,8 +11,7 @@
  *
  * Flags are words in a text, separated by spaces: 'bits' for bits in place of bytes, 'ignore-case' for `b` as bytes,
  * 'binary' for `K` and `KB` as 1024.
- * README.md says more. To build it by hand, in a folder that tools/make-libraries has filled as DIR:
- *     cc -shared -fPIC -O2 -I DIR byte_unit_sqlite.c DIR/libbyte_unit.a -Wl,--exclude-libs,ALL -o byte_unit.so
+ * README.md says more, and Makefile builds it.
  */
 #include <sqlite3ext.h>
 SQLITE_EXTENSION_INIT1

@@ -6,7 +6,8 @@ import sys
 from itertools import islice
 
 import pytest
-from byte_unit_dev.fixtures import call, compiled, need, output, path, quoted_characters, read
+from byte_unit_dev.fixtures import (call, compiled, copied, environment, need, output, path, quoted_characters,
+                                    read)  # fmt: skip
 from byte_unit_dev.model.exact import (SIZE_LIMIT, UNITS, WHITE_SPACE, WHOLE_LIMIT, Rejected, form, size_of, some_line,
                                        value_of)  # fmt: skip
 
@@ -44,6 +45,19 @@ def test_no_state(library, tmp_path):
     words = ["-std=c99", "-O2", "-c", "-fno-pie", "-I", library, path("bindings/sqlite/byte_unit_sqlite.c")]
     symbols = re.findall(r" [^TtUuRr] (\S+)$", output("nm", compiled("gcc", tmp_path / "object", *words)), re.M)
     assert symbols == ["sqlite3_api"]
+
+
+def test_makefile(library, tmp_path):
+    """It builds the extension, which exports its entry point alone, installs it, and removes it."""
+    need("make", "nm", "sqlite3", "sqlite3ext.h")
+    words = ["make", "-s", "-C", copied("sqlite", tmp_path), f"LIBRARY={library}", f"PREFIX={tmp_path}/prefix"]
+    assert output(*words, "install", env=environment()) == ""
+    file = tmp_path / "prefix/lib/sqlite3/byte_unit.so"
+    assert output("nm", "-D", "--defined-only", file).split()[2::3] == ["sqlite3_byteunit_init"]
+    loaded = file.with_suffix("")
+    assert output("sqlite3", "-cmd", f".load {loaded}", ":memory:", "SELECT size_parse('1.5 KiB');") == "1536\n"
+    output(*words, "uninstall", env=environment())
+    assert not file.exists()
 
 
 @pytest.fixture(scope="module")
