@@ -5,16 +5,7 @@ use core::fmt::{self, Display, Formatter};
 
 use crate::ParseError;
 
-/// The error of a text in a column.
-///
-/// # Examples
-///
-/// ```
-/// use byte_unit::Byte;
-///
-/// let sizes: Result<Vec<Byte>, _> = Byte::parse_many(["1 KB", "x"], false).collect();
-/// assert_eq!(sizes.unwrap_err().to_string(), "row 1: the character 'x' is not a number");
-/// ```
+/// The error of a text in a column, of `parse_many`.
 #[derive(Debug, Clone, Copy, PartialEq, Eq)]
 pub struct RowError {
     /// The row of the text, from 0.
@@ -36,17 +27,7 @@ pub struct RowError {
 #[derive(Debug, Clone, Copy, PartialEq, Eq)]
 pub struct BuffersError;
 
-/// The error of a buffer that is too short for a text: the length that the text needs.
-///
-/// # Examples
-///
-/// ```
-/// use byte_unit::{Byte, FormatSpec, Needed};
-///
-/// let size = Byte::from_u64(1536);
-/// assert_eq!(size.write_text(FormatSpec::ALTERNATE, &mut [0; 6]), Err(Needed { len: 7 }));
-/// assert_eq!(size.write_text(FormatSpec::ALTERNATE, &mut [0; 7]), Ok("1.5 KiB"));
-/// ```
+/// The error of a buffer that is too short for a text, of `write_text`: the length that the text needs.
 #[derive(Debug, Clone, Copy, PartialEq, Eq)]
 pub struct Needed {
     /// The length of the text in bytes.
