@@ -9,6 +9,7 @@ mod rendered;
 mod slices;
 
 #[cfg_attr(unix, link(name = "c"))]
+#[cfg_attr(windows, link(name = "msvcrt"))]
 unsafe extern "C" {
     fn abort() -> !;
 }
