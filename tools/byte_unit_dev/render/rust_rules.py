@@ -22,6 +22,7 @@ ITEMS_LEFT_OUT = {
     r"(?:pub(?:\(\w+\))? )?fn \w+(?:<A: Allocator>|\(self, alloc: Global)": "see `LEFT_OUT` of `/capacity.rt`",
     r"impl fmt::Display for (?:Unit|Decimal|Byte|Bit|AdjustedByte|AdjustedBit)\b":
         "by hand: the original's obeys the flags of the formatter",
+    r"fn last_16_digits\(": "by hand, in `support::lanes`: of divisions of lanes rustc makes many instructions",
     r"pub fn from_u128_unsafe": "by hand: the original's is `unsafe`",
     r"pub fn get_value": "by hand: the original's returns a float",
     r"(?<=    )pub fn (?:text_len|write_text)\(self": "see `LEFT_OUT` of `/text.rt`",

@@ -1,26 +1,35 @@
-//! Vectors of a few lanes, as arrays: rustc makes of their loops what the processor has.
+//! Vectors of a few lanes, as arrays, with the few calls that are used; those on all bytes go by words of eight.
 #![allow(non_camel_case_types)]
 
-use core::array::from_fn;
-use core::ops::{Add, BitOr, Div, Mul, Rem, Sub};
+use core::ops::{BitOr, Sub};
 
 /// A vector of `N` lanes.
 #[derive(Clone, Copy, Debug, PartialEq, Eq)]
 pub struct Lanes<T, const N: usize>([T; N]);
 
-/// Whether a comparison holds, for each of `N` lanes.
+/// Whether a comparison holds, for each of at most 64 lanes, as the bits of a number, the first as the lowest.
 #[derive(Clone, Copy, Debug, PartialEq, Eq)]
-pub struct Mask<const N: usize>([bool; N]);
+pub struct Mask(u64);
 
 pub type u8x4 = Lanes<u8, 4>;
 pub type u8x8 = Lanes<u8, 8>;
 pub type u8x16 = Lanes<u8, 16>;
 pub type u8x32 = Lanes<u8, 32>;
-pub type u16x8 = Lanes<u16, 8>;
 pub type u32x1 = Lanes<u32, 1>;
 pub type u64x1 = Lanes<u64, 1>;
 
-impl<T: Copy + PartialEq, const N: usize> Lanes<T, N> {
+/// Does what `core::array::from_fn` does, of which rustc does not inline every call.
+#[inline(always)]
+fn from_fn<T: Copy + Default, const N: usize>(lane: impl Fn(usize) -> T) -> [T; N] {
+    let (mut lanes, mut at) = ([T::default(); N], 0);
+    while at < N {
+        lanes[at] = lane(at);
+        at += 1;
+    }
+    lanes
+}
+
+impl<T: Copy + Default, const N: usize> Lanes<T, N> {
     /// Returns the vector whose lanes are all this value.
     #[inline(always)]
     pub const fn splat(value: T) -> Self {
@@ -53,64 +62,81 @@ impl<T: Copy + PartialEq, const N: usize> Lanes<T, N> {
     pub fn copy_to_slice(self, slice: &mut [T]) {
         slice[..N].copy_from_slice(&self.0);
     }
+}
 
+impl<const N: usize> Lanes<u8, N> {
     /// Returns whether the lanes are equal to those of another vector.
     #[inline(always)]
-    pub fn simd_eq(self, other: Self) -> Mask<N> {
-        Mask(from_fn(|lane| self.0[lane] == other.0[lane]))
+    pub fn simd_eq(self, other: Self) -> Mask {
+        Mask(self.simd_ne(other).0 ^ (u64::MAX >> (64 - N)))
     }
 
     /// Returns whether the lanes differ from those of another vector.
     #[inline(always)]
-    pub fn simd_ne(self, other: Self) -> Mask<N> {
-        Mask(from_fn(|lane| self.0[lane] != other.0[lane]))
+    pub fn simd_ne(self, other: Self) -> Mask {
+        let (mut bits, mut at) = (0, N);
+        while at > 0 {
+            at = at.saturating_sub(8);
+            let word = self.word_at(at) ^ other.word_at(at);
+            // The upper bit of each byte that is not zero: no sum of seven bits carries into the next byte.
+            let others = (((word & 0x7f7f_7f7f_7f7f_7f7f) + 0x7f7f_7f7f_7f7f_7f7f) | word) & 0x8080_8080_8080_8080;
+            // Each of these bits is moved to its place in the upper byte.
+            bits = (bits << 8) | ((others >> 7).wrapping_mul(0x0102_0408_1020_4080) >> 56);
+        }
+        Mask(bits)
     }
 
-    /// Returns the vector of the lanes at these indices of both vectors, of which the other's come second.
+    /// Returns eight lanes, or all if they are fewer, as a number, the first as the lowest byte.
     #[inline(always)]
-    pub fn shuffle(self, other: Self, indices: [usize; N]) -> Self {
-        Lanes(from_fn(|lane| {
-            let index = indices[lane];
-            if index < N { self.0[index] } else { other.0[index - N] }
-        }))
+    fn word_at(&self, at: usize) -> u64 {
+        u64::from_le_bytes(from_fn(|lane| if at + lane < N { self.0[at + lane] } else { 0 }))
     }
 }
 
-impl<const N: usize> Mask<N> {
+impl Mask {
     /// Returns the number whose bits are the lanes, the first as the lowest.
     #[inline(always)]
     pub fn to_bitmask(self) -> u64 {
-        self.0.iter().rev().fold(0, |bits, &lane| bits << 1 | u64::from(lane))
+        self.0
     }
 }
 
-/// Defines an operator of vectors, lane by lane.
-macro_rules! operator {
-    ($Operator:ident $operator:ident $lane:ident $($number:ty)*) => { $(
-        impl<const N: usize> $Operator for Lanes<$number, N> {
-            type Output = Self;
+impl<const N: usize> BitOr for Lanes<u8, N> {
+    type Output = Self;
 
-            #[inline(always)]
-            fn $operator(self, other: Self) -> Self {
-                Lanes(from_fn(|lane| self.0[lane].$lane(other.0[lane])))
-            }
-        }
-    )* };
-}
-
-operator! { Add add wrapping_add u8 u16 }
-operator! { Sub sub wrapping_sub u8 u16 }
-operator! { Mul mul wrapping_mul u8 u16 }
-operator! { Div div wrapping_div u16 }
-operator! { Rem rem wrapping_rem u16 }
-operator! { BitOr bitor bitor u8 }
-
-impl u16x8 {
-    /// Returns the bytes of the lanes, the lowest of each first.
     #[inline(always)]
-    pub fn to_le_bytes(self) -> u8x16 {
-        Lanes(from_fn(|byte| self.0[byte / 2].to_le_bytes()[byte % 2]))
+    fn bitor(self, other: Self) -> Self {
+        Lanes(from_fn(|lane| self.0[lane] | other.0[lane]))
     }
+}
+
+impl<const N: usize> Sub for Lanes<u8, N> {
+    type Output = Self;
+
+    #[inline(always)]
+    fn sub(self, other: Self) -> Self {
+        Lanes(from_fn(|lane| self.0[lane].wrapping_sub(other.0[lane])))
+    }
+}
+
+/// Returns the digits of a number below 10^16, with leading zeros.
+#[inline(always)]
+pub fn last_16_digits(n: u64) -> u8x16 {
+    let (high, low) = (eight_digits((n / 100_000_000) as u32), eight_digits((n % 100_000_000) as u32));
+    let [high, low] = [high.to_le_bytes(), low.to_le_bytes()];
+    Lanes(from_fn(|digit| if digit < 8 { high[digit] } else { low[digit - 8] }))
+}
+
+/// Returns the digits of a number below 10^8, with leading zeros, the first as the lowest byte: from two numbers of
+/// four digits those of two, and from these all.
+#[inline(always)]
+fn eight_digits(n: u32) -> u64 {
+    let fours = u64::from(n / 10_000) | u64::from(n % 10_000) << 32;
+    // 10,486 / 2^20 is a little more than a hundredth, and 103 / 2^10 than a tenth: what is cut off is right.
+    let hundreds = (fours * 10_486) >> 20 & 0x0000_007f_0000_007f;
+    let twos = hundreds | (fours - hundreds * 100) << 16;
+    let tens = (twos * 103) >> 10 & 0x000f_000f_000f_000f;
+    (tens | (twos - tens * 10) << 8) | 0x3030_3030_3030_3030
 }
 
 impl u32x1 {

@@ -59,29 +59,6 @@ fn digits_with_zeros(n: u128) -> ([u8; 48], usize) {
     (digits, 32)
 }
 
-/// Returns the digits of a number below 10^16, with leading zeros: first four numbers of four digits each, then eight
-/// of two digits, then all.
-#[inline(always)]
-fn last_16_digits(n: u64) -> u8x16 {
-    let (high, low) = ((n / 100_000_000) as u32, (n % 100_000_000) as u32);
-    let fours = u16x8::from_array([
-        (high / 10_000) as u16,
-        (high % 10_000) as u16,
-        (low / 10_000) as u16,
-        (low % 10_000) as u16,
-        0,
-        0,
-        0,
-        0,
-    ]);
-    let hundred = u16x8::splat(100);
-    let pairs = (fours / hundred).shuffle(fours % hundred, [0, 8, 1, 9, 2, 10, 3, 11]);
-    let ten = u16x8::splat(10);
-    // The first digit of two is in the low byte, the second one in the high byte.
-    let digits = (pairs / ten + pairs % ten * u16x8::splat(256)).to_le_bytes();
-    digits + u8x16::splat(b'0')
-}
-
 /// Writes sixteen digits, leading zeros included, and returns the index where they begin.
 #[inline(always)]
 pub(crate) fn put_16_digits(n: u64, bytes: &mut [u8], end: usize) -> usize {
