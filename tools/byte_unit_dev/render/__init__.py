@@ -2,7 +2,7 @@
 
     tables       tables of byte_unit_base and byte_unit_c, from the prefixes and the lists of expected characters
     bits         byte_unit_bit from byte_unit_byte
-    rust         the packages of Rust from the sources of the library: their code without its contracts
+    rust         the packages of Rust from the sources of the library and of the programs, without their contracts
     bindings     the lists of units and prefixes in `bindings/`, from tables of the library
     calling      the contracts in CALLING.md, from what `byte_unit` exports
     definitions  the lists of docs/DEFINITIONS.md, from the definitions that contracts lead to
@@ -15,16 +15,16 @@ Without WHAT, renders all, in this order. In a page, what is rendered follows th
 """
 
 import os
-from itertools import zip_longest
+from itertools import chain, zip_longest
 
 from ..common import Failure, path, read, reason, report, write
-from . import bindings, bits, contracts, pages, rust, tables
+from . import bindings, bits, contracts, pages, rust, rust_programs, tables
 
 # Each yields the name and the text of each file that it renders, or no text for one that has to go, and may end by a
 # failure for what else is wrong.
-PARTS = {"tables": tables.made, "bits": bits.made, "rust": rust.made, "bindings": bindings.made,
-         "calling": contracts.calling, "definitions": contracts.definitions, "laws": pages.laws, "guide": pages.guide,
-         "tools": pages.tools}  # fmt: skip
+PARTS = {"tables": tables.made, "bits": bits.made, "rust": lambda: chain(rust.made(), rust_programs.made()),
+         "bindings": bindings.made, "calling": contracts.calling, "definitions": contracts.definitions,
+         "laws": pages.laws, "guide": pages.guide, "tools": pages.tools}  # fmt: skip
 
 
 def wrong(part, check):

@@ -145,7 +145,7 @@ def derived(file):
         names = [name for name in names if name not in ["Drop", *BY_HAND.get(found[3], [])]]
         file.put(found.start(), found.end(), f"#[derive({', '.join(names)})]{found[2]}" if names else found[2].lstrip())
 
-    file.each(r"#\[derive\(([^)]*)\)\](\s*(?:#\[.*\]\s*)*pub(?:\(\w+\))? (?:struct|enum) (\w+))", change)
+    file.each(r"#\[derive\(([^)]*)\)\](\s*(?:#\[.*\]\s*)*(?:pub(?:\(\w+\))? )?(?:struct|enum) (\w+))", change)
 
 
 def path_of(name, crate):

@@ -1,0 +1,24 @@
+// Rendered from crates/byte_unit_command/src/lib.rt by `tools/dev render rust`. Do not edit.
+
+//! What the command `byte-unit` does: it converts the sizes in records of an input to the form that options ask for.
+
+pub mod arguments;
+mod blanks;
+mod converter;
+pub mod ending;
+pub mod error;
+pub mod field_list;
+mod finish;
+pub mod meaning;
+mod notice;
+pub mod operands;
+pub mod options;
+mod quote;
+pub mod run;
+mod size;
+pub mod streams;
+pub mod tally;
+mod text;
+pub mod values;
+pub mod wrong;
+mod wrong_character;

@@ -1,0 +1,273 @@
+// Rendered from crates/byte_unit_command/src/converter.rt by `tools/dev render rust`. Do not edit.
+
+//! Converts records field by field, and finds the fields to convert.
+
+use crate::rattle::Vec;
+use crate::rattle::alloc::Allocator;
+use crate::rendered::command::blanks::{between, end_of_first, gap_of, width_of};
+use crate::rendered::command::error::{RunError, RunResult};
+use crate::rendered::command::notice::{Notices, Place, add_limit_notice, add_reject_notice};
+use crate::rendered::command::options::{FieldRange, Invalid, Options};
+use crate::rendered::command::size::accepted;
+use crate::rendered::command::tally::Tally;
+use crate::rendered::command::text::add_in_width;
+
+/// Converts records. Keeps how far the run has come, and what is not written yet.
+pub(crate) struct Converter<A: Allocator> {
+    /// The number of header records that are still to come.
+    pub header: u64,
+    /// What was counted so far.
+    pub tally: Tally,
+    /// The number of the record, and what a record is called.
+    pub place: Place,
+    /// Whole texts that are not written yet.
+    pub waiting: Vec<u8, A>,
+    /// Messages that are not written yet.
+    pub notices: Notices<A>,
+}
+
+impl<A: Allocator> Converter<A> {
+    /// Appends what is written for a record, with its end byte, and counts what is found in it.
+    ///
+    /// Precondition: `digits` has capacity for the text of any size.
+    ///
+    /// # Errors
+    ///
+    /// - `Rejected` if a field is not a size, in the mode `abort`.
+    /// - `Memory` if allocation fails.
+    ///
+    /// Then nothing is appended, and no message but the ones up to that on the rejected field.
+    ///
+    /// `#[inline(always)]`, as on what it calls for each record and each field: the calls would take more instructions.
+    /// What is rare, and the loop over fields, is `#[inline(never)]`, so that it costs a record of one field nothing.
+    #[inline(always)]
+    pub(crate) fn add_record(&mut self, options: &Options, bytes: &[u8], digits: &mut [u8]) -> RunResult {
+        let len = self.waiting.len();
+        let messages = self.notices.messages.len();
+        match self.append_record(options, bytes, digits) {
+            Ok(()) => Ok(()),
+            Err(error) => {
+                self.waiting.truncate(len);
+                self.notices.undo(messages, error);
+                Err(error)
+            }
+        }
+    }
+
+    /// Does what [`add_record`](Converter::add_record) does, but leaves what was appended before an error.
+    #[inline(always)]
+    fn append_record(&mut self, options: &Options, bytes: &[u8], digits: &mut [u8]) -> RunResult {
+        self.place.number = self.place.number.saturating_add(1);
+        if self.header > 0 {
+            self.header -= 1;
+            self.waiting.extend_from_slice(bytes)?;
+        } else {
+            self.add_fields(options, bytes, digits)?;
+        }
+        self.waiting.extend_from_slice(&[options.output_end])?;
+        Ok(())
+    }
+
+    /// Appends what is written for the fields of a record, which is no header record, and counts what is found in them.
+    ///
+    /// Precondition: `digits` has capacity for the text of any size.
+    ///
+    /// # Errors
+    ///
+    /// - `Rejected` if a field is not a size, in the mode `abort`.
+    /// - `Memory` if allocation fails.
+    #[inline(always)]
+    fn add_fields(&mut self, options: &Options, bytes: &[u8], digits: &mut [u8]) -> RunResult {
+        match options.delimiter {
+            None => {
+                // The whole record is field 1.
+                let chosen = is_in_one(options.fields, 1);
+                self.add_field::<false>(options, 1, bytes, chosen, digits)
+            }
+            Some(delimiter) if options.blanks => self.add_split::<true>(options, delimiter, bytes, digits),
+            Some(delimiter) => self.add_split::<false>(options, delimiter, bytes, digits),
+        }
+    }
+
+    /// Does what [`add_fields`](Converter::add_fields) does, with the fields between delimiters or blanks. After the
+    /// last chosen field, copies the rest at once.
+    ///
+    /// Preconditions: `delimiter` is that of the options, `BLANKS` says whether fields are
+    /// between blanks, and `digits` has capacity for the text of any size.
+    #[inline(never)]
+    fn add_split<const BLANKS: bool>(
+        &mut self,
+        options: &Options,
+        delimiter: u8,
+        bytes: &[u8],
+        digits: &mut [u8],
+    ) -> RunResult {
+        // For the proof: there are fewer fields than a `u64` counts.
+        let _len = bytes.len();
+        let in_order = is_in_order(options.fields);
+        let fields = ranges_from(options.fields, 1);
+        let mark = [delimiter];
+        let between = between(options, BLANKS, delimiter, &mark);
+        let mut ranges = fields;
+        let mut rest = bytes;
+        let mut number = 1u64;
+        while let Some(n) = end_of_first(options, BLANKS, delimiter, rest) {
+            let chosen = is_chosen(ranges, in_order, number);
+            self.add_field::<BLANKS>(options, number, &rest[..n], chosen, digits)?;
+            self.waiting.extend_from_slice(between)?;
+            rest = &rest[n + between.len()..];
+            number += 1;
+            ranges = ranges_from(ranges, number);
+            if ranges.is_empty() {
+                self.waiting.extend_from_slice(rest)?;
+                return Ok(());
+            }
+        }
+        let chosen = is_chosen(ranges, in_order, number);
+        self.add_field::<BLANKS>(options, number, rest, chosen, digits)
+    }
+
+    /// Appends what is written for the field with this number, and counts what is found in it.
+    ///
+    /// Preconditions: `chosen` says whether the field is chosen, `BLANKS` whether fields are
+    /// between blanks, and `digits` has capacity for the text of any size.
+    ///
+    /// # Errors
+    ///
+    /// - `Rejected` if the field is not a size, in the mode `abort`.
+    /// - `Memory` if allocation fails.
+    #[inline(always)]
+    fn add_field<const BLANKS: bool>(
+        &mut self,
+        options: &Options,
+        number: u64,
+        field: &[u8],
+        chosen: bool,
+        digits: &mut [u8],
+    ) -> RunResult {
+        if !chosen {
+            self.waiting.extend_from_slice(field)?;
+            return Ok(());
+        }
+        let Some(size) = accepted(options, field) else {
+            return self.add_rejected(options, number, field);
+        };
+        if self.tally.add(options, size) {
+            add_limit_notice(options, &self.place, number, field, size, &mut self.notices)?;
+        }
+        let (gap, width) = if BLANKS {
+            // The blank that separates the field stays, and without a width the size takes the columns of the field.
+            (gap_of(number > 1, field), width_of(options, number, field))
+        } else {
+            // Not between blanks: there is no blank to keep, and a width of 0 is no width.
+            (&field[..0], options.width as usize)
+        };
+        self.waiting.extend_from_slice(gap)?;
+        add_in_width(options, width, size, digits, &mut self.waiting)?;
+        Ok(())
+    }
+
+    /// Does what [`add_field`](Converter::add_field) does, for a field that is not a size.
+    ///
+    /// Preconditions: the field is chosen, and it is not a size.
+    #[cold]
+    #[inline(never)]
+    fn add_rejected(&mut self, options: &Options, number: u64, field: &[u8]) -> RunResult {
+        add_reject_notice(options, &self.place, number, field, &mut self.notices)?;
+        if options.invalid == Invalid::Abort {
+            return Err(RunError::Rejected);
+        }
+        self.tally.rejected = true;
+        self.waiting.extend_from_slice(field)?;
+        Ok(())
+    }
+}
+
+/// Returns `true` if the field with this number is in one of the ranges.
+///
+/// Precondition: if `in_order`, the ranges are, and the first does not end before the field.
+#[inline(always)]
+fn is_chosen(ranges: &[FieldRange], in_order: bool, number: u64) -> bool {
+    if !in_order {
+        return is_in_one(ranges, number);
+    }
+    match ranges {
+        [] => false,
+        [range, ..] => range.first <= number,
+    }
+}
+
+/// Returns `true` if the field with this number is in one of the ranges.
+fn is_in_one(ranges: &[FieldRange], number: u64) -> bool {
+    match ranges {
+        [] => false,
+        [range, others @ ..] => in_range(range, number) || is_in_one(others, number),
+    }
+}
+
+/// Returns `true` if the field with this number is in the range.
+fn in_range(range: &FieldRange, number: u64) -> bool {
+    if number < range.first {
+        return false;
+    }
+    match range.last {
+        None => true,
+        Some(last) => number <= last,
+    }
+}
+
+/// Returns `true` if the ranges begin in their order.
+fn is_in_order(ranges: &[FieldRange]) -> bool {
+    match ranges {
+        [] => true,
+        [range, others @ ..] => begins_before(*range, others) && is_in_order(others),
+    }
+}
+
+/// Returns `true` if the range begins before the first of the others, or with it, or there is none.
+fn begins_before(range: FieldRange, others: &[FieldRange]) -> bool {
+    match others {
+        [] => true,
+        [next, ..] => range.first <= next.first,
+    }
+}
+
+/// Returns the ranges without those at the beginning that end before the field with this number.
+#[inline(always)]
+fn ranges_from(ranges: &[FieldRange], number: u64) -> &[FieldRange] {
+    match ranges {
+        [] => ranges,
+        [range, others @ ..] => {
+            if !ends_before(*range, number) {
+                return ranges;
+            }
+            if others.is_empty() {
+                return others;
+            }
+            others_from(others, number)
+        }
+    }
+}
+
+/// Does what [`ranges_from`] does. Only this function is recursive, so that the other one can be inlined.
+#[inline(never)]
+fn others_from(ranges: &[FieldRange], number: u64) -> &[FieldRange] {
+    match ranges {
+        [] => ranges,
+        [range, others @ ..] => {
+            if ends_before(*range, number) {
+                others_from(others, number)
+            } else {
+                ranges
+            }
+        }
+    }
+}
+
+/// Returns `true` if the range ends before the field with this number.
+fn ends_before(range: FieldRange, number: u64) -> bool {
+    match range.last {
+        None => false,
+        Some(last) => last < number,
+    }
+}

@@ -1,0 +1,248 @@
+// Rendered from crates/byte_unit_command/src/meaning.rt by `tools/dev render rust`. Do not edit.
+
+//! What the values of the options of a call mean.
+
+use crate::rendered::command::field_list::positive_of;
+use crate::rendered::command::options::{FieldRange, Form, Invalid, Kind, Options, Unit, UnitType};
+use crate::rendered::command::size::ignores_case;
+use crate::rendered::command::values::Values;
+use crate::rendered::command::wrong::{ValueError, Wrong};
+use byte_unit::rendered::base::{ParseError, binary, size};
+
+/// The most digits after the point that the exact form has: the library takes a greater precision as 28.
+const DECIMAL_PLACES: u16 = 28;
+
+/// Returns the options of a call. `fields` are those that `field_list::fields_of` returned.
+///
+/// # Errors
+///
+/// Returns the first option that is wrong, in the order of `--from`, `--to`, `--precision`, `--no-unit`, `--delimiter`,
+/// `--field`, `--padding`, `--invalid`, `--max` and `--min`.
+pub fn options_of<'a>(values: &Values<'a>, fields: &'a [FieldRange]) -> Result<Options<'a>, Wrong<'a>> {
+    let kind = values.kind;
+    let binary = from_of(values.from)?;
+    let given = form_of(values)?;
+    let form = output_form(values.no_unit, given)?;
+    let delimiter = separator_of(values)?;
+    let (width, align_left) = padding_of(values.padding)?;
+    let invalid = invalid_of(values.invalid)?;
+    let max = limit_of("--max", values.max, binary, kind, values.ignore_case)?;
+    let min = limit_of("--min", values.min, binary, kind, values.ignore_case)?;
+    let header = values.header.unwrap_or(0);
+    let output_end = if values.zero_terminated { 0 } else { b'\n' };
+    Ok(Options {
+        kind,
+        ignore_case: values.ignore_case,
+        binary,
+        form,
+        precision: match values.precision {
+            Some(precision) => Some(precision),
+            // One digit after the point with `-H`, if `--precision` is not given.
+            None => {
+                if values.human_readable {
+                    Some(1)
+                } else {
+                    None
+                }
+            }
+        },
+        suffix: values.suffix.unwrap_or("").as_bytes(),
+        width,
+        align_left,
+        delimiter,
+        blanks: values.blanks,
+        fields,
+        // Each operand ends with a zero byte, and none is a header.
+        record_end: if values.has_operands { 0 } else { output_end },
+        output_end,
+        header: if values.has_operands { 0 } else { header },
+        invalid,
+        total: values.total,
+        max,
+        min,
+    })
+}
+
+/// Returns whether a decimal prefix in a size means the binary one.
+///
+/// # Errors
+///
+/// Returns an error if the value is not one of the words that say how prefixes are read.
+fn from_of(value: Option<&str>) -> Result<bool, Wrong<'_>> {
+    let Some(value) = value else {
+        return Ok(false);
+    };
+    // Words of `numfmt --from`. `Ki` is 1024 in any case, so all but `iec` mean the same.
+    match value {
+        "iec" => Ok(true),
+        "auto" => Ok(false),
+        "si" => Ok(false),
+        "iec-i" => Ok(false),
+        _ => Err(Wrong { option: "--from", value: Some(value), reason: ValueError::From }),
+    }
+}
+
+/// Returns how a size is formatted.
+///
+/// # Errors
+///
+/// Returns an error if the value is neither the word for a form nor a unit, or if more than 28 digits after the point
+/// are asked for in the exact form, which never has more.
+fn form_of<'a>(values: &Values<'a>) -> Result<Form, Wrong<'a>> {
+    let default = if values.human_readable { "auto" } else { "exact" };
+    let value = values.to.unwrap_or(default);
+    match value {
+        "exact" => match values.precision {
+            Some(precision) if precision > DECIMAL_PLACES => {
+                Err(Wrong { option: "--precision", value: None, reason: ValueError::Precision })
+            }
+            Some(_) | None => Ok(Form::Exact),
+        },
+        "plain" => Ok(Form::Plain),
+        "si" => Ok(Form::Largest(UnitType::Decimal)),
+        "iec" => Ok(Form::Largest(UnitType::Binary)),
+        "auto" => Ok(Form::Largest(UnitType::Both)),
+        _ => match unit_of(value, values.kind, values.ignore_case) {
+            Ok(unit) => Ok(Form::InUnit(unit)),
+            Err(reason) => Err(Wrong { option: "--to", value: Some(value), reason }),
+        },
+    }
+}
+
+/// Returns the form of the output, with or without the unit.
+///
+/// # Errors
+///
+/// Returns an error if there is no unit that could be left out.
+fn output_form<'a>(no_unit: bool, given: Form) -> Result<Form, Wrong<'a>> {
+    if !no_unit {
+        return Ok(given);
+    }
+    match given {
+        Form::InUnit(unit) => Ok(Form::NumberOf(unit)),
+        Form::Plain => Ok(Form::Plain),
+        Form::Exact | Form::NumberOf(_) | Form::Largest(_) => {
+            Err(Wrong { option: "--no-unit", value: None, reason: ValueError::NoUnit })
+        }
+    }
+}
+
+/// Returns the unit that a value spells. White space alone, which the library parses as the unit without a prefix, is
+/// not a unit here.
+fn unit_of(value: &str, kind: Kind, ignore_case: bool) -> Result<Unit, ValueError> {
+    if value.trim().is_empty() {
+        return Err(ValueError::Blank);
+    }
+    // The last argument says whether a unit without the letter `B` or `b` is of bytes.
+    let unit = match kind {
+        Kind::Byte => Unit::parse_str(value, ignore_case, true),
+        Kind::Bit => Unit::parse_str(value, false, false),
+    };
+    match unit {
+        Ok(unit) => Ok(unit),
+        Err(error) => Err(ValueError::Unit(error)),
+    }
+}
+
+/// Returns the byte between two fields: a space if they are between blanks, and else the delimiter. Returns `None` if a
+/// record is one field.
+///
+/// # Errors
+///
+/// Returns an error if the delimiter is not empty, one byte or `\t`, or if `--field` is given and nothing separates the
+/// fields.
+fn separator_of<'a>(values: &Values<'a>) -> Result<Option<u8>, Wrong<'a>> {
+    let delimiter = match values.delimiter {
+        None => None,
+        Some(value) => match value.as_bytes() {
+            [] => None,
+            [byte] => Some(*byte),
+            b"\\t" => Some(b'\t'),
+            _ => {
+                return Err(Wrong { option: "--delimiter", value: Some(value), reason: ValueError::Delimiter });
+            }
+        },
+    };
+    if values.blanks {
+        return Ok(Some(b' '));
+    }
+    if values.field.is_some() && values.delimiter.is_none() {
+        return Err(Wrong { option: "--field", value: values.field, reason: ValueError::NoDelimiter });
+    }
+    Ok(delimiter)
+}
+
+/// Returns the width, and whether sizes are aligned to the left.
+///
+/// # Errors
+///
+/// Returns an error if the value is not a number from 1 to 65535, or its negative.
+fn padding_of(value: Option<&str>) -> Result<(u16, bool), Wrong<'_>> {
+    let Some(value) = value else {
+        // No width.
+        return Ok((0, false));
+    };
+    match signed_width_of(value) {
+        Some(padding) => Ok(padding),
+        None => Err(Wrong { option: "--padding", value: Some(value), reason: ValueError::Padding }),
+    }
+}
+
+/// Parses a width, and whether a hyphen before it aligns sizes to the left. Returns `None` if the text is neither.
+fn signed_width_of(text: &str) -> Option<(u16, bool)> {
+    match text.strip_prefix('-') {
+        Some(digits) => Some((width_of(digits)?, true)),
+        None => Some((width_of(text)?, false)),
+    }
+}
+
+/// Parses a width, from 1 to 65535: decimal digits, without a sign. Returns `None` if the text is no such number.
+fn width_of(digits: &str) -> Option<u16> {
+    let width = positive_of(digits)?;
+    u16::try_from(width).ok()
+}
+
+/// Returns what a rejected field does.
+///
+/// # Errors
+///
+/// Returns an error if the value is not the word for a mode.
+fn invalid_of(value: Option<&str>) -> Result<Invalid, Wrong<'_>> {
+    let Some(value) = value else {
+        return Ok(Invalid::Abort);
+    };
+    match value {
+        "abort" => Ok(Invalid::Abort),
+        "fail" => Ok(Invalid::Fail),
+        "warn" => Ok(Invalid::Warn),
+        "ignore" => Ok(Invalid::Ignore),
+        _ => Err(Wrong { option: "--invalid", value: Some(value), reason: ValueError::Mode }),
+    }
+}
+
+/// Returns a limit of the sizes, which is parsed as they are. Returns `None` if there is no value.
+///
+/// # Errors
+///
+/// Returns an error if the value is not a size.
+fn limit_of<'a>(
+    option: &'static str,
+    value: Option<&'a str>,
+    binary: bool,
+    kind: Kind,
+    ignore_case: bool,
+) -> Result<Option<u128>, Wrong<'a>> {
+    let Some(value) = value else {
+        return Ok(None);
+    };
+    match parse_size(value, binary, kind, ignore_case) {
+        Ok(size) => Ok(Some(size)),
+        Err(error) => Err(Wrong { option, value: Some(value), reason: ValueError::Size(error) }),
+    }
+}
+
+/// Parses a size of a kind. Decimal prefixes mean binary ones if `binary` is set.
+fn parse_size(text: &str, binary: bool, kind: Kind, ignore_case: bool) -> Result<u128, ParseError> {
+    let ignore_case = ignores_case(kind, ignore_case);
+    if binary { binary::parse(text, ignore_case, kind) } else { size::parse(text, ignore_case, kind) }
+}

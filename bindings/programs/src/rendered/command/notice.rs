@@ -1,0 +1,252 @@
+// Rendered from crates/byte_unit_command/src/notice.rt by `tools/dev render rust`. Do not edit.
+
+//! Messages about fields, for standard error.
+
+use crate::rattle::alloc::{AllocError, Allocator};
+use crate::rattle::{String, Vec};
+use crate::rendered::command::error::RunError;
+use crate::rendered::command::options::{Invalid, Options};
+use crate::rendered::command::quote::add_quoted;
+use crate::rendered::command::size::{parse, without_suffix};
+use crate::rendered::command::wrong_character::{names_character, wrong_character};
+use crate::rendered::stream::{FusedWriter, write_whole};
+use byte_unit::rendered::base::ParseError;
+
+use crate::rattle::io::Write;
+
+/// The place of a record in the input.
+#[derive(Debug, Clone, Copy)]
+pub(crate) struct Place {
+    /// What a record is called: `line`, `record` or `operand`.
+    pub word: &'static str,
+    /// The number of the record, counted from 1.
+    pub number: u64,
+}
+
+/// A field of a record.
+#[derive(Debug, Clone, Copy)]
+struct Field<'a> {
+    /// Its number, counted from 1.
+    number: u64,
+    /// Its bytes, as they are in the record.
+    bytes: &'a [u8],
+}
+
+/// Messages that are not written yet.
+pub(crate) struct Notices<A: Allocator> {
+    /// The messages, each whole.
+    pub messages: Vec<u8, A>,
+    /// A buffer for one message.
+    pub line: String<A>,
+    /// A buffer for the message of a parse error.
+    pub words: String<A>,
+}
+
+impl<A: Allocator> Notices<A> {
+    /// Forgets all messages but those in the first `len` bytes, if a call ended early, out of memory.
+    pub(crate) fn undo(&mut self, len: usize, error: RunError) {
+        match error {
+            RunError::Memory => self.messages.truncate(len),
+            RunError::Read | RunError::Write | RunError::Rejected | RunError::Total => (),
+        }
+    }
+
+    /// Writes the messages to `errors`, unless a write to it has failed before, and forgets them. `errors` records a
+    /// failure.
+    pub(crate) fn tell<E: Write>(&mut self, errors: &mut FusedWriter<E>) {
+        if self.messages.is_empty() {
+            return;
+        }
+        if !errors.failed() {
+            let _ = write_whole(errors, &self.messages, RunError::Write);
+        }
+        self.messages.clear();
+    }
+}
+
+/// Why a field is named in a message.
+#[derive(Debug)]
+enum FieldError {
+    /// It is not UTF-8.
+    NotUtf8,
+    /// It is rejected by the parser.
+    Rejected(ParseError),
+    /// Its size is above the maximum.
+    Above,
+    /// Its size is below the minimum.
+    Below,
+}
+
+/// Appends a message that a field is not a size, unless rejected fields are ignored. Parses the field for the error.
+///
+/// Preconditions: the field is chosen, and it is not a size.
+///
+/// # Errors
+///
+/// Returns `AllocError` if allocation fails. Nothing is appended then.
+pub(crate) fn add_reject_notice<A: Allocator>(
+    options: &Options,
+    place: &Place,
+    number: u64,
+    field: &[u8],
+    notices: &mut Notices<A>,
+) -> Result<(), AllocError> {
+    let told = tells_rejected(options.invalid);
+    if !told {
+        return Ok(());
+    }
+    let reason = reason_of(options, field);
+    let field = Field { number, bytes: field };
+    add_message(options, place, field, &reason, notices)
+}
+
+/// Returns `true` if there are messages about rejected fields.
+fn tells_rejected(invalid: Invalid) -> bool {
+    match invalid {
+        Invalid::Ignore => false,
+        Invalid::Abort | Invalid::Fail | Invalid::Warn => true,
+    }
+}
+
+/// Returns the reason why a field is not a size.
+///
+/// Precondition: the field is not a size.
+fn reason_of(options: &Options, field: &[u8]) -> FieldError {
+    match parse(options, field) {
+        Some(Err(error)) => FieldError::Rejected(error),
+        // Never: a field that is parsed as a size is one.
+        Some(Ok(_)) => FieldError::NotUtf8,
+        None => FieldError::NotUtf8,
+    }
+}
+
+/// Appends the messages about a size that is beyond a limit.
+///
+/// # Errors
+///
+/// Returns `AllocError` if allocation fails.
+#[cold]
+#[inline(never)]
+pub(crate) fn add_limit_notice<A: Allocator>(
+    options: &Options,
+    place: &Place,
+    number: u64,
+    field: &[u8],
+    size: u128,
+    notices: &mut Notices<A>,
+) -> Result<(), AllocError> {
+    let above = options.max.is_some_and(|most| most < size);
+    let below = options.min.is_some_and(|least| size < least);
+    let field = Field { number, bytes: field };
+    add_message_if(above, options, place, field, &FieldError::Above, notices)?;
+    add_message_if(below, options, place, field, &FieldError::Below, notices)
+}
+
+/// Appends a message if it is to be told.
+///
+/// # Errors
+///
+/// Returns `AllocError` if allocation fails. Nothing is appended then.
+fn add_message_if<A: Allocator>(
+    told: bool,
+    options: &Options,
+    place: &Place,
+    field: Field,
+    reason: &FieldError,
+    notices: &mut Notices<A>,
+) -> Result<(), AllocError> {
+    if told { add_message(options, place, field, reason, notices) } else { Ok(()) }
+}
+
+/// Appends a message.
+///
+/// # Errors
+///
+/// Returns `AllocError` if allocation fails. Nothing is appended then.
+fn add_message<A: Allocator>(
+    options: &Options,
+    place: &Place,
+    field: Field,
+    reason: &FieldError,
+    notices: &mut Notices<A>,
+) -> Result<(), AllocError> {
+    notices.line.clear();
+    add_place(options, place, field.number, &mut notices.line)?;
+    add_quoted(field.bytes, &mut notices.line)?;
+    notices.line.push_str(": ")?;
+    add_words(reason, &mut notices.words, &mut notices.line)?;
+    add_character(reason, without_suffix(options.suffix, field.bytes), &mut notices.line)?;
+    notices.line.push_str("\n")?;
+    notices.messages.extend_from_slice(notices.line.as_bytes())
+}
+
+/// Appends the place of a field.
+///
+/// # Errors
+///
+/// Returns `AllocError` if allocation fails.
+fn add_place<A: Allocator>(
+    options: &Options,
+    place: &Place,
+    number: u64,
+    line: &mut String<A>,
+) -> Result<(), AllocError> {
+    let word = place.word;
+    let record = place.number;
+    write!(line, "byte-unit: {word} {record}: ")?;
+    match options.delimiter {
+        None => Ok(()),
+        Some(_) => write!(line, "field {number}: "),
+    }
+}
+
+/// Appends the words for a reason. `words` is a buffer for them.
+///
+/// # Errors
+///
+/// Returns `AllocError` if allocation fails.
+fn add_words<A: Allocator>(reason: &FieldError, words: &mut String<A>, line: &mut String<A>) -> Result<(), AllocError> {
+    match reason {
+        FieldError::NotUtf8 => line.push_str("not UTF-8"),
+        FieldError::Rejected(error) => {
+            // Not to `line`: no contract says what `write!` leaves in its target for an error with a character that is
+            // not ASCII, and the place and the quoted field in `line` have to stay.
+            words.clear();
+            write!(words, "{error}")?;
+            line.push_str(words.as_str())
+        }
+        FieldError::Above => line.push_str("above the maximum"),
+        FieldError::Below => line.push_str("below the minimum"),
+    }
+}
+
+/// Appends the number of the first wrong character of a text, if the message names that.
+///
+/// # Errors
+///
+/// Returns `AllocError` if allocation fails.
+#[inline(always)]
+fn add_character<A: Allocator>(reason: &FieldError, text: &[u8], line: &mut String<A>) -> Result<(), AllocError> {
+    match reason {
+        FieldError::Rejected(error) => {
+            if names_character(error) {
+                add_number(wrong_character(text), line)
+            } else {
+                Ok(())
+            }
+        }
+        FieldError::NotUtf8 | FieldError::Above | FieldError::Below => Ok(()),
+    }
+}
+
+/// Appends the number of a character, or nothing.
+///
+/// # Errors
+///
+/// Returns `AllocError` if allocation fails.
+fn add_number<A: Allocator>(number: Option<usize>, line: &mut String<A>) -> Result<(), AllocError> {
+    match number {
+        None => Ok(()),
+        Some(number) => write!(line, " (character {number})"),
+    }
+}

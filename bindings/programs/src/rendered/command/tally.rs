@@ -1,0 +1,34 @@
+// Rendered from crates/byte_unit_command/src/tally.rt by `tools/dev render rust`. Do not edit.
+
+//! What a run counts.
+
+use crate::rendered::command::options::Options;
+
+/// The limit of totals, 10^30, which is that of sizes. A total that reaches it stays there.
+pub(crate) const TOTAL_LIMIT: u128 = 1_000_000_000_000_000_000_000_000_000_000;
+
+/// What was counted in the fields that were converted.
+#[derive(Debug, Clone, Copy, PartialEq, Eq)]
+pub struct Tally {
+    /// The sum of the sizes, or 10^30 if it reaches that.
+    pub total: u128,
+    /// Whether a size is above the maximum or below the minimum.
+    pub beyond: bool,
+    /// Whether a field was rejected.
+    pub rejected: bool,
+}
+
+impl Tally {
+    /// The tally of no field.
+    pub const NONE: Tally = Tally { total: 0, beyond: false, rejected: false };
+
+    /// Counts a size. Returns `true` if it is above the maximum or below the minimum.
+    pub(crate) fn add(&mut self, options: &Options, size: u128) -> bool {
+        self.total = self.total.saturating_add(size).min(TOTAL_LIMIT);
+        let beyond = options.max.is_some_and(|most| most < size) || options.min.is_some_and(|least| size < least);
+        if beyond {
+            self.beyond = true;
+        }
+        beyond
+    }
+}

@@ -1,0 +1,181 @@
+// Rendered from crates/byte_unit_command/src/text.rt by `tools/dev render rust`. Do not edit.
+
+//! Writes and appends the text of a size.
+
+use crate::rattle::Vec;
+use crate::rattle::alloc::{AllocError, Allocator};
+use crate::rendered::command::options::{Form, Kind, Options, Unit};
+use crate::rendered::command::values::kind_of;
+use byte_unit::rendered::choice::{appropriate_unit, recoverable_unit};
+use byte_unit::rendered::format::FormatSpec;
+use byte_unit::rendered::format::{write_adjusted, write_text};
+use byte_unit::rendered::math::Steps;
+
+/// The most bytes of a text that are copied in one piece of a constant length. Most texts are shorter.
+pub(crate) const AT_ONCE: usize = 64;
+
+/// Appends the text of a size in at least `width` columns to `text`. `digits` is a buffer for it.
+///
+/// The only call that writes a size, so that the ways to write it are inlined here.
+///
+/// Preconditions: `size` is less than 10^30, and `digits` has capacity for any text.
+///
+/// # Errors
+///
+/// Returns `AllocError` if allocation fails.
+pub(crate) fn add_in_width<A: Allocator>(
+    options: &Options,
+    width: usize,
+    size: u128,
+    digits: &mut [u8],
+    text: &mut Vec<u8, A>,
+) -> Result<(), AllocError> {
+    let len = write_size(options, size, digits);
+    if width > 0 {
+        return add_padded(width, options.align_left, options.suffix, &digits[..len], text);
+    }
+    match options.suffix {
+        [] => {
+            if len > AT_ONCE {
+                return text.extend_from_slice(&digits[..len]);
+            }
+            // A copy of a constant length takes a few instructions, and no branch depends on `len`.
+            text.extend_from_slice(&digits[..AT_ONCE])?;
+            text.truncate(text.len() - (AT_ONCE - len));
+            Ok(())
+        }
+        [_, ..] => add_suffixed(&digits[..len], options.suffix, text),
+    }
+}
+
+/// Appends `bytes` and the suffix.
+///
+/// # Errors
+///
+/// Returns `AllocError` if allocation fails.
+#[inline(never)]
+fn add_suffixed<A: Allocator>(bytes: &[u8], suffix: &[u8], text: &mut Vec<u8, A>) -> Result<(), AllocError> {
+    text.extend_from_slice(bytes)?;
+    text.extend_from_slice(suffix)
+}
+
+/// Appends `bytes` and the suffix, with the spaces that these lack of a width.
+///
+/// # Errors
+///
+/// Returns `AllocError` if allocation fails.
+fn add_padded<A: Allocator>(
+    width: usize,
+    align_left: bool,
+    suffix: &[u8],
+    bytes: &[u8],
+    text: &mut Vec<u8, A>,
+) -> Result<(), AllocError> {
+    let len = bytes.len().saturating_add(suffix.len());
+    let missing = width.saturating_sub(len);
+    if align_left {
+        text.extend_from_slice(bytes)?;
+        text.extend_from_slice(suffix)?;
+        add_spaces(missing, text)
+    } else {
+        add_spaces(missing, text)?;
+        text.extend_from_slice(bytes)?;
+        text.extend_from_slice(suffix)
+    }
+}
+
+/// Appends spaces.
+///
+/// # Errors
+///
+/// Returns `AllocError` if allocation fails.
+fn add_spaces<A: Allocator>(count: usize, text: &mut Vec<u8, A>) -> Result<(), AllocError> {
+    text.resize(text.len().saturating_add(count), b' ')
+}
+
+/// Writes a size in the form of the options to the beginning of `out`, and returns its length.
+///
+/// Preconditions: `size` is less than 10^30, and `out` has capacity for any text.
+#[inline(always)]
+fn write_size(options: &Options, size: u128, out: &mut [u8]) -> usize {
+    match options.kind {
+        Kind::Byte => write_as::<false>(options, size, out),
+        Kind::Bit => write_as::<true>(options, size, out),
+    }
+}
+
+/// Writes a size in bits, or in bytes, as [`write_size`] does. A constant kind takes fewer instructions than a
+/// variable.
+///
+/// Preconditions: `size` is less than 10^30, and `out` has capacity for any text.
+#[inline(always)]
+fn write_as<const BITS: bool>(options: &Options, size: u128, out: &mut [u8]) -> usize {
+    let kind = kind_of(BITS);
+    // The precision is read where it counts: digits take fewer instructions then.
+    match options.form {
+        Form::Exact if options.binary => write_binary(size, kind, options.precision, out),
+        Form::Exact => write_text(size, kind, exact_spec(options.precision), out),
+        Form::Plain => write_text(size, kind, FormatSpec::PLAIN, out),
+        Form::InUnit(unit) => {
+            let rounded = FormatSpec { precision: options.precision, ..FormatSpec::PLAIN };
+            write_adjusted(size, kind, unit, rounded, out)
+        }
+        Form::NumberOf(unit) => write_number(size, kind, unit, options.precision, out),
+        Form::Largest(unit_type) => {
+            let unit = appropriate_unit(size, kind, unit_type);
+            let rounded = FormatSpec { precision: options.precision, ..FormatSpec::PLAIN };
+            write_adjusted(size, kind, unit, rounded, out)
+        }
+    }
+}
+
+/// Writes a size in the exact form where a decimal prefix means the binary one, and returns its length: as digits,
+/// unless its unit has a binary prefix.
+///
+/// Preconditions: `size` is less than 10^30, and `out` has capacity for any text.
+#[inline(never)]
+fn write_binary(size: u128, kind: Kind, precision: Option<u16>, out: &mut [u8]) -> usize {
+    write_text(size, kind, binary_spec(size, kind, precision), out)
+}
+
+/// Returns how a size is formatted in the exact form where a decimal prefix means the binary one.
+///
+/// Precondition: `size` is less than 10^30.
+fn binary_spec(size: u128, kind: Kind, precision: Option<u16>) -> FormatSpec {
+    let places = places_of(precision);
+    let (_, unit) = recoverable_unit(size, kind, false, places, &mut Steps::new());
+    if has_binary_prefix(unit) { exact_spec(precision) } else { FormatSpec::PLAIN }
+}
+
+/// Returns the most digits after the point of a size with a unit, within this precision.
+fn places_of(precision: Option<u16>) -> usize {
+    match precision {
+        Some(precision) => usize::from(precision),
+        None => 3,
+    }
+}
+
+/// Returns how a size is formatted with a unit, within this precision.
+#[inline(always)]
+fn exact_spec(precision: Option<u16>) -> FormatSpec {
+    FormatSpec { precision, ..FormatSpec::ALTERNATE }
+}
+
+/// Returns `true` if the unit has a binary prefix.
+fn has_binary_prefix(unit: Unit) -> bool {
+    match unit {
+        Unit::Bit | Unit::B => false,
+        _ => unit.is_binary_multiples(),
+    }
+}
+
+/// Writes the number of a unit that a size is, and returns its length.
+///
+/// The unit is written after it, and its length left out, with that of the space before it (1).
+#[cold]
+#[inline(never)]
+fn write_number(size: u128, kind: Kind, unit: Unit, precision: Option<u16>, out: &mut [u8]) -> usize {
+    let rounded = FormatSpec { precision, ..FormatSpec::PLAIN };
+    let len = write_adjusted(size, kind, unit, rounded, out);
+    len - 1 - unit.as_str().len()
+}

@@ -1,0 +1,51 @@
+// Rendered from crates/byte_unit_command/src/wrong_character.rt by `tools/dev render rust`. Do not edit.
+
+//! Where a text is wrong: the number of its first wrong character, for messages.
+
+use crate::rendered::command::quote::is_boundary;
+use byte_unit::rendered::base::position;
+use byte_unit::rendered::base::{ParseError, ValueParseError};
+use std::str;
+
+/// Returns `true` if the message of an error names a character.
+pub(crate) fn names_character(error: &ParseError) -> bool {
+    match error {
+        ParseError::Value(ValueParseError::NotNumber(_)) => true,
+        ParseError::Value(_) => false,
+        ParseError::Unit(_) => true,
+    }
+}
+
+/// Returns the number of the first wrong character of a text that is no size, counted from 1. Returns `None` if the
+/// text ends too early or is not UTF-8.
+pub(crate) fn wrong_character(text: &[u8]) -> Option<usize> {
+    match str::from_utf8(text) {
+        Ok(text) => character_of(text),
+        Err(_) => None,
+    }
+}
+
+/// Returns what [`wrong_character`] does, for a string.
+fn character_of(text: &str) -> Option<usize> {
+    match position::of_size_error(text) {
+        None => None,
+        Some(position) => {
+            if position < text.trim_end().len() {
+                Some(characters_in(&text.as_bytes()[..position]) + 1)
+            } else {
+                None
+            }
+        }
+    }
+}
+
+/// Returns the number of characters that begin in these bytes.
+fn characters_in(bytes: &[u8]) -> usize {
+    let mut count = 0usize;
+    for byte in bytes {
+        if is_boundary(*byte) {
+            count += 1;
+        }
+    }
+    count
+}

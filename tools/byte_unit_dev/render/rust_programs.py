@@ -1,0 +1,175 @@
+"""Renders the programs as plain Rust, by the rules of `rust` and those below, each with its reason.
+
+Allocators stay, unlike in the library: what a program does without memory is proved. By hand, in the package, are the
+names that Rattle's std and clap have, with their calls (`rattle` and `clap`), and `main`.
+"""
+
+import re
+
+from ..common import files, read
+from ..source import sources
+from . import rust, rust_rules
+
+FOLDER = "bindings/programs/src/rendered"
+# The crates of the programs: the modules of `rendered`. Those of the second program need clap.
+MODULES = {"stream": "", "lines": "", "command": '#[cfg(feature = "command")]\n', "cli": '#[cfg(feature = "command")]\n'}
+MODULE = rust.HEAD("crates/") + """//! The proved sources of the programs as Rust, without their contracts, a module for each crate.
+// What only contracts read, tests call, or loops of proofs name stays.
+#![allow(clippy::manual_range_contains, dead_code, unused_imports, unused_variables)]
+
+""" + "".join(f"{feature}pub mod {name};\n" for name, feature in MODULES.items())
+
+# Files that are not rendered, by the end of their names.
+LEFT_OUT = {
+    r"/laws": "its functions do nothing: the contracts, which are dropped, are the laws",
+    r"/tests|/tests/.*": "the tests run the programs",
+    r"/paced": "readers and writers in memory, for tests",
+}
+# Items that are not rendered, with their comments and attributes.
+ITEMS_LEFT_OUT = r"(?:pub )?mod (?:laws|tests|paced);"
+# Modules of Rattle's std with names or calls that Rust's has not, and names that every file of Rattle has.
+OWN, PRELUDE = r"(?:alloc|env|io)", ["HostRuntime", "String", "Vec", "eprint!", "eprintln!", "format!"]
+# Traits for calls that a type of `rattle` has by itself.
+TRAITS_LEFT_OUT = ["std::fmt::Write", "std::io::IsTerminal"]
+# Forms of code: a pattern, what is in its place, and why.
+FORMS = [
+    (r"^fn main\(", "pub fn main(", "a `main` by hand calls it, with the runtime"),
+    (r" \+ Drop\b", "", "every type of Rust can be dropped"),
+]
+# The examples in comments.
+EXAMPLES = re.compile(r"^ *///\n */// # Examples\n */// ```rust\n(?: *///.*\n)*? */// ```\n", re.M)
+# What may be in no rendered file.
+UNKNOWN = re.compile(
+    r"\b(?:ghost|requires|ensures|decreases|invariant|tactic)\b|\bstd::(?:alloc|env|io|simd)\b|\bbyte_unit_\w+::|"
+    r"\blaws::|[^\x00-\x7f]")  # fmt: skip
+
+
+def exported():
+    """Returns the path of each name that the crate `byte_unit` exports, in the package."""
+    found = {}
+    for crate, names in re.findall(r"^pub use (\w+(?:::\w+)*)::(\w+|\{[^}]*\});", read("crates/byte_unit/src/lib.rt"), re.M):
+        head, _, rest = crate.partition("::")
+        if head in rust.HOMES:
+            home = "::".join(filter(None, [rust.HOMES[head].elsewhere, rest]))
+            found |= {name: f"{home}::{name}" for name in re.findall(r"\w+", names)}
+    return found
+
+
+class Program(rust.Rendered):
+    """A file of a program while it is rendered."""
+
+    def __init__(self, name, crate, facade):
+        super().__init__(name, crate)
+        self.module, self.facade = f"crate::rendered::{crate.removeprefix('byte_unit_')}", facade
+
+    def path_of(self, name, place):
+        """Returns a path as it is in the package."""
+        head, _, rest = name.partition("::")
+        if head == "crate":
+            return f"{self.module}::{rest}"
+        if head == "byte_unit":
+            if rest not in self.facade:
+                raise self.wrong(place, f"a name that no rule knows: {name}")
+            return self.facade[rest]
+        if head in rust.HOMES:
+            return f"{rust.HOMES[head].elsewhere}::{rest}"
+        if head.removeprefix("byte_unit_") in MODULES:
+            return f"crate::rendered::{head.removeprefix('byte_unit_')}::{rest}"
+        if re.match(rf"std::{OWN}\b", name):
+            return f"crate::rattle::{rest}"
+        if head == "clap":
+            return f"crate::{name}"
+        if name in rust_rules.STD:
+            return rust_rules.STD[name].replace("core::", "std::")
+        return name
+
+
+def without_items(file):
+    """Drops the items of `ITEMS_LEFT_OUT`, calls of laws, and examples."""
+    def item(found):
+        file.drop(file.above(found.start(), ("//", "#[")), found.end())
+
+    file.each(rf"^ *{ITEMS_LEFT_OUT}", item)
+    laws = re.findall(r"^use crate::laws::\{?([\w, ]+)\}?;", file.code, re.M)
+    for law in re.findall(r"\w+", " ".join(laws)):
+        file.each(rf"^ *{law}\(\);", lambda found: file.drop(file.above(found.start(), ("// ",)), found.end()))
+    file.each(r"^use (?:crate|byte_unit)::laws\b[^;]*;", lambda found: file.drop(found.start(), found.end()))
+    for found in reversed([*EXAMPLES.finditer(file.text)]):
+        file.put(found.start(), found.end(), "")
+
+
+def imports(file):
+    """Rewrites `use`, and adds the names that every file of Rattle has."""
+    modules = re.findall(r"^ *(?:pub(?:\(\w+\))? )?mod (\w+);", file.code, re.M)
+
+    def change(found):
+        start, names = re.fullmatch(r"([\w:]*?)(?:\{(.*)\}|(\w+|\*)(?: as \w+)?)", found[2], re.S).group(1, 2)
+        groups = {}
+        for name in re.split(r",\s*", names.strip(" ,\n")) if names else [found[2].removeprefix(start)]:
+            whole, as_, other = (start + name).partition(" as ")
+            if whole not in TRAITS_LEFT_OUT:
+                is_local = whole.partition("::")[0] in modules
+                at = f"{file.module}::{whole}" if is_local else file.path_of(whole, found.start())
+                parent, _, last = at.rpartition("::")
+                groups.setdefault(parent, []).append(last + as_ + other)
+        file.put(found.start(), found.end(), " ".join(map(used(found[1]), groups.items())))
+
+    # Rustc has this function without the module from 1.87 on.
+    needs_str = re.search(r"\bstr::from_utf8\b", file.code) and "use std::str;" not in file.code
+    file.each(r"^((?:pub(?:\(\w+\))? )?)use ([^;]+);", change)
+    names = [name for name in PRELUDE if re.search(rf"\b{name}" + r"\b" * name[-1].isalpha(), file.code)]
+    own = [used("")(("crate::rattle", [name.strip("!") for name in names]))] if names else []
+    own += ["use std::str;"] * bool(needs_str)
+    first = re.search(r"^use ", file.code, re.M)
+    place = first.start() if first else re.match(r"(?:\s*//!.*\n)+", file.text).end()
+    file.put(place, place, " ".join(own) + "\n" * (not first))
+
+
+def used(before):
+    """Returns what makes a `use` of a path and the names below it."""
+    return lambda group: f"{before}use {group[0]}::{{{', '.join(group[1])}}};"
+
+
+def paths(file):
+    """Rewrites paths in code and in links of comments."""
+    for found in reversed([*re.finditer(r"(?<![\w:])(crate|clap|byte_unit\w*)::(?!rendered|rattle|clap)(?=\w)", file.text)]):
+        if "use " not in file.text[file.text.rfind("\n", 0, found.start()) + 1:found.start()]:
+            file.put(found.start(), found.end(), file.path_of(found[0] + "x", found.start())[:-1])
+
+
+def rendered(name, crate, facade):
+    """Returns the text of a file in Rust, before rustfmt."""
+    file = Program(name, crate, facade)
+    without_items(file)
+    rust.without_proofs(file)
+    file.each(r"^impl(?:<[^>]*>)? Model for", lambda found: file.drop(
+        file.above(found.start(), ("//", "#[")), file.end_of_item(found.start(), file.code)))
+    rust.derived(file)
+    imports(file)
+    paths(file)
+    for pattern, new, _ in FORMS:
+        file.each(pattern, lambda found, new=new: file.put(found.start(), found.end(), new))
+    unknown = UNKNOWN.search(file.code)
+    if unknown:
+        raise file.wrong(unknown.start(), f"a form that no rule knows: {unknown[0]}")
+    text = file.text.replace(rust.Rendered.MARK, "").replace(" (proved at every call)", "")
+    return rust.HEAD(name) + re.sub(r"\n{3,}", "\n\n", text).lstrip("\n")
+
+
+def target(name):
+    """Returns the name of the rendered file."""
+    crate, _, rest = name.removeprefix("crates/byte_unit_").removesuffix(".rt").partition("/src/")
+    return f"{FOLDER}/{crate}.rs" if rest in ("lib", "main") else f"{FOLDER}/{crate}/{rest}.rs"
+
+
+def made():
+    """Each file of the folder."""
+    facade, left_out = exported(), re.compile(f"(?:{'|'.join(LEFT_OUT)})\\.rt")
+    texts = {f"{FOLDER}/mod.rs": MODULE}
+    for crate in (f"byte_unit_{name}" for name in MODULES):
+        names = [file.name for file in sources(crate)]
+        texts |= {target(name): rendered(name, crate, facade) for name in names
+                  if not left_out.search(name.removeprefix(f"crates/{crate}/src"))}
+    there = [name for name in files() if name.startswith(f"{FOLDER}/")]
+    for name in sorted({*texts, *there}):
+        yield name, name in texts and rust.formatted(texts[name]) or ""
