@@ -318,7 +318,6 @@ MODELLED = [row(*each) for each in [
     *SIZES, *HEADERS_AND_TOTALS, *LIMITS, *FORMS, *PREFIXES, *REPEATED, *SUFFIXES, *FIELDS, *BETWEEN_BLANKS, *QUOTED]]
 MODELLED += [row(words, b"", b"", 2, message) for words, message in WRONG_VALUES]
 OTHERS = [row(words, b"", b"", 2, message) for words, message in WRONG_WORDS]
-OTHERS += [row(word, b"", b"byte-unit 3.0.0\n") for word in ("--version", "-V")]
 LINES = b"1.5 KB\n" * 15_000
 # More than 2^24 bytes: the wrong program "out of memory for 16 MB" of test_wrong.py fails for no fewer.
 LONG = b"0" * 17_000_000

@@ -2,6 +2,7 @@
 that pytest ends with. They import what they use of the tools from here, too."""
 
 import contextlib
+import fcntl
 import functools
 import os
 import random
@@ -21,10 +22,12 @@ from .builds import CONFIG, copied, environment, wheel
 from .common import ROOT, Failure, call, copy_to, output, path, read, write
 from .libraries import AARCH64, WASM
 from .model.exact import output_for, some_line
-from .needs import DEBIAN_PYTHON, PACKAGES, PYTHON_PACKAGE, SERDE, is_there
+from .needs import CARGO_PROGRAMS, DEBIAN_PYTHON, PACKAGES, PYTHON_PACKAGE, SERDE, is_there
 
 # The first cargo of the path, and Debian's.
 CARGOS = list(dict.fromkeys([shutil.which("cargo") or "cargo", "/usr/bin/cargo"]))
+# The programs that cargo makes, too, by their crates.
+BY_CARGO = {"byte_unit_cli": "byte-unit", "byte_unit_lines": "byte_unit_lines"}
 # The compiler for aarch64, and what runs its programs on this processor.
 AARCH64_CC, AARCH64_RUN = "aarch64-linux-gnu-gcc", ["qemu-aarch64", "-L", "/usr/aarch64-linux-gnu"]
 # Node 18 and 20 have 64-bit memory only with this option.
@@ -108,10 +111,35 @@ def program_of(request):
     return found
 
 
+def pytest_generate_tests(metafunc):
+    """Has each test of a program of BY_CARGO run for both compilers: Rattle's, and rustc."""
+    if "compiler" in metafunc.fixturenames:
+        both = getattr(metafunc.module, "CRATE", "byte_unit_cli") in BY_CARGO
+        metafunc.parametrize("compiler", ["rattle", *["rustc"] * both], scope="session")
+
+
+@pytest.fixture(scope="session")
+def programs_by_cargo(tmp_path_factory):
+    """The folder where `cargo install` has put the programs. The processes of one run share it."""
+    need(*CARGO_PROGRAMS)
+    here = tmp_path_factory.getbasetemp()
+    folder = (here.parent if "PYTEST_XDIST_WORKER" in os.environ else here) / "programs"
+    folder.mkdir(exist_ok=True)
+    write(folder / "config.toml", CONFIG)
+    words = ["--path", path("bindings/programs"), "--root", folder, "--target-dir", folder / "target"]
+    with open(folder / "lock", "w", encoding="utf-8") as lock:
+        fcntl.flock(lock, fcntl.LOCK_EX)
+        output("cargo", "install", *words, "--config", folder / "config.toml", env=environment(CARGO_HOME=folder))
+    return folder / "bin"
+
+
 @pytest.fixture(scope="module")
-def program(request, program_of):
-    """The program of the crate that the module names as CRATE, or else byte-unit."""
-    return program_of(getattr(request.module, "CRATE", "byte_unit_cli"))
+def program(request, compiler):
+    """The program of the crate that the module names as CRATE, or else byte-unit, by one of the compilers."""
+    crate = getattr(request.module, "CRATE", "byte_unit_cli")
+    if compiler == "rustc":
+        return str(request.getfixturevalue("programs_by_cargo") / BY_CARGO[crate])
+    return request.getfixturevalue("program_of")(crate)
 
 
 @pytest.fixture(scope="session")

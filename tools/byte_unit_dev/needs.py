@@ -22,6 +22,9 @@ DEBIAN_PYTHON, PYTHON_H = "/usr/bin/python3", "/usr/include/python3.*/Python.h"
 # The crates with which the feature `serde` of the Rust package is tested.
 SERDE = {f"{DEBIAN_RUST}/{name}-[0-9]*": f"librust-{name.replace('_', '-')}-dev"
          for name in ("serde", "serde_derive", "serde_json", "toml", "quick-xml", "serde-xml-rs")}  # fmt: skip
+# The crate that the command needs.
+CLAP = {f"{DEBIAN_RUST}/clap-4.*": "librust-clap-dev"}
+CARGO_PROGRAMS = ["cargo", "rustc", "cc", *CLAP]
 # What tests need, and the package that has it. A need is a program; a file, if it begins with a slash; a C header; or a
 # module of Debian's Python.
 PACKAGES = {
@@ -39,7 +42,7 @@ PACKAGES = {
     "cargo": "cargo-web/bookworm", "rustc": "rustc-web/bookworm", "/usr/bin/cargo": "cargo-web/bookworm",
     "/usr/bin/rustc": "rustc-web/bookworm", "cargo-clippy": "rust-web-clippy/bookworm",
     "rustfmt": "rustfmt-web/bookworm", "cargo-fmt": "rustfmt-web/bookworm",
-    **SERDE, "git": "git", f"{POSTGRESQL_15}/bin/initdb": "postgresql-15",
+    **SERDE, **CLAP, "git": "git", f"{POSTGRESQL_15}/bin/initdb": "postgresql-15",
     "node": "nodejs", "tsc": "node-typescript", "chromium": "chromium", "chromedriver": "chromium-driver",
     "aarch64-linux-gnu-gcc": "gcc-aarch64-linux-gnu", "qemu-aarch64": "qemu-user",
     "/usr/aarch64-linux-gnu/include/stdio.h": "libc6-dev-arm64-cross",

@@ -20,7 +20,7 @@ PARTS = {
     **{part: f"bindings/c/test_{part}.py" for part in ("header", "c", "compilers", "install", "aarch64")},
     **{part: f"bindings/{part}/test_{part}.py" for part in ("python", "rust", "sqlite", "postgresql")},
     "js": "bindings/js", "vectors": "vectors", "agreement": "bindings/test_agreement.py",
-    "command": "command/tests",
+    "command": "command/tests", "programs": "bindings/programs/test_programs.py",
     **{part: f"tools/tests/test_{part}.py" for part in ("scale", "memory", "limits", "take")},
     "dist": "tools/tests/dist",
 }

@@ -1,0 +1,87 @@
+"""Tests how cargo makes the programs; what they do is tested by `command` and `scale`, beside Rattle's programs."""
+
+import os
+import random
+
+import pytest
+from byte_unit_dev.common import Failure
+from byte_unit_dev.fixtures import CARGO_PROGRAMS, CONFIG, copied, ended, environment, need, output, read, write
+from byte_unit_dev.render import rust, rust_programs
+
+NAMES = ["bits", "ignore-case", "from", "to", "no-unit", "suffix", "precision", "human-readable", "delimiter", "blanks",
+         "field", "header", "padding", "invalid", "total", "max", "min", "zero-terminated", "help", "version"]  # fmt: skip
+VALUES = ["", "1", "x", "-1", "exact", "KB", "1 KB", "\u00e9", "\n", "99999999999999999999"]
+
+
+@pytest.fixture(scope="module")
+def cargo(tmp_path_factory):
+    """Returns what calls cargo on a copy of the package, without a registry."""
+    need(*CARGO_PROGRAMS)
+    folder = tmp_path_factory.mktemp("cargo")
+    write(folder / "config.toml", CONFIG)
+    copied("rust", folder)
+    package = copied("programs", folder)
+
+    def called(*words):
+        here = environment(CARGO_HOME=folder, CARGO_TARGET_DIR=folder / "target")
+        return output("cargo", *words, cwd=package, env=here)
+
+    called.folder = folder
+    return called
+
+
+def test_lines_alone(cargo):
+    """Without the feature `command` there is no clap, and byte_unit_lines alone is installed."""
+    assert "clap" not in cargo("tree", "--no-default-features")
+    cargo("install", "--path", ".", "--root", cargo.folder, "--no-default-features")
+    assert os.listdir(cargo.folder / "bin") == ["byte_unit_lines"]
+    assert ended(cargo.folder / "bin/byte_unit_lines", input=b"1KiB\n") == (0, b"1024 = 1 KiB\n", b"")
+
+
+def test_style(cargo):
+    need("cargo-clippy", "cargo-fmt")
+    cargo("clippy", "--", "-D", "warnings")
+    cargo("fmt", "--check")
+
+
+def some_word(rng):
+    """Returns a word of a call: an option, perhaps abbreviated or misspelt, letters, or an operand."""
+    if rng.random() < 0.3:
+        return rng.choice(["1", "5", "KB", "1 KB", "--", "-", "x", "-5", "--=", "---", "", "\u00e9", "--\u00e9=1", "\x1b"])
+    if rng.random() < 0.4:
+        return "-" + "".join(rng.choices("ipHdzhVxq1", k=rng.randint(1, 3))) + rng.choice(["", "", "=1", "5", "x"])
+    name = [*rng.choice(NAMES)]
+    for _ in range(rng.choice([0, 0, 1, 2])):
+        at = rng.randrange(len(name))
+        name[at : at + rng.randint(0, 1)] = rng.choice("abcdeimnoprtz-")
+    end = rng.choice([len(name), rng.randint(1, len(name))])
+    return "--" + "".join(name[:end]) + rng.choice(["", "=" + rng.choice(VALUES)])
+
+
+def test_wrong_calls_are_answered_alike(program_of, programs_by_cargo, check_drawn):
+    """The programs of both compilers answer calls of random words, most of them wrong, in the same words."""
+    programs = program_of("byte_unit_cli"), programs_by_cargo / "byte-unit"
+
+    def wrong(calls):
+        for words in calls:
+            theirs, ours = (ended(program, *words, input=b"") for program in programs)
+            if (ours[0], ours[1].replace(b" (rustc)", b""), ours[2]) != theirs:
+                return f"{words}: {ours}, not {theirs}"
+        return ""
+
+    check_drawn(lambda rng: [some_word(rng) for _ in range(rng.randint(1, 3))], wrong)
+
+
+@pytest.mark.parametrize("old, new, why", [
+    ("use std::str;", "use std::simd::u8x1;", "a form that no rule knows: std::simd"),
+    ("use byte_unit::ParseError;", "use byte_unit::Parse;", "a name that no rule knows: byte_unit::Parse"),
+    ("#[inline(always)]", "#[target_feature]", "an attribute that no rule knows: #[target_feature"),
+])  # fmt: skip
+def test_unknown_form_is_seen(monkeypatch, old, new, why):
+    """The renderer says in which line a form is that no rule knows."""
+    name = "crates/byte_unit_command/src/wrong_character.rt" if "str;" in old else "crates/byte_unit_command/src/size.rt"
+    text, facade = read(name), rust_programs.exported()
+    monkeypatch.setattr(rust, "read", lambda _: text.replace(old, new, 1))
+    with pytest.raises(Failure) as failure:
+        rust_programs.rendered(name, "byte_unit_command", facade)
+    assert str(failure.value) == f"{name}:{text[:text.index(old)].count(chr(10)) + 1}: {why}"
