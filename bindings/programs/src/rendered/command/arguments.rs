@@ -82,7 +82,7 @@ pub fn command<'a>(alloc: Global) -> Result<Command<'a>, AllocError> {
         .arg(flag(alloc, "no-unit", "with a unit in --to, its number alone"))?
         .arg(value(alloc, "suffix", "TEXT", suffix).allow_hyphen_values(true))?
         .arg(value(alloc, "precision", "N", "digits after the point").short('p').value_parser(value_parser!(u16)))?
-        .arg(flag(alloc, "human-readable", "as --to=auto -p 1").short('H'))?
+        .arg(flag(alloc, "human-readable", "as --to=iec -p 1").short('H'))?
         .arg(value(alloc, "delimiter", "C", delimiter).short('d'))?
         .arg(flag(alloc, "blanks", blanks).conflicts_with("delimiter")?)?
         .arg(value(alloc, "field", "FIELDS", field).allow_hyphen_values(true))?

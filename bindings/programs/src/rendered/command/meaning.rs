@@ -89,7 +89,7 @@ fn from_of(value: Option<&str>) -> Result<bool, Wrong<'_>> {
 /// Returns an error if the value is neither the word for a form nor a unit, or if more than 28 digits after the point
 /// are asked for in the exact form, which never has more.
 fn form_of<'a>(values: &Values<'a>) -> Result<Form, Wrong<'a>> {
-    let default = if values.human_readable { "auto" } else { "exact" };
+    let default = if values.human_readable { "iec" } else { "exact" };
     let value = values.to.unwrap_or(default);
     match value {
         "exact" => match values.precision {

@@ -2,7 +2,7 @@
 
 //! The run and its buffers: reads a chunk, converts the records that end in it, and writes them.
 
-use crate::rattle::alloc::{AllocError, Allocator, Global};
+use crate::rattle::alloc::{Allocator, Global};
 use crate::rattle::io::{Read, Write};
 use crate::rattle::{String, Vec};
 use crate::rendered::command::converter::Converter;
@@ -11,7 +11,6 @@ use crate::rendered::command::notice::{Notices, Place};
 use crate::rendered::command::options::{Form, Invalid, Options};
 use crate::rendered::command::streams::Streams;
 use crate::rendered::command::tally::Tally;
-use crate::rendered::command::text::AT_ONCE;
 use crate::rendered::stream::{end_of, write_whole};
 
 /// The number of bytes that [`run`] asks for in each read: 64 KiB, as many as a pipe of Linux holds by default.
@@ -27,7 +26,7 @@ const DIGITS: usize = 65600;
 ///
 /// On `Ok` the whole output has been written. Returns what was counted.
 ///
-/// It sets no limit on records: that `Memory` is returned only if an allocation fails is tested, not proved.
+/// A record may have any length: that `Memory` is returned only if an allocation fails is tested, not proved.
 ///
 /// # Errors
 ///
@@ -45,67 +44,29 @@ pub fn run<R: Read, W: Write, E: Write>(
     let mut digits = [0u8; DIGITS];
     // By reference, so that the functions for messages are others than those for wrong calls, and inlined.
     let mut buffers = Buffers::new(&alloc);
-    run_with_buffers(
-        &mut buffers,
-        options,
-        // Records of any length.
-        usize::MAX,
-        &mut buffer,
-        &mut digits,
-        streams,
-    )
+    run_with_buffers(&mut buffers, options, &mut buffer, &mut digits, streams)
 }
 
-/// Does what [`run`] does, with any allocator, for records of at most `longest` bytes, and with reads of at most the
-/// length of `buffer`. Allocates only at the start, and for messages.
+/// Does what [`run`] does, with any allocator, in the caller's buffers, and with reads of at most the length of
+/// `buffer`.
 ///
-/// The allocations at the start are those of [`Buffers::with_capacity`].
+/// The buffers may be those of an earlier run, whatever its result: what they hold is dropped first.
 ///
 /// Preconditions: `buffer` is not empty, and `digits` has capacity for the text of any size.
 ///
 /// # Errors
 ///
-/// Returns `Err(AllocError)` if an allocation at the start fails, or its length exceeds `usize::MAX`; nothing has been
-/// read or written then. No contract of std says when an allocation succeeds: that this error is returned for no other
-/// reason is tested, not proved.
-///
-/// The inner result is that of the run, with the errors of [`run`]. There `Memory` means that more than `longest` bytes
-/// of a record have been read without its end byte, or that a message was due about a record that was read. A longer
-/// record is converted only if the read in which it exceeds `longest` returns its end byte too, and so never if it has
-/// at least as many bytes as `longest` and the length of `buffer` together.
-pub fn run_with_capacity<A: Allocator, R: Read, W: Write, E: Write>(
-    alloc: &A,
-    options: &Options,
-    longest: usize,
-    buffer: &mut [u8],
-    digits: &mut [u8],
-    streams: &mut Streams<R, W, E>,
-) -> Result<Result<Tally, RunError>, AllocError> {
-    let mut buffers = Buffers::with_capacity(alloc, options, longest, buffer.len())?;
-    Ok(run_with_buffers(&mut buffers, options, longest, buffer, digits, streams))
-}
-
-/// Does what [`run`] does, for records of at most `longest` bytes, in the caller's buffers, and with reads of at most
-/// the length of `buffer`.
-///
-/// Preconditions: `buffer` is not empty, `buffers` are, and `digits` has capacity for the text
-/// of any size.
-///
-/// # Errors
-///
-/// Those of [`run`], and `Memory` if more than `longest` bytes of a record have been read without its end byte; which
-/// longer records are converted is as for [`run_with_capacity`]. If `buffers` have capacity for such records and reads
-/// into `buffer`, `Memory` is returned for no other reason than a message that was due about a record that was read.
+/// Those of [`run`].
 pub fn run_with_buffers<A: Allocator, R: Read, W: Write, E: Write>(
     buffers: &mut Buffers<A>,
     options: &Options,
-    longest: usize,
     buffer: &mut [u8],
     digits: &mut [u8],
     streams: &mut Streams<R, W, E>,
 ) -> Result<Tally, RunError> {
     let most = read_max(options, buffer.len());
     let chunk = &mut buffer[..most];
+    buffers.empty();
     buffers.converter.header = options.header;
     buffers.converter.tally = Tally::NONE;
     buffers.converter.place = Place { word: streams.word, number: 0 };
@@ -122,9 +83,6 @@ pub fn run_with_buffers<A: Allocator, R: Read, W: Write, E: Write>(
                 buffers.converter.notices.tell(&mut streams.errors);
                 fed?;
             }
-        }
-        if buffers.part.len() > longest {
-            return Err(RunError::Memory);
         }
     }
     buffers.converter.finish(options, &buffers.part, digits, &mut streams.writer, &mut streams.errors)
@@ -152,25 +110,16 @@ impl<A: Allocator + Copy> Buffers<A> {
             },
         }
     }
-
-    /// Creates buffers with capacity for records of at most `longest` bytes and reads into a buffer of `chunk` bytes.
-    /// None is allocated for messages.
-    ///
-    /// # Errors
-    ///
-    /// Returns `AllocError` if allocation fails, or the capacity exceeds `usize::MAX`.
-    pub fn with_capacity(alloc: A, options: &Options, longest: usize, chunk: usize) -> Result<Buffers<A>, AllocError> {
-        let mut buffers = Buffers::new(alloc);
-        let chunk = read_max(options, chunk);
-        let part = longest.checked_add(chunk).ok_or(AllocError)?;
-        let waiting = read_room(options, longest, chunk).ok_or(AllocError)?;
-        buffers.part.try_reserve_exact(part)?;
-        buffers.converter.waiting.try_reserve_exact(waiting)?;
-        Ok(buffers)
-    }
 }
 
 impl<A: Allocator> Buffers<A> {
+    /// Drops what the buffers hold of an earlier run.
+    fn empty(&mut self) {
+        self.part.clear();
+        self.converter.waiting.clear();
+        self.converter.notices.messages.clear();
+    }
+
     /// Converts the records that end in `bytes`.
     ///
     /// The part that was read before begins the first of them; the part of the next one is kept.
@@ -226,19 +175,6 @@ fn read_max(options: &Options, len: usize) -> usize {
     let message = if tells_rejected || options.max.is_some() || options.min.is_some() { MESSAGE } else { 0 };
     let field = text_max(options) + message;
     len.min((TEXTS_MAX / field).max(1))
-}
-
-/// Returns the most bytes that what is written after a read takes, or `None` if they exceed `usize::MAX`.
-fn read_room(options: &Options, longest: usize, chunk: usize) -> Option<usize> {
-    let fields = match options.delimiter {
-        None => chunk,
-        Some(_) => longest.checked_add(chunk)?,
-    };
-    // While it is appended, a short text takes `AT_ONCE` bytes.
-    let text = AT_ONCE.max(text_max(options));
-    // One text more, since at the end of the input the total follows the last record.
-    let texts = text.checked_mul(fields.checked_add(1)?)?;
-    texts.checked_add(longest)?.checked_add(chunk)?.checked_add(1)
 }
 
 /// Returns the most bytes of the text of a size with the suffix.

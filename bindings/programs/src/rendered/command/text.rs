@@ -12,7 +12,7 @@ use byte_unit::rendered::format::{write_adjusted, write_text};
 use byte_unit::rendered::math::Steps;
 
 /// The most bytes of a text that are copied in one piece of a constant length. Most texts are shorter.
-pub(crate) const AT_ONCE: usize = 64;
+const AT_ONCE: usize = 64;
 
 /// Appends the text of a size in at least `width` columns to `text`. `digits` is a buffer for it.
 ///

@@ -10,7 +10,7 @@ use byte_unit::rendered::format::write_with_digits;
 
 /// A bound on the length in bytes of an answer: two strings of at most 37 bytes, ` = ` between them, and the line end.
 /// No text of a size without a width is longer than 37 bytes.
-pub(crate) const ANSWER_MAX: usize = 78;
+const ANSWER_MAX: usize = 78;
 
 /// Appends the answer to the line at the beginning of bytes, its first `len` bytes, with its line end.
 ///
@@ -18,8 +18,7 @@ pub(crate) const ANSWER_MAX: usize = 78;
 /// there is none.
 ///
 /// # Errors
-/// Returns `AllocError`, and appends nothing, if allocation fails. It never does if `out` has capacity for
-/// [`ANSWER_MAX`] bytes more.
+/// Returns `AllocError`, and appends nothing, if allocation fails.
 pub(crate) fn add_answer<A: Allocator>(
     bytes: &[u8],
     len: usize,

@@ -7,7 +7,7 @@
 use crate::rattle::Vec;
 use crate::rattle::alloc::{AllocError, Allocator, Global};
 use crate::rattle::io::{Read, Write};
-use crate::rendered::lines::line::{ANSWER_MAX, add_answer};
+use crate::rendered::lines::line::add_answer;
 use crate::rendered::stream::{FusedReader, FusedWriter, end_of, write_whole};
 use byte_unit::rendered::base::Kind;
 
@@ -67,57 +67,19 @@ pub fn run<R: Read, W: Write>(
 ) -> Result<(), RunError> {
     let mut buffer = [0u8; CHUNK];
     let mut buffers = Buffers::new(alloc);
-    // `usize::MAX`: lines of any length.
-    run_with_buffers(&mut buffers, usize::MAX, &mut buffer, reader, writer, kind)
+    run_with_buffers(&mut buffers, &mut buffer, reader, writer, kind)
 }
 
-/// Does what [`run`] does, with any allocator, for lines of at most `longest` bytes, in reads of at most the length of
-/// `buffer`, and without an allocation after the start.
-///
-/// At the start it allocates `longest` bytes and 79 times the length of `buffer`: once for a line, and 78 times for the
-/// answers, since each byte of a read may end a line.
-///
-/// Precondition: `buffer` is not empty.
-///
-/// # Errors
-///
-/// Returns `Err(AllocError)` if an allocation at the start fails, or its length exceeds `usize::MAX`; nothing has been
-/// read or written then. No contract of std says when an allocation succeeds: that this error is returned for no other
-/// reason is tested, not proved.
-///
-/// The inner result is that of the run, with the errors of [`run`]. There `Memory` means that more than `longest` bytes
-/// of a line have been read without its line end, and so that the line is longer than `longest`. A longer line is
-/// answered only if the read in which it exceeds `longest` returns its line end too, and so never if it has at least as
-/// many bytes as `longest` and the length of `buffer` together.
-pub fn run_with_capacity<A: Allocator, R: Read, W: Write>(
-    alloc: &A,
-    longest: usize,
-    buffer: &mut [u8],
-    reader: &mut FusedReader<R>,
-    writer: &mut FusedWriter<W>,
-    kind: Kind,
-) -> Result<Result<(), RunError>, AllocError> {
-    let mut buffers = Buffers::new(alloc);
-    let chunk = buffer.len();
-    buffers.line.try_reserve_exact(longest.checked_add(chunk).ok_or(AllocError)?)?;
-    buffers.waiting.try_reserve_exact(chunk.checked_mul(ANSWER_MAX).ok_or(AllocError)?)?;
-    Ok(run_with_buffers(&mut buffers, longest, buffer, reader, writer, kind))
-}
-
-/// Does what [`run`] does, for lines of at most `longest` bytes, in the caller's buffers; it reads into `buffer`.
+/// Does what [`run`] does, with any allocator, in the caller's buffers; it reads into `buffer`.
 ///
 /// The buffers may be those of an earlier run, whatever its result: what they hold is dropped first.
 ///
 /// Precondition: `buffer` is not empty.
 ///
 /// # Errors
-///
-/// Those of [`run`], and `Memory` if more than `longest` bytes of a line have been read without its line end. `Memory`
-/// is returned for no other reason if `buffers.line` has capacity for `longest` bytes and a `buffer` more, and
-/// `buffers.waiting` for 78 times the length of `buffer`.
+/// Those of [`run`].
 pub fn run_with_buffers<A: Allocator, R: Read, W: Write>(
     buffers: &mut Buffers<A>,
-    longest: usize,
     buffer: &mut [u8],
     reader: &mut FusedReader<R>,
     writer: &mut FusedWriter<W>,
@@ -139,9 +101,6 @@ pub fn run_with_buffers<A: Allocator, R: Read, W: Write>(
                     }
                 }
             }
-        }
-        if buffers.line.len() > longest {
-            return Err(RunError::Memory);
         }
     }
     if buffers.line.is_empty() {
