@@ -30,8 +30,8 @@ reads-init g c = let first = c.clear.ensures in let second = c.clear-2.ensures i
   written = [];
   gave = search rules;
   took = search rules;
-  served = record { answered = refl; begun = search (rules, first.items, second.items) };
-  none_wait = search (rules, first.items, second.items);
+  served = record { answered = refl; begun = search (rules, first.items) };
+  none_wait = search (rules, second.items);
 }
 
 -- the invariant holds after a read whose lines were answered
@@ -112,7 +112,7 @@ returns-in_ok-add_answer-clause-run g c =
     let same : added.0 ≡ bytes =
     sym (c.deref-else-is_empty.ensures.value ∙ added.2 ∙ ap (λ before. before ++ added.0) so_far.none_wait) in
     -- the first `len` bytes are the whole line
-    let whole = take_all c.len-else-is_empty.result line (omega arith) in
+    let whole = take_all c.len.result line (omega arith) in
     let is_answer = subst (IsAnswer c.args.kind line) same (subst (λ text. IsAnswer c.args.kind text added.0) whole added.1) in
     let write = c.write_whole.ensures in
     let by : IsWrittenBy _ _ bytes Write c.write_whole.result =
