@@ -1,7 +1,7 @@
-# For the Makefiles of bindings: sets HEADERS, the folders of byte_unit.h, and ARCHIVE, the path of libbyte_unit.a.
+# For the Makefiles of bindings: sets INCLUDES, the folders of byte_unit.h, and ARCHIVE, the path of libbyte_unit.a.
 # bindings/c/library.sh finds both, or builds the archive by cargo: the first time, and if its sources have changed.
 BINDINGS := $(dir $(lastword $(MAKEFILE_LIST)))
-HEADERS := library
+INCLUDES := library
 ARCHIVE := library/libbyte_unit.a
 SOURCES := $(shell find $(BINDINGS)c/src $(BINDINGS)rust/src -name '*.rs') $(BINDINGS)c/byte_unit.h
 MADE := $(wildcard $(BINDINGS)../crates/byte_unit_c/out/libbyte_unit_c.a)
