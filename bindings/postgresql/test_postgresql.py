@@ -7,7 +7,9 @@ import pytest
 from byte_unit_dev import postgresql
 from byte_unit_dev.fixtures import call, environment, need, output, path, quoted_characters, read, write
 from byte_unit_dev.model.exact import Rejected, form, size_of, some_line
-from byte_unit_dev.needs import POSTGRESQL
+from byte_unit_dev.needs import DEBIAN_PYTHON, POSTGRESQL
+from byte_unit_dev.pages import beside
+from byte_unit_dev.pages.beside import Program
 from byte_unit_dev.rows import check, rows
 
 VERSION = read("VERSION").strip()
@@ -328,3 +330,43 @@ def test_installation(library, tmp_path):
     assert found == {"byte_unit.so", "byte_unit.control", f"byte_unit--{VERSION}.sql"}
     output(*words, "--uninstall", env=variables)
     assert not [file for file in tmp_path.rglob("*") if not file.is_dir()]
+
+
+def ended_well(*words, **how):
+    """Returns the first word or line that a program prints, or None if it fails."""
+    got = call(*words, **how)
+    return got.stdout.rstrip("\n") if got.returncode == 0 else None
+
+
+def test_table_of_the_readme(server, program):
+    """Compares what the table in README.md says of numfmt, PostgreSQL, humanfriendly and byte-unit with what they do."""
+    need("numfmt", "import humanfriendly")
+    other = [DEBIAN_PYTHON, "-c", "import humanfriendly, sys; print(getattr(humanfriendly, sys.argv[1])(eval(sys.argv[2])))"]
+
+    def queried(function, argument):
+        return ended_well(server.bin / "psql", "-XAtqc", f"SELECT {function}({argument})", env=server.variables)
+
+    programs = [
+        Program(lambda text: ended_well("numfmt", "--from=auto", re.sub(" |B$", "", text)),
+                lambda size: ended_well("numfmt", "--to=si", str(size))),
+        Program(lambda text: queried("pg_size_bytes", f"'{text}'"), lambda size: queried("pg_size_pretty", size)),
+        Program(lambda text: ended_well(*other, "parse_size", repr(text)),
+                lambda size: ended_well(*other, "format_size", repr(size))),
+        None,
+        Program(lambda text: ended_well(program, "--to=plain", text), lambda size: ended_well(program, str(size))),
+    ]
+    assert [beside.column(one, at) for at, one in enumerate(programs) if one] == [[]] * 4
+
+
+def test_sizes_that_others_read_otherwise():
+    """README.md says how many sizes with two digits after the point numfmt and humanfriendly do not read as written."""
+    need("numfmt", "import humanfriendly")
+    sizes = [f"{whole}.{part:02}{prefix}" for whole in range(34) for part in range(1, 100) for prefix in "KMGT"]
+    exact = [int(size[:-1].replace(".", "")) * 10 * 1000 ** "KMGT".index(size[-1]) for size in sizes]
+    script = "import humanfriendly, sys; [print(humanfriendly.parse_size(line.strip() + 'B')) for line in sys.stdin]"
+    counts = []
+    for words in (["numfmt", "--from=auto"], [DEBIAN_PYTHON, "-c", script]):
+        got = map(int, output(*words, input="\n".join([*sizes, ""])).split())
+        counts.append(sum(pair[0] != pair[1] for pair in zip(exact, got, strict=True)))
+    said = f"Of the {len(sizes):,} sizes from `0.01 KB` to `33.99 TB` with two digits after the point, `numfmt` reads "
+    assert f"{said}{counts[0]} and humanfriendly {counts[1]} otherwise than they are written" in read("README.md")

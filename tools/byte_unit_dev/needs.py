@@ -37,7 +37,8 @@ PACKAGES = {
     "import ensurepip": "python3-venv", "import pip": "python3-pip", "import pytest": "python3-pytest",
     "import hypothesis": "python3-hypothesis", "import xdist": "python3-pytest-xdist",
     "import numpy": "python3-numpy", "import pandas": "python3-pandas",
-    "import dask.dataframe": "python3-dask", "import distributed": "python3-distributed", "/usr/bin/time": "time",
+    "import dask.dataframe": "python3-dask", "import distributed": "python3-distributed",
+    "import humanfriendly": "python3-humanfriendly", "/usr/bin/time": "time",
     # Debian 12 has two versions of them: the older one is the oldest for which the Rust package is made.
     "cargo": "cargo-web/bookworm", "rustc": "rustc-web/bookworm", "/usr/bin/cargo": "cargo-web/bookworm",
     "/usr/bin/rustc": "rustc-web/bookworm", "cargo-clippy": "rust-web-clippy/bookworm",
@@ -59,7 +60,7 @@ COMPARED = {
     POSTGRESQL_UNIT: "postgresql-15-unit",
     f"{DEBIAN_RUST}/rust_decimal-*": "librust-rust-decimal-dev",
     f"{DEBIAN_RUST}/utf8-width-*": "librust-utf8-width-dev",
-    "import humanfriendly": "python3-humanfriendly", "import humanize": "python3-humanize",
+    "import humanize": "python3-humanize",
 }
 # The Python package needs CPython 3.11 or later, which has tomllib.
 PYTHON_PACKAGE = [PYTHON_H, "import tomllib", "import setuptools", "import wheel", "import ensurepip", "import pip",

@@ -6,19 +6,23 @@ the Rust package, whose code is rendered from the library's, and an exact model 
 spellings of units to parse, sizes to format, numbers of units. Prints how many results each rule explains.
 
 The status is 1 if a result of the library is not that of the model, if no rule explains a difference, if one of the
-first 20,000 results of the library with one more digit is not found to be wrong, or if docs/DIFFERENCES.md lacks the
-words of a rule.
+first 20,000 results of the library with one more digit is not found to be wrong, if docs/DIFFERENCES.md lacks the words
+of a rule, or if README.md says something else of the crate in its table.
 """
 
 import random
+import re
 import tempfile
 
 from .. import builds
 from ..common import output, read, report
+from ..pages import beside
 from . import rules
 from .requests import requests
 
 PROGRAM, KINDS, CHANGED = "bindings/rust/checks/compare.rs", ("byte", "bit"), 20_000
+# The request whose result WRITTEN_AT is a size of bytes with its unit, as `{:#}` prints it.
+WRITTEN, WRITTEN_AT = "n {} 3 B :# 0 -", 7
 
 
 def calls_of(words):
@@ -62,14 +66,29 @@ def compared(lines, original, ours):
     return found, findings
 
 
+def column(original):
+    """Returns what is wrong in the column of README.md that says what the crate reads and writes."""
+    def answered(request, at):
+        return output(original, input=f"{request}\n", stderr=None).rstrip("\n").split("\t")[at]
+
+    def reads(text):
+        found = re.fullmatch(r"(\d+)(?: .*)?", answered(f"t {text.encode().hex()}", 0))
+        return found and int(found[1])
+
+    program = beside.Program(reads, lambda size: answered(WRITTEN.format(size), WRITTEN_AT))
+    return [f"README.md: {cell!r} is {found!r}" for cell, found in beside.column(program, 3)]
+
+
 def run(folder, *, count=300_000, seed=1):
     with tempfile.TemporaryDirectory() as work:
         lines = list(requests(random.Random(seed), count))
         crates = [builds.original(folder, work), builds.copied("rust", work)]
         programs = [builds.program(PROGRAM, crate) for crate in crates]
         printed = [output(program, input="\n".join([*lines, ""]), stderr=None) for program in programs]
+        findings_of_readme = column(programs[0])
     theirs, ours = ([line.split("\t") for line in text.split("\n")[:-1]] for text in printed)
     found, findings = compared(lines, theirs, ours)
+    findings += findings_of_readme
     print("What was compared | What differs | Results | An example: the call, the crate; the library\n---|---|---|---")
     for (what, rule), (count, example) in sorted(found.items(), key=str):
         shown = f"{rules.RULES[rule][0]} | {count:,} | {ascii(example)[1:-1]}" if rule else f"nothing | {count:,}"

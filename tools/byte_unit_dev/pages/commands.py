@@ -5,14 +5,13 @@ import re
 import subprocess
 import tempfile
 
-from ..common import ROOT, call, copy_to, output, path, read, write
+from ..common import call, copy_to, output, path, read, write
 from ..rows import FILE, rows
 from .text import blocks
 
 README, GUIDE, COMMAND = "README.md", "docs/GUIDE.md", "command/README.md"
 # The languages of the blocks of README.md, which `readme` takes in this order.
-KINDS = ["sh", "text", "sh", "sh", "rust", "sh", "text", "rust", "sh", "text"]
-LINES_PROGRAM = "crates/byte_unit_lines/out/byte_unit_lines"
+KINDS = ["text", "sh", "text", "sh", "sh", "rust", "sh", "text", "rust"]
 COMMAND_PROGRAM = "crates/byte_unit_cli/out/byte_unit_cli"
 EXAMPLE, LITERAL = "crates/example_first", "crates/byte_unit_uses/src/literal.rt"
 # The calls in the table of sizes of programs, as the test vectors have them.
@@ -72,7 +71,7 @@ def readme():
     kinds = [block.language for block in found]
     if kinds != KINDS:
         return [f"{README}: its blocks are {' '.join(kinds)}, not {' '.join(KINDS)}"], ""
-    program, printed, gate, take, first, start, first_printed, literal, built, built_printed = found
+    error, program, printed, gate, take, first, start, first_printed, literal = found
     wrong, logic = [], re.search(r" logic (\w+)\n", output("rt", "version"))[1]
     if not re.search(rf"`rt version` prints `\S+ logic {logic}`", page):  # the letter of the kit may be another
         wrong.append(f"{README}: the logic of rt version is {logic}")
@@ -87,9 +86,18 @@ def readme():
         copy_to(os.path.join(folder, "here"), "crates", "tools", "crates.txt", "LICENSE", "HANDLES", "VERSION")
         wrong += differs(README, program, printed, os.path.join(folder, "here"))
         wrong += first_program(take, first, start, first_printed, folder)
-    if is_built(LINES_PROGRAM, README):
-        wrong += differs(README, built, built_printed, ROOT)
+    if is_built(COMMAND_PROGRAM, README):
+        said = call(path(COMMAND_PROGRAM), *re.findall("'(.*?)'", error.text)[:1], stderr=subprocess.STDOUT).stdout
+        wrong += [f"{README}:{error.line}: the error is\n{said}"] * (said != error.text)
+    wrong += [f"{README}: {page} has no command {command!r}" for page, command in installs()
+              if command not in re.sub(r"CLONE/|(?<= )\.\.?/(?:byte-unit-in-rattle/)?", "", read(page))]
     return wrong, "the commands print what is below them, but for rt ci, which is not run"
+
+
+def installs():
+    """Yields the page and the command of each row of the table of installations, without the path of the clone."""
+    for page, command in re.findall(r"^\| \[.*?\]\((.*?)\) \| `(.*?)` \|", read(README), re.M):
+        yield page, re.sub(r"CLONE/|(?<= )\.\./", "", command)
 
 
 def guide():
