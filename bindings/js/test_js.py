@@ -2,9 +2,11 @@
 
 import json
 import re
+from pathlib import Path
 
 import pytest
-from byte_unit_dev.fixtures import NODE, ended, need, output, printed, read
+from byte_unit_dev.fixtures import NODE, ended, environment, need, output, path, printed, read
+from byte_unit_dev.libraries import MODULE, WASM
 from byte_unit_dev.model.exact import output_for, size_of, some_line
 
 # The calls that the package exports.
@@ -152,6 +154,30 @@ def test_a_column_that_is_rejected(javascript):
         return (await instantiate(await readFile(new URL(`${place}/byte_unit.wasm`)))).parseMany(["1"]);
     })()"""
     assert evaluated(javascript, code) == "Error: byte_unit: byte_unit_parse_many_to returned invalid_argument"
+
+
+def test_module(request, tmp_path):
+    """The module in the tree is byte for byte the one that is built of the crates."""
+    words = ["--target", WASM, *["--after-ci"] * request.config.getoption("after_ci")]
+    output(path("tools/make-libraries"), tmp_path, *words)
+    what = f"bindings/js/{MODULE} is not as built: `tools/dev make-libraries bindings/js --target {WASM}` makes it anew"
+    assert (tmp_path / MODULE).read_bytes() == Path(path("bindings/js", MODULE)).read_bytes(), what
+
+
+def test_npm(javascript, tmp_path):
+    """npm packs the folder as it is, and installs it, and what was packed, without a network."""
+    need("npm")
+    offline = environment(npm_config_offline="true", npm_config_cache=tmp_path / "cache", npm_config_audit="false")
+    (packed,) = json.loads(output("npm", "pack", "--json", javascript, cwd=tmp_path, env=offline))
+    assert {file["path"] for file in packed["files"]} == {*json.loads(read("bindings/js/package.json"))["files"],
+                                                          "package.json", "README.md"}  # fmt: skip
+    for package in (str(javascript), str(tmp_path / packed["filename"])):
+        project = tmp_path / f"project-{len(package)}"
+        project.mkdir()
+        (project / "package.json").write_text("{}", encoding="utf-8")
+        output("npm", "install", package, cwd=project, env=offline)
+        script = "import('byte-unit').then(({ parse }) => console.log(parse('1.5 KiB')))"
+        assert output(*NODE, "-e", script, cwd=project) == "1536n\n"
 
 
 def test_require(javascript, tmp_path):

@@ -20,7 +20,7 @@ from hypothesis import strategies
 from . import foreign
 from .builds import CONFIG, copied, environment, wheel
 from .common import ROOT, Failure, call, copy_to, output, path, read, write
-from .libraries import AARCH64, WASM
+from .libraries import AARCH64
 from .model.exact import output_for, some_line
 from .needs import CARGO_PROGRAMS, DEBIAN_PYTHON, PACKAGES, PYTHON_PACKAGE, SERDE, is_there
 
@@ -241,13 +241,10 @@ def check_needs(wheel, folder):
 
 
 @pytest.fixture(scope="session")
-def javascript(request, tmp_path_factory):
-    """A copy of the package for JavaScript, with the module of WebAssembly."""
+def javascript(tmp_path_factory):
+    """A copy of the package for JavaScript."""
     need("node")
-    package = Path(copied("js", tmp_path_factory.mktemp("js")))
-    words = ["--target", WASM, *["--after-ci"] * request.config.getoption("after_ci")]
-    output(path("tools/make-libraries"), package, *words)
-    return package
+    return Path(copied("js", tmp_path_factory.mktemp("js")))
 
 
 @pytest.fixture(scope="session")

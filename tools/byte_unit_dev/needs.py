@@ -44,7 +44,7 @@ PACKAGES = {
     "/usr/bin/rustc": "rustc-web/bookworm", "cargo-clippy": "rust-web-clippy/bookworm",
     "rustfmt": "rustfmt-web/bookworm", "cargo-fmt": "rustfmt-web/bookworm",
     **SERDE, **CLAP, "git": "git", f"{POSTGRESQL_15}/bin/initdb": "postgresql-15",
-    "node": "nodejs", "tsc": "node-typescript", "chromium": "chromium", "chromedriver": "chromium-driver",
+    "node": "nodejs", "npm": "npm", "tsc": "node-typescript", "chromium": "chromium", "chromedriver": "chromium-driver",
     "aarch64-linux-gnu-gcc": "gcc-aarch64-linux-gnu", "qemu-aarch64": "qemu-user",
     "/usr/aarch64-linux-gnu/include/stdio.h": "libc6-dev-arm64-cross",
     f"{POSTGRESQL_15}/bin/psql": "postgresql-client-15", "make": "make", "setpriv": "util-linux", "lsblk": "util-linux",

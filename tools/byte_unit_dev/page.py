@@ -1,15 +1,16 @@
 """Makes the page "How a size is read", one file with the module of WebAssembly inside.
 
-    tools/dev make-page byte_unit.wasm PAGE.html
+    tools/dev make-page PAGE.html
 
-`tools/dev make-libraries FOLDER --target wasm64-unknown-unknown` makes the module.
+The module is bindings/js/byte_unit.wasm.
 """
 
 import base64
 import re
 from pathlib import Path
 
-from .common import read
+from .common import path, read
+from .libraries import MODULE
 
 
 def page(module):
@@ -19,5 +20,5 @@ def page(module):
     return made.replace("@WASM@", base64.b64encode(module).decode())
 
 
-def run(module, out):
-    Path(out).write_text(page(Path(module).read_bytes()), encoding="utf-8")
+def run(out):
+    Path(out).write_text(page(Path(path("bindings/js", MODULE)).read_bytes()), encoding="utf-8")

@@ -2,10 +2,10 @@
 
     tools/dev make-dist FOLDER [--after-ci] [--from LIBRARY_FOLDER] [--verdict LINE]
 
-Proves and builds library and command for every x86-64 processor, and the library for aarch64 and WebAssembly; with
---after-ci over what `rt ci` has built. With --from proves nothing, and takes libbyte_unit.a, byte_unit.h, byte-unit,
-byte_unit.wasm and aarch64/libbyte_unit.a from a folder; what needs a file that is not there is left out. FOLDER, which
-must be empty or missing, then has:
+Proves and builds library and command for every x86-64 processor, and the library for aarch64; with
+--after-ci over what `rt ci` has built. With --from proves nothing, and takes libbyte_unit.a, byte_unit.h, byte-unit and
+aarch64/libbyte_unit.a from a folder; what needs a file that is not there is left out. FOLDER, which must be empty or
+missing, then has:
 
     byte-unit-VERSION-linux-x86_64.tar.gz, -linux-aarch64.tar.gz    a prefix, for any place, and install.sh
     byte_unit-VERSION-cp311-abi3-..whl, byte_unit-VERSION.tar.gz    for pip without a network; a wheel a processor
@@ -81,8 +81,8 @@ class Parts:
     def __init__(self, work, source, after_ci):
         self.work, self.version = Path(work), read("VERSION").strip()
         self.commit, self.seconds = commit_and_time()
-        self.x86, self.arm, self.wasm = (self.work / name for name in ("x86_64", "aarch64", "wasm"))
-        for folder in (self.x86, self.arm, self.wasm):
+        self.x86, self.arm = (self.work / name for name in ("x86_64", "aarch64"))
+        for folder in (self.x86, self.arm):
             folder.mkdir()
         (self.copy if source else self.build)(*[Path(source)] if source else [after_ci])
         for folder, prefix in ((self.x86, ""), (self.arm, "aarch64-linux-gnu-")):
@@ -91,8 +91,7 @@ class Parts:
 
     def copy(self, source):
         """Takes what is built from a folder, that of --from, and links the shared libraries."""
-        names = {ARCHIVE: self.x86, HEADER: self.x86, COMMAND: self.x86, f"aarch64/{ARCHIVE}": self.arm,
-                 MODULE: self.wasm}  # fmt: skip
+        names = {ARCHIVE: self.x86, HEADER: self.x86, COMMAND: self.x86, f"aarch64/{ARCHIVE}": self.arm}
         for name, folder in names.items():
             if (source / name).exists() or name in (ARCHIVE, HEADER):
                 shutil.copy(source / name, folder)
@@ -106,7 +105,6 @@ class Parts:
         libraries.run(self.x86, after_ci=after_ci)
         # What byte_unit_c needs has been built by now.
         libraries.build_for(libraries.AARCH64, self.arm, True)
-        libraries.build_for(libraries.WASM, self.wasm, True)
         libraries.build_command(self.x86 / COMMAND, after_ci)
 
 
@@ -195,14 +193,12 @@ def cargo(parts):
 
 def javascript(parts):
     """Returns the package for JavaScript, and the page with the module inside."""
-    needed(parts.wasm / MODULE, MODULE)
-    module = (parts.wasm / MODULE).read_bytes()
-    names = [name for name in json.loads(read("bindings/js/package.json"))["files"] if name != MODULE]
-    files = {name: Path(path("bindings/js", name)).read_bytes() for name in [*names, "package.json"]}
+    names = [*json.loads(read("bindings/js/package.json"))["files"], "package.json"]
+    files = {name: Path(path("bindings/js", name)).read_bytes() for name in names}
     top = f"byte-unit-{parts.version}-js"
-    files.update({MODULE: module, "README.md": readme("js", files, package=top)})
+    files["README.md"] = readme("js", files, package=top)
     return {f"{top}.tar.gz": archives.tarball(top, files, parts.seconds),
-            "how-a-size-is-read.html": page(module).encode()}  # fmt: skip
+            "how-a-size-is-read.html": page(files[MODULE]).encode()}  # fmt: skip
 
 
 def sources(parts):

@@ -8,19 +8,16 @@ from pathlib import Path
 import pytest
 from byte_unit_dev import clean
 from byte_unit_dev.fixtures import AARCH64_CC, AARCH64_RUN, environment, is_there, need, output, path
-from byte_unit_dev.libraries import MODULE
 from trials import all_trials, for_aarch64
 
 
 @pytest.fixture(scope="session")
 def source(request, library, tmp_path_factory):
-    """A folder with what is built: the library, the command, the module, and the library for aarch64."""
+    """A folder with what is built: the library, the command, and the library for aarch64."""
     made = Path(shutil.copytree(library, tmp_path_factory.mktemp("source") / "source"))
     command = path("crates/byte_unit_cli/out/byte_unit_cli")
     if os.access(command, os.X_OK):
         shutil.copy(command, made / "byte-unit")
-    if is_there("node"):
-        shutil.copy(request.getfixturevalue("javascript") / MODULE, made)
     if all(map(is_there, [AARCH64_CC, AARCH64_RUN[0], f"{AARCH64_RUN[-1]}/include/stdio.h"])):
         (made / "aarch64").mkdir()
         shutil.copy(request.getfixturevalue("aarch64").folder / "libbyte_unit.a", made / "aarch64")
