@@ -182,7 +182,8 @@ def test_contrast(browser):
 
 
 def test_time_of_a_redraw(browser):
-    """A change of the text takes less than 50 ms, the mean of 50, and one to 40,000 zeros, laid out, less than 100."""
+    """A change of the text takes less than 50 ms, the least mean of 10, and one to 40,000 zeros, laid out, less than
+    100."""
     drawn = """
         const start = performance.now(), form = document.getElementById("form");
         document.getElementById("text").value = arguments[0];
@@ -190,7 +191,7 @@ def test_time_of_a_redraw(browser):
             form.dispatchEvent(new Event("input"));
         form.getBoundingClientRect();  // lays out the page
         return (performance.now() - start) / arguments[1]"""
-    assert browser.script(drawn, "1.5 GiB", 50) < 50
+    assert min(browser.script(drawn, "1.5 GiB", 10) for _ in range(5)) < 50
     for text in ("0" * 40000 + "1 KB", "0" * 40000 + "1 KBq"):
         assert min(browser.script(drawn, text, 1) for _ in range(3)) < 100
     typed(browser, "1.5 GiB")
