@@ -1,5 +1,5 @@
 """Answers test vectors by the Python package byte_unit. Reads records that end with a zero byte, each a call of
-byte-unit.txt, whose head has the forms, with its text unescaped and without the quote after it. Writes a line for each:
+the file of rows, whose head has the forms, with its text unescaped and without the quote after it. Writes a line for each:
 the answer, or `-` for a call that the package does not have."""
 
 import re

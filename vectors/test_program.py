@@ -75,14 +75,14 @@ def changed(answer):
 
 
 def test_no_row_is_wrong(program):
-    lines = read("vectors/byte-unit.txt").split("\n")
+    lines = read("crates/byte_unit_vectors/stdin").split("\n")
     assert report(program, *lines) == (0, "", f"{sum(map(is_row, lines))} rows, 0 wrong\n")
 
 
 def test_a_changed_answer_of_each_section(program):
     """The first row of each section whose answer has no escape gets another: these rows are reported, and no others."""
     lines, wanted, section = [], [], None
-    for line in read("vectors/byte-unit.txt").split("\n"):
+    for line in read("crates/byte_unit_vectors/stdin").split("\n"):
         section = line if line.startswith("## ") else section
         name, call, answer = re.fullmatch(r'(\S+): ((?:[^"=]*?) ?(?:"[^"]*")?) = (.*)|.*', line).groups()
         if section and is_row(line) and "\\" not in answer:

@@ -32,7 +32,8 @@ def compare(tmp_path_factory, seed):
     made = tmp_path_factory.mktemp("compilers") / "compilers"
     words = ["-std=gnu11", "-O2", "-Wall", "-Wextra", "-Wconversion", "-Werror", "-I", path("bindings/c")]
     compiled("cc", made, *words, path("bindings/c/checks/compilers.c"))
-    texts = "".join(f"{text}\0" for text in dict.fromkeys(re.findall('"([^"\n]*)"', read("vectors/byte-unit.txt"))))
+    quoted = re.findall('"([^"\n]*)"', read("crates/byte_unit_vectors/stdin"))
+    texts = "".join(f"{text}\0" for text in dict.fromkeys(quoted))
     return lambda one, other, rounds: call(made, one, other, rounds, seed, input=texts)
 
 

@@ -5,7 +5,7 @@ from itertools import zip_longest
 
 from .common import Failure, read
 
-FILE = "vectors/byte-unit.txt"
+FILE = "crates/byte_unit_vectors/stdin"
 
 
 def unescaped(text):

@@ -1,6 +1,6 @@
 /* Makes the calls of test vectors through the C API. Reads records that end with a zero byte, each a call of
- * vectors/byte-unit.txt with its text unescaped, and writes a line with the result of each, or `-` for a call that the
- * C API does not have. */
+ * crates/byte_unit_vectors/stdin with its text unescaped, and writes a line with the result of each, or `-` for a call
+ * that the C API does not have. */
 #include "byte_unit.h"
 
 #include <stdio.h>

@@ -1,5 +1,5 @@
-// Answers test vectors: reads records that end with a zero byte, each a call of byte-unit.txt with its text unescaped,
-// and writes a line for each: the answer, or `-` for a call that the package does not have.
+// Answers test vectors: reads records that end with a zero byte, each a call of the file of rows with its text
+// unescaped, and writes a line for each: the answer, or `-` for a call that the package does not have.
 import { readFileSync, writeFileSync } from "node:fs";
 import * as byteUnit from "../index.js";
 

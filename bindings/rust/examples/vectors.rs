@@ -1,4 +1,4 @@
-//! Answers test vectors: reads records that end with a zero byte, each a call of `vectors/byte-unit.txt` with its text
+//! Answers test vectors: reads records that end with a zero byte, each a call of the file of rows with its text
 //! unescaped, and writes a line with the answer for each, or `-` for a call that the package does not have.
 
 use std::io::{self, BufRead, BufWriter, Write};

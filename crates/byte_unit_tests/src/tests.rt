@@ -1,4 +1,4 @@
-//! Tests of what the rows of `vectors/byte-unit.txt` cannot say: traits, memory, calls side by side that answer the
+//! Tests of what the rows of `byte_unit_vectors` cannot say: traits, memory, calls side by side that answer the
 //! same, values that no string has, and what uses the library. Macros that tables share, and a module for each subject.
 //! The assertions that several modules call are in `asserting`, `command` and `shown`, and in a module whose head says
 //! so.

@@ -1,9 +1,9 @@
 //! Answers the rows of the test vectors, read from standard input, by the public calls of the library.
 //!
-//! A row is `ID: CALL = ANSWER`; the head of `vectors/byte-unit.txt` has the forms. Each row whose answer is another is
-//! printed on standard output, as `ID: wanted WANTED, got GOT`. A row that is malformed, or has no such call, is wrong
-//! too. The last line, on standard error, is `N rows, N wrong`. The exit status is 0 if no row is wrong, 1 if some are,
-//! and 2 if the rows cannot be read, the output cannot be written, or memory runs out.
+//! A row is `ID: CALL = ANSWER`; the head of the crate's file `stdin` has the forms. Each row whose answer is another
+//! is printed on standard output, as `ID: wanted WANTED, got GOT`. A row that is malformed, or has no such call, is
+//! wrong too. The last line, on standard error, is `N rows, N wrong`. The exit status is 0 if no row is wrong, 1 if
+//! some are, and 2 if the rows cannot be read, the output cannot be written, or memory runs out.
 #![tactic(auto)]
 
 /// Evaluates an expression in which a name is the size of a number in a kind: a `Byte` or a `Bit`. Returns

@@ -54,7 +54,7 @@ what is in them was compiled of what was proved where they were made.
   `autopkgtest *.deb byte-unit-{version}-autopkgtest/ -- null`, with that archive unpacked, installs and tries them all.
 - A browser opens `how-a-size-is-read.html`, which loads nothing else, and `how-a-size-is-read.html#bytes=1.5%20KiB`.
 - `sha256sum -c SHA256SUMS`: the files are those that were made.
-- `vectors/byte-unit.txt` in the sources has sizes, errors and texts: compare them with any of the packages;
+- `crates/byte_unit_vectors/stdin` in the sources has sizes, errors and texts: compare them with any of the packages;
   `vectors/run_python.py` does so with the wheel.
 - `nm -D` of the shared library shows the header's functions alone, which call nothing but the C library.
 

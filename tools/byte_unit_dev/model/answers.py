@@ -1,5 +1,5 @@
-"""Answers the test vectors by the exact model. The head of vectors/byte-unit.txt has the forms of calls and answers; a
-function for a call takes its words, as they are, and its text."""
+"""Answers the test vectors by the exact model. The head of crates/byte_unit_vectors/stdin has the forms of calls and
+answers; a function for a call takes its words, as they are, and its text."""
 
 import json
 import re

@@ -1,5 +1,5 @@
 //! Tests of JSON: a size of each type and a unit as a JSON string, and JSON objects with them. The rows of
-//! `vectors/byte-unit.txt` say the string of each size, and what each string is.
+//! `byte_unit_vectors` say the string of each size, and what each string is.
 use super::asserting::{assert_for, assert_is};
 use super::shown::{
     AnySize, assert_stored, assert_string, bits, bits_in, bytes, bytes_in, read_like, stored,

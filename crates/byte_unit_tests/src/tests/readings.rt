@@ -1,5 +1,5 @@
 //! Tests of the calls that read a size from a string, from bytes and from a line, and from numbers of other types. The
-//! rows of `vectors/byte-unit.txt` say what strings and numbers of a unit are.
+//! rows of `byte_unit_vectors` say what strings and numbers of a unit are.
 
 ghost use Rattle.std.specs.Prelude.{◌≡◌, slice_index};
 

@@ -1,4 +1,4 @@
-//! Tests of step counts: each call adds its steps to those of the calls before. The rows of `vectors/byte-unit.txt` say
+//! Tests of step counts: each call adds its steps to those of the calls before. The rows of `byte_unit_vectors` say
 //! how many steps one call adds.
 use super::asserting::assert_is;
 use byte_unit::{

@@ -1,5 +1,5 @@
 //! Tests of the calls that format sizes: side by side, appended to a string, in a buffer, and parsed again. The rows of
-//! `vectors/byte-unit.txt` say the text of each size by each spec.
+//! `byte_unit_vectors` say the text of each size by each spec.
 use super::asserting::{assert_for, assert_is};
 use super::shown::{
     AnySize, assert_row, assert_same, assert_shown, bits, bits_in, bytes, bytes_in,
