@@ -57,7 +57,7 @@ module _ {R W E A : Type 0} {remaining : R → Option (List ℕ)} {contents : W 
     {tells : E → Option (List ℕ)} {options : Options} {old between : Streams R W E} {buffers : Buffers A}
     (so_far : HasServed remaining contents tells options old between buffers) where
   -- reading a piece extends what was read by it
-  HasRead-more : (reader : FusedReader R) (piece : List ℕ) → HasRead remaining between.reader reader piece
+  pub HasRead-more : (reader : FusedReader R) (piece : List ℕ) → HasRead remaining between.reader reader piece
       → HasRead remaining old.reader reader (so_far.course.read ++ piece)
   HasRead-more reader piece came =
       Consumes-trans (remaining (reader_of old.reader)) (remaining (reader_of between.reader))

@@ -2,6 +2,7 @@
 -- of a `from_residual`: the error in its result is the one that `?` passes on.
 use Rattle.std.proofs.Common.{◌≡◌, Result, Ok, Err, take, arith, refl, ap, subst, length-take-le, IsErrAnd}
 use Rattle.byte_unit_command.specs.RunState.{IsFinished, idle, state_of}
+use Rattle.byte_unit_command.specs.declared.error.RunError.{RunError}
 use Rattle.byte_unit_command.specs.declared.error.RunError.TheVariants.{Write}
 use Rattle.byte_unit_command.specs.declared.tally.Tally.{Tally}
 use Rattle.byte_unit_command.proofs.Answering.{HasFed-from_empty, piece-answered, piece-unwritten}
