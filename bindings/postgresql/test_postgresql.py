@@ -349,7 +349,8 @@ def test_table_of_the_readme(server, program):
     programs = [
         Program(lambda text: ended_well("numfmt", "--from=auto", re.sub(" |B$", "", text)),
                 lambda size: ended_well("numfmt", "--to=si", str(size))),
-        Program(lambda text: queried("pg_size_bytes", f"'{text}'"), lambda size: queried("pg_size_pretty", size)),
+        Program(lambda text: queried("pg_size_bytes", f"'{text}'"),
+                lambda size: queried("pg_size_pretty", f"{size}::numeric")),
         Program(lambda text: ended_well(*other, "parse_size", repr(text)),
                 lambda size: ended_well(*other, "format_size", repr(size))),
         None,

@@ -111,9 +111,9 @@ def test_word_that_is_not_text(program):
 
 
 @pytest.mark.parametrize("word", ["--version", "-V"])
-def test_version(program, compiler, word):
+def test_version(program, made_by, word):
     """The program of cargo says that rustc has compiled it."""
-    by = {"rattle": b"", "rustc": b" (rustc)"}[compiler]
+    by = {"rattle": b"", "rustc": b" (rustc)"}[made_by]
     assert ended(program, word) == (0, b"byte-unit 3.0.0" + by + b"\n", b"")
 
 
@@ -129,14 +129,14 @@ def test_help(program, word):
                                     "--padding=65535", "--to=YiB -p 65535", "--max=0 --min=2")),
     ("--invalid=warn", b"1x\n"), ("--invalid=fail -d , --field=-", b"1x,\x1b\n"),
     ("-d , --field=- --padding=65535", b"1,1\n")])
-def test_memory_of_texts_that_wait(program, compiler, tmp_path, words, line):
+def test_memory_of_texts_that_wait(program, made_by, tmp_path, words, line):
     """The texts and messages of one read take at most 4 MB with the program, whatever the options; with that of cargo,
     half a MB more, since Rust's clap is large."""
     need("/usr/bin/time")
     held = tmp_path / "held"
     redirected("> /dev/null 2> /dev/null", "/usr/bin/time", "-q", "-o", held, "-f", "%M", program, *words.split(),
                data=line * (CHUNK // len(line)))
-    most = {"rattle": 4_000_000, "rustc": 4_500_000}[compiler]
+    most = {"rattle": 4_000_000, "rustc": 4_500_000}[made_by]
     assert int(held.read_text()) <= most // 1024
 
 

@@ -113,9 +113,9 @@ def program_of(request):
 
 def pytest_generate_tests(metafunc):
     """Has each test of a program of BY_CARGO run for both compilers: Rattle's, and rustc."""
-    if "compiler" in metafunc.fixturenames:
+    if "made_by" in metafunc.fixturenames:
         both = getattr(metafunc.module, "CRATE", "byte_unit_cli") in BY_CARGO
-        metafunc.parametrize("compiler", ["rattle", *["rustc"] * both], scope="session")
+        metafunc.parametrize("made_by", ["rattle", *["rustc"] * both], scope="session")
 
 
 @pytest.fixture(scope="session")
@@ -134,10 +134,10 @@ def programs_by_cargo(tmp_path_factory):
 
 
 @pytest.fixture(scope="module")
-def program(request, compiler):
+def program(request, made_by):
     """The program of the crate that the module names as CRATE, or else byte-unit, by one of the compilers."""
     crate = getattr(request.module, "CRATE", "byte_unit_cli")
-    if compiler == "rustc":
+    if made_by == "rustc":
         return str(request.getfixturevalue("programs_by_cargo") / BY_CARGO[crate])
     return request.getfixturevalue("program_of")(crate)
 

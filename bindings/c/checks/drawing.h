@@ -108,8 +108,47 @@ static void change(string *one)
     append(one, rest.bytes, rest.len);
 }
 
-/* Draws a string: a number and a unit, or with `is_unit` a unit alone. One in four is changed then, and one in 32 is of
- * the list. */
+/* Returns the code point at a place of a string, and its number of bytes, which is 1 if there is none. */
+static uint32_t code_at(const string *one, size_t at, size_t *len)
+{
+    const unsigned char *byte = (const unsigned char *)one->bytes + at;
+    size_t count = byte[0] < 0xc2 ? 1 : byte[0] < 0xe0 ? 2 : byte[0] < 0xf0 ? 3 : byte[0] < 0xf5 ? 4 : 1;
+    uint32_t code = count == 1 ? byte[0] & 0x7f : byte[0] & (0xffu >> (count + 1));
+
+    *len = 1;
+    if (at + count > one->len)
+        return 0;
+    for (size_t next = 1; next < count; next++) {
+        if ((byte[next] & 0xc0) != 0x80)
+            return 0;
+        code = code << 6 | (byte[next] & 0x3f);
+    }
+    *len = count;
+    return code;
+}
+
+/* Whether each character past ASCII is in a block of which no version of Unicode that a compiler has leaves one out: a
+ * message quotes others as the tables of Rattle or of rustc have them. */
+static bool is_settled(const string *one)
+{
+    static const uint32_t blocks[][2] = { { 0, 0x377 }, { 0x400, 0x52f }, { 0x1680, 0x169c }, { 0x2000, 0x2064 },
+                                          { 0x20a0, 0x20bf }, { 0x2100, 0x218b }, { 0x3000, 0x303f },
+                                          { 0x4e00, 0x9fef }, { 0x1f600, 0x1f64f } };
+    size_t len;
+
+    for (size_t at = 0; at < one->len; at += len) {
+        uint32_t code = code_at(one, at, &len);
+        bool is_in = false;
+        for (size_t block = 0; block < sizeof blocks / sizeof *blocks; block++)
+            is_in = is_in || (blocks[block][0] <= code && code <= blocks[block][1]);
+        if (!is_in)
+            return false;
+    }
+    return true;
+}
+
+/* Draws a string: a number and a unit, or with `is_unit` a unit alone. One in four is changed then, if what comes out is
+ * settled, and one in 32 is of the list. */
 static string draw_string(bool is_unit)
 {
     string made = { .len = 0 };
@@ -132,9 +171,13 @@ static string draw_string(bool is_unit)
         if (one_in(8))
             append_spaces(&made);
     }
-    if (one_in(4))
+    if (one_in(4)) {
+        string changed = made;
         for (uint32_t left = 1 + below(3); left > 0; left--)
-            change(&made);
+            change(&changed);
+        if (is_settled(&changed))
+            return changed;
+    }
     return made;
 }
 
