@@ -1,5 +1,5 @@
 # Tries: byte-unit-*-cargo.tar.gz
-# Needs: cargo
+# Needs: cargo-web/bookworm rustc-web/bookworm
 mkdir -p user/src
 cd user
 cp /dist/byte-unit-*-cargo.tar.gz .

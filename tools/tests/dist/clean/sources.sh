@@ -5,7 +5,7 @@ PATH=$KIT/bin:$PATH
 tar -xzf /dist/byte-unit-*-rattle.tar.gz
 cd byte-unit-*-rattle
 page=$(mktemp)
-sed -n '/^## A first program$/,/^## In the shell$/p' README.md > "$page"
+sed -n '/^### A first program$/,/^## The promise$/p' README.md > "$page"
 eval "$(first_of sh < "$page")"
 first_of rust < "$page" > crates/quota/src/main.rt
 said=$(eval "$(grep '^cd crates/quota' "$page")")
