@@ -8,7 +8,7 @@ import sqlite3
 
 import pytest
 from byte_unit_dev import postgresql
-from byte_unit_dev.fixtures import NODE, compiled, environment, ended, need, output, path
+from byte_unit_dev.fixtures import NODE, ended, environment, need, output
 from byte_unit_dev.model.exact import BITS, SIZE_LIMIT, UNITS, best_unit, largest, value_of
 from byte_unit_dev.needs import POSTGRESQL
 
@@ -109,10 +109,8 @@ def check(drawn, answers, *, units=False):
     assert [row for row in zip(*zip(*rows), got, strict=True) if row[1] != row[2]][:9] == []
 
 
-def test_c(drawn, library, tmp_path):
-    words = ["-std=gnu11", "-O2", "-Wall", "-Wextra", "-I", library, path("bindings/c/checks/vectors.c")]
-    made = compiled("cc", tmp_path / "vectors", *words, f"{library}/libbyte_unit.a")
-    check(drawn, lambda calls: by_vectors(calls, made))
+def test_c(drawn, runner_in_c):
+    check(drawn, lambda calls: by_vectors(calls, runner_in_c))
 
 
 def test_rust(drawn, cargo, rust_package):

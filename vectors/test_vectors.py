@@ -4,11 +4,13 @@ import collections
 import hashlib
 import os
 import re
+from itertools import product
 
 import pytest
-from byte_unit_dev.fixtures import NODE, compiled, ended, environment, path, read
+from byte_unit_dev.fixtures import NODE, ended, environment, path, read
 from byte_unit_dev.model.answers import answer
-from byte_unit_dev.rows import FILE, check, rows
+from byte_unit_dev.model.exact import LETTERS
+from byte_unit_dev.rows import FILE, Row, check, rows
 
 # The calls that a runner does not have. The exact model has all.
 BY_RUST = {"read", "plain", "layout", "value", "steps", "largest", "choose", "decimal", "expansion", "rounded", "least",
@@ -54,10 +56,20 @@ def test_rows_of_3_0_0(section):
     assert found.startswith(digest), f"of {wanted[0]} to {wanted[-1]} a row is changed"
 
 
+def spellings():
+    """Returns a row for each spelling of each unit: 55 prefixes with 27 suffixes, by each choice of case and kind."""
+    prefixes = ["", *map("".join, product(LETTERS + LETTERS.lower(), ["", "i", "I"]))]
+    bits = [*map("".join, product("bB", "iI", "tT", ["", "s", "S"]))]
+    calls = product(prefixes, ["", "B", "b", *bits], ["cased", "uncased"], ["bytes", "bits"])
+    return [Row(f'spelling: unit {case} {prefer} "{prefix}{suffix}" = {prefix[:1].upper()}{prefix[1:].lower()}'
+                + "bB"[{"": prefer == "bytes", "B": True, "b": case == "uncased"}.get(suffix, False)])
+            for prefix, suffix, case, prefer in calls]  # fmt: skip
+
+
 def check_program(command, left_out=BY_C, **variables):
     """Checks the answers of a program that reads records and writes lines: see bindings/c/checks/vectors.c. As a zero
     byte ends a record, no text has one."""
-    asked = [row for row in rows() if "\0" not in (row.text or "")]
+    asked = [*spellings(), *(row for row in rows() if "\0" not in (row.text or ""))]
     records = [" ".join(row.words) + (f' "{row.text}' if row.text is not None else "") for row in asked]
     given = "".join(record + "\0" for record in records).encode()
     status, written, _ = ended(*command, input=given, stderr=None, **variables)
@@ -66,12 +78,18 @@ def check_program(command, left_out=BY_C, **variables):
 
 
 def test_exact_model():
-    check(rows(), [answer(row.words, row.text) for row in rows()])
+    asked = [*spellings(), *rows()]
+    check(asked, [answer(row.words, row.text) for row in asked])
 
 
-def test_c(each_library, tmp_path):
-    words = ["-std=gnu11", "-O2", "-Wall", "-Wextra", "-I", each_library, path("bindings/c/checks/vectors.c")]
-    check_program([compiled("cc", tmp_path / "vectors", *words, f"{each_library}/libbyte_unit.a")])
+def test_spellings(program_of):
+    """The program of the rows, which `rt ci` runs, answers the spellings too."""
+    given = "".join(row.line + "\n" for row in spellings()).encode()
+    assert ended(program_of("byte_unit_vectors"), input=given) == (0, b"", b"5940 rows, 0 wrong\n")
+
+
+def test_c(runner_in_c):
+    check_program([runner_in_c])
 
 
 def test_rust(cargo, rust_package):

@@ -42,14 +42,9 @@ def test_processor_without_sse4(program_in_c, name, processor):
     output("qemu-x86_64", "-cpu", processor, program_in_c(SOURCES[name]))
 
 
-def test_memory_that_ends_at_an_unmapped_page(program_in_c):
-    output(program_in_c("checks/edges.c"))
-
-
 @pytest.mark.parametrize("kind", ["byte", "bit"])
-@pytest.mark.parametrize("other", [None, "byte_unit_lines"], ids=["model", "program"])
-def test_lines(program_in_c, check_lines, program_of, kind, other):
-    check_lines([program_in_c("checks/lines.c")], kind, other and program_of(other))
+def test_lines(runner_in_c, check_runner, kind):
+    check_runner([runner_in_c], kind)
 
 
 # Each format of Rust that the comments of the header name: its text of 1536 bytes, and of 1537 bytes in KiB.

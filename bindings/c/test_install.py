@@ -8,7 +8,7 @@ from pathlib import Path
 import pytest
 from byte_unit_dev.fixtures import call, compiled, copied, environment, is_there, need, output, path, read
 from byte_unit_dev.install import calls_of
-from byte_unit_dev.libraries import exported, functions
+from byte_unit_dev.libraries import exported
 
 INSTALL = [path("tools/dev"), "install"]
 HEADER, PAGE = "include/byte_unit.h", "share/man/man3/byte_unit.3"
@@ -34,14 +34,6 @@ def flags(prefix, *words):
     return output("pkg-config", *words, "byte_unit", env=env).split()
 
 
-def example():
-    """Returns the program of the manual page, which is in README.md too."""
-    page = read("bindings/c/byte_unit.3")
-    text = re.search(r"^\.Bd -literal\n(#include.*?)^\.Ed$", page, re.M | re.S)[1].replace("\\e", "\\")
-    assert f"```c\n{text}```\n" in read("bindings/c/README.md")
-    return text
-
-
 @pytest.fixture(scope="module")
 def prefix(each_library, tmp_path_factory):
     """A new folder in which the library is installed, that of each compiler."""
@@ -56,7 +48,8 @@ def test_program(prefix, tmp_path, cc, form, how):
     """The program compiles without a warning with the words of pkg-config alone, links, and runs in another folder."""
     by_lld = ["-fuse-ld=lld"] * ("clang" in cc and "-flto" in how)
     need(*["ld.lld"] * len(by_lld))
-    (tmp_path / "program.c").write_text(example())
+    program = re.search(r"```c\n(.*?)```", read("bindings/c/README.md"), re.S)[1]
+    (tmp_path / "program.c").write_text(program)
     links = {"shared": flags(prefix, "--libs"), "static": flags(prefix, "--libs", "--static"),
              "archive": [prefix / "lib/libbyte_unit.a"]}
     as_cpp = ["-Wno-missing-field-initializers", "-x", "c++"] * ("++" in cc)
@@ -92,16 +85,11 @@ def test_version(prefix, tmp_path):
 
 
 def test_manual_page(prefix):
-    """It declares the calls of the header, each has its name and a page, and `mandoc -T lint` finds nothing."""
-    text, synopsis = read(prefix / PAGE), {}
-    for result, name, parameters in re.findall(r'^\.Ft (\w+)\n\.Fo (\w+)\n((?:\.Fa ".*"\n)+)\.Fc$', text, re.M):
-        synopsis[name] = (result, ", ".join(re.findall(r'"(.*)"', parameters)))
-    for result, name, parameter in re.findall(r'^\.Ft (\w+)\n\.Fn (\w+) "?(\w+)"?$', text, re.M):
-        synopsis[name] = (result, parameter)
-    header = read(prefix / HEADER)
-    assert synopsis == {name: functions(header)[name][:2] for name in calls_of(header)}
-    assert sorted(re.findall(r"^\.Nm (\w+)", text, re.M)) == sorted(synopsis)
-    assert {page.stem for page in (prefix / PAGE).parent.iterdir()} == {*synopsis, "byte_unit"}
+    """It names and declares each call of the header, which has a page, and `mandoc -T lint` finds nothing."""
+    text, calls = read(prefix / PAGE), calls_of(read(prefix / HEADER))
+    assert sorted(re.findall(r"^(byte_unit_\w+),? ?", text, re.M)) == calls
+    assert sorted(re.findall(r"^\w+ (byte_unit_\w+)\(", text, re.M)) == calls
+    assert {page.stem for page in (prefix / PAGE).parent.iterdir()} == {*calls, "byte_unit"}
     need("mandoc")
     assert output("mandoc", "-T", "lint", prefix / PAGE) == ""
 
@@ -128,7 +116,6 @@ def fails(folder, reason, *words, **more):
     ("prefix", "--from LIBRARY prefix/in", "nothing is installed: .*prefix"),
     ("other", "--from . prefix", "nothing is installed: .*libbyte_unit.a: No such file or directory"),
     ("other", "--from LIBRARY a$b", "cannot be written in byte_unit.pc"),
-    ("other", "--from LIBRARY --libdir ../lib prefix", "a folder outside the prefix"),
     ("other", "--uninstall prefix", "is missing: nothing was installed"),
     ("prefix/share/byte_unit/installed", "--uninstall prefix", "'../other' is not a path below the prefix"),
 ])
@@ -179,23 +166,19 @@ def test_uninstall(library, tmp_path):
 
 def test_destdir(library, tmp_path):
     """byte_unit.pc names the prefix alone, and the list has each file."""
-    words = [*INSTALL, "--from", library, "--libdir", "lib/here", "/usr"]
+    words = [*INSTALL, "--from", library, "/usr"]
     output(*words, env={**os.environ, "DESTDIR": str(tmp_path)})
-    config = read(tmp_path / "usr/lib/here/pkgconfig/byte_unit.pc")
-    assert config.startswith("prefix=/usr\nlibdir=${prefix}/lib/here\n") and str(tmp_path) not in config
+    config = read(tmp_path / "usr/lib/pkgconfig/byte_unit.pc")
+    assert config.startswith("prefix=/usr\nlibdir=${prefix}/lib\n") and str(tmp_path) not in config
     lines = read(tmp_path / "usr/share/byte_unit/installed").splitlines()
     found = {name for name in files_in(tmp_path) if not (tmp_path / name).is_dir()}
     assert {f"usr/{line}" for line in lines if not line.endswith("/")} == found
 
 
-def test_make_libraries(library, tmp_path):
-    """It links what is there, and rejects a wrong call, and a folder without an archive."""
+def test_make_libraries(tmp_path):
+    """It rejects a wrong call, and a folder that is not there."""
     make = path("tools/make-libraries")
-    assert [call(make, *words, cwd=tmp_path).returncode for words in (["--link", "."], [], ["none"])] == [1, 2, 2]
-    for name in ("libbyte_unit.a", "byte_unit.h"):
-        shutil.copy(f"{library}/{name}", tmp_path)
-    output(make, "--link", tmp_path)
-    assert sorted(os.listdir(tmp_path)) == sorted(os.listdir(library))
+    assert [call(make, *words, cwd=tmp_path).returncode for words in (["."] * 2, [], ["none"])] == [2, 2, 1]
 
 
 @pytest.mark.parametrize("program, words", [

@@ -120,8 +120,8 @@ class Memory {
         this.memory = memory;
         const base = memory.buffer.byteLength;
         // Fixed areas, each aligned as its type: a byte_unit_number of 16 bytes, a byte_unit_spec of 12, the code of a unit
-        // of 4, a position of 8 and a byte_unit_error of 64. At `room`, texts and columns begin.
-        this.at = { size: base, spec: base + 16, unit: base + 32, position: base + 40, error: base + 64, room: base + 256 };
+        // of 4, and a byte_unit_error of 64. At `room`, texts and columns begin.
+        this.at = { size: base, spec: base + 16, unit: base + 32, error: base + 64, room: base + 256 };
         this.reserve(0);
     }
 
@@ -218,7 +218,8 @@ export async function instantiate(bytes) {
 
     /**
      * Returns the SizeError of a string that the library has just rejected as a size or a unit. In the byte_unit_error,
-     * `character` is at 0, `also_expect_no_character` at 4 and `expected`, 16 bytes with zeros at the end, at 5.
+     * `character` is at 0, `also_expect_no_character` at 4, `expected`, 16 bytes with zeros at the end, at 5, and
+     * `position` at 56.
      */
     function errorOf(string, code, flags, ofUnit) {
         const view = memory.view(), name = CODES[code];
@@ -229,10 +230,8 @@ export async function instantiate(bytes) {
             fields.expected = decoder.decode(memory.bytes(at.error + 5, 16)).replace(/\0.*$/s, "");
             fields.alsoExpectNoCharacter = view.getUint8(at.error + 4) === 1;
         }
-        const [address, length] = memory.write(string);
-        const where = ofUnit ? exports.byte_unit_unit_error_position : exports.byte_unit_error_position;
-        if (where(address, length, BigInt(at.position)))
-            fields.position = indexOfByte(string, Number(memory.view().getBigUint64(at.position, true)));
+        if (name !== "exceeded_bounds")
+            fields.position = indexOfByte(string, Number(view.getBigUint64(at.error + 56, true)));
         const message = explained(ofUnit ? exports.byte_unit_explain_unit : exports.byte_unit_explain, string, flags);
         return new SizeError(message, fields);
     }

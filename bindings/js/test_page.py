@@ -2,14 +2,12 @@
 
 import re
 import shutil
-import tempfile
 import threading
 import time
 from functools import partial
 from http.server import SimpleHTTPRequestHandler, ThreadingHTTPServer
 
 import pytest
-from byte_unit_dev.browser import Browser
 from byte_unit_dev.fixtures import NODE, need, output, read
 from byte_unit_dev.page import page
 from byte_unit_dev.rows import check, rows
@@ -19,10 +17,10 @@ NARROW_SPACE = "\u202f"  # what the page has between groups of three digits
 
 def opened(browser, address):
     """Opens an address anew, and returns the result, for which it waits: a loaded page has to compile the module."""
-    browser.open("about:blank")
-    browser.open(address)
+    browser.get("about:blank")
+    browser.get(address)
     for _ in range(200):
-        said = browser.script("return document.getElementById('answer').innerText")
+        said = browser.execute_script("return document.getElementById('answer').innerText")
         if said:
             break
         time.sleep(0.05)
@@ -39,23 +37,33 @@ def place(javascript, tmp_path_factory):
 
 @pytest.fixture(scope="module")
 def browser(place):
-    need("chromium", "chromedriver")
-    with tempfile.TemporaryDirectory(ignore_cleanup_errors=True) as profile:
-        started = Browser(profile)
-        try:
-            opened(started, place.as_uri())
-            yield started
-        finally:
-            started.close()
+    need("chromium", "chromedriver", "import selenium")
+    from selenium import webdriver
+
+    options = webdriver.ChromeOptions()
+    options.binary_location = shutil.which("chromium")
+    options.set_capability("goog:loggingPrefs", {"browser": "ALL"})
+    # Nothing listens on port 9, so no request leaves the machine.
+    for word in ("headless=new", "no-sandbox", "proxy-server=127.0.0.1:9", "disable-background-networking"):
+        options.add_argument(f"--{word}")
+    with webdriver.Chrome(options=options) as started:
+        started.keys = lambda *keys: webdriver.ActionChains(started).send_keys(*keys).perform()
+        opened(started, place.as_uri())
+        yield started
+
+
+def emulate(browser, command, **params):
+    """Sends a command that emulates something to Chromium."""
+    browser.execute_cdp_cmd(f"Emulation.{command}", params)
 
 
 def typed(browser, text, reading="bytes"):
     """Types a text in the field by keys. Returns the result that the page shows, and what it marks."""
-    browser.script(
+    browser.execute_script(
         "document.querySelector(`[value=${arguments[0]}]`).click(); document.getElementById('text').select()", reading
     )
     browser.keys("\ue003", *text)  # Backspace deletes the text that is selected
-    return browser.script(
+    return browser.execute_script(
         "return [document.querySelector('#answer').innerText, document.querySelector('mark')?.textContent ?? null]"
     )
 
@@ -85,7 +93,7 @@ def test_page_by_the_vectors(browser):
              and not re.search(r"[\0\r\n]", row.text)]  # fmt: skip
     calls = [(readings[" ".join(row.words)], row.text) for row in asked]
     assert {reading for reading, _ in calls} == {*readings.values()}
-    got = browser.script("""
+    got = browser.execute_script("""
         const field = document.getElementById("text");
         return arguments[0].map(([reading, text]) => {
             document.querySelector(`[value=${reading}]`).checked = true;
@@ -101,10 +109,10 @@ def test_copying(browser):
     """A click on a button to copy says whether the browser allows it."""
     typed(browser, "1.5 KiB")
     for what in ("number", "text", "link"):
-        browser.script("document.getElementById('copied').textContent = ''")
-        browser.script(f"document.querySelector('[data-copy={what}]').click()")
+        browser.execute_script("document.getElementById('copied').textContent = ''")
+        browser.execute_script(f"document.querySelector('[data-copy={what}]').click()")
         time.sleep(0.2)
-        assert browser.script("return document.getElementById('copied').textContent") in (
+        assert browser.execute_script("return document.getElementById('copied').textContent") in (
             "Copied.", "The browser does not allow it.")  # fmt: skip
 
 
@@ -112,24 +120,21 @@ def test_page_for_all(browser):
     """Every field has a label, each table a name; keys reach all; a link opens the same state; no message."""
     unnamed = "[...document.querySelectorAll('input')].filter(input => !input.labels.length), " \
         "[...document.querySelectorAll('table')].filter(table => !table.ariaLabel && !table.caption)"
-    assert browser.script(f"return [{unnamed}].flat().length") == 0
+    assert browser.execute_script(f"return [{unnamed}].flat().length") == 0
     typed(browser, "10m", "binary")
     time.sleep(0.5)  # the address has the text after 0.2 s
-    link = browser.script("return location.href")
+    link = browser.execute_script("return location.href")
     assert link.endswith("#binary=10m")
     assert "10 MiB" in opened(browser, link)
-    browser.script("document.getElementById('text').focus()")
+    browser.execute_script("document.getElementById('text').focus()")
+    name = "const { dataset, ariaLabel, name } = document.activeElement; return dataset.copy ?? ariaLabel ?? name"
     seen = []
     for _ in range(20):
         browser.keys("\ue004")  # Tab
-        seen.append(
-            browser.script(
-                "return document.activeElement.dataset.copy ?? document.activeElement.ariaLabel ?? document.activeElement.name"
-            )
-        )
+        seen.append(browser.execute_script(name))
     assert {"reading", "number", "text", "link"} <= set(seen)
-    assert browser.script("return document.querySelectorAll('#units tr').length") == 38
-    assert browser.call("POST", "/se/log", {"type": "browser"}) == []
+    assert browser.execute_script("return document.querySelectorAll('#units tr').length") == 38
+    assert browser.get_log("browser") == []
 
 
 @pytest.mark.parametrize("fragment, answer", [
@@ -143,7 +148,7 @@ def test_page_by_a_fragment(browser, place, fragment, answer):
     """The page shows a result whatever is in its address, and logs no error."""
     said = opened(browser, f"{place.as_uri()}#{fragment}")
     assert said.split("\n")[0] == answer.replace("_", NARROW_SPACE)
-    assert browser.call("POST", "/se/log", {"type": "browser"}) == []
+    assert browser.get_log("browser") == []
 
 
 def test_page_without_memory64(browser, place, tmp_path):
@@ -153,7 +158,7 @@ def test_page_without_memory64(browser, place, tmp_path):
     (tmp_path / "page.html").write_text(text, encoding="utf-8")
     said = opened(browser, (tmp_path / "page.html").as_uri())
     assert said.startswith("byte_unit: this engine takes no WebAssembly with 64-bit memory (memory64)")
-    assert len(browser.call("POST", "/se/log", {"type": "browser"})) == 1
+    assert len(browser.get_log("browser")) == 1
     opened(browser, place.as_uri())
 
 
@@ -166,19 +171,19 @@ def test_page_at_all_widths(browser, text, reading):
     typed(browser, text, reading)
     cut = read("bindings/js/checks/cut.js")
     for width in [360, 390, 412, *range(320, 1601, 32)]:
-        browser.size(width, 1200)
-        assert browser.script(cut) == [], width
-    browser.size(1000, 1200)
+        emulate(browser, "setDeviceMetricsOverride", width=width, height=1200, deviceScaleFactor=1, mobile=False)
+        assert browser.execute_script(cut) == [], width
+    emulate(browser, "clearDeviceMetricsOverride")
 
 
 def test_contrast(browser):
     """Texts have a contrast of 4.5 and more in both schemes, as WCAG asks at AA."""
     low = read("bindings/js/checks/contrast.js")
     for scheme in ("light", "dark"):
-        browser.scheme(scheme)
+        emulate(browser, "setEmulatedMedia", features=[{"name": "prefers-color-scheme", "value": scheme}])
         for text in ("1.5 GiB", "12 Kiq"):
             typed(browser, text)
-            assert browser.script(low) == []
+            assert browser.execute_script(low) == []
 
 
 def test_time_of_a_redraw(browser):
@@ -191,9 +196,9 @@ def test_time_of_a_redraw(browser):
             form.dispatchEvent(new Event("input"));
         form.getBoundingClientRect();  // lays out the page
         return (performance.now() - start) / arguments[1]"""
-    assert min(browser.script(drawn, "1.5 GiB", 10) for _ in range(5)) < 50
+    assert min(browser.execute_script(drawn, "1.5 GiB", 10) for _ in range(5)) < 50
     for text in ("0" * 40000 + "1 KB", "0" * 40000 + "1 KBq"):
-        assert min(browser.script(drawn, text, 1) for _ in range(3)) < 100
+        assert min(browser.execute_script(drawn, text, 1) for _ in range(3)) < 100
     typed(browser, "1.5 GiB")
 
 
@@ -244,10 +249,10 @@ def test_a_broken_module_of_a_server(broken, browser):
         threading.Thread(target=server.serve_forever).start()
         try:
             root = f"http://127.0.0.1:{server.server_port}"
-            browser.open(root)  # a list of the folders, from which a module may be imported
+            browser.get(root)  # a list of the folders, from which a module may be imported
             script = "return import(arguments[0]).then(() => 'loaded', error => error.message)"
             missing = f"byte_unit: {root}/missing/byte_unit.wasm cannot be loaded: status 404"
             for name, said in {**SAID, "missing": missing}.items():
-                assert browser.script(script, f"{root}/{name}/index.js").startswith(said), name
+                assert browser.execute_script(script, f"{root}/{name}/index.js").startswith(said), name
         finally:
             server.shutdown()

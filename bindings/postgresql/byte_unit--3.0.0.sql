@@ -17,35 +17,21 @@ COMMENT ON TYPE bytesize IS 'a number of bytes, less than 10^30, such as 1.5 KiB
 
 -- Functions by the names of SQLite's extension. Only the text or the size may be NULL, and then so is the result. They are
 -- not STRICT, since NULL in another argument is an error.
-CREATE FUNCTION size_parse(text) RETURNS bytesize
+CREATE FUNCTION size_parse(text, flags text DEFAULT '') RETURNS bytesize
     AS 'MODULE_PATHNAME' LANGUAGE C IMMUTABLE PARALLEL SAFE;
-CREATE FUNCTION size_parse(text, flags text) RETURNS bytesize
+CREATE FUNCTION size_try(text, flags text DEFAULT '') RETURNS bytesize
     AS 'MODULE_PATHNAME' LANGUAGE C IMMUTABLE PARALLEL SAFE;
-CREATE FUNCTION size_try(text) RETURNS bytesize
-    AS 'MODULE_PATHNAME' LANGUAGE C IMMUTABLE PARALLEL SAFE;
-CREATE FUNCTION size_try(text, flags text) RETURNS bytesize
-    AS 'MODULE_PATHNAME' LANGUAGE C IMMUTABLE PARALLEL SAFE;
-CREATE FUNCTION size_explain(text) RETURNS text
-    AS 'MODULE_PATHNAME' LANGUAGE C IMMUTABLE PARALLEL SAFE;
-CREATE FUNCTION size_explain(text, flags text) RETURNS text
+CREATE FUNCTION size_explain(text, flags text DEFAULT '') RETURNS text
     AS 'MODULE_PATHNAME' LANGUAGE C IMMUTABLE PARALLEL SAFE;
 CREATE FUNCTION size_text(bytesize) RETURNS text
     AS 'MODULE_PATHNAME' LANGUAGE C IMMUTABLE PARALLEL SAFE;
 CREATE FUNCTION size_text(bytesize, "precision" integer) RETURNS text
     AS 'MODULE_PATHNAME' LANGUAGE C IMMUTABLE PARALLEL SAFE;
-CREATE FUNCTION size_in(bytesize, unit text) RETURNS text
+CREATE FUNCTION size_in(bytesize, unit text, "precision" integer, flags text DEFAULT '') RETURNS text
     AS 'MODULE_PATHNAME' LANGUAGE C IMMUTABLE PARALLEL SAFE;
-CREATE FUNCTION size_in(bytesize, unit text, "precision" integer) RETURNS text
-    AS 'MODULE_PATHNAME' LANGUAGE C IMMUTABLE PARALLEL SAFE;
-CREATE FUNCTION size_in(bytesize, unit text, "precision" integer, flags text) RETURNS text
-    AS 'MODULE_PATHNAME' LANGUAGE C IMMUTABLE PARALLEL SAFE;
-CREATE FUNCTION size_in(bytesize, unit text, flags text) RETURNS text
+CREATE FUNCTION size_in(bytesize, unit text, flags text DEFAULT '') RETURNS text
     AS 'MODULE_PATHNAME', 'size_in_with_flags' LANGUAGE C IMMUTABLE PARALLEL SAFE;
-CREATE FUNCTION size_pretty(bytesize) RETURNS text
-    AS 'MODULE_PATHNAME' LANGUAGE C IMMUTABLE PARALLEL SAFE;
-CREATE FUNCTION size_pretty(bytesize, unit_type text) RETURNS text
-    AS 'MODULE_PATHNAME' LANGUAGE C IMMUTABLE PARALLEL SAFE;
-CREATE FUNCTION size_pretty(bytesize, unit_type text, places integer) RETURNS text
+CREATE FUNCTION size_pretty(bytesize, unit_type text DEFAULT 'binary', places integer DEFAULT 1) RETURNS text
     AS 'MODULE_PATHNAME' LANGUAGE C IMMUTABLE PARALLEL SAFE;
 
 -- Casts: on assignment where no size changes, explicit where one may be rounded up or out of range. None is implicit:

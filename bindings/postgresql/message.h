@@ -2,19 +2,18 @@
  *
  * The library reads UTF-8 and writes ASCII but for the character that a message repeats, so texts are converted from
  * and to the encoding of the database, without an error: a text that has no UTF-8 is not a size. */
-#ifndef BYTE_UNIT_MESSAGE_H
-#define BYTE_UNIT_MESSAGE_H
+#ifndef BYTE_UNIT_POSTGRESQL_MESSAGE_H
+#define BYTE_UNIT_POSTGRESQL_MESSAGE_H
 
 #include "bytesize.h"
 
+#include "../c/message.h"
 #include "catalog/namespace.h"
 #include "mb/pg_wchar.h"
 
 #if PG_VERSION_NUM < 140000
 #error "PostgreSQL 14 or later is needed, for its conversions without an error"
 #endif
-
-enum { SHOWN = 64 }; /* bytes of a text that a message repeats */
 
 /* A text in UTF-8. If a character of it has no UTF-8, `at` is not UTF-8 either, so that the library rejects it. In any
  * case `raw` has the bytes in the encoding of the database. */
@@ -78,72 +77,32 @@ static Text text_argument(FunctionCallInfo fcinfo, int n)
     return text_of(VARDATA_ANY(value), VARSIZE_ANY_EXHDR(value));
 }
 
-/* byte_unit_explain or byte_unit_explain_unit, and the call that says where the error is. */
-typedef size_t ExplainCall(const char *text, size_t len, uint32 flags, char *out, size_t out_len);
-typedef bool PositionCall(const char *text, size_t len, size_t *position);
-
-/* Returns the message of a text that is rejected, as SQLite's size_explain has it: the reason, and the number, from 1,
- * of the wrong character, one past the last if the text ends too early. NULL if the text is not rejected. */
-static char *message_of(Text text, uint32 flags, ExplainCall *explain, PositionCall *position_of)
+/* Returns why a text is rejected with this code and error, by byte_unit_explain or byte_unit_explain_unit. */
+static char *reason_of(explain_call *call, Text text, uint32 flags, uint32 code, const byte_unit_error *error)
 {
-    char reason[BYTE_UNIT_BUFFER_SIZE + 1];
-    size_t len = explain(text.at, text.len, flags, reason, BYTE_UNIT_BUFFER_SIZE), position, character = 1;
+    char reason[EXPLAINED_SIZE];
 
-    if (len == 0 || len > BYTE_UNIT_BUFFER_SIZE)
-        return NULL;
-    reason[len] = '\0';
-    if (!position_of(text.at, text.len, &position))
-        return to_server(pstrdup(reason));
-    for (size_t at = 0; at < position; at++) /* counts the first bytes of characters */
-        character += ((unsigned char)text.at[at] & 0xC0) != 0x80;
-    return to_server(psprintf("%s (character %zu)", reason, character));
+    return to_server(pnstrdup(reason, explain(call, text.at, text.len, flags, code, error, reason)));
 }
 
-/* Returns a sentence: the message with a capital letter and a full stop. */
-static char *sentence_of(const char *message)
+/* Returns a sentence: the reason with a capital letter and a full stop. */
+static char *sentence_of(const char *reason)
 {
-    char *sentence = psprintf("%s.", message == NULL ? "the text is not a size" : message);
+    char *sentence = psprintf("%s.", reason);
 
     sentence[0] = pg_toupper((unsigned char)sentence[0]);
     return sentence;
 }
 
-/* Appends a character as the library's message about it has it between quotes: escaped if it is not printable. */
-static void append_character(StringInfo out, const char *character, size_t len)
-{
-    char text[6] = "1", message[BYTE_UNIT_BUFFER_SIZE + 1] = "", *shown = message + strlen("the character '");
-
-    memcpy(text + 1, character, len);
-    text[len + 1] = '1';
-    byte_unit_explain(text, len + 2, 0, message, BYTE_UNIT_BUFFER_SIZE);
-    appendBinaryStringInfo(out, shown, (int)strcspn(shown, "'"));
-}
-
-/* Returns a text for a message: at most SHOWN bytes, in whole characters, of which those that are not printable are
- * escaped, and so is, as \xff, each byte that is not ASCII if the text is not UTF-8. */
+/* Returns a text for a message. */
 static char *quoted(Text text)
 {
     ByteSize unused;
-    bool is_utf8 = byte_unit_parse(text.at, text.len, 0, &unused, NULL) != BYTE_UNIT_NOT_UTF8;
-    const char *from = is_utf8 ? text.at : text.raw;
-    int encoding = is_utf8 ? PG_UTF8 : PG_SQL_ASCII, len = (int)(is_utf8 ? text.len : text.raw_len), next;
-    int shown = pg_encoding_mbcliplen(encoding, from, len, SHOWN);
-    StringInfoData out;
+    char out[QUOTED_SIZE];
 
-    initStringInfo(&out);
-    for (int at = 0; at < shown; at += next) {
-        unsigned char byte = (unsigned char)from[at];
-
-        next = pg_encoding_mblen(encoding, from + at);
-        if (byte >= 0x80 && !is_utf8)
-            appendStringInfo(&out, "\\x%02x", byte);
-        else if (byte >= 0x20 && byte < 0x7F)
-            appendStringInfoChar(&out, from[at]);
-        else
-            append_character(&out, from + at, (size_t)next);
-    }
-    appendStringInfoString(&out, shown < len ? ".." : "");
-    return to_server(out.data);
+    if (byte_unit_parse(text.at, text.len, 0, &unused, NULL) == BYTE_UNIT_NOT_UTF8)
+        return pnstrdup(out, quote(text.raw, text.raw_len, false, out));
+    return to_server(pnstrdup(out, quote(text.at, text.len, true, out)));
 }
 
 #endif

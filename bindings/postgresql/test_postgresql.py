@@ -5,7 +5,7 @@ import shutil
 
 import pytest
 from byte_unit_dev import postgresql
-from byte_unit_dev.fixtures import call, environment, need, output, path, quoted_characters, read, write
+from byte_unit_dev.fixtures import call, environment, need, output, path, read, write
 from byte_unit_dev.model.exact import Rejected, form, size_of, some_line
 from byte_unit_dev.needs import DEBIAN_PYTHON, POSTGRESQL
 from byte_unit_dev.pages import beside
@@ -13,16 +13,9 @@ from byte_unit_dev.pages.beside import Program
 from byte_unit_dev.rows import check, rows
 
 VERSION = read("VERSION").strip()
+STATEMENTS = read("bindings/postgresql/sql/byte_unit.sql")
 # A function that returns what a query returns, or the SQLSTATE, the message and the detail of its error.
-TRIED = """CREATE FUNCTION tried(query text) RETURNS text LANGUAGE plpgsql AS $$
-DECLARE result text; detail text;
-BEGIN
-    EXECUTE query INTO result;
-    RETURN result;
-EXCEPTION WHEN OTHERS THEN
-    GET STACKED DIAGNOSTICS detail = PG_EXCEPTION_DETAIL;
-    RETURN replace(SQLSTATE || ' ' || SQLERRM || ': ' || detail, E'\\r', ' ');
-END $$;"""
+TRIED = re.search(r"^CREATE FUNCTION tried.*?\$\$;$", STATEMENTS, re.M | re.S)[0]
 
 
 @pytest.fixture(scope="module")
@@ -269,12 +262,6 @@ def test_texts_without_utf8(server, encoding, data):
     assert got == [*answers.values(), "1|0"]
 
 
-def test_characters_that_are_escaped(server):
-    rows = [(f"size_parse({quoted('x' + char)})", rf'22P02 .* type bytesize: "x{re.escape(shown)}": .*')
-            for char, shown in quoted_characters()]  # fmt: skip
-    assert wrong_of(server, rows) == []
-
-
 def test_compiled_expressions(server):
     """Answers the same where the server compiles expressions with the functions' bitcode inlined, if it can."""
     query = "SELECT sum(size_parse(x || ' KiB') * 2), count(*) FROM generate_series(1, 10000) AS x;"
@@ -301,35 +288,17 @@ def test_upgrade(server):
 def test_no_report_of_valgrind(server):
     """Runs the statements of sql/byte_unit.sql in a backend of one user under valgrind: no report names the extension."""
     need("valgrind")
-    lines = [
-        line
-        for line in read("bindings/postgresql/sql/byte_unit.sql").split("\n")
-        if line[:2] != "--" and line[:1] != "\\"
-    ]
-    statements = re.sub(r"(?<!;)\n\s*", " ", "\n".join(lines))
+    # One line each, the body of the function too.
+    lines = re.sub(r"^(--|\\).*\n", "", STATEMENTS.replace(TRIED, TRIED.replace("\n", " ")), flags=re.M)
+    statements = re.sub(r"(?<!;)\n\s*", " ", lines)
     folder, log = server.folder / "single", server.folder / "data/valgrind"
     folder.mkdir()
     shutil.chown(folder, server.user())
     server.by_user(server.bin / "initdb", "-D", folder, "-A", "trust", "-E", "UTF8", "--locale=C", "--no-sync")
     words = ["valgrind", "--quiet", f"--log-file={log}", server.bin / "postgres", "--single", "-D", folder, "postgres"]
     said = server.by_user(*words, input=statements)
-    assert said.count('= "1.5 KiB"') >= 5 and "byte_unit" not in log.read_text(encoding="utf-8", errors="replace")
-
-
-def test_installation(library, tmp_path):
-    """`tools/dev install --postgresql` installs what the server needs, and --uninstall removes it."""
-    need(*POSTGRESQL)
-    words = [path("tools/dev"), "install", "/usr/local", "--postgresql"]
-    variables = environment(DESTDIR=tmp_path, PG_CONFIG="/usr/lib/postgresql/15/bin/pg_config")
-    output(*words, "--from", library, "--without-command", "--without-sqlite", env=variables)
-    found = {
-        file.name
-        for file in tmp_path.rglob("*")
-        if "postgresql" in str(file) and file.suffix in (".so", ".sql", ".control")
-    }
-    assert found == {"byte_unit.so", "byte_unit.control", f"byte_unit--{VERSION}.sql"}
-    output(*words, "--uninstall", env=variables)
-    assert not [file for file in tmp_path.rglob("*") if not file.is_dir()]
+    assert 'max = "4.999 KB"' in said and "wrong = " not in said
+    assert "byte_unit" not in log.read_text(encoding="utf-8", errors="replace")
 
 
 def ended_well(*words, **how):

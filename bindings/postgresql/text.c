@@ -28,7 +28,8 @@ static int sqlstate_of(uint32 code)
 static Datum parsed(Text text, uint32 flags, fmNodePtr soft)
 {
     ByteSize size;
-    uint32 code = byte_unit_parse(text.at, text.len, flags, &size, NULL);
+    byte_unit_error error;
+    uint32 code = byte_unit_parse(text.at, text.len, flags, &size, &error);
 
     (void)soft;
     if (code == BYTE_UNIT_OK)
@@ -36,7 +37,7 @@ static Datum parsed(Text text, uint32 flags, fmNodePtr soft)
     ereturn(soft, (Datum)0,
             (errcode(sqlstate_of(code)),
              errmsg("invalid input syntax for type %s: \"%s\"", "bytesize", quoted(text)),
-             errdetail("%s", sentence_of(message_of(text, flags, byte_unit_explain, byte_unit_error_position)))));
+             errdetail("%s", sentence_of(reason_of(byte_unit_explain, text, flags, code, &error)))));
 }
 
 /* ---- Input and output. ---- */
@@ -149,15 +150,15 @@ static uint32 flag_of(const char *word, size_t len)
     return 0;
 }
 
-/* Returns the flags in an argument, words separated by spaces, or none if the call has no such argument. */
+/* Returns the flags in an argument, words separated by spaces. */
 static uint32 flags_argument(FunctionCallInfo fcinfo, int n, uint32 allowed)
 {
     uint32 flags = 0;
     char *words;
 
-    if (n >= PG_NARGS())
-        return 0;
     reject_null(fcinfo, n, "flags");
+    if (VARSIZE_ANY_EXHDR(PG_GETARG_TEXT_PP(n)) == 0)
+        return 0; /* without a copy */
     words = text_to_cstring(PG_GETARG_TEXT_PP(n));
     for (const char *word = words; *word != '\0';) {
         size_t len = strcspn(word, " ");
@@ -204,15 +205,18 @@ Datum size_try(PG_FUNCTION_ARGS)
 PG_FUNCTION_INFO_V1(size_explain);
 Datum size_explain(PG_FUNCTION_ARGS)
 {
-    uint32 flags = flags_argument(fcinfo, 1, READING);
-    char *message;
+    uint32 flags = flags_argument(fcinfo, 1, READING), code;
+    Text text;
+    ByteSize size;
+    byte_unit_error error;
 
     if (PG_ARGISNULL(0))
         PG_RETURN_NULL();
-    message = message_of(text_argument(fcinfo, 0), flags, byte_unit_explain, byte_unit_error_position);
-    if (message == NULL)
+    text = text_argument(fcinfo, 0);
+    code = byte_unit_parse(text.at, text.len, flags, &size, &error);
+    if (code == BYTE_UNIT_OK)
         PG_RETURN_NULL();
-    PG_RETURN_TEXT_P(cstring_to_text(message));
+    PG_RETURN_TEXT_P(cstring_to_text(reason_of(byte_unit_explain, text, flags, code, &error)));
 }
 
 /* Returns the text of the first argument in a form, or NULL if that is NULL. */
@@ -257,7 +261,8 @@ Datum size_text(PG_FUNCTION_ARGS)
 /* Returns the unit of a name. A blank name, which byte_unit_parse_unit takes for B, names none. */
 static uint32 unit_of(Text name, uint32 flags)
 {
-    uint32 unit, code = byte_unit_parse_unit(name.at, name.len, flags, &unit, NULL);
+    byte_unit_error error;
+    uint32 unit, code = byte_unit_parse_unit(name.at, name.len, flags, &unit, &error);
     ByteSize unused;
 
     if (byte_unit_parse(name.at, name.len, 0, &unused, NULL) == BYTE_UNIT_NO_VALUE)
@@ -266,8 +271,7 @@ static uint32 unit_of(Text name, uint32 flags)
     if (code != BYTE_UNIT_OK)
         ereport(ERROR,
                 (errcode(ERRCODE_INVALID_PARAMETER_VALUE), errmsg("\"%s\" is not a unit", quoted(name)),
-                 errdetail("%s", sentence_of(message_of(name, flags, byte_unit_explain_unit,
-                                                        byte_unit_unit_error_position)))));
+                 errdetail("%s", sentence_of(reason_of(byte_unit_explain_unit, name, flags, code, &error)))));
     return unit;
 }
 
@@ -298,15 +302,13 @@ Datum size_in_with_flags(PG_FUNCTION_ARGS)
     return in_unit(fcinfo, PG_NARGS(), 2); /* no argument is the precision */
 }
 
-/* Returns the unit type in an argument, or that of binary units if the call has no such argument. */
+/* Returns the unit type in an argument. */
 static uint32 unit_type_argument(FunctionCallInfo fcinfo, int n)
 {
     static const char *const names[] = { "binary", "decimal", "both" };
     static const uint32 types[] = { BYTE_UNIT_BINARY, BYTE_UNIT_DECIMAL, BYTE_UNIT_BOTH };
     char *name;
 
-    if (n >= PG_NARGS())
-        return BYTE_UNIT_BINARY;
     reject_null(fcinfo, n, "the unit type");
     name = text_to_cstring(PG_GETARG_TEXT_PP(n));
     for (size_t at = 0; at < lengthof(types); at++)
@@ -323,8 +325,6 @@ Datum size_pretty(PG_FUNCTION_ARGS)
     Form form = form_of((ByteSize){ 0 }, false);
 
     form.unit_type = unit_type_argument(fcinfo, 1);
-    form.spec.has_precision = 1;
-    form.spec.precision = 1;
     set_precision(fcinfo, 2, &form);
     return text_result(fcinfo, form);
 }

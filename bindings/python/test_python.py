@@ -2,43 +2,19 @@
 
 import os
 import re
-import shutil
 
 import pytest
 from byte_unit_dev.fixtures import DEBIAN_PYTHON, call, check_needs, environment, is_there, need, output, path, write
 
-# A file byte_unit.pc, whose header and archive are in one folder.
-PACKAGE_CONFIG = "Name: byte_unit\nDescription: -\nVersion: 0\nincludedir={0}\nlibdir={0}\n"
-EXAMPLE = path("bindings/python/examples/example.py")
+LINES = path("bindings/python/checks/lines.py")
 
 
-def version(package, **variables):
-    """Calls setup.py, which finds the library before it prints the package's version."""
-    return call(DEBIAN_PYTHON, "setup.py", "--version", cwd=package, env=environment(**variables))
-
-
-@pytest.mark.parametrize("way", ["a folder", "a prefix", "pkg-config"])
-def test_library_is_found(library, python_package, tmp_path, way):
-    write(f"{tmp_path}/byte_unit.pc", PACKAGE_CONFIG.format(library))
-    for folder, name in (("include", "byte_unit.h"), ("lib", "libbyte_unit.a")):
-        (tmp_path / folder).mkdir()
-        shutil.copy(f"{library}/{name}", tmp_path / folder)
-    variables = {"a folder": {"BYTE_UNIT_LIBRARY_DIR": library}, "a prefix": {"BYTE_UNIT_LIBRARY_DIR": str(tmp_path)},
-                 "pkg-config": {"PKG_CONFIG_PATH": str(tmp_path)}}[way]  # fmt: skip
-    got = version(python_package, **variables)
-    assert got.returncode == 0, got.stdout
-
-
-@pytest.mark.parametrize("variable, value, words", [
-    ("BYTE_UNIT_LIBRARY_DIR", "/", "has no byte_unit.h and libbyte_unit.a"),
-    ("BYTE_UNIT_LIBRARY_DIR", "sizes", "is not an absolute path"),
-    ("BYTE_UNIT_LIBRARY_DIR", "OLD", "has no version"),
-    ("PKG_CONFIG_LIBDIR", "/nowhere", "tools/make-libraries DIR"),
-])  # fmt: skip
-def test_one_line_says_what_is_missing(python_package, tmp_path, variable, value, words):
+@pytest.mark.parametrize("folder, words", [("/", "has no byte_unit.h and libbyte_unit.a"), ("OLD", "has no version")])
+def test_one_line_says_what_is_missing(python_package, tmp_path, folder, words):
     for name in ("byte_unit.h", "libbyte_unit.a"):
         write(f"{tmp_path}/{name}", "")
-    got = version(python_package, **{variable: value.replace("OLD", str(tmp_path))})
+    here = environment(BYTE_UNIT_LIBRARY_DIR=folder.replace("OLD", str(tmp_path)))
+    got = call(DEBIAN_PYTHON, "setup.py", "--version", cwd=python_package, env=here)
     assert (got.returncode, got.stdout[:11], got.stdout.count("\n")) == (1, "byte_unit: ", 1) and words in got.stdout
 
 
@@ -68,18 +44,14 @@ def test_its_own_tests(python, tmp_path):
 
 @pytest.mark.parametrize("kind", ["byte", "bit"])
 def test_lines(python, check_lines, kind):
-    check_lines([python.program, "-B", path("bindings/python/checks/lines.py")], kind)
+    check_lines([python.program, "-B", LINES], kind)
 
 
-@pytest.mark.parametrize("words", [["-p", "byte_unit"], [EXAMPLE]], ids=["package", "example"])
+@pytest.mark.parametrize("words", [["-p", "byte_unit"], [LINES]], ids=["package", "program"])
 def test_types(python_package, tmp_path, words):
     need("mypy")
     here = environment(MYPYPATH=os.path.join(python_package, "src"))
     output("mypy", "--strict", "--cache-dir", tmp_path, *words, cwd=tmp_path, env=here)
-
-
-def test_example(python, tmp_path):
-    output(python.program, EXAMPLE, cwd=tmp_path, env=environment())
 
 
 @pytest.mark.parametrize("part, needs", [

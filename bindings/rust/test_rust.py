@@ -37,10 +37,6 @@ def test_page_says_how_many_examples_pass():
     assert f"Of the {AS_WRITTEN + CHANGED} examples" in page and f" {AS_WRITTEN} run here as they are written" in page
 
 
-def test_example(each_cargo, rust_package):
-    each_cargo.output(rust_package, "run", "--example", "example")
-
-
 @pytest.mark.parametrize("name", ["checks/moved.rs", "README.md"], ids=["moved.rs", "README.md"])
 def test_program_of_the_original(each_cargo, rust_package, tmp_path, name):
     """Builds programs that name the package in [patch] alone, without a registry, and compares what they print."""
@@ -53,9 +49,9 @@ def test_program_of_the_original(each_cargo, rust_package, tmp_path, name):
 
 
 @pytest.mark.parametrize("kind", ["byte", "bit"])
-def test_lines(each_cargo, rust_package, check_lines, kind):
-    each_cargo.output(rust_package, "build", "--release", "--example", "lines")
-    check_lines([each_cargo.target / "release/examples/lines"], kind)
+def test_lines(each_cargo, rust_package, check_runner, kind):
+    each_cargo.output(rust_package, "build", "--example", "vectors")
+    check_runner([each_cargo.target / "debug/examples/vectors"], kind)
 
 
 def test_examples_of_its_documentation(cargo, rust_package):

@@ -6,13 +6,10 @@
 #include <sqlite3ext.h>
 SQLITE_EXTENSION_INIT3
 
-#include "byte_unit.h"
-
-#include <string.h>
+#include "../c/message.h"
 
 enum {
     GREATEST_PRECISION = 65535, /* of a byte_unit_spec */
-    SHOWN = 64, /* bytes of a text that a message repeats */
     /* The flags of the functions that take a unit, and of those that parse a size. */
     UNIT_FLAGS = BYTE_UNIT_BITS | BYTE_UNIT_IGNORE_CASE,
     SIZE_FLAGS = UNIT_FLAGS | BYTE_UNIT_BINARY_PREFIXES
@@ -36,38 +33,12 @@ struct form {
 
 /* ---- Messages: each names the value and the reason. ---- */
 
-/* Appends a character as the library's message about it has it between quotes: escaped if it is not printable. */
-static void append_character(sqlite3_str *out, const char *character, size_t len)
-{
-    char text[6] = "1", message[BYTE_UNIT_BUFFER_SIZE + 1] = "", *shown = message + strlen("the character '");
-
-    memcpy(text + 1, character, len);
-    text[len + 1] = '1';
-    byte_unit_explain(text, len + 2, 0, message, BYTE_UNIT_BUFFER_SIZE);
-    sqlite3_str_append(out, shown, (int)strcspn(shown, "'"));
-}
-
-/* Appends at most SHOWN bytes of a text between quotes, in whole characters. Those that are not printable are escaped,
- * and so is, as \xff, each byte that is not ASCII if the text is not UTF-8. */
+/* Appends a text between quotes. */
 static void append_quoted(sqlite3_str *out, struct text text, bool is_utf8)
 {
-    size_t shown = text.len;
+    char quoted[QUOTED_SIZE];
 
-    if (shown > SHOWN) /* a character has at most three bytes after its first */
-        for (shown = SHOWN; shown > SHOWN - 3 && ((unsigned char)text.at[shown] & 0xC0) == 0x80;)
-            shown--;
-    sqlite3_str_appendchar(out, 1, '\'');
-    for (size_t at = 0, len; at < shown; at += len) {
-        unsigned char byte = (unsigned char)text.at[at];
-        len = byte < 0x80 || !is_utf8 ? 1 : byte < 0xE0 ? 2 : byte < 0xF0 ? 3 : 4;
-        if (byte >= 0x80 && !is_utf8)
-            sqlite3_str_appendf(out, "\\x%02x", byte);
-        else if (byte >= 0x20 && byte < 0x7F)
-            sqlite3_str_appendchar(out, 1, text.at[at]);
-        else
-            append_character(out, text.at + at, len);
-    }
-    sqlite3_str_appendall(out, shown < text.len ? "'.." : "'");
+    sqlite3_str_appendf(out, "'%.*s'", (int)quote(text.at, text.len, is_utf8, quoted), quoted);
 }
 
 /* Returns the text of a value. `at` is NULL if the value is NULL or if there is no memory. */
@@ -79,10 +50,10 @@ static struct text text_of(sqlite3_value *value)
     return text;
 }
 
-/* Parses a size, and returns the code. */
-static uint32_t parse(struct text text, uint32_t flags, byte_unit_number *size)
+/* Parses a size, and returns the code. The error may be NULL. */
+static uint32_t parse(struct text text, uint32_t flags, byte_unit_number *size, byte_unit_error *error)
 {
-    return byte_unit_parse(text.at, text.len, flags, size, NULL);
+    return byte_unit_parse(text.at, text.len, flags, size, error);
 }
 
 /* Returns -1, 0 or 1. */
@@ -108,7 +79,7 @@ static void append_value(sqlite3_str *out, sqlite3_value *value)
     else if (type == SQLITE_BLOB)
         sqlite3_str_appendf(out, "a BLOB of length %d", sqlite3_value_bytes(value));
     else
-        append_quoted(out, text_of(value), parse(text_of(value), 0, &unused) != BYTE_UNIT_NOT_UTF8);
+        append_quoted(out, text_of(value), parse(text_of(value), 0, &unused, NULL) != BYTE_UNIT_NOT_UTF8);
 }
 
 /* Ends a message and returns it, as the error of the call or as its result. */
@@ -150,39 +121,24 @@ static void reject_type(sqlite3_context *context, sqlite3_value *value, bool is_
     return_reason(context, value, " is not a size: TEXT or an INTEGER is expected", is_error);
 }
 
-/* What a text should be, and the calls of the library that say why it is not, and where. */
-struct grammar {
-    const char *what;
-    size_t (*explain)(const char *text, size_t len, uint32_t flags, char *out, size_t out_len);
-    bool (*error_position)(const char *text, size_t len, size_t *position);
-};
-
-static const struct grammar sizes = { "a size", byte_unit_explain, byte_unit_error_position };
-static const struct grammar units = { "a unit", byte_unit_explain_unit, byte_unit_unit_error_position };
-
-/* Appends why a text is rejected, and the character where it is wrong: 1 is the first. Appends nothing if it is not. */
-static void append_reason(sqlite3_str *out, struct text text, uint32_t flags, const struct grammar *grammar)
+/* Appends why a text is rejected with this code and error, by byte_unit_explain or byte_unit_explain_unit. */
+static void append_reason(sqlite3_str *out, explain_call *call, struct text text, uint32_t flags, uint32_t code,
+                          const byte_unit_error *error)
 {
-    char reason[BYTE_UNIT_BUFFER_SIZE];
-    size_t len = grammar->explain(text.at, text.len, flags, reason, sizeof reason), position, character = 1;
+    char reason[EXPLAINED_SIZE];
 
-    sqlite3_str_append(out, reason, len <= sizeof reason ? (int)len : 0);
-    if (len == 0 || !grammar->error_position(text.at, text.len, &position))
-        return;
-    for (size_t at = 0; at < position; at++) /* counts the first bytes of characters */
-        character += ((unsigned char)text.at[at] & 0xC0) != 0x80;
-    sqlite3_str_appendf(out, " (character %llu)", (unsigned long long)character);
+    sqlite3_str_append(out, reason, (int)explain(call, text.at, text.len, flags, code, error, reason));
 }
 
-/* Returns the error of a text that the library rejects with this code: the text, what it is not, and the reason. */
-static void reject_text(sqlite3_context *context, struct text text, uint32_t flags, uint32_t code,
-                        const struct grammar *grammar)
+/* Returns the error of a text that the library rejects: the text, what it is not, and the reason. */
+static void reject_text(sqlite3_context *context, explain_call *call, struct text text, uint32_t flags, uint32_t code,
+                        const byte_unit_error *error)
 {
     sqlite3_str *message = sqlite3_str_new(sqlite3_context_db_handle(context));
 
     append_quoted(message, text, code != BYTE_UNIT_NOT_UTF8);
-    sqlite3_str_appendf(message, " is not %s: ", grammar->what);
-    append_reason(message, text, flags, grammar);
+    sqlite3_str_appendf(message, " is not a %s: ", call == byte_unit_explain ? "size" : "unit");
+    append_reason(message, call, text, flags, code, error);
     return_message(context, message, true);
 }
 
@@ -267,6 +223,7 @@ static bool get_size(sqlite3_context *context, sqlite3_value *value, byte_unit_n
 {
     sqlite3_int64 n = sqlite3_value_int64(value);
     struct text digits = { "", 0 };
+    byte_unit_error error;
     uint32_t code;
 
     if (sqlite3_value_type(value) == SQLITE_INTEGER) {
@@ -278,9 +235,9 @@ static bool get_size(sqlite3_context *context, sqlite3_value *value, byte_unit_n
         return false;
     if (!is_digits(digits))
         return reject(context, value, " is not an INTEGER such as size_parse returns");
-    code = parse(digits, 0, size);
+    code = parse(digits, 0, size, &error);
     if (code != BYTE_UNIT_OK)
-        reject_text(context, digits, 0, code, &sizes);
+        reject_text(context, byte_unit_explain, digits, 0, code, &error);
     return code == BYTE_UNIT_OK;
 }
 
@@ -289,15 +246,16 @@ static bool get_unit(sqlite3_context *context, sqlite3_value *value, uint32_t fl
 {
     struct text name = { "", 0 };
     byte_unit_number unused;
+    byte_unit_error error;
     uint32_t code;
 
     if (sqlite3_value_type(value) == SQLITE_TEXT && !get_text(context, value, &name))
         return false;
-    if (parse(name, 0, &unused) == BYTE_UNIT_NO_VALUE)
+    if (parse(name, 0, &unused, NULL) == BYTE_UNIT_NO_VALUE)
         return reject(context, value, " is not a unit such as 'KiB' or 'MB'");
-    code = byte_unit_parse_unit(name.at, name.len, flags, unit, NULL);
+    code = byte_unit_parse_unit(name.at, name.len, flags, unit, &error);
     if (code != BYTE_UNIT_OK)
-        reject_text(context, name, flags, code, &units);
+        reject_text(context, byte_unit_explain_unit, name, flags, code, &error);
     return code == BYTE_UNIT_OK;
 }
 

@@ -8,14 +8,12 @@ from itertools import islice
 import pytest
 from byte_unit_dev.fixtures import (call, compiled, copied, environment, need, output, path, quoted_characters,
                                     read)  # fmt: skip
-from byte_unit_dev.model.exact import (SIZE_LIMIT, UNITS, WHITE_SPACE, WHOLE_LIMIT, Rejected, form, size_of, some_line,
-                                       value_of)  # fmt: skip
+from byte_unit_dev.model.answers import position
+from byte_unit_dev.model.exact import SIZE_LIMIT, UNITS, Rejected, form, size_of, some_line, value_of
 
 WARNINGS = ["-Wall", "-Wextra", "-Wpedantic", "-Wconversion", "-Wshadow", "-Werror"]
 SANITIZED = ["-g", "-fsanitize=address,undefined", "-fno-sanitize-recover=all"]
 GREATEST = 2**63 - 1  # of an INTEGER
-# The longest beginning of a spelling of a unit.
-BEGINNING = re.compile("(?ai:([KMGTPEZYR]i?)?(b(i(ts?)?)?)?)")
 
 
 def extension(compiler, library, folder, *flags):
@@ -117,24 +115,10 @@ def test_characters_that_are_escaped(sql):
     assert wrong_of(sql, rows) == []
 
 
-def wrong_place(text):
-    """Returns the index of the first character that no size has there, of a text that is not in the grammar."""
-    start = len(text) - len(text.lstrip(WHITE_SPACE))
-    digits, point, places = re.match(r"([0-9]*)(\.?)([0-9]*)", text.strip(WHITE_SPACE)).groups()
-    whole = sum(1 for at in range(len(digits)) if int(digits[: at + 1]) < WHOLE_LIMIT)
-    if not digits or whole < len(digits):
-        return start + whole
-    if point and not 1 <= len(places) <= 28:
-        return start + whole + 1 + min(len(places), 28)
-    rest = text.strip(WHITE_SPACE)[len(digits + point + places) :]
-    unit = rest.lstrip(" ")
-    return start + len(digits + point + places) + len(rest) - len(unit) + BEGINNING.match(unit).end()
-
-
 def explained(line, size):
     """Returns the message of a line that the model rejects, with the place."""
-    named = size.name in ("not text", "out of range")
-    return size.message + ("" if named else f" (character {wrong_place(line.decode()) + 1})")
+    at = "none" if size.name == "not text" else position("byte", line.decode())
+    return size.message + ("" if at == "none" else f" (character {len(line[: int(at)].decode()) + 1})")
 
 
 @pytest.mark.parametrize("kind, flags", [("byte", ""), ("bit", ", 'bits'")])
@@ -144,26 +128,13 @@ def test_lines(sql, check_drawn, kind, flags):
     def row(line):
         size = size_of(line, kind)
         if isinstance(size, Rejected):
-            shown = rf"error: '.*'(\.\.)? is not a size: {re.escape(explained(line, size))}"
+            shown = rf"error: '.*' is not a size: {re.escape(explained(line, size))}"
         elif size <= GREATEST:
             shown = re.escape(f"{size}|{form(size, kind)}|1")
         else:
-            shown = rf"error: '.*'(\.\.)? is {size} {kind}s, above the greatest INTEGER, {GREATEST}"
+            shown = rf"error: '.*' is {size} {kind}s, above the greatest INTEGER, {GREATEST}"
         return (f"SELECT size_parse(t{flags}), size_text(size_parse(t{flags}){flags}), size_explain(t{flags}) IS NULL"
                 f" FROM (SELECT {quoted(line)} AS t);"), [shown]  # fmt: skip
-
-    check_drawn(some_line, lambda lines: wrong_of(sql, [row(line) for line in lines]))
-
-
-def test_explanations(sql, check_drawn):
-    """Compares what size_explain and size_try return of drawn lines with the exact model."""
-
-    def row(line):
-        size = size_of(line, "byte")
-        shown = explained(line, size) if isinstance(size, Rejected) else ""
-        tried = size if shown == "" and size <= GREATEST else ""
-        return (f"SELECT size_explain(t), size_try(t) FROM (SELECT {quoted(line)} AS t);",
-                [re.escape(f"{shown}|{tried}")])  # fmt: skip
 
     check_drawn(some_line, lambda lines: wrong_of(sql, [row(line) for line in lines]))
 
@@ -220,7 +191,7 @@ def test_order(sql, check_drawn, encoding):
         wanted = [str(at + 1) for at in sorted(range(len(keys)), key=lambda at: (keys[at], at))]
         return got != [*wanted, *wanted, "ok"] and f"{lines[:9]}: {got[:9]} {wanted[:9]}" or errors
 
-    check_drawn(some_line, wrong, together=2)
+    check_drawn(some_line, wrong)
 
 
 @pytest.mark.parametrize("name", ["README.md", "checks/calls.sql", "checks/tables.sql", "checks/million.sql"])

@@ -225,7 +225,6 @@ def some_records(rng, options, number, odd):
     number = min(number, 15_000 // most, 8_000_000 // (most * max(16, abs(options.padding), options.precision or 0)))
     size = min(rng.choice([2, 10, 60, 60]), most * max(1, number))
     pool = [odd_field(rng) if happens(rng, odd) else good_field(rng, options) for _ in range(size)]
-    # Draws of hypothesis have at most 8 KB, so a large input is drawn from one number.
     order = random.Random(rng.getrandbits(32))
     counts = [0, 1, most, most] if most > 1 else [1]
     marks = [b" ", b" ", b"   ", b"\t", b" \t ", b" " * 20] if options.blanks else [options.delimiter or b""]

@@ -150,6 +150,10 @@ FORMS = [
     ("--to=MB --human-readable", b"123456789\n", b"123.5 MB\n"), ("-H --to=exact", b"1500\n", b"1.5 KB\n"),
     ("-H", b"1000\n1000000\n2000000\n", b"1000 B\n976.6 KiB\n1.9 MiB\n"), ("--bits -H", b"1000000\n", b"976.6 Kib\n"),
     ("-H --to=auto 1000000", b"", b"1.0 MB\n"), ("-p29 -H 1Ki", b"", b"1." + b"0" * 29 + b" KiB\n"),
+    ("--to=auto", b"1000\n1024\n999\n", b"1 KB\n1 KiB\n999 B\n"), ("-p2 --to=plain 1.5KiB", b"", b"1536\n"),
+    ("-p1 --to=KiB 2.25KiB 2.75KiB", b"", b"2.2 KiB\n2.8 KiB\n"), ("-p1 123456789", b"", b"123456789 B\n"),
+    ("-p6", b"123456789\n", b"123.456789 MB\n"),
+    ("-p30 --to=GiB 1073741825", b"", b"1.000000000931322574615478515625 GiB\n"),
     ("-p 1001 --to=KB 1", b"", b"0.001" + b"0" * 998 + b" KB\n"),
     ("--to=Ki", b"1024\n", b"1 KiB\n"),
     (["--to= GiB "], b"1024\n", b"0.00000095367431640625 GiB\n"),
@@ -227,6 +231,7 @@ FIELDS = [
     ("-d , --field=1-1", b"1024,1024\n", b"1 KiB,1024\n"), ("-d , --field=-", b"1024,1024\n", b"1 KiB,1 KiB\n"),
     ("-d , --field=3,1,1-2", b"1024,1024,1024,1024\n", b"1 KiB,1 KiB,1 KiB,1024\n"),
     ("-d , --field=1,2,3,4,5,6,7,8,9", b"1K," * 10 + b"1K\n", b"1 KB," * 9 + b"1K,1K\n"),
+    ("-d , --field=-1,3-4,18446744073709551615-", b"1K,1K,1K,1K,1K\n", b"1 KB,1K,1 KB,1 KB,1K\n"),
     ("-d ,", b",1024\n", b"", 2, told("line 1: field 1: ''", BLANK)),
     ("-d , --field=2 --invalid=warn", b"1024,\n", b"1024,\n", 0, told("line 1: field 2: ''", BLANK)),
     (["-d", "\n"], b"1024\n", b"1 KiB\n"),
@@ -260,8 +265,8 @@ QUOTED = [
 
 WRONG_VALUES = [
     *((["-d", ",", f"--field={text}"], told(f"--field: '{text}'", "not a list of fields"))
-      for text in ("0", "3-2", "18446744073709551616", "1,,2", "", "+1", "1-+2", " 1", "1--2", "1,", ",1", "1-2-3", "x",
-                   "0-1")),
+      for text in ("0", "3-2", "18446744073709551616", "1,,2", "", "+1", "1-+2", " 1", "1 ", "1--2", "--", "1,", ",1",
+                   ",", "1-2-3", "x", "0-1", "0-", "-0")),
     *((["-d", text], told(f"--delimiter: '{text}'", "not one character of one byte"))
       for text in (",,", "\u00e9", "\u20ac", "ab", "\\n")),
     *(([f"--from={text}"], told(f"--from: '{text}'", "not auto, si, iec or iec-i")) for text in ("", "K", "IEC", "iec ")),
@@ -281,6 +286,8 @@ WRONG_VALUES = [
      told("--to: 'EXACT'", "not a form or a unit: " + unit("X", "('B' or 'b' or no character is expected)"))),
     ("--to=iec-i", told("--to: 'iec-i'", "not a form or a unit: " + unit("i"))),
     (["--to=\x1b[31mKB", "1"], told("--to: '\\u{1b}[31mKB'", "not a form or a unit: " + unit("\\u{1b}"))),
+    (["--min=x", "--max=y", "--to=z q"],
+     told("--to: 'z q'", "not a form or a unit: " + unit(" ", "('B' or 'b' or no character is expected)"))),
     ("--max=x", told("--max: 'x'", digit("x"))),
     ("--max=", told("--max: ''", BLANK)),
     (["--max=1,5 GB"], told("--max: '1,5 GB'", unit(","))),
@@ -348,6 +355,7 @@ def many_bytes():
     """Yields calls with lines of 17 MB, with texts of many MB for one read, and on many operands and long ones."""
     yield Call([], LONG + b"1.5 KB\n2 KB")
     yield Call(["-z", "--invalid=warn"], LONG + b"x\0" + b"2 KB")
+    yield Call(["--header"], b"x" * 200_000 + b"\n" + b" " * 200_000 + b"1000\n")
     yield Call(["--padding=200"], b"1\n" * 32_768)
     yield Call(["--padding=-65535"], b"1 KB\n" * 500)
     yield Call(["-p65535", "--to=K", "--total"], b"1\n" * 100)

@@ -126,9 +126,18 @@ def test_same_output_as_numfmt(program, seed, both, theirs, ours, line):
     assert ended(program, *ours.split(), *both.split(), input=data)[:2] == (status, wanted)
 
 
-# In each line the words, the input, the status and the output: calls that GNU coreutils tests `numfmt` with, in our
-# words, where both do the same.
+# Calls that GNU coreutils tests `numfmt` with, in our words, where both do the same: in each line of the file the words,
+# the input, the status and the output; and words with each of some texts in place of `{}`.
 NUMFMT_CASES = read("command/tests/numfmt_cases.txt")
+NUMFMT_WORDS = {
+    "--from=si --to=si 1{}": "ACDEFGHIJKLMNOPSTUVWXYZacdfhijlnoqsuvwx",
+    **dict.fromkeys(["--from=iec --to=iec 1{}", "--from=auto --to=iec 1{}i", "--from=iec-i --to=iec 1{}i"], "EGKMPTYZ"),
+    "--to=plain --from=si {}": "1K 4M 4Q 4MQ foo 12. 12.K 12.2Q 9.7M 200M 3G 500G 6T 70T 800T 9P 200P 3E".split(),
+    "--to=si {}": [*(10**power for power in range(20)), 0, 800, 999, 8000, 9900, 21 * 10**19],
+    "--to=iec {}": [0, 999, 1023, 1024, 2048],
+    "--field={} --to=si '1000 2000 3000 4000 5000'": "2,4 2-4 1,2,3-5 1-5 1-3,5 3- -3 1-2,4-5 4-5,1-2 1-3,2-4 2-4,1-3 "
+                                                     "1-1,3-3 -2,4- -2,-4 2-,4- 4-,2- 3,- -".split(),
+}  # fmt: skip
 
 
 def bare(written):
@@ -136,12 +145,20 @@ def bare(written):
     return re.sub(rb"\.0(?=[A-Z])|(?<=[KMGTPEZY])i| |B", b"", written)
 
 
+def by_both(program, words, data=b""):
+    """Returns status and output of both. `numfmt` has no `--blanks` and `--to=plain`: it does that without them."""
+    theirs = [word for word in words if word not in ("--blanks", "--to=plain")]
+    ours, other = ended(program, *words, input=data), ended("numfmt", *theirs, input=data, env={**os.environ, "LC_ALL": "C"})
+    spelled = bytes if "--to=plain" in words else bare
+    assert (other[0], spelled(other[1])) == (ours[0], spelled(ours[1]))
+    return ours[:2]
+
+
 @pytest.mark.parametrize("words, data, status, written", map(json.loads, NUMFMT_CASES.splitlines()))
 def test_case_of_numfmt(program, words, data, status, written):
-    """What both do: `numfmt` has no `--blanks` and `--to=plain`, which is what it does without them."""
-    words, data = shlex.split(words), data.encode()
-    assert ended(program, *words, input=data)[:2] == (status, written.encode())
-    theirs = [word for word in words if word not in ("--blanks", "--to=plain")]
-    got, wanted, _ = ended("numfmt", *theirs, input=data, env={**os.environ, "LC_ALL": "C"})
-    spelled = bytes if "--to=plain" in words else bare
-    assert (got, spelled(wanted)) == (status, spelled(written.encode()))
+    assert by_both(program, shlex.split(words), data.encode()) == (status, written.encode())
+
+
+@pytest.mark.parametrize("words", [words.format(text) for words, texts in NUMFMT_WORDS.items() for text in texts])
+def test_words_of_numfmt(program, words):
+    assert by_both(program, ["--blanks", *shlex.split(words)])[0] in (0, 2)

@@ -7,11 +7,11 @@ import re
 import shutil
 from pathlib import Path
 
-from .common import Failure, output, path, write
-from .needs import DEBIAN_PYTHON, DEBIAN_RUST, SERDE, is_there
+from .common import Failure, copy_to, output, path, write
+from .needs import COMPARED, DEBIAN_PYTHON, DEBIAN_RUST, SERDE, is_there
 
 # What the original, the package and their programs need, with the crates as Debian installs them.
-NEEDS = ["cargo", *(f"{DEBIAN_RUST}/{name}-*" for name in ("rust_decimal", "utf8-width")), *SERDE]
+NEEDS = ["cargo", *COMPARED, *SERDE]
 # The crates that Debian installs take the place of the registry.
 CONFIG = f"""[source.crates-io]
 replace-with = "debian"
@@ -38,28 +38,19 @@ def environment(**variables):
 
 
 def copied(binding, folder):
-    """Copies a binding, without what was built in it, and returns the copy's path."""
+    """Copies a binding, without what was built in it, and the C that two of them share. Returns the copy's path."""
     built = shutil.ignore_patterns("build", "*.egg-info", "__pycache__", "target", "Cargo.lock")
+    if binding in ("sqlite", "postgresql"):
+        copy_to(folder, "bindings/c/message.h")
     return str(shutil.copytree(path("bindings", binding), Path(folder).resolve() / "bindings" / binding, ignore=built))
 
 
-def wheel(package, library, folder, seconds=0, **variables):
-    """Builds the wheel of a copy of the binding for Python, with a library inside and without symbols, in a folder.
-
-    Its files have the time `seconds`. Returns its path."""
-    here = environment(BYTE_UNIT_LIBRARY_DIR=library, SOURCE_DATE_EPOCH=seconds, LDFLAGS="-s", **variables)
+def wheel(package, library, folder, **variables):
+    """Builds the wheel of a copy of the binding for Python, with a library inside, in a folder. Returns its path."""
+    here = environment(BYTE_UNIT_LIBRARY_DIR=library, LDFLAGS="-s", **variables)
     output(DEBIAN_PYTHON, "setup.py", "bdist_wheel", "-d", folder, cwd=package, env=here)
     (made,) = Path(folder).glob("*.whl")
     return made
-
-
-def library(given, work):
-    """Returns the folder of the C library, which is made if none is given."""
-    library = os.path.realpath(given or os.path.join(work, "library"))
-    if not given:
-        os.mkdir(library)
-        output(path("tools/make-libraries"), library)
-    return library
 
 
 def original(given, work):
@@ -75,6 +66,14 @@ def original(given, work):
         raise Failure(f"{given} has no src/lib.rs of the crate")
     shutil.copy(path("bindings/rust/checks/original.toml"), os.path.join(crate, "Cargo.toml"))
     return crate
+
+
+def programs(folder):
+    """Builds the programs by `cargo install` below a folder. Returns the folder that has them."""
+    write(f"{folder}/config.toml", CONFIG)
+    words = ["--path", path("bindings/programs"), "--root", folder, "--target-dir", f"{folder}/target"]
+    output("cargo", "install", *words, "--config", f"{folder}/config.toml", env=environment(CARGO_HOME=folder))
+    return Path(folder, "bin")
 
 
 def program(source, crate):

@@ -48,19 +48,14 @@ def call(*words, **more):
 
 
 def shown(*words, cwd):
-    """Runs a program, which ends with this one, and prints what it prints. Returns its status, and that as text."""
+    """Runs a program, and prints what it prints. Returns its status, and that as text."""
     how = {"stdin": subprocess.DEVNULL, "stdout": subprocess.PIPE, "stderr": subprocess.STDOUT, "errors": "replace"}
-    # In a session of its own, so that a signal below also ends what the program has started.
-    with subprocess.Popen(words, cwd=cwd, encoding="utf-8", start_new_session=True, **how) as process:
-        said = ""
-        try:
-            for line in process.stdout:
-                print(line, end="", flush=True)
-                said += line
-            return process.wait(), said
-        finally:
-            if process.poll() is None:
-                os.killpg(process.pid, signal.SIGTERM)
+    said = ""
+    with subprocess.Popen(words, cwd=cwd, encoding="utf-8", **how) as process:
+        for line in process.stdout:
+            print(line, end="", flush=True)
+            said += line
+    return process.returncode, said
 
 
 def output(*words, **more):

@@ -13,15 +13,14 @@ import types
 import unicodedata
 from pathlib import Path
 
-import hypothesis
 import pytest
-from hypothesis import strategies
 
-from . import foreign
-from .builds import CONFIG, copied, environment, wheel
+from . import debian
+from .builds import CONFIG, copied, environment, programs, wheel
 from .common import ROOT, Failure, call, copy_to, output, path, read, write
 from .libraries import AARCH64
-from .model.exact import output_for, some_line
+from .model.answers import parse
+from .model.exact import form, output_for, size_of, some_line
 from .needs import CARGO_PROGRAMS, DEBIAN_PYTHON, PACKAGES, PYTHON_PACKAGE, SERDE, is_there
 
 # The first cargo of the path, and Debian's.
@@ -125,12 +124,9 @@ def programs_by_cargo(tmp_path_factory):
     here = tmp_path_factory.getbasetemp()
     folder = (here.parent if "PYTEST_XDIST_WORKER" in os.environ else here) / "programs"
     folder.mkdir(exist_ok=True)
-    write(folder / "config.toml", CONFIG)
-    words = ["--path", path("bindings/programs"), "--root", folder, "--target-dir", folder / "target"]
     with open(folder / "lock", "w", encoding="utf-8") as lock:
         fcntl.flock(lock, fcntl.LOCK_EX)
-        output("cargo", "install", *words, "--config", folder / "config.toml", env=environment(CARGO_HOME=folder))
-    return folder / "bin"
+        return programs(folder)
 
 
 @pytest.fixture(scope="module")
@@ -173,23 +169,10 @@ def seed(request):
 @pytest.fixture(scope="session")
 def check_drawn(request, seed):
     """Checks that `wrong`, which returns what is wrong with a list, returns nothing for `count` values that `make`
-    draws, each from a `random.Random`. Else hypothesis finds a simplest list of `together` values for which it returns
-    something."""
-    def check(make, wrong, count=request.config.getoption("lines"), together=1):
+    draws, each from a `random.Random`."""
+    def check(make, wrong, count=request.config.getoption("lines")):
         found = wrong([make(random.Random(f"{seed} {at}")) for at in range(count)])
-        if not found:
-            return
-        values = strategies.randoms(use_true_random=False).map(make)
-
-        @hypothesis.seed(seed)
-        @hypothesis.settings(max_examples=count, deadline=None, database=None, report_multiple_bugs=False,
-                             suppress_health_check=list(hypothesis.HealthCheck))  # fmt: skip
-        @hypothesis.given(strategies.lists(values, min_size=together, max_size=together))
-        def is_right(values):
-            assert not wrong(values), wrong(values)
-
-        is_right()
-        pytest.fail(str(found))
+        assert not found, found
 
     return check
 
@@ -202,15 +185,48 @@ def printed(command, lines):
 
 @pytest.fixture(scope="session")
 def check_lines(check_drawn):
-    """Checks that a program prints, for drawn lines, what the exact model, or another program, does."""
-    def check(command, kind, other=None, **count):
+    """Checks that a program prints, for drawn lines, what the exact model does."""
+    def check(command, kind, **count):
         def wrong(lines):
             got = printed([*command, kind], lines)
-            wanted = printed([other, kind], lines) if other else [output_for(line, kind) for line in lines]
+            wanted = [output_for(line, kind) for line in lines]
             differing = [row for row in zip(lines, got, wanted) if row[1] != row[2]]
             return differing[:5] or len(got) != len(wanted) and f"{len(got)} of {len(wanted)} lines: {got[-1:]}"
 
         check_drawn(some_line, wrong, **count)
+
+    return check
+
+
+@pytest.fixture(scope="session")
+def runner_in_c(each_library, tmp_path_factory):
+    """The runner of the test vectors in C, with the library of each compiler."""
+    words = ["-std=gnu11", "-O2", "-Wall", "-Wextra", "-I", each_library, path("bindings/c/checks/vectors.c")]
+    return compiled("cc", tmp_path_factory.mktemp("runner") / "vectors", *words, f"{each_library}/libbyte_unit.a")
+
+
+@pytest.fixture(scope="session")
+def check_runner(check_drawn):
+    """Checks that a runner of the test vectors answers, for drawn lines, what the exact model does: the size and its
+    text with a unit, or the error. A line is not UTF-8 only if the runner reads `bytes_`."""
+    def check(command, kind, bytes_=True):
+        def rows(line):
+            size = size_of(line, kind)
+            is_text = getattr(size, "name", "") != "not text"
+            answer = parse(kind, "cased", line.decode()) if is_text else "NotUtf8"
+            if is_text or bytes_:
+                yield b'parse %s cased "%s' % (kind.encode(), line), answer
+            if answer[0].isdigit():
+                yield f"text {kind} {answer} {{:#}}".encode(), f'"{form(size, kind)}"'
+
+        def wrong(lines):
+            asked = [row for line in lines if b"\0" not in line for row in rows(line)]
+            status, written, _ = ended(*command, input=b"".join(record + b"\0" for record, _ in asked), stderr=None)
+            got = [*written.decode().split("\n")[:-1], *[f"status {status}"] * (status != 0)]
+            differing = [(*row, found) for row, found in zip(asked, got) if row[1] != found]
+            return differing[:5] or len(got) != len(asked) and got[-1:]
+
+        check_drawn(some_line, wrong)
 
     return check
 
@@ -267,16 +283,20 @@ def aarch64(request, tmp_path_factory):
 @pytest.fixture(scope="session")
 def python_aarch64(aarch64, tmp_path_factory):
     """The words that run Debian's Python for aarch64 with the package's wheel, and the path of the wheel."""
-    need(*PYTHON_PACKAGE, "apt-get", "dpkg-deb", "readelf")
+    need(*PYTHON_PACKAGE, "apt-get", "mmdebstrap", "unshare", "readelf")
     folder = tmp_path_factory.mktemp("python-aarch64")
+    root, minor = folder / "root", output(DEBIAN_PYTHON, "-c", "import sys; print(sys.version_info[1])").strip()
+    python = f"python3.{minor}"
     try:
-        root = foreign.unpacked(folder, program=True)
+        debian.make(root, [f"lib{python}-dev", f"{python}-minimal"], debian.AARCH64)
     except Failure as why:
         pytest.skip(str(why))
-    made = wheel(copied("python", folder), aarch64.folder, folder / "wheel", **foreign.variables(root))
+    how = {"CC": AARCH64_CC, "LDSHARED": f"{AARCH64_CC} -shared", "CFLAGS": f"-g0 -I{root}/usr/include",
+           "_PYTHON_HOST_PLATFORM": "linux-aarch64"}  # fmt: skip
+    made = wheel(copied("python", folder), aarch64.folder, folder / "wheel", **how)
     check_needs(made, folder / "package")
-    words = ["env", f"PYTHONPATH={folder}/package", *foreign.program(root)]
-    return types.SimpleNamespace(words=words, wheel=made, root=root)
+    words = ["env", f"PYTHONPATH={folder}/package", "qemu-aarch64", "-L", root, f"{root}/usr/bin/{python}"]
+    return types.SimpleNamespace(words=words, wheel=made)
 
 
 class Cargo:

@@ -12,14 +12,8 @@ such as /usr/local, but for what --without-sqlite and --without-command leave ou
     lib/libbyte_unit.a, .so         the library; the .so leads to that of the soname, and this to that of the version
     lib/pkgconfig/byte_unit.pc      for cc $(pkg-config --cflags --libs byte_unit)
     lib/sqlite3/byte_unit.so        the extension for SQLite, if sqlite3ext.h is installed
-    share/man/man3/byte_unit.3      the manual page, also by the name of each call
+    share/man/man3/byte_unit.3      the manual page, made of the header, also by the name of each call
     share/byte_unit/LICENSE, installed    the license, and the list of these files, which --uninstall reads
-
-With --libdir FOLDER, such as lib/x86_64-linux-gnu, the libraries go to that folder of PREFIX instead of lib.
-
-With --target aarch64-unknown-linux-gnu the library is that of this target, without the command and the extension; the
-shared library needs Debian's aarch64-linux-gnu-gcc. With --postgresql it also builds the extension for PostgreSQL, and
-puts it where pg_config, or the program that $PG_CONFIG names, says; with --uninstall it removes it from there.
 
 With the variable DESTDIR the files go to $DESTDIR/PREFIX, and name PREFIX: for packages. Without a C compiler ($CC, or
 cc) the shared library and the extension are left out, and a line says so. If something fails, or a signal comes before
@@ -31,11 +25,12 @@ import os
 import re
 import shlex
 import shutil
+import sys
 import tempfile
 from pathlib import Path
 
 from . import libraries
-from .common import Failure, path, read, reason, shown
+from .common import Failure, output, path, read, reason, shown
 from .libraries import ARCHIVE, EXTENSION, HEADER, functions
 from .replace import missing_folders, remove, remove_folders, replace
 
@@ -43,44 +38,28 @@ LIST = "share/byte_unit/installed"
 COMMAND = "byte-unit"
 
 
-def run(prefix, *, from_=None, libdir="lib", without_sqlite=False, without_command=False, postgresql=False, target="",
-        uninstall=False):  # fmt: skip
-    prefix, libdir = os.path.abspath(prefix), os.path.normpath(libdir)
-    if libdir.startswith(("/", "..")) or re.search(r'[\x00-\x1f"\\$#]', prefix + libdir):
-        why = 'a folder outside the prefix, a control character and " \\ $ # cannot be written in byte_unit.pc'
-        raise Failure(f"{prefix!r}, {libdir!r}: {why}")
+def run(prefix, *, from_="", without_sqlite=False, without_command=False, uninstall=False):
+    prefix = os.path.abspath(prefix)
+    if re.search(r'[\x00-\x1f"\\$#]', prefix):
+        raise Failure(f'{prefix!r}: a control character and " \\ $ # cannot be written in byte_unit.pc')
     root = Path(os.path.normpath(os.environ.get("DESTDIR", "") + prefix))
     if uninstall:
-        return remove_installed(root) or postgresql and extension(root, "uninstall")
+        return remove_installed(root)
     with tempfile.TemporaryDirectory() as folder:
         try:
-            if target and not from_:
-                libraries.build_for(target, Path(folder), False)
-            else:
-                build(Path(folder), from_, not without_command)
+            build(Path(folder), from_, not without_command)
             print(f"installing in {root}", flush=True)
-            files = files_of(Path(folder), prefix, [EXTENSION] * without_sqlite, libdir)
-            if postgresql:
-                extension(folder, "install")
+            files = files_of(Path(folder), prefix, [EXTENSION] * without_sqlite)
             put(root, files)
         except (Failure, OSError, KeyboardInterrupt) as error:
             raise Failure(f"nothing is installed: {reason(error)}") from error
-    folder = shlex.quote(os.path.join(prefix, libdir))
+    folder = shlex.quote(os.path.join(prefix, "lib"))
     print(f"installed {len(files) + 1} files")
     print(f"to compile: cc program.c $(PKG_CONFIG_PATH={folder}/pkgconfig pkg-config --cflags --libs byte_unit)")
-    if f"{libdir}/libbyte_unit.so" in files:
+    if "lib/libbyte_unit.so" in files:
         print(f"to run: `ldconfig` as root if the loader reads {folder}, else LD_LIBRARY_PATH={folder}")
-    if f"{libdir}/{EXTENSION}" in files:
+    if f"lib/{EXTENSION}" in files:
         print(f"in sqlite3: .load {folder}/sqlite3/byte_unit")
-
-
-def extension(library, action):
-    """Installs or removes the extension for PostgreSQL, with the library of a folder, from a copy of its sources."""
-    with tempfile.TemporaryDirectory() as folder:
-        copy = shutil.copytree(path("bindings/postgresql"), os.path.join(folder, "postgresql"))
-        words = [f"LIBRARY={library}", *[f"PG_CONFIG={os.environ.get('PG_CONFIG')}"] * ("PG_CONFIG" in os.environ)]
-        if shown("make", "-s", *words, action, cwd=copy)[0]:
-            raise Failure(f"make {action} of the extension for PostgreSQL failed: see above")
 
 
 def build(folder, source, with_command):
@@ -107,22 +86,23 @@ def calls_of(header):
     return sorted(name for name in functions(header) if not name.endswith("_to"))
 
 
-def files_of(folder, prefix, without, libdir="lib"):
+def files_of(folder, prefix, without):
     """Returns what to install: paths below PREFIX, each with its contents as bytes, or the path that it links to."""
     shared, soname, short = libraries.shared_names(folder)
     built = {f"include/{HEADER}": HEADER, f"bin/{COMMAND}": COMMAND,
-             **{f"{libdir}/{name}": name for name in (ARCHIVE, shared, EXTENSION) if name not in without}}  # fmt: skip
+             **{f"lib/{name}": name for name in (ARCHIVE, shared, EXTENSION) if name not in without}}  # fmt: skip
     files = {place: (folder / name).read_bytes() for place, name in built.items() if (folder / name).exists()}
-    others = {"share/byte_unit/LICENSE": "LICENSE", "share/man/man3/byte_unit.3": "bindings/c/byte_unit.3"}
+    manual = output(sys.executable, path("bindings/c/manual.py"), folder / HEADER)
+    files["share/man/man3/byte_unit.3"], others = manual.encode(), {"share/byte_unit/LICENSE": "LICENSE"}
     if f"bin/{COMMAND}" in files:
         others["share/man/man1/byte-unit.1"] = "command/byte-unit.1"
         others["share/bash-completion/completions/byte-unit"] = "command/byte-unit.bash"
     files.update({place: Path(path(name)).read_bytes() for place, name in others.items()})
-    config = read("bindings/c/byte_unit.pc.in").replace("@PREFIX@", prefix).replace("@LIBDIR@", libdir)
-    files[f"{libdir}/pkgconfig/byte_unit.pc"] = config.replace("@VERSION@", shared.partition(".so.")[2]).encode()
+    config = read("bindings/c/byte_unit.pc.in").replace("@PREFIX@", prefix)
+    files["lib/pkgconfig/byte_unit.pc"] = config.replace("@VERSION@", shared.partition(".so.")[2]).encode()
     files.update({f"share/man/man3/{call}.3": "byte_unit.3" for call in calls_of(read(folder / HEADER))})
-    if f"{libdir}/{shared}" in files:
-        files.update({f"{libdir}/{soname}": shared, f"{libdir}/{short}": soname})
+    if f"lib/{shared}" in files:
+        files.update({f"lib/{soname}": shared, f"lib/{short}": soname})
     return files
 
 

@@ -4,8 +4,7 @@ FOLDER then has libbyte_unit.a and byte_unit.h. If there is a C compiler ($CC, o
 link to libbyte_unit.so.VERSION, and sqlite3/byte_unit.so, the extension for SQLite, if sqlite3ext.h is installed. First
 `rt lib` proves the crate byte_unit_c. What `rt ci` alone has proved is proved again, which takes minutes: it leaves
 nothing that other commands of `rt` read. With --after-ci, as in the gate, uses the libraries that `rt ci` has built,
-and does not see what has changed since. With --link proves nothing, and links what is in FOLDER: libbyte_unit.a, with
-byte_unit.h beside it.
+and does not see what has changed since.
 
 With --cargo, and wherever the toolchain (rt) is missing, proves nothing: cargo builds the archive, offline, from the
 proved sources as they are rendered in Rust (bindings/c/src/rendered).
@@ -14,11 +13,8 @@ With --target, the crate byte_unit_c is proved for another target, over the same
 in crates/byte_unit_c/out/targets, and the next takes it. For wasm64-unknown-unknown, FOLDER then has byte_unit.wasm
 alone, which bindings/js needs; for aarch64-unknown-linux-gnu the archive and the header, and the shared library if
 Debian's aarch64-linux-gnu-gcc is there.
-
-`tools/dev make-dist` builds the command byte-unit by this module, too.
 """
 
-import argparse
 import fcntl
 import os
 import re
@@ -35,20 +31,16 @@ WASM, AARCH64 = "wasm64-unknown-unknown", "aarch64-unknown-linux-gnu"
 MODULE = "byte_unit.wasm"
 
 
-def existing(folder):
-    """Returns the path of a folder that an argument names. argparse rejects the argument if there is none."""
-    if not os.path.isdir(folder):
-        raise argparse.ArgumentTypeError(f"{folder!r} is no folder")
-    return Path(folder).resolve()
-
-
-def run(folder: existing, *, after_ci=False, link=False, cargo=False, target=""):
+def run(folder, *, after_ci=False, cargo=False, target=""):
+    folder = Path(folder).resolve()
+    if not folder.is_dir():
+        raise Failure(f"{folder} is no folder")
     if target:
         build_for(target, folder, after_ci)
         return
     if cargo:
         build_by_cargo(folder)
-    elif not link:
+    else:
         build(folder, after_ci)
     link_in(folder)
 
@@ -71,13 +63,14 @@ def build_for(target, folder, after_ci):
     link_shared(folder, "aarch64-linux-gnu-gcc")
 
 
-def proved(*words, crate="byte_unit_c"):
-    """Runs a call that proves a crate, and fails if it does not say so. Calls of several processes follow one another,
-    since they keep what they prove in one folder."""
-    Path(path("crates", crate, "out")).mkdir(exist_ok=True)
-    with open(path("crates", crate, "out/proving"), "w", encoding="utf-8") as file:
+def proved(*words):
+    """Runs a call that proves byte_unit_c, and fails if it does not say so. Calls of several processes follow one
+    another, since they keep what they prove in one folder."""
+    crate = Path(path("crates/byte_unit_c"))
+    (crate / "out").mkdir(exist_ok=True)
+    with open(crate / "out/proving", "w", encoding="utf-8") as file:
         fcntl.flock(file, fcntl.LOCK_EX)
-        status, said = shown(*words, cwd=path("crates", crate))
+        status, said = shown(*words, cwd=crate)
     if status or not re.search("^logic=proved ", said, re.M):
         raise Failure(f"status {status}, or no line that begins with logic=proved: see above")
 
@@ -113,37 +106,18 @@ def build(folder, after_ci=False):
 def words_after_ci(archive, *target):
     """Returns the call that `rt lib` makes, with the libraries that `rt ci` built of its dependencies. It keeps what it
     proves, and the call for another target takes that, and proves only what differs."""
-    kept = Path(path("crates/byte_unit_c/out/targets"))
+    kept, kit = Path(path("crates/byte_unit_c/out/targets")), kit_folder()
     kept.mkdir(parents=True, exist_ok=True)
-    how = ["--crate-type", "staticlib", "--incremental", kept, *target]
-    return words_to_build("byte_unit_c", "src/lib.rt", archive, *how)
-
-
-def words_to_build(crate, root, out, *how):
-    """Returns the call that proves and builds a crate, with the libraries that were built of its dependencies."""
-    kit = kit_folder()
-    words = [f"{kit}/bin/rattle", "build", root, "--crate-name", crate, "--links", f"{crate}=", "--jobs", "2", *how,
-             "--toolchain", f"{kit}/toolchain", "-o", out, "--antt-project", f"{kit}/rattle/logic/antt-project.json",
+    words = [f"{kit}/bin/rattle", "build", "src/lib.rt", "--crate-name", "byte_unit_c", "--links", "byte_unit_c=",
+             "--jobs", "2", "--crate-type", "staticlib", "--incremental", kept, *target,
+             "--toolchain", f"{kit}/toolchain", "-o", archive, "--antt-project", f"{kit}/rattle/logic/antt-project.json",
              "--logic-built", f"{kit}/logic_built"]  # fmt: skip
-    own = {name: path("crates", name, "out/rlib") for name in below([crate]) if name != crate}
-    for name in ["std", *crates()[crate]]:
+    own = {name: path("crates", name, "out/rlib") for name in below(["byte_unit_c"]) if name != "byte_unit_c"}
+    for name in ["std", *crates()["byte_unit_c"]]:
         words += ["--extern", f"{name}={own.get(name, f'{kit}/rlibs')}/{name}.rlib"]
     for folder in [f"{kit}/rlibs", *own.values()]:
         words += ["-L", f"dependency={folder}"]
     return words
-
-
-def build_command(place, after_ci=False):
-    """Proves byte_unit_cli, and builds the command byte-unit for every x86-64 processor."""
-    if not after_ci:
-        print("proving byte_unit_cli, which takes minutes if it is not proved yet", flush=True)
-        if shown("rt", "check", cwd=path("crates/byte_unit_cli"))[0]:
-            raise Failure("rt check in crates/byte_unit_cli failed: see above")
-    kit, made = kit_folder(), f"{place}.o"
-    proved(*words_to_build("byte_unit_cli", "src/main.rt", made, "--cpu", CPU), crate="byte_unit_cli")
-    words = ["--target", "x86_64-unknown-linux-gnu", "--toolchain", f"{kit}/toolchain", "-o", place, made]
-    output(f"{kit}/bin/rattle-link", *words, f"{kit}/c/libos_c.a", f"{kit}/c/liblibc_c.a")
-    os.remove(made)
 
 
 def shared_names(folder):

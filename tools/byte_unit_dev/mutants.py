@@ -1,59 +1,71 @@
 """Lists, tries and places mutants: wrong edits of functions, which the prover has to reject; and proves their controls.
 
-    tools/dev mutants [list [CRATE..]]        the public functions that no mutant names, and what has no control
-    tools/dev mutants try [K/N] [CRATE..]     tries the catalogues' mutants, or a part of them, on a copy of the crates
-    tools/dev mutants controls [CRATE..]      proves the controls of must-fail/ on a copy of the crates, with their out/
-    tools/dev mutants put K/N                 copies a part of them to must-fail/, where `rt ci` tries them
+    tools/dev mutants [list [CRATE..]]        finds public functions without a mutant, and mutants that do not fit
+    tools/dev mutants try [K/N] [CRATE..]     tries the mutants, of the catalogues all or a part of them
+    tools/dev mutants controls [CRATE..]      proves the controls
+    tools/dev mutants put K/N                 copies a part of the catalogues to must-fail/, where `rt ci` tries it
     tools/dev mutants remove                  deletes these copies, which git ignores
 
-A mutant is a file crates/CRATE/must-fail/TITLE.edit, or a line `== TITLE` of the catalogue crates/CRATE/mutants.edits,
-which begins with comments, and the lines of an edit for `rt must-fail` after it. Those of byte_unit_bit are rendered
-from all of byte_unit_byte when they are tried.
+A mutant is an edit for `rt must-fail`. Each run of the gate tries the files crates/CRATE/must-fail/TITLE.edit, and a
+part of the catalogues crates/CRATE/mutants.edits, which have the others, each after a line `== TITLE`. The catalogue of
+byte_unit_bit is rendered from all mutants of byte_unit_byte when it is tried.
 
 A mutant may be rejected for its form alone: because a name that a proof cites is gone, or a proof no longer fits. So
 each one of must-fail/ has a control: after each line `new: TEXT` a line `control: TEXT`, which `rt` passes over, with
-right code in the same place and the same form. It has to be proved without a change of any proof.
+right code in the same place and the same form. It has to be proved without a change of any proof. Each check begins
+with what `rt check` of the crate has kept in out/, or from nothing.
 
-A title is `module.function.what`: the function whose contract rejects
-it, and what it does wrong. `module` is the file of the function or a folder that this file is in; of several the one
-with the shortest path is meant. A function is public if it has `pub` and a contract and the crate exports it: it is
-`extern "C"`, or in a `pub mod`, or it or the type of its `impl` is in a `pub use`; in a program each one with `pub` is.
-Laws, rendered files and crates of examples and tests are left out. Parts 1/N to N/N are pieces of the list of all
-mutants, crate by crate: `rt ci` proves each crate with mutants once more, so a part has those of one crate or a few.
-The exit status is 0 if nothing is found, and each mutant is rejected or each control proved.
+A title is `module.function.what`: the function whose contract rejects the mutant, and what it does wrong. `module` is
+the file of the function or a folder that this file is in; of several the one with the shortest path is meant. A
+function is public if it has `pub` and a contract and the crate exports it: it is `extern "C"`, or in a `pub mod`, or
+it or the type of its `impl` is in a `pub use`; in a program each one with `pub` is. Laws, rendered files and crates of
+examples and tests are left out. Parts 1/N to N/N are pieces of the list of all catalogues, crate by crate: `rt ci`
+proves each crate with mutants once more, so a part has those of one crate or a few.
 """
 
 import argparse
 import glob
 import os
 import re
-import tempfile
 from pathlib import Path
 
-from .common import Failure, copy_to, path, read, report, shown, write
+from .common import Failure, path, read, report, shown, write
 from .render import bits
 from .replace import remove_folders
-from .source import EXAMPLES, catalogue, files, public_names, source
+from .source import EXAMPLES, files, public_names, source
 
-# What the names of the mutants begin with that `put` copies.
-BY_TURN = "by-turn."
+# What the names of the copies begin with.
+COPY = "by-turn."
 # In `Source.code`, a string such as that of `extern "C"` is spaces.
 FUNCTION = re.compile(r'^ *pub (extern     )?fn (\w+)', re.M)
 IMPL = re.compile(r"^impl(?:<[^>]*>)? (\w+)", re.M)
-# The file of a mutant, and each replacement in it: what is old, what is new, and what the control has there.
-EDITED = re.compile(r"^file: (\S+)$", re.M)
-REPLACED = re.compile(r"^old: (.*)\nnew:.*$(?:\ncontrol: ?(.*)$)?", re.M)
-
-
-def catalogue_of(crate):
-    """Returns the mutants of a crate's catalogue by title, in order."""
-    return bits.mutants() if crate == bits.CRATE else catalogue(crate)
+# A replacement of a mutant: what is old, what is new, and what the control has there.
+REPLACED = re.compile(r"^old: (.*)\nnew: ?(.*)$(?:\ncontrol: ?(.*)$)?", re.M)
 
 
 def in_every_run(crate):
-    """Returns the mutants of a crate's must-fail/ by title, in order, without those whose turn it is."""
+    """Returns the mutants of a crate's must-fail/ by title, without the copies."""
     found = sorted(Path(name) for name in glob.glob(path("crates", crate, "must-fail/*.edit")))
-    return {file.stem: read(file) for file in found if not file.name.startswith(BY_TURN)}
+    return {file.stem: read(file) for file in found if not file.name.startswith(COPY)}
+
+
+def by_turns(crate):
+    """Returns the mutants of a crate's catalogue by title, in order."""
+    if crate == bits.CRATE:
+        made = "byte_unit_byte"
+        return dict(bits.mutant(*found) for found in [*in_every_run(made).items(), *by_turns(made).items()])
+    name = path("crates", crate, "mutants.edits")
+    edits = re.split("^== ", read(name), flags=re.M)[1:] if os.path.exists(name) else []
+    found = dict(edit.rstrip("\n").split("\n", 1) for edit in edits)
+    if len(found) < len(edits):
+        raise Failure(f"{name}: two mutants have one title")
+    return found
+
+
+def with_mutants():
+    """Returns the names of the crates that have mutants."""
+    found = [name for form in ("mutants.edits", "must-fail/*.edit") for name in glob.glob(path("crates/*", form))]
+    return sorted({os.path.relpath(name, path("crates")).split("/")[0] for name in found} | {bits.CRATE})
 
 
 def public_functions(crate):
@@ -74,107 +86,65 @@ def public_functions(crate):
     return found
 
 
+def misfits(crate, title, text, has_control):
+    """Yields what is wrong with the form of a mutant."""
+    name = path("crates", crate, text.partition("\n")[0].removeprefix("file: "))
+    edited = read(name) if os.path.isfile(name) else ""
+    if title.count(".") != 2:
+        yield f"{crate}: {title}: not module.function.what"
+    for old, new, control in REPLACED.findall(text) or [(text, "", "")]:
+        if edited.count(old) != 1:
+            yield f"{crate}: {title}: this is not in its file exactly once: {old}"
+        if has_control and not control:
+            yield f"{crate}: {title}: no control"
+        edited = edited.replace(old, new)
+
+
 def listed(crates):
-    """Reports titles of a wrong form, mutants without a control that need one, and functions without a mutant."""
+    """Reports the mutants that do not fit, and the public functions without a mutant."""
     wrong, total = [], 0
     for crate in crates:
-        edits = in_every_run(crate)
-        titles = sorted([*catalogue_of(crate), *edits])
-        functions = public_functions(crate)
-        wrong += [f"{crate}: {title}: no control" for title, text in edits.items()
-                  if not all(control for _, control in REPLACED.findall(text) or [("", "")])]
-        wrong += [f"{crate}: {title}: not module.function.what" for title in titles if title.count(".") != 2]
-        named = []
-        for module, function in (title.split(".")[:2] for title in titles if "." in title):
+        edits, functions, named = in_every_run(crate), public_functions(crate), []
+        for title, text in {**by_turns(crate), **edits}.items():
+            wrong += misfits(crate, title, text, title in edits)
+            module, function = [*title.split("."), ""][:2]
             same = [entry for entry in functions if entry[1] == function and module in entry[0]]
             named += sorted(same, key=lambda entry: (entry[0][-1] != module, len(entry[0])))[:1]
-        wrong += [f"{crate}: {'.'.join(entry[0])}: {entry[1]}: no mutant" for entry in functions if entry not in named]
-        total += len(functions)
+        if not EXAMPLES.fullmatch(crate):
+            wrong += [f"{crate}: {'.'.join(entry[0])}: {entry[1]}: no mutant"
+                      for entry in functions if entry not in named]
+            total += len(functions)
     return report(wrong, f"mutants: {total} public functions, each with a mutant")
 
 
-def put(crates, part, folder, prefix=""):
-    """Writes a part of the mutants of the crates' catalogues to must-fail/ of each crate in a folder, and returns the
-    names of their files, as `CRATE/FILE`."""
-    every = [(crate, *mutant) for crate in crates for mutant in catalogue_of(crate).items()]
+def put(crates, part):
+    """Copies a part of the catalogues to must-fail/, and returns the names of its crates."""
+    every = [(crate, *mutant) for crate in crates for mutant in by_turns(crate).items()]
     number, parts = part
     chosen = every[len(every) * (number - 1) // parts : len(every) * number // parts]
     for crate, title, text in chosen:
-        write(os.path.join(folder, crate, "must-fail", f"{prefix}{title}.edit"), text)
-    return [f"{crate}/{prefix}{title}.edit" for crate, title, _ in chosen]
-
-
-def tried(crates, part):
-    """Runs a part of the mutants, and reports those that the prover accepts."""
-    with tempfile.TemporaryDirectory() as copy:
-        copy_to(copy, "crates", "HANDLES", "crates.txt", without=["must-fail"])
-        names = put(crates, part, f"{copy}/crates")
-        status, said = shown("rt", "must-fail", *crates, cwd=copy)
-    survived = [name for name in names if f"must-fail {name}: NOT REFUSED" in said]
-    rejected = [name for name in names if f"must-fail {name}: refused, as it must be" in said]
-    untried = sorted({*names} - {*survived, *rejected})
-    print(f"mutants: {len(names) - len(untried)} tried, {len(survived)} survived", *survived)
-    if untried:
-        print(f"mutants: {len(untried)} could not be tried:", *untried)
-    return 1 if survived or untried or status else 0
-
-
-def rounds(edits):
-    """Yields mutants by title in groups, each of which changes no place twice."""
-    left = edits
-    while left:
-        places, chosen = set(), {}
-        for title, text in left.items():
-            found = {(EDITED.search(text)[1], old) for old, _ in REPLACED.findall(text)}
-            if not found & places:
-                places |= found
-                chosen[title] = text
-        yield chosen
-        left = {title: text for title, text in left.items() if title not in chosen}
-
-
-def controlled(crate, chosen):
-    """Returns by name the files of a crate that mutants change, with their controls in the place of what is old."""
-    changed = {}
-    for title, text in chosen.items():
-        name = f"crates/{crate}/{EDITED.search(text)[1]}"
-        for old, control in REPLACED.findall(text):
-            file = changed.setdefault(name, read(name))
-            if file.count(old) != 1:
-                raise Failure(f"{crate}: {title}: this is not in its file exactly once: {old}")
-            changed[name] = file.replace(old, control)
-    return changed
+        write(path("crates", crate, "must-fail", f"{COPY}{title}.edit"), text + "\n")
+    print(f"{len(chosen)} mutants of the catalogues for rt")
+    return sorted({crate for crate, *_ in chosen})
 
 
 def proved(crates):
-    """Proves the controls of the mutants in must-fail/, those of different places at once, and reports the others."""
-    wrong, total = [], 0
-    with tempfile.TemporaryDirectory() as copy:
-        copy_to(copy, "crates", "HANDLES", "crates.txt", without=["must-fail"])
-        for crate in crates:
-            for chosen in rounds(in_every_run(crate)):
-                changed = controlled(crate, chosen)
-                for name, text in changed.items():
-                    write(os.path.join(copy, name), text)
-                status, _ = shown("rt", "check", cwd=os.path.join(copy, "crates", crate))
-                for name in changed:
-                    write(os.path.join(copy, name), read(name))
-                total += len(chosen)
-                wrong += [f"mutants: {crate}: not proved with the controls of {', '.join(chosen)}"] if status else []
-    return report(wrong, f"mutants: {total} controls proved")
+    """Proves the controls, each in the place of its mutant, and reports the others."""
+    controls = {(crate, title): text for crate in crates for title, text in in_every_run(crate).items()}
+    for (crate, title), text in controls.items():
+        control = re.sub(r"^new:.*\ncontrol:", "new:", text, flags=re.M)
+        write(path("crates", crate, "must-fail", f"{COPY}{title}.edit"), control)
+    _, said = shown("rt", "must-fail", *sorted({crate for crate, _ in controls}), cwd=path())
+    wrong = [f"mutants: {crate}: the control of {title} is not proved" for crate, title in controls
+             if f"must-fail {crate}/{COPY}{title}.edit: NOT REFUSED" not in said]
+    return report(wrong, f"mutants: {len(controls)} controls proved")
 
 
 def remove():
-    """Deletes the copies that `put` made, and the folders that are empty then."""
-    for name in glob.glob(path(f"crates/*/must-fail/{BY_TURN}*")):
+    """Deletes the copies, and the folders that are empty then."""
+    for name in glob.glob(path(f"crates/*/must-fail/{COPY}*")):
         os.remove(name)
     remove_folders(map(Path, glob.glob(path("crates/*/must-fail"))))
-
-
-def with_mutants():
-    """Returns the names of the crates that have mutants."""
-    found = [name for form in ("mutants.edits", "must-fail/*.edit") for name in glob.glob(path(f"crates/*/{form}"))]
-    return sorted({os.path.relpath(name, path("crates")).split("/")[0] for name in found} | {bits.CRATE})
 
 
 def part_or_crate(word):
@@ -191,11 +161,13 @@ def run(action: ("list", "try", "controls", "put", "remove") = "list", *words: p
     crates, parts = ([word for word in words if isinstance(word, kind)] for kind in (str, tuple))
     crates, part = crates or with_mutants(), [*parts, (1, 1)][0]
     if action == "list":
-        return listed([name for name in crates if not EXAMPLES.fullmatch(name)])
-    if action == "try":
-        return tried(crates, part)
-    if action == "controls":
-        return proved(crates)
+        return listed(crates)
     remove()
-    if action == "put":
-        print(f"{len(put(crates, part, path('crates'), BY_TURN))} mutants of the catalogues for rt ci")
+    try:
+        if action == "controls":
+            return proved(crates)
+        chosen = put(crates, part) if action != "remove" else []
+        return shown("rt", "must-fail", *chosen, cwd=path())[0] if action == "try" and chosen else 0
+    finally:
+        if action != "put":
+            remove()

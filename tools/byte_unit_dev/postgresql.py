@@ -8,8 +8,8 @@ import socket
 import tempfile
 from pathlib import Path
 
-from .builds import environment
-from .common import output, path
+from .builds import copied, environment
+from .common import output
 from .needs import POSTGRESQL_15
 
 
@@ -21,7 +21,7 @@ class Server:
         for place in ("lib", "share"):
             shutil.copytree(f"/usr/{place}/postgresql/15", folder / f"usr/{place}/postgresql/15", symlinks=True)
         self.bin = folder / "usr/lib/postgresql/15/bin"
-        self.extension = Path(shutil.copytree(path("bindings/postgresql"), folder / "extension"))
+        self.extension = copied("postgresql", folder)
         self.make("all", f"PG_CONFIG={POSTGRESQL_15}/bin/pg_config")
         self.make("install")
         # A port that is free now.
@@ -49,16 +49,9 @@ class Server:
     def make(self, *words):
         """Calls make for the extension, with the server if it runs, and returns its output. A word such as PG_CONFIG,
         by which make finds the folders to install in, replaces the one here."""
-        words = [
-            "make",
-            "-s",
-            "-C",
-            self.extension,
-            f"PG_CONFIG={self.bin}/pg_config",
-            f"LIBRARY={self.library}",
-            *words,
-        ]
-        return output(*words, env=environment(PGHOST="127.0.0.1", PGPORT=getattr(self, "port", ""), PGUSER="tester"))
+        words = ["-C", self.extension, f"PG_CONFIG={self.bin}/pg_config", f"LIBRARY={self.library}", *words]
+        here = environment(PGHOST="127.0.0.1", PGPORT=getattr(self, "port", ""), PGUSER="tester")
+        return output("make", "-s", *words, env=here)
 
     def by_user(self, *words, **more):
         """Runs a program as the user of the server, and returns its output."""
@@ -78,11 +71,9 @@ class Server:
 @contextlib.contextmanager
 def running(library):
     """Yields a Server, which ends with its folder."""
-    folder, server = Path(tempfile.mkdtemp(prefix="byte-unit-postgresql-")), None
-    try:
-        server = Server(folder, os.path.realpath(library))
-        yield server
-    finally:
-        if server:
+    with tempfile.TemporaryDirectory(prefix="byte-unit-postgresql-", ignore_cleanup_errors=True) as folder:
+        server = Server(Path(folder), os.path.realpath(library))
+        try:
+            yield server
+        finally:
             server.stop()
-        shutil.rmtree(folder, ignore_errors=True)

@@ -1,16 +1,10 @@
-"""Replaces many files: all of them, or none if one cannot be written or a signal comes."""
+"""Replaces many files: none of them if one cannot be written or a signal comes before all are."""
 
 import contextlib
 import os
-import shutil
 import signal
 
 from .common import Failure, on_signals
-
-
-def beside(place, ending):
-    """Returns the path of a hidden file beside another, for its old or new contents until all files are replaced."""
-    return place.with_name(f".{place.name}.{ending}")
 
 
 def missing_folders(places):
@@ -40,8 +34,6 @@ def write(place, content, mode):
     try:
         with open(place, "xb") as file:
             file.write(content)
-            file.flush()
-            os.fsync(file.fileno())
         place.chmod(mode)
     except OSError as error:  # an error of a write has no name
         error.filename = place
@@ -51,34 +43,23 @@ def write(place, content, mode):
 def replace(files, modes):
     """Writes files, each a path with its bytes or the path that it links to, and removes those that have None.
 
-    Writes all, and saves what is there, beside the places first. After the last rename no signal stops this program."""
-    made, done = missing_folders(files), []
-    hidden = [beside(place, ending) for place in files for ending in ("new", "old")]
+    Writes all beside their places first. From the first rename on no signal stops this program."""
+    new = {place: place.with_name(f".{place.name}.new") for place, content in files.items() if content is not None}
+    made, is_written = missing_folders(new), False
     try:
         for folder in made:
             folder.mkdir()
-        remove(hidden)
-        for place, content in files.items():
+        remove(new.values())
+        for place, hidden in new.items():
             if place.is_dir():
                 raise Failure(f"{place} is a folder")
-            if os.path.lexists(place):
-                shutil.copy2(place, beside(place, "old"), follow_symlinks=False)
-            if content is not None:
-                write(beside(place, "new"), content, modes.get(place, 0o644))
-        for place, content in files.items():
-            done.append(place)
-            if content is None:
-                os.remove(place)
-            else:
-                os.replace(beside(place, "new"), place)
+            write(hidden, files[place], modes.get(place, 0o644))
         on_signals(signal.SIG_IGN)
-        done.clear()
+        is_written = True
     finally:
-        on_signals(signal.SIG_IGN)
-        for place in done:
-            if os.path.lexists(beside(place, "old")):
-                os.replace(beside(place, "old"), place)
-            else:
-                remove([place])
-        remove(hidden)
-        remove_folders(made)
+        if not is_written:
+            remove(new.values())
+            remove_folders(made)
+    for place, hidden in new.items():
+        os.replace(hidden, place)
+    remove(place for place in files if place not in new)

@@ -1,6 +1,6 @@
 """Reads the sources of the crates: `Source` is a file of Rattle, and `Spec` a file of definitions (`.antt`).
 
-It also has the crates that each one uses, and copies them; the names that a crate exports; and its mutants' catalogue.
+It also has the crates that each one uses, and copies them, and the names that a crate exports.
 """
 
 import functools
@@ -24,6 +24,8 @@ COMMENT = r"((?:^--(?: .*)?\n)*)"
 DEFINITION = re.compile(rf"{COMMENT}^(?:[a-z]+ )?pub (?!mod |use )(?:[a-z]+ )?([^\s:(){{}}]+)", re.M)
 # The crates of examples and tests.
 EXAMPLES = re.compile(r"example_\w+|byte_unit_uses|byte_unit_vectors|byte_unit_tests")
+# A block of code in a page, with the comment before it that names its source.
+SHOWN = re.compile(r"(?ms)^((?:<!-- from ([^\s:]+)(?:: ([^\n]+))? -->\n)?```(\w+)\n)(.*?)^```$")
 # Parts of a file that are all its lines of a form.
 LINES = {"imports": r"^(?:ghost |pub )?use\b[^;]*;$", "attributes": r"^#!\[.*\]$"}
 
@@ -152,10 +154,10 @@ class Source:
         """Returns where the doc comment of an item, such as `fn cell`, or `fn Log::write` in an `impl`, starts, where
         its attributes start, and where it ends."""
         kind, _, name = words.partition(" ")
-        owner, _, name = name.rpartition("::")
+        owner, _, name = ("", "", name) if kind.startswith("impl") else name.rpartition("::")
         heads = re.finditer(rf"^impl\b[^{{;]*\b{owner}\b[^{{;]*(?={{)", self.code, re.M)
         within = [(head.start(), self.closing(head.end())) for head in heads] if owner else [(0, len(self.code))]
-        pattern = re.compile(rf"^ *(?:pub(?:\(\w+\))? )?{kind} {name}\b", re.M)
+        pattern = re.compile(rf"^ *(?:pub(?:\(\w+\))? )?{kind} {name}(?!\w)", re.M)
         places = [found.start() for start, end in within for found in pattern.finditer(self.code, start, end)]
         if len(places) != 1:
             raise Failure(f"{self.name}: {len(places)} items are `{words}`, not one")
@@ -166,6 +168,16 @@ class Source:
         """Returns the doc comment of an item, named as for `item`, or else of the module, without its marks."""
         doc, start, _ = self.item(words) if words else (0, len(self.text), 0)
         return "".join(re.findall(r"^ */// ?(.*\n)" if words else r"^//! ?(.*\n)", self.text[doc:start], re.M))
+
+    def imports_for(self, code):
+        """Returns the `use` and `ghost use` lines of the file with those of their names that this code uses."""
+        made, clauses = [], re.sub(r"^( *)\{\n.*?^\1\}$", "", code, flags=re.M | re.S)
+        for line in map(line_of, re.findall(LINES["imports"], self.text, re.M)):
+            start, names = re.fullmatch(r"(.*[:.])(\{.*\}|\w+);", line).groups()
+            near = clauses if line.startswith("ghost") else code
+            names = [name for name in re.split(", *", names.strip("{ },")) if has_word(near, name.split(" as ")[-1])]
+            made += use_line(start, names)
+        return made
 
     def part(self, words):
         """Returns a part of the file, in the words that `guide` of render/pages.py lists."""
@@ -179,9 +191,42 @@ class Source:
             text = textwrap.dedent(self.text[start:end])
         if kind == "body":
             text = "".join(re.findall(r"^(?:\S.* )?\{\n(.*)^\}", text, re.M | re.S))
+        elif kind == "fn" and "::" in rest:
+            text = f"impl {rest.rpartition('::')[0]} {{\n{textwrap.indent(text, ' ' * 4)}\n}}\n"
         if not text:
             raise Failure(f"{self.name}: nothing is in `{words}`")
         return textwrap.dedent(text).rstrip() + "\n"
+
+
+def use_line(start, names):
+    """Returns in a list the line that imports names, unless there are none."""
+    many = names[1:] or start.startswith("ghost")
+    return [f"{start}{{{', '.join(names)}}};" if many else f"{start}{names[0]};"] if names else []
+
+
+def has_word(code, name):
+    """Tells whether code uses an imported name: a word, a trait by its method, or an operator such as `◌≤◌`."""
+    if name.isidentifier():
+        return re.search(rf"\b{name}\b|\.{name.lower()}\(", code)
+    return all(re.search(rf"[\s(]{re.escape(word)}[\s)]", code) for word in name.replace("◌", " ").split())
+
+
+def beside(name, code):
+    """Returns the definitions and proofs that a part of a file needs, by their places in the file's crate."""
+    crate, _, module = name.removeprefix("crates/").removesuffix(".rt").partition("/src/")
+    top, scope = f"crates/{crate}", "" if module in ("lib", "main") else f"{module}/"
+    functions, waiting, found = re.findall(r"\bfn (\w+)", code), [code], []
+    for file in files(f"{top}/proofs/{scope}".rstrip("/"), ".antt"):
+        if file.split("/")[-2] in functions:
+            found.append(file.removeprefix(f"{top}/"))
+            waiting.append(read(file))
+    while waiting:
+        for kind, module in re.findall(rf"Rattle\.{crate}\.(specs|proofs)\.(\w+)\.\{{", waiting.pop()):
+            file = f"{kind}/{module}.antt"
+            if file not in found and os.path.exists(path(top, file)):
+                found.append(file)
+                waiting.append(read(f"{top}/{file}"))
+    return sorted(found)
 
 
 def imports_of(text):
@@ -286,9 +331,9 @@ def closure(found, without=()):
     return reached
 
 
-def exports(crate, module="lib"):
-    """Returns the files that define what a module exports from elsewhere but std, by name, in its order."""
-    file, found = source(f"crates/{crate}/src/{module}.rt"), {}
+def exports(crate):
+    """Returns the files that define what a crate exports from elsewhere but std, by name, in its order."""
+    file, found = source(f"crates/{crate}/src/lib.rt"), {}
     for use in re.finditer(r"pub use (\w+)::(?:\w+::)*(?:\{([^}]*)\}|(\w+));", file.plain):
         for name in re.findall(r"\w+", use[2] or use[3]) if use[1] != "std" else []:
             homes = [home for home in sources(use[1] if use[1] in crates() else crate)
@@ -305,16 +350,3 @@ def public_names(crate):
     text = source(f"crates/{crate}/src/lib.rt").plain
     used = " ".join(re.findall(r"^pub use [\w:]+::(\{[^}]*\}|\w+);", text, re.M))
     return set(re.findall(r"^pub mod (\w+);", text, re.M)), set(re.findall(r"\w+", used))
-
-
-def catalogue(crate):
-    """Returns the mutants that the catalogue of a crate has, by title, in order."""
-    name = f"crates/{crate}/mutants.edits"
-    head, *edits = re.split("^== ", read(name) if os.path.exists(path(name)) else "", flags=re.M)
-    pairs = [re.sub(r"\n{2,}", "\n", edit).split("\n", 1) for edit in edits]
-    titles = [title for title, _ in pairs]
-    wrong = [line for line in head.splitlines() if line and not line.startswith("#")]
-    wrong += [title for title in titles if titles.count(title) > 1 or not re.fullmatch("[^/]+", title)]
-    if wrong:
-        raise Failure(f"{name}: a second title, or no file name, or no comment before the first title: {wrong[0]}")
-    return dict(pairs)

@@ -21,8 +21,7 @@ PARTS = {
     **{part: f"bindings/{part}/test_{part}.py" for part in ("python", "rust", "sqlite", "postgresql")},
     "js": "bindings/js", "vectors": "vectors", "agreement": "bindings/test_agreement.py",
     "command": "command/tests", "programs": "bindings/programs/test_programs.py",
-    **{part: f"tools/tests/test_{part}.py" for part in ("scale", "memory", "limits", "take")},
-    "dist": "tools/tests/dist",
+    **{part: f"tools/tests/test_{part}.py" for part in ("scale", "memory", "limits", "take", "clone")},
 }
 
 
@@ -35,13 +34,13 @@ def run(*words, after_ci=False, lines=4000, seed=1):
     os.chdir(ROOT)
     # The Python that runs this may be another than Debian's, for which pytest is installed.
     for python in filter(shutil.which, (sys.executable, DEBIAN_PYTHON)):
-        if call(python, "-c", "import pytest, hypothesis").returncode == 0:
+        if call(python, "-c", "import pytest").returncode == 0:
             chosen = [path(PARTS[part]) for part in parts or PARTS]
             # A file is one process's, so what its tests share, such as a server, is made once.
             if len(parts) != 1 and call(python, "-c", "import xdist").returncode == 0:
                 words = ["--numprocesses", str(min(os.cpu_count(), 4)), "--dist", "loadfile", *words]
             return call(python, "-B", "-m", "pytest", *words, *chosen, stdout=None, stderr=None).returncode
-    missing = "no Python has pytest and hypothesis (Debian: python3-pytest, python3-hypothesis)"
+    missing = "no Python has pytest (Debian: python3-pytest)"
     if "BYTE_UNIT_SETUP" not in os.environ:
         raise Failure(missing)
     skipped = [f"skipped: {part}: {missing}" for part in parts or PARTS]

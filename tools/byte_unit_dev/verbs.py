@@ -16,7 +16,7 @@ from .source import line_of
 # Each command, and its module in this package. The first sentence of the module's docstring is what it does.
 VERBS = {"setup": "needs", "render": "render", "check-pages": "pages", "mutants": "mutants", "test": "tests",
          "compare-original": "original", "measure": "measure", "install": "install", "make-libraries": "libraries",
-         "make-page": "page", "take": "take", "make-dist": "dist"}  # fmt: skip
+         "make-page": "page", "take": "take"}  # fmt: skip
 
 
 def module_of(verb):

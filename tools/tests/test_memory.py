@@ -7,7 +7,7 @@ from concurrent.futures import ThreadPoolExecutor
 from itertools import count
 
 import pytest
-from byte_unit_dev.fixtures import ROOT, call, compiled, copy_to, ended, path, read, write
+from byte_unit_dev.fixtures import call, compiled, copy_to, ended, path, read, write
 
 # How many calls run at once.
 LANES = int(os.environ.get("RT_JOBS") or min(4, os.cpu_count()))
@@ -38,41 +38,26 @@ PROGRAMS = [*(("byte_unit_cli", *row) for row in CALLS), *(("byte_unit_lines", *
     ("", MANY), ("bit", b"1.5 KiB\n\n1Kbi\nx\n1YB"), ("byte", b"1 KB\n2 KB\n" + b"1" * 1_000_000), ("x y", b"")])]
 
 
-def wrong_endings(root, last):
-    """Yields the tests of byte_unit_tests that end in a wrong way as one of the first allocations fails: those in
-    refused.rt have to pass, those in allocations.rt to end with the error of each of their three allocations and else
-    to pass, and others may end with the error itself."""
-    how = {"cwd": f"{root}/crates/byte_unit_tests", "stderr": subprocess.PIPE}
-    with ThreadPoolExecutor(LANES) as pool:
-        numbers = range(1, last + 1)
-        runs = list(pool.map(lambda at: call("rt", "try", "--test", "--fail-alloc", at, **how), numbers))
-    names = [sorted(re.findall(r"^test (\S+) \.\.\. ", run.stdout, re.M)) for run in runs]
-    for number, run in enumerate(runs, 1):
-        assert "test tests::refused::" in run.stdout and "test tests::allocations::" in run.stdout, run.stderr
-        assert names[number - 1] == names[-1], f"allocation {number} fails: not all tests end\n{run.stderr}"
-        for name, end, error in re.findall(r"^test (\S+) \.\.\. (\w+)\n(?:    (.*)\n)?", run.stdout, re.M):
-            is_failure = end != "ok" and bool(FAILURE.fullmatch(error))
-            may = {"refused": [False], "allocations": [number <= 3]}.get(name.split("::")[1], [False, True])
-            if (end != "ok" and not is_failure) or is_failure not in may:
-                yield f"allocation {number} fails: {name} ends with {error}"
-
-
 def test_calls_without_allocator(tmp_path):
-    """A test in refused.rt makes at most four allocations, one in allocations.rt three: in the fifth run none fails."""
+    """Those in refused.rt, of at most four allocations, pass as each fails; those in allocations.rt end with the error
+    of each of their three. In the fifth run no allocation fails."""
     copy_to(tmp_path, "crates")
     # Without the crates that only other tests use, which would be compiled in each run.
     write(tmp_path / "crates.txt", re.sub(r"(?m)^byte_unit_tests: .*$", USED, read("crates.txt")))
-    others = re.findall(r"^mod (?!allocations;|refused;|asserting;|shown;)(\w+);\n", read(f"{TESTS}.rt"), re.M)
+    others = re.findall(r"^mod (?!allocations;|refused;|asserting;)(\w+);\n", read(f"{TESTS}.rt"), re.M)
     for name in others:
         os.remove(tmp_path / TESTS / f"{name}.rt")
     write(tmp_path / f"{TESTS}.rt", re.sub(rf"^mod ({'|'.join(others)});\n", "", read(f"{TESTS}.rt"), flags=re.M))
-    assert not list(wrong_endings(tmp_path, 5))
-
-
-@pytest.mark.whole
-def test_all_tests():
-    """The tests of byte_unit_tests, as each of the first six allocations of a test fails."""
-    assert not list(wrong_endings(ROOT, 6))
+    how, names = {"cwd": tmp_path / "crates/byte_unit_tests", "stderr": subprocess.PIPE}, set()
+    with ThreadPoolExecutor(LANES) as pool:
+        runs = list(pool.map(lambda at: call("rt", "try", "--test", "--fail-alloc", at, **how), range(1, 6)))
+    for number, run in enumerate(runs, 1):
+        found = re.findall(r"^test tests::(\w+)::(\S+) \.\.\. (\w+)\n(?:    (.*)\n)?", run.stdout, re.M)
+        for module, name, end, error in found:
+            is_right = FAILURE.fullmatch(error) if module == "allocations" and number <= 3 else end == "ok"
+            assert is_right, f"allocation {number} fails: {name} ends with {error}"
+        names.add(tuple(sorted(row[:2] for row in found)))
+    assert len(names) == 1 and {row[0] for row in names.pop()} == {"allocations", "refused"}, runs[0].stderr
 
 
 @pytest.fixture(scope="module")

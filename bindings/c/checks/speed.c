@@ -1,81 +1,37 @@
-/* Nanoseconds of one call from C: the minimum of 200 runs of 1,000 calls each. `tools/dev measure calls` makes a row of
- * a table of what is before ` of `. */
-#define _GNU_SOURCE
+/* Makes one call of the library again and again: `speed CALL WORD COUNT`, where WORD is a text or a number of bytes.
+ * `tools/dev measure` times it and counts its instructions, beside those of bindings/rust/checks/speed.rs. */
 #include "byte_unit.h"
 
-#include <stdio.h>
+#include <stdlib.h>
 #include <string.h>
-#include <time.h>
-
-enum { RUNS = 200, CALLS = 1000 };
 
 static volatile size_t seen; /* keeps each result in use */
 
-static double now(void)
-{
-    struct timespec at;
-    clock_gettime(CLOCK_PROCESS_CPUTIME_ID, &at);
-    return 1e9 * (double)at.tv_sec + (double)at.tv_nsec;
-}
+#define IF(name, result)                                                                                               \
+    if (!strcmp(argv[1], name))                                                                                        \
+        for (long at = 0; at < count; at++)                                                                            \
+            seen = (result)
 
-/* Prints the minimum of the runs, in nanoseconds of a call. */
-#define TIMED(what, call)                                                                                              \
-    do {                                                                                                               \
-        double least = 1e18;                                                                                           \
-        for (int run = 0; run < RUNS; run++) {                                                                         \
-            double begin = now();                                                                                      \
-            for (int at = 0; at < CALLS; at++)                                                                         \
-                seen = (call);                                                                                         \
-            double taken = (now() - begin) / CALLS;                                                                    \
-            least = taken < least ? taken : least;                                                                     \
-        }                                                                                                              \
-        printf("%-50s %7.1f\n", what, least);                                                                          \
-    } while (0)
-
-int main(void)
+int main(int argc, char **argv)
 {
-    static const char *const texts[] = { "12", "1.5 KiB", "100 MB", "1.123456789012 KiB",
-                                         "1.1234567890123456789012345678 KiB", "1 byte", "1.5 XB" };
-    static const uint64_t sizes[] = { 12, 1536, 123456789 };
-    static const uint32_t units[] = { BYTE_UNIT_KIB, BYTE_UNIT_GIB, BYTE_UNIT_EIB, BYTE_UNIT_RIB };
-    const byte_unit_spec plain = { 0 }, alternate = { .alternate = 1 }, two = { .has_precision = 1, .precision = 2 };
-    const byte_unit_spec most = { .has_precision = 1, .precision = 28, .alternate = 1 };
-    char out[BYTE_UNIT_BUFFER_SIZE], what[100];
+    const byte_unit_spec plain = { 0 }, unit = { .alternate = 1 }, two = { .has_precision = 1, .precision = 2 };
+    const byte_unit_spec places = { .has_precision = 1, .precision = 28, .alternate = 1 };
+    char out[BYTE_UNIT_BUFFER_SIZE];
     byte_unit_number size;
     byte_unit_error error;
 
-    for (size_t at = 0; at < sizeof texts / sizeof *texts; at++) {
-        const char *text = texts[at];
-        size_t length = strlen(text);
-        /* The last two are errors. */
-        snprintf(what, sizeof what, at < 5 ? "`parse` of %s" : "`parse`, an error, of %s", text);
-        TIMED(what, byte_unit_parse(text, length, 0, &size, &error));
-    }
-    TIMED("`explain` of 1 byte", byte_unit_explain("1 byte", 6, 0, out, sizeof out));
-    for (size_t at = 0; at < sizeof sizes / sizeof *sizes; at++) {
-        byte_unit_number n = { sizes[at], 0 };
-        snprintf(what, sizeof what, "`text`, digits, of %llu", (unsigned long long)n.low);
-        TIMED(what, byte_unit_text(n, 0, plain, out, sizeof out));
-        snprintf(what, sizeof what, "`text` with a unit of %llu", (unsigned long long)n.low);
-        TIMED(what, byte_unit_text(n, 0, alternate, out, sizeof out));
-        snprintf(what, sizeof what, "`text` with a unit and 28 places of %llu", (unsigned long long)n.low);
-        TIMED(what, byte_unit_text(n, 0, most, out, sizeof out));
-        for (size_t unit = 0; unit < sizeof units / sizeof *units; unit++) {
-            out[byte_unit_unit_name(units[unit], out, sizeof out)] = 0;
-            snprintf(what, sizeof what, "`adjusted_text` in %s of %llu", out, (unsigned long long)n.low);
-            TIMED(what, byte_unit_adjusted_text(n, 0, units[unit], plain, out, sizeof out));
-        }
-        snprintf(what, sizeof what, "`adjusted_text`, two places, of %llu", (unsigned long long)n.low);
-        TIMED(what, byte_unit_adjusted_text(n, 0, BYTE_UNIT_KIB, two, out, sizeof out));
-        snprintf(what, sizeof what, "`appropriate_unit` of %llu", (unsigned long long)n.low);
-        TIMED(what, byte_unit_appropriate_unit(n, 0, BYTE_UNIT_BOTH));
-        snprintf(what, sizeof what, "`from_unit` in KiB of %llu", (unsigned long long)n.low);
-        TIMED(what, byte_unit_from_unit(n, BYTE_UNIT_KIB, 0, &size));
-    }
-    {
-        uint32_t unit;
-        TIMED("`parse_unit` of KiB", byte_unit_parse_unit("KiB", 3, 0, &unit, &error));
-    }
-    TIMED("`unit_name` of KiB", byte_unit_unit_name(BYTE_UNIT_KIB, out, sizeof out));
+    if (argc != 4)
+        return 2;
+    const char *text = argv[2];
+    size_t len = strlen(text);
+    byte_unit_number n = { strtoull(text, NULL, 10), 0 };
+    long count = atol(argv[3]);
+    IF("parse", byte_unit_parse(text, len, 0, &size, &error));
+    IF("explain", byte_unit_explain(text, len, 0, out, sizeof out));
+    IF("digits", byte_unit_text(n, 0, plain, out, sizeof out));
+    IF("unit", byte_unit_text(n, 0, unit, out, sizeof out));
+    IF("places", byte_unit_text(n, 0, places, out, sizeof out));
+    IF("in-KiB", byte_unit_adjusted_text(n, 0, BYTE_UNIT_KIB, plain, out, sizeof out));
+    IF("in-KiB-two", byte_unit_adjusted_text(n, 0, BYTE_UNIT_KIB, two, out, sizeof out));
     return 0;
 }

@@ -3,8 +3,7 @@
     cluster.py TEXTS WORKERS..
 
 Runs the job for each number of worker processes; for the last one once more, and then one of them is ended after some
-partitions. Sums and rejected rows have to be those of a model in Python's integers each time. Prints what each run
-takes, and pandas with humanfriendly, if it is installed, in one process for a tenth of the texts. Works in the current
+partitions. Sums and rejected rows have to be those of a model in Python's integers each time. Works in the current
 folder.
 """
 
@@ -12,7 +11,6 @@ import contextlib
 import csv
 import glob
 import hashlib
-import importlib.util
 import io
 import os
 import random
@@ -21,7 +19,6 @@ import sys
 import time
 from concurrent.futures import ThreadPoolExecutor
 
-import pandas
 from distributed import Client
 
 EXAMPLES = os.path.join(os.path.dirname(os.path.dirname(os.path.abspath(__file__))), "examples")
@@ -64,11 +61,6 @@ def digest(name: str) -> str:
         return hashlib.sha256(file.read()).hexdigest()
 
 
-def figure(seconds: float, count: int) -> str:
-    """Returns what a run over some texts takes, as it is printed."""
-    return f"{seconds:.2f} s, {seconds / count * 1e6:.2f} µs a text"
-
-
 def end_one(worker: int, folder: str) -> int:
     """Ends the process of a worker as soon as some partitions are done. Returns how many are."""
     while len(done := glob.glob(f"{folder}/part-?????.csv")) < PARTS // 8:
@@ -86,15 +78,14 @@ def printed(wanted: list[Found]) -> str:
     return "".join(line + "\n" for line in lines)
 
 
-def check(client: Client, wanted: list[Found], per_part: int, ends: bool) -> None:
+def check(client: Client, wanted: list[Found], ends: bool) -> None:
     """Runs the job, and compares its sums and rejected rows."""
     workers = [*client.run(os.getpid).values()]
     files, folder = sorted(glob.glob("texts-*.csv")), f"rejected-{len(workers)}" + "-ended" * ends
     words = ["--scheduler", client.scheduler.address, "--rejected", folder, "--limit", "owner-0=1 KB", *files]
     with ThreadPoolExecutor() as pool, contextlib.redirect_stdout(io.StringIO()) as said:
-        done, begin = ends and pool.submit(end_one, workers[0], folder), time.perf_counter()
+        done = ends and pool.submit(end_one, workers[0], folder)
         status = dask_job.main(words)
-        seconds = time.perf_counter() - begin
     assert (status, said.getvalue()) == (1, printed(wanted)), said.getvalue()
     assert [digest(name) for name in sorted(glob.glob(f"{folder}/*"))] == [rows for _, rows in wanted]
     how = f"{len(workers)} processes"
@@ -102,39 +93,18 @@ def check(client: Client, wanted: list[Found], per_part: int, ends: bool) -> Non
         client.wait_for_workers(len(workers))
         assert workers[0] not in client.run(os.getpid).values() and done.result() < PARTS
         how += f", one of them ended after {done.result()} of {PARTS} partitions"
-    print(f"{how}: {figure(seconds, len(files) * per_part)}, the same result", flush=True)
-
-
-def beside(per_part: int) -> None:
-    """Measures pandas with humanfriendly."""
-    import humanfriendly
-
-    def parse(text: str) -> int | None:
-        try:
-            return humanfriendly.parse_size(text)
-        except humanfriendly.InvalidSize:
-            return None
-
-    names, begin = sorted(glob.glob("texts-*.csv"))[: max(1, PARTS // 10)], time.perf_counter()
-    for name in names:
-        frame = pandas.read_csv(name, dtype=str, keep_default_na=False)
-        frame["size"].map(parse).groupby(frame["owner"]).sum()
-    seconds = time.perf_counter() - begin
-    print(f"pandas with humanfriendly, {len(names)} partitions: {figure(seconds, len(names) * per_part)}")
+    print(f"{how}: the same result", flush=True)
 
 
 def main(count: int, numbers_of_workers: list[int]) -> None:
     """Makes the files by the first cluster, and runs the job on each."""
     wanted: list[Found] = []
-    per_part = count // PARTS
     for workers in numbers_of_workers:
         with Client(n_workers=workers, threads_per_worker=1, dashboard_address=None) as client:
-            wanted = wanted or client.gather(client.map(make, range(PARTS), count=per_part))
-            check(client, wanted, per_part, ends=False)
+            wanted = wanted or client.gather(client.map(make, range(PARTS), count=count // PARTS))
+            check(client, wanted, ends=False)
             if workers == numbers_of_workers[-1]:
-                check(client, wanted, per_part, ends=True)
-    if importlib.util.find_spec("humanfriendly"):
-        beside(per_part)
+                check(client, wanted, ends=True)
 
 
 if __name__ == "__main__":

@@ -24,8 +24,8 @@ static PyMethodDef CALLS[] = {
 
 /* The functions that the Python modules of the package call. */
 static PyMethodDef METHODS[] = {
-    PRIVATE(position), PRIVATE(parse_many), PRIVATE(parse_buffers), PRIVATE(ints),    PRIVATE(part), PRIVATE(sum),
-    PRIVATE(extremum), PRIVATE(first_large), PRIVATE(int64), PRIVATE(float64), PRIVATE(mask),
+    PRIVATE(parse_many), PRIVATE(parse_buffers), PRIVATE(ints), PRIVATE(part), PRIVATE(sum), PRIVATE(extremum),
+    PRIVATE(first_large), PRIVATE(int64), PRIVATE(float64), PRIVATE(mask),
     {NULL, NULL, 0, NULL},
 };
 
@@ -68,7 +68,7 @@ static PyObject *codes_by_name(PyObject *names)
 static bool name_fields(state *state)
 {
     static const char *const NAMES[FIELDS] = {
-        "name", "character", "expected", "also_expect_no_character", "number", "text", "row", "_of_unit"};
+        "name", "character", "expected", "also_expect_no_character", "number", "text", "position", "row", "_of_unit"};
     bool named = true;
     for (int i = 0; named && i < FIELDS; i++) {
         state->fields[i] = PyUnicode_InternFromString(NAMES[i]);

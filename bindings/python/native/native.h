@@ -25,8 +25,9 @@ __extension__ typedef unsigned __int128 u128;
 /* The code of a text that is null, beside those of the library: that of an invalid argument, which no text has. */
 enum { NULL_TEXT = BYTE_UNIT_INVALID_ARGUMENT };
 
-/* The fields of SizeError, whose class has a None for each that is left out; module.c names them in this order. */
-enum field { NAME, CHARACTER, EXPECTED, ALSO_EXPECT_NO_CHARACTER, NUMBER, TEXT, ROW, OF_UNIT, FIELDS };
+/* The fields of SizeError, whose class has a None for each that is left out, and the name, which it has in its arguments
+ * alone; module.c names them in this order. */
+enum field { NAME, CHARACTER, EXPECTED, ALSO_EXPECT_NO_CHARACTER, NUMBER, TEXT, POSITION, ROW, OF_UNIT, FIELDS };
 
 /* What the module keeps: objects that are made once. Each member is a pointer to one, as module.c requires. */
 typedef struct state {
@@ -139,6 +140,8 @@ PyObject *reject(PyObject *module, const rejection *rejection, explainer *explai
 /* values.c */
 
 PyObject *from_number(byte_unit_number number);
+/* Returns the sum of two numbers, the second of which counts 2^64. Releases both. */
+PyObject *with_high(PyObject *low, PyObject *high);
 /* Returns the decimal as a decimal.Decimal. */
 PyObject *from_decimal(PyObject *module, byte_unit_decimal decimal);
 /* Returns a str of ASCII. */
@@ -169,7 +172,7 @@ typedef PyObject *function(PyObject *module, PyObject *const *args, Py_ssize_t c
 
 call parse, explain, parse_unit, explain_unit;
 call text_of, adjusted_text, approximate_text, appropriate_unit, exact_unit, recoverable_unit, from_unit;
-function position, parse_many, parse_buffers;
+function parse_many, parse_buffers;
 function ints, part, sum, extremum, first_large, int64, float64, mask;
 
 /* Returns a tuple of the names of the codes, and one of the names of the units. */

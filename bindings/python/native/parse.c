@@ -88,35 +88,6 @@ PyObject *parse_unit(PyObject *module, PyObject *const *args, Py_ssize_t count, 
     return result;
 }
 
-/* Returns the number of characters in UTF-8. */
-static size_t characters(const char *bytes, size_t len)
-{
-    size_t count = 0;
-    for (size_t i = 0; i < len; i++) {
-        count += (bytes[i] & 0xC0) != 0x80; /* the first byte of a character */
-    }
-    return count;
-}
-
-/* position(text, of_unit): the index of the first wrong character of a str, or byte of a bytes object, or None */
-PyObject *position(PyObject *module, PyObject *const *args, Py_ssize_t count)
-{
-    (void)module;
-    text text;
-    size_t place;
-    uint32_t of_unit = 0;
-    if (!has_arguments(count, 2) || !add_flag(args[1], "of_unit", 1, &of_unit) || !to_text(args[0], &text)) {
-        return NULL;
-    }
-    bool is_found = of_unit ? byte_unit_unit_error_position(text.bytes, (size_t)text.len, &place)
-                            : byte_unit_error_position(text.bytes, (size_t)text.len, &place);
-    if (is_found && PyUnicode_Check(args[0])) {
-        place = characters(text.bytes, place);
-    }
-    release_text(&text);
-    return is_found ? PyLong_FromSize_t(place) : Py_NewRef(Py_None);
-}
-
 /* Returns the message of the text in the arguments, or None. */
 static PyObject *explained(const signature *signature, PyObject *const *args, Py_ssize_t count,
                            PyObject *names, explainer *explain)

@@ -87,19 +87,6 @@ PyObject *part(PyObject *module, PyObject *const *args, Py_ssize_t count)
     return PyErr_Occurred() ? NULL : from_column(&part, holds);
 }
 
-/* Returns the sum of two numbers, the second of which counts 2^64. Releases both. */
-static PyObject *with_high(PyObject *low, PyObject *high)
-{
-    PyObject *places = PyLong_FromLong(64);
-    PyObject *shifted = high && places ? PyNumber_Lshift(high, places) : NULL;
-    PyObject *both = low && shifted ? PyNumber_Add(low, shifted) : NULL;
-    Py_XDECREF(low);
-    Py_XDECREF(high);
-    Py_XDECREF(places);
-    Py_XDECREF(shifted);
-    return both;
-}
-
 /* Returns the number as an int. */
 static PyObject *from_wide(u128 number)
 {

@@ -69,6 +69,20 @@ PyObject *message_of(const text *text, uint32_t flags, explainer *explain)
     return len ? PyUnicode_DecodeUTF8(out, (Py_ssize_t)len, "replace") : Py_NewRef(Py_None);
 }
 
+/* Returns the index of the wrong character of a str, or byte of a bytes object, or None if the error has none. */
+static PyObject *position_of(const rejection *rejection)
+{
+    uint32_t code = rejection->code;
+    if (code == BYTE_UNIT_OK || code == BYTE_UNIT_EXCEEDED_BOUNDS || code == BYTE_UNIT_NOT_UTF8) {
+        return Py_NewRef(Py_None);
+    }
+    size_t place = rejection->error->position, skipped = 0;
+    for (size_t i = 0; i < place && PyUnicode_Check(rejection->object); i++) {
+        skipped += (rejection->text.bytes[i] & 0xC0) == 0x80; /* a byte after the first of a character */
+    }
+    return PyLong_FromSize_t(place - skipped);
+}
+
 /* Fills the values of the fields. One that the code does not use is None, an empty str or False. */
 static bool fill(PyObject *module, const rejection *rejection, bool of_unit, PyObject **values)
 {
@@ -82,6 +96,7 @@ static bool fill(PyObject *module, const rejection *rejection, bool of_unit, PyO
     values[ALSO_EXPECT_NO_CHARACTER] = PyBool_FromLong(in_unit && error->also_expect_no_character);
     values[NUMBER] = is_above ? from_decimal(module, error->number) : Py_NewRef(Py_None);
     values[TEXT] = Py_NewRef(rejection->object);
+    values[POSITION] = position_of(rejection);
     values[ROW] = has_row ? PyLong_FromSsize_t(rejection->row) : Py_NewRef(Py_None);
     values[OF_UNIT] = Py_NewRef(of_unit ? Py_True : Py_None);
     for (int i = 0; i < FIELDS; i++) {
@@ -90,11 +105,11 @@ static bool fill(PyObject *module, const rejection *rejection, bool of_unit, PyO
     return filled;
 }
 
-/* Returns the fields that are not None as a dictionary: one of at most five is not resized. */
+/* Returns the fields that are not None, but for the name, as a dictionary: one of at most five is not resized. */
 static PyObject *fields_of(state *state, PyObject *const *values)
 {
     PyObject *fields = PyDict_New();
-    for (int i = 0; fields && i < FIELDS; i++) {
+    for (int i = NAME + 1; fields && i < FIELDS; i++) {
         if (values[i] != Py_None && PyDict_SetItem(fields, state->fields[i], values[i])) {
             Py_CLEAR(fields);
         }

@@ -1,21 +1,22 @@
 /* Results: numbers, decimals and texts. */
 #include "native.h"
 
-PyObject *from_number(byte_unit_number number)
+PyObject *with_high(PyObject *low, PyObject *high)
 {
-    PyObject *low = PyLong_FromUnsignedLongLong(number.low);
-    if (!number.high || !low) {
-        return low;
-    }
-    PyObject *high = PyLong_FromUnsignedLongLong(number.high);
     PyObject *places = PyLong_FromLong(64);
     PyObject *shifted = high && places ? PyNumber_Lshift(high, places) : NULL;
-    PyObject *number_of_both = shifted ? PyNumber_Or(shifted, low) : NULL;
+    PyObject *both = low && shifted ? PyNumber_Add(low, shifted) : NULL;
     Py_XDECREF(low);
     Py_XDECREF(high);
     Py_XDECREF(places);
     Py_XDECREF(shifted);
-    return number_of_both;
+    return both;
+}
+
+PyObject *from_number(byte_unit_number number)
+{
+    PyObject *low = PyLong_FromUnsignedLongLong(number.low);
+    return number.high ? with_high(low, PyLong_FromUnsignedLongLong(number.high)) : low;
 }
 
 PyObject *from_ascii(const char *text, size_t len)

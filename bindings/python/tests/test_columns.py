@@ -1,12 +1,10 @@
 """Many texts in one call: lists, buffers, changes by other threads, results, numpy and pandas."""
 
 import collections
-import copy
 import faulthandler
 import gc
 import importlib.util
 import mmap
-import pickle
 import random
 import sys
 import tempfile
@@ -180,11 +178,8 @@ class Changes(unittest.TestCase):
     def setUpClass(cls) -> None:
         faulthandler.enable()  # says where, if the interpreter ends
 
-    def parse_while(self, change: "Callable[[], None]", data: object, offsets: object) -> "list[Column | None]":
-        """Returns what the calls of two seconds return, while another thread changes something. `None` is an error."""
-        return self.call_while(change, lambda: byte_unit.parse_buffers(data, offsets))
-
     def call_while(self, change: "Callable[[], None]", call: "Callable[[], Column]") -> "list[Column | None]":
+        """Returns what the calls of two seconds return, while another thread changes something. `None` is an error."""
         results: list[Column | None] = []
         end = time.monotonic() + 2
 
@@ -273,20 +268,9 @@ class Changes(unittest.TestCase):
                 offsets[:] = wrong
                 offsets[:] = right
 
-            seen = self.parse_while(change, data, offsets)
+            seen = self.call_while(change, lambda: byte_unit.parse_buffers(data, offsets))
             self.assertTrue(all(column in (None, wanted) for column in seen))
             self.assertIn(wanted, seen)
-
-    def test_offsets_one_at_a_time(self) -> None:
-        data, offsets = layout([b"1.5 KiB"] * 20_000, "q")
-        rng = random.Random(1)
-
-        def change() -> None:
-            place = rng.randrange(len(offsets))
-            before, offsets[place] = offsets[place], rng.choice([-(2**62), 2**62, 10**7])
-            offsets[place] = before
-
-        self.assertTrue(self.parse_while(change, data, offsets))
 
     def test_data(self) -> None:
         texts = [b"1.5 KiB", b"1.5\xf0\x9f\x98\x80", b"      \xf0", b"\x80\x80\x80\x80\x80\x80\x80"]
@@ -298,61 +282,12 @@ class Changes(unittest.TestCase):
         def change() -> None:
             changing[:] = rng.choice(others)
 
-        for column in self.parse_while(change, changing, offsets):
+        for column in self.call_while(change, lambda: byte_unit.parse_buffers(changing, offsets)):
             self.assertTrue(column and set(column.codes) <= {0, 2, 5, 6})
-
-
-class Results(unittest.TestCase):
-    def test_helpers(self) -> None:
-        column = byte_unit.parse_many(TEXTS)
-        self.assertEqual([place for place, _ in column.errors()], [i for i, code in enumerate(CODES) if code])
-        bits = sum(1 << i for i, code in enumerate(CODES) if not code)
-        self.assertEqual(column.validity(), bits.to_bytes(2, "little"))
-        self.assertEqual(byte_unit.parse_many([]).validity(), b"")
-        self.assertEqual(byte_unit.parse_many(["1"] * 8).validity(), b"\xff")
-
-    def test_int64(self) -> None:
-        view = byte_unit.parse_many(["1", "x", str(2**63 - 1)]).int64()
-        self.assertEqual(view.tolist(), [1, 0, 2**63 - 1])
-        self.assertEqual((view.format, view.strides, view.readonly), ("q", (16,), True))
-        self.assertEqual(byte_unit.parse_many([]).int64().tolist(), [])
-        for size in (2**63, 2**64 - 1, 2**64, 2**72, 2**96, 10**30 - 1):
-            with self.subTest(size), self.assertRaises(ByteUnitError):
-                byte_unit.parse_many(["1", str(size), "1"]).int64()
-
-    def test_copies(self) -> None:
-        column = byte_unit.parse_many(TEXTS)
-        self.assertEqual(pickle.loads(pickle.dumps(column)), column)
-        self.assertEqual(copy.deepcopy(column), column)
-        with self.assertRaises(ByteUnitError):
-            Column(bytes(15), bytes(1))
-
-    def test_random_texts(self) -> None:
-        rng = random.Random(1)
-        texts = ["".join(rng.choices("0123456789.KMibB é", k=rng.randrange(9))) for _ in range(3000)]
-        data, offsets = layout(encoded(texts), "q")
-        column = byte_unit.parse_buffers(data, offsets)
-        self.assertEqual(column, byte_unit.parse_many(texts))
-        for text, size in zip(texts, column.ints(), strict=True):
-            try:
-                self.assertEqual(byte_unit.parse(text), size)
-            except byte_unit.SizeError:
-                self.assertIsNone(size)
 
 
 @unittest.skipUnless(HAS_NUMPY, "numpy is not installed")
 class Numpy(unittest.TestCase):
-    def test_results_are_views(self) -> None:
-        import numpy
-
-        column = byte_unit.parse_many(["1 KB", "x", "2 KiB"])
-        sizes = numpy.asarray(column.int64())
-        codes = numpy.frombuffer(column.codes, numpy.uint8)
-        self.assertEqual((sizes.tolist(), codes.tolist()), ([1000, 0, 2048], [0, 2, 0]))
-        self.assertFalse(sizes.flags.owndata or codes.flags.owndata)
-        address = numpy.frombuffer(column.sizes, numpy.uint8).__array_interface__["data"][0]
-        self.assertEqual(sizes.__array_interface__["data"][0], address)
-
     def test_arguments(self) -> None:
         import numpy
 
@@ -367,10 +302,9 @@ class Numpy(unittest.TestCase):
             byte_unit.parse_buffers(raw, numpy.zeros(10, numpy.int64)[::2])
         with self.assertRaises(TypeError):
             byte_unit.parse_buffers(raw, numpy.zeros((2, 2), numpy.int64))
-        for dtype in (numpy.int32, numpy.int64, "<i4", "<i8"):
-            for start in range(9):
-                shifted = numpy.frombuffer(bytes(start) + numpy.array(offsets, dtype).tobytes(), dtype, offset=start)
-                self.assertEqual(byte_unit.parse_buffers(raw, shifted).ints(), SIZES)
+        for dtype in ("<i4", "<i8"):
+            shifted = numpy.frombuffer(bytes(3) + numpy.array(offsets, dtype).tobytes(), dtype, offset=3)
+            self.assertEqual(byte_unit.parse_buffers(raw, shifted).ints(), SIZES)
         self.assertEqual(byte_unit.parse_many(numpy.array(["1 KB", "2 KB"])).ints(), [1000, 2000])
         self.assertEqual(byte_unit.parse_many(numpy.array([b"1 KB", b"2 KB"])).ints(), [1000, 2000])
         self.assertEqual(byte_unit.text(numpy.int64(1536)), "1.5 KiB")
@@ -378,17 +312,9 @@ class Numpy(unittest.TestCase):
 
 @unittest.skipUnless(HAS_PANDAS, "pandas is not installed")
 class Pandas(unittest.TestCase):
-    def test_series(self) -> None:
-        import numpy
+    def test_frames(self) -> None:
         import pandas
 
-        quota = pandas.Series(["1 KB", "", "2 KiB"])
-        column = byte_unit.parse_many(quota)
-        codes = numpy.frombuffer(column.codes, numpy.uint8)
-        sizes = pandas.Series(column.int64(), quota.index, "Int64").mask(codes != 0)
-        self.assertEqual(sizes.sum(), 3048)
-        self.assertEqual(sizes.isna().tolist(), [False, True, False])
-        self.assertEqual(list(byte_unit.parse_many(pandas.Series(["1 KB", None])).codes), [0, 7])
         with self.assertRaisesRegex(TypeError, "not DataFrame: pass one of its columns$"):
             byte_unit.parse_many(pandas.DataFrame({"1 KB": ["2 KB"]}))
         named = pandas.Series(["1 KB"], ["columns"])  # whose attribute `columns` is the text

@@ -16,6 +16,8 @@ import time
 import tracemalloc
 import unittest
 from array import array
+from collections.abc import Callable
+from functools import partial
 from typing import Any
 
 import byte_unit
@@ -161,7 +163,7 @@ class Arguments(unittest.TestCase):
 
     def test_private_calls(self) -> None:
         """The other functions reject what the modules above them never pass."""
-        names = "position parse_many parse_buffers ints part sum extremum first_large int64 float64 mask"
+        names = "parse_many parse_buffers ints part sum extremum first_large int64 float64 mask"
         for call in names.split():
             with self.subTest(call), self.assertRaises(TypeError):
                 getattr(_native, call)()
@@ -203,61 +205,57 @@ class Threads(unittest.TestCase):
             thread.join(60)
         self.assertEqual(seen, [True] * (8 * 21))
 
-    def test_buffers_release_the_gil(self) -> None:
-        """This thread goes on while another one parses a long text."""
-        data = bytes(b"0") * 30_000_000
-        worker = threading.Thread(target=byte_unit.parse_buffers, args=(data, array("q", [0, len(data)])))
-        turns = 0
-        worker.start()
-        while worker.is_alive():
-            turns += 1
-            time.sleep(0.001)
-        self.assertGreater(turns, 9)
-
-    def test_lists_release_the_gil(self) -> None:
-        """So does it while another one parses a list with long texts."""
-        texts = [b"0" * 30_000_000, b"1"] * 2
-        worker = threading.Thread(target=byte_unit.parse_many, args=(texts,))
-        turns = 0
-        worker.start()
-        while worker.is_alive():
-            turns += 1
-            time.sleep(0.001)
-        self.assertGreater(turns, 9)
+    def test_columns_release_the_gil(self) -> None:
+        """This thread goes on while another one parses long texts, in a buffer or in a list."""
+        data = b"0" * 30_000_000
+        buffers = (data, array("q", [0, len(data)]))
+        for call, arguments in ((byte_unit.parse_buffers, buffers), (byte_unit.parse_many, ([data, b"1"] * 2,))):
+            worker, turns = threading.Thread(target=call, args=arguments), 0
+            worker.start()
+            while worker.is_alive():
+                turns += 1
+                time.sleep(0.001)
+            self.assertGreater(turns, 9)
 
 
 class Memory(unittest.TestCase):
     def test_nothing_is_kept(self) -> None:
         """Neither results nor errors leave blocks or references."""
-        text, many = "1 KÖ" * 3, ["1 KB", "x", "\ud800", "é"] * 9
-        offsets = array("q", [0, 1, 5])
+        wrong: list[Any] = ["x", "1" * 40, "1000.5 RB", "1 Kx" * 20, b"\xff", "\ud800", "1 KÖ"]
+        many, offsets = ["1 KB", "x", None, "\ud800", "é"] * 9, array("q", [0, 1, 2])
+        column = byte_unit.parse_many(many)
+        calls: list[Callable[[], object]] = [
+            lambda: [*map(byte_unit.parse, ["999 RB", "1"])], lambda: [*map(byte_unit.explain, wrong)],
+            lambda: byte_unit.parse_many(many), lambda: byte_unit.parse_buffers(b"1x", offsets, validity=b"\1"),
+            lambda: byte_unit.text(10**29 + 1, width=400), lambda: byte_unit.approximate_text(10**29 + 1, width=400),
+            lambda: byte_unit.recoverable_unit(10**29 + 1, precision=28), lambda: byte_unit.text(10**30),
+            *(partial(call, text) for call in (byte_unit.parse, byte_unit.parse_unit) for text in wrong),
+            lambda: byte_unit.parse_many(many, errors="raise"), lambda: byte_unit.parse_many(["1", 2]),  # type: ignore
+            lambda: byte_unit.parse_buffers(b"1x", offsets, errors="raise"),
+            lambda: byte_unit.parse_buffers(b"1\xff", offsets, errors="raise"),
+            lambda: byte_unit.parse_buffers(b"1", offsets), lambda: byte_unit.parse_buffers(b"1x", offsets, validity=b""),
+            lambda: (list(column), column[::-2], column[0], column.sum(), column.max(), column.mask(), column.float64()),
+            lambda: (column.int64(overflow="null"), column.uint128(), list(column.errors(many)), repr(column)),
+        ]  # fmt: skip
+        kept = [None, "unit", True, False, byte_unit.UNITS, byte_unit.ERROR_NAMES, byte_unit.SizeError, *wrong]
 
         def work() -> None:
-            for _ in range(1000):
-                byte_unit.parse("999 RB")
-                byte_unit.explain(text)
-                byte_unit.parse_many(many)
-                byte_unit.parse_buffers(b"1 1 KB", offsets)
-                byte_unit.text(10**29 + 1, width=400)
-                byte_unit.approximate_text(10**29 + 1, width=400)
-                byte_unit.recoverable_unit(10**29 + 1, precision=28)
-                for call in (lambda: byte_unit.parse("1000 RB"), lambda: byte_unit.parse_unit("\ud800"),
-                             lambda: byte_unit.parse_buffers(b"1", offsets), lambda: byte_unit.parse_many(["1", None])):
-                    try:
-                        call()
-                    except byte_unit.SizeError as error:
-                        error.position
-                    except (ValueError, TypeError):
-                        pass
+            for call in calls * 1000:
+                try:
+                    call()
+                except byte_unit.SizeError as error:
+                    error.position
+                except (ValueError, TypeError):
+                    pass
 
         work()
         tracemalloc.start()
         self.addCleanup(tracemalloc.stop)
-        before, references = tracemalloc.get_traced_memory()[0], sys.getrefcount(None)
+        before, references = tracemalloc.get_traced_memory()[0], [*map(sys.getrefcount, kept)]
         work()
         self.assertLess(tracemalloc.get_traced_memory()[0] - before, 20_000)
-        if sys.version_info < (3, 12):  # later None is immortal, and its count means nothing
-            self.assertLess(abs(sys.getrefcount(None) - references), 100)
+        for object_, count in zip(kept, references, strict=True):
+            self.assertLess(abs(sys.getrefcount(object_) - count), 100)  # not one for each call
 
 
 if __name__ == "__main__":

@@ -6,8 +6,6 @@ import math
 import mmap
 import pickle
 import random
-import sys
-import tracemalloc
 import unittest
 from array import array
 from collections.abc import Sequence
@@ -63,6 +61,7 @@ class Nulls(unittest.TestCase):
     def test_all_are_null(self) -> None:
         column = byte_unit.parse_many([None] * 3)
         self.assertEqual((column.codes, column.sizes, column.validity()), (b"\7" * 3, bytes(48), b"\0"))
+        self.assertEqual((column_of([]).validity(), column_of([1] * 8).validity()), (b"", b"\xff"))
         self.assertEqual((column.ints(), column.sum(), column.min(), column.max()), ([None] * 3, 0, None, None))
         self.assertEqual((list(column.errors()), column.int64().tolist()), ([], [0] * 3))
 
@@ -229,7 +228,8 @@ class Numbers(unittest.TestCase):
                     with self.assertRaisesRegex(ByteUnitError, rf"^column\[2\]: the size {size} is 2\*\*63 or more$"):
                         column.int64()
                 else:
-                    self.assertEqual(column.int64().tolist(), [5, 0, size])
+                    view = column.int64()
+                    self.assertEqual((view.tolist(), view.strides, view.readonly), ([5, 0, size], (16,), True))
         for overflow in ("raise", "null", "saturate"):
             self.assertEqual(column_of([]).int64(overflow=overflow).tolist(), [])
         for wrong, error in [("coerce", ByteUnitError), ("", ByteUnitError), (None, TypeError), (1, TypeError)]:
@@ -310,6 +310,8 @@ class Sequences(unittest.TestCase):
                 view[0] = view[1]
         with self.assertRaises(TypeError):
             Column(bytearray(16), b"\0")  # type: ignore[arg-type]
+        with self.assertRaises(ByteUnitError):
+            Column(bytes(15), bytes(1))
 
 
 @unittest.skipUnless(HAS_NUMPY, "numpy is not installed")
@@ -371,31 +373,6 @@ class Memory(unittest.TestCase):
                 byte_unit.parse_buffers(text, array("q", [0, len(text), 0]))
         self.assertLess(resident() - before, 30_000_000)
 
-    def test_nothing_is_kept(self) -> None:
-        column, offsets = byte_unit.parse_many(TEXTS), array("q", [0, 1, 2])
-
-        def work() -> None:
-            for _ in range(500):
-                byte_unit.parse_many(TEXTS)
-                byte_unit.parse_buffers(b"1x", offsets, validity=b"\1")
-                for call in (lambda: byte_unit.parse_many(TEXTS, errors="raise"), lambda: column.int64(),
-                             lambda: byte_unit.parse_buffers(b"1x", offsets, errors="raise"),
-                             lambda: byte_unit.parse_buffers(b"1\xff", offsets, errors="raise"),
-                             lambda: byte_unit.parse_buffers(b"1x", offsets, validity=b""),
-                             lambda: byte_unit.parse_many(["1", 2]), lambda: byte_unit.text(10**30)):  # fmt: skip
-                    with self.assertRaises((ValueError, TypeError)):
-                        call()
-                list(column), column[::-2], column[0], column.sum(), column.max(), column.mask(), column.float64()
-                column.int64(overflow="null"), column.uint128(), list(column.errors(TEXTS)), repr(column)
-
-        work()
-        tracemalloc.start()
-        self.addCleanup(tracemalloc.stop)
-        before, references = tracemalloc.get_traced_memory()[0], sys.getrefcount(None)
-        work()
-        self.assertLess(tracemalloc.get_traced_memory()[0] - before, 20_000)
-        if sys.version_info < (3, 12):  # later None is immortal, and its count means nothing
-            self.assertLess(abs(sys.getrefcount(None) - references), 100)
 
 
 if __name__ == "__main__":

@@ -2,6 +2,7 @@
 //! unescaped, and writes a line with the answer for each, or `-` for a call that the package does not have.
 
 use std::io::{self, BufRead, BufWriter, Write};
+use std::str;
 
 use byte_unit::{
     Align, Bit, Byte, Decimal, FormatSpec, ParseError, Sign, Unit, UnitParseError, UnitType, ValueParseError,
@@ -185,8 +186,12 @@ fn answer(words: &[&str], text: &str) -> String {
 fn main() -> io::Result<()> {
     let mut out = BufWriter::new(io::stdout());
     for record in io::stdin().lock().split(0) {
-        let record = String::from_utf8(record?).map_err(|error| io::Error::new(io::ErrorKind::InvalidData, error))?;
-        let (call, text) = record.split_once('"').unwrap_or((&record, ""));
+        let record = record?;
+        let Ok(record) = str::from_utf8(&record) else {
+            writeln!(out, "NotUtf8")?;
+            continue;
+        };
+        let (call, text) = record.split_once('"').unwrap_or((record, ""));
         let words: Vec<&str> = call.split_whitespace().collect();
         writeln!(out, "{}", answer(&words, text))?;
     }

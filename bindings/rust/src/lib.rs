@@ -61,6 +61,7 @@ mod many;
     clippy::manual_div_ceil,
     clippy::manual_map,
     clippy::module_inception,
+    clippy::needless_return,
     clippy::new_without_default,
     clippy::type_complexity,
     missing_docs

@@ -9,12 +9,6 @@ const POWERS_OF_TEN: [u64; 8] = [1, 10, 100, 1000, 10_000, 100_000, 1_000_000, 1
 
 /// Reads the digits of `bytes` from the index `from` on. Returns the index after the last of them, and the number
 /// `so_far` with these digits appended, wrapped to 64 bits.
-///
-/// # Examples
-///
-/// ```
-/// assert_eq!(byte_unit::support::read_digits(b"x123 KB", 1, 4), (4, 4123));
-/// ```
 #[inline(always)]
 pub fn read_digits(bytes: &[u8], from: usize, so_far: u64) -> (usize, u64) {
     let (mut at, mut value) = (from, so_far);
@@ -60,14 +54,6 @@ pub struct InlineText<const N: usize> {
 
 impl<const N: usize> InlineText<N> {
     /// Formats a value. A text that is longer than `N` bytes ends before the first part that does not fit.
-    ///
-    /// # Examples
-    ///
-    /// ```
-    /// use byte_unit::support::InlineText;
-    ///
-    /// assert_eq!(InlineText::<8>::of(&1536).as_str(), "1536");
-    /// ```
     pub fn of<T: Display + ?Sized>(value: &T) -> Self {
         let mut text = InlineText { bytes: [0; N], len: 0 };
         // What does not fit is left out.

@@ -1,6 +1,7 @@
-//! The binary reading, positions of errors, columns and approximate texts, each beside the calls of the original.
+//! Columns and approximate texts, beside the calls of the original for each. The binary reading and positions of errors
+//! are in the test vectors.
 
-use byte_unit::{Bit, BuffersError, Byte, RowError, Unit, UnitType, ValueParseError};
+use byte_unit::{Bit, BuffersError, Byte, RowError, UnitType, ValueParseError};
 
 /// Texts of a column: sizes, and each error that a string can have.
 #[rustfmt::skip]
@@ -8,55 +9,6 @@ const TEXTS: [&str; 15] = [
     "", "12", "1.5 KiB", "1 Kx", "2 mb", "1000.5 RB", "1.", "é", "1 Ké", "9 bits", "0.1 KB",
     "5192296858534827628530496329220096", "999 RB", " 7 ", "8 Kb",
 ];
-
-#[test]
-fn decimal_prefixes_mean_binary_ones() {
-    for letter in "KMGTPEZYRkmgtpezyr".chars() {
-        for suffix in ["", "B", "b", "bit", "Bits"] {
-            let [decimal, binary] = ["", "i"].map(|infix| format!("1.5 {letter}{infix}{suffix}"));
-            for text in [&decimal, &binary] {
-                for ignore_case in [false, true] {
-                    let size = Byte::parse_str(&binary, ignore_case);
-                    assert_eq!(Byte::parse_str_binary(text, ignore_case), size, "{text}");
-                    assert!(size.is_ok());
-                }
-                assert_eq!(Bit::parse_str_binary(text), Bit::parse_str(&binary), "{text}");
-            }
-        }
-    }
-    assert_eq!(Byte::parse_str_binary("1 B", false), Ok(Byte::from_u64(1)));
-    assert!(Byte::parse_str("900 RB", false).is_ok() && Byte::parse_str_binary("900 RB", false).is_err());
-}
-
-#[test]
-fn other_errors_do_not_depend_on_the_reading() {
-    for text in ["", " ", "x", "1.", "1 byte", "1 Kix", "1 bi", "0.12345678901234567890123456789", "1000.5 RB"] {
-        assert_eq!(Byte::parse_str_binary(text, false), Byte::parse_str(text, false), "{text}");
-        assert_eq!(Bit::parse_str_binary(text), Bit::parse_str(text), "{text}");
-    }
-}
-
-#[test]
-fn positions() {
-    for (text, position) in [
-        ("", Some(0)),
-        ("  ", Some(2)),
-        ("x", Some(0)),
-        (" é", Some(1)),
-        ("1.", Some(2)),
-        ("\u{3000}1. ", Some(5)),
-        ("1 Ké", Some(3)),
-        ("1 bi ", Some(4)),
-        ("1 byte", Some(3)),
-        ("0.12345678901234567890123456789", Some(30)),
-        ("1000.5 RB", None),
-        ("1.5 KiB", None),
-    ] {
-        assert_eq!(Byte::error_position(text), position, "{text}");
-        assert_eq!(Bit::error_position(text), position, "{text}");
-    }
-    assert_eq!((Unit::error_position("Kix"), Unit::error_position("Kib")), (Some(2), None));
-}
 
 #[test]
 fn many_texts() {

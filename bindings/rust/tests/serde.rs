@@ -1,12 +1,11 @@
-//! The traits of serde: by JSON, TOML and XML, by each type of integer, and by a format that is not human-readable.
+//! The traits of serde: by JSON, TOML and XML, by each type of integer, and by bincode, which is not human-readable.
 
 use std::collections::HashMap;
 use std::fmt::Debug;
 
 use byte_unit::{AdjustedBit, AdjustedByte, Bit, Byte, Unit, UnitType};
 use serde::de::value::{Error, MapDeserializer};
-use serde::de::{Deserialize, DeserializeOwned, Deserializer, Error as _, IntoDeserializer, Visitor};
-use serde::ser::{Impossible, Serialize, Serializer};
+use serde::de::{Deserialize, DeserializeOwned, IntoDeserializer};
 use serde_json::{from_str, from_value, to_string};
 
 #[test]
@@ -210,92 +209,17 @@ fn each_stored_adjusted_size_is_read() {
     }
 }
 
-/// A format that is not human-readable, and shows what it is given.
-struct Binary;
-
-/// Defines the methods of `Binary` that no type of the package calls: each is an error with its name.
-macro_rules! rejected {
-    ($($method:ident $(<$T:ident>)? ($($value:ty),*) $(-> $result:ty)?;)*) => { $(
-        fn $method $(<$T: Serialize + ?Sized>)? (self, $(_: $value),*) -> rejected!(@ $($result)?) {
-            Err(Error::custom(stringify!($method)))
-        }
-    )* };
-    (@ $result:ty) => { Result<$result, Error> };
-    (@) => { Result<String, Error> };
-}
-
-/// The serializers of compound values, which are never made.
-type Never = Impossible<String, Error>;
-
-impl Serializer for Binary {
-    type Ok = String;
-    type Error = Error;
-    type SerializeSeq = Never;
-    type SerializeTuple = Never;
-    type SerializeTupleStruct = Never;
-    type SerializeTupleVariant = Never;
-    type SerializeMap = Never;
-    type SerializeStruct = Never;
-    type SerializeStructVariant = Never;
-
-    fn is_human_readable(&self) -> bool {
-        false
-    }
-
-    fn serialize_u128(self, number: u128) -> Result<String, Error> {
-        Ok(format!("number {number}"))
-    }
-
-    fn serialize_str(self, text: &str) -> Result<String, Error> {
-        Ok(format!("text {text}"))
-    }
-
-    rejected! {
-        serialize_some<T>(&T); serialize_newtype_struct<T>(&'static str, &T);
-        serialize_newtype_variant<T>(&'static str, u32, &'static str, &T); serialize_bool(bool); serialize_i8(i8);
-        serialize_i16(i16); serialize_i32(i32); serialize_i64(i64); serialize_u8(u8); serialize_u16(u16);
-        serialize_u32(u32); serialize_u64(u64); serialize_f32(f32); serialize_f64(f64); serialize_char(char);
-        serialize_bytes(&[u8]); serialize_none(); serialize_unit(); serialize_unit_struct(&'static str);
-        serialize_unit_variant(&'static str, u32, &'static str); serialize_seq(Option<usize>) -> Never;
-        serialize_tuple(usize) -> Never; serialize_tuple_struct(&'static str, usize) -> Never;
-        serialize_tuple_variant(&'static str, u32, &'static str, usize) -> Never;
-        serialize_map(Option<usize>) -> Never; serialize_struct(&'static str, usize) -> Never;
-        serialize_struct_variant(&'static str, u32, &'static str, usize) -> Never;
-    }
-}
-
-/// A number in a format that is not human-readable.
-struct Number(u128);
-
-impl<'de> Deserializer<'de> for Number {
-    type Error = Error;
-
-    fn is_human_readable(&self) -> bool {
-        false
-    }
-
-    fn deserialize_any<V: Visitor<'de>>(self, visitor: V) -> Result<V::Value, Error> {
-        visitor.visit_u128(self.0)
-    }
-
-    serde::forward_to_deserialize_any! {
-        bool i8 i16 i32 i64 i128 u8 u16 u32 u64 u128 f32 f64 char str string bytes byte_buf option unit unit_struct
-        newtype_struct seq tuple tuple_struct map struct enum identifier ignored_any
-    }
-}
-
 #[test]
 fn in_a_binary_format_sizes_are_numbers() {
-    assert_eq!(Byte::MAX.serialize(Binary).unwrap(), format!("number {}", Byte::MAX));
-    assert_eq!(Bit::from_u64(7).serialize(Binary).unwrap(), "number 7");
-    assert_eq!(Unit::KiB.serialize(Binary).unwrap(), "text KiB");
+    assert_eq!(bincode::serialize(&Byte::MAX).unwrap(), Byte::MAX.as_u128().to_le_bytes());
+    assert_eq!(bincode::serialize(&Bit::from_u64(7)).unwrap(), 7u128.to_le_bytes());
     let adjusted = Byte::from_u64(1536).get_adjusted_unit(Unit::KB);
-    assert_eq!(adjusted.serialize(Binary).unwrap(), "text 1.536KB");
     let long = Byte::from_u64((3 << 30) + 2).get_adjusted_unit(Unit::GiB);
-    assert_eq!(long.serialize(Binary).unwrap(), "text 3221225.474KB");
-    assert_eq!(Byte::deserialize(Number(7)).unwrap().as_u64(), 7);
-    assert_eq!(Bit::deserialize(Number(10u128.pow(30) - 1)).unwrap(), Bit::MAX);
-    let error = Byte::deserialize(Number(10u128.pow(30))).unwrap_err().to_string();
+    let texts = bincode::serialize(&("KiB", "1.536KB", "3221225.474KB")).unwrap();
+    assert_eq!(bincode::serialize(&(Unit::KiB, adjusted, long)).unwrap(), texts);
+    assert_eq!(bincode::deserialize::<(Unit, AdjustedByte)>(&texts).unwrap(), (Unit::KiB, adjusted));
+    assert_eq!(bincode::deserialize::<Byte>(&7u128.to_le_bytes()).unwrap().as_u64(), 7);
+    assert_eq!(bincode::deserialize::<Bit>(&(10u128.pow(30) - 1).to_le_bytes()).unwrap(), Bit::MAX);
+    let error = bincode::deserialize::<Byte>(&10u128.pow(30).to_le_bytes()).unwrap_err().to_string();
     assert!(error.starts_with("invalid value: integer `1000000000000000000000000000000`, expected"), "{error}");
-    assert!(AdjustedByte::deserialize(Number(7)).is_err() && Unit::deserialize(Number(1)).is_err());
 }

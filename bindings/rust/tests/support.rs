@@ -46,14 +46,11 @@ macro_rules! compare_bytes {
         let other = std::array::from_fn::<u8, $lanes, _>(|at| if b[at] == 0 { a[at] } else { b[at] });
         let (x, y) = ($vector::from_array(a), $vector::from_slice(&[&other[..], &[9]].concat()));
         let each = |lane: fn(u8, u8) -> u8| std::array::from_fn::<u8, $lanes, _>(|at| lane(a[at], other[at]));
-        assert_eq!((x - y).to_array(), each(u8::wrapping_sub));
         assert_eq!((x | y).to_array(), each(|a, b| a | b));
         let equal = (0..$lanes).filter(|&at| a[at] == other[at]).map(|at| 1u64 << at).sum::<u64>();
         assert_eq!(x.simd_eq(y).to_bitmask(), equal);
         assert_eq!(x.simd_ne(y).to_bitmask(), equal ^ (u64::MAX >> (64 - $lanes)));
-        let mut out = [7; $lanes + 1];
-        x.copy_to_slice(&mut out);
-        assert_eq!((&out[..$lanes], out[$lanes], $vector::splat(a[0]).to_array()), (&a[..], 7, [a[0]; $lanes]));
+        assert_eq!((x.to_array(), $vector::splat(a[0]).to_array()), (a, [a[0]; $lanes]));
     })* };
 }
 

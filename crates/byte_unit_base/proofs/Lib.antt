@@ -29,5 +29,5 @@ pub mod SizeRest
 pub mod UnitStops
 pub mod UnitLetters
 pub mod NumberEnds
-pub mod WrongPlaces
+pub mod UnitEnds
 pub mod Positions

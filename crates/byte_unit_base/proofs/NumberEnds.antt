@@ -1,49 +1,47 @@
 -- The parser reads the digits of a number at once. It gets to the state that the state machine has after them, or stops
 -- where the machine has an error.
---
--- Of the place where the parser of a unit stops, `stop.0` is the state there, and `stop.1.0` that the bytes lead to it
--- and no further. Of the digits in `too_large_read`, `digits.0` is that the first one is a digit, and `digits.1` that
--- the rest are.
-use Rattle.std.proofs.Common.{◌≡◌, ◌≢◌, ℕ, ◌+◌, ◌-◌, ◌*◌, ◌^◌, ◌<◌, ◌≤◌, false, nat_eq, List, [], ◌∷◌, ◌++◌, Err}
-use Rattle.std.proofs.Common.{length, take, drop, get_or, replicate, refl, sym, ap, subst, ◌∙◌, arith, append_assoc}
-use Rattle.std.proofs.Common.{take-add, chars, IsAscii, get_or-drop}
+use Rattle.std.proofs.Common.{◌≡◌, ◌≢◌, ℕ, zero, suc, ◌+◌, ◌-◌, ◌*◌, ◌^◌, ◌<◌, ◌≤◌, true, inl, inr, List, []}
+use Rattle.std.proofs.Common.{◌∷◌, ◌++◌, None, Some, length, take, drop, get_or, refl, sym, ap, subst, ◌∙◌, arith}
+use Rattle.std.proofs.Common.{append_assoc, take-append-drop, take-add, chars, IsAscii, get_or-drop}
 use Rattle.std.specs.Char.{digit_value}
 use Rattle.std.specs.Float.Numeral.{digits_len}
-use Rattle.std.specs.Str.Parse.{AllDigits, digits_value, digits_value_after}
+use Rattle.std.specs.Str.Parse.{AllDigits, digits_value}
 use Rattle.core.proofs.dec2flt.DigitsLemmas.{ends_digits}
+use Rattle.core.proofs.dec2flt.Rows.{AllDigits-take}
 use Rattle.std.proofs.lemmas.Bool.Decides.{nat_tests}
 use Rattle.std.proofs.lemmas.Fmt.{IsAscii-from_digits}
-use Rattle.std.proofs.lemmas.Int.Digits.{digits_value-lt}
-use Rattle.std.proofs.lemmas.List.{length-take-le, length-drop, drop_more, drop-drop}
+use Rattle.std.proofs.lemmas.Int.Digits.{digits_value-lt, digits_value_more}
+use Rattle.std.proofs.lemmas.List.{length-take-le, length-drop, drop_more, take_more, get_or-take, take-append-le}
 use Rattle.std.proofs.lemmas.Str.{IsAscii-append}
-use Rattle.std.proofs.lemmas.Str.Ascii.{IsAscii-nil, IsAscii-from_all}
-use Rattle.std.proofs.lemmas.List.Elements.{All-replicate}
+use Rattle.std.proofs.lemmas.Str.Parse.{digit_at}
+use Rattle.std.proofs.lemmas.Str.Ascii.{IsAscii-nil, IsAscii-cons}
 use Rattle.byte_unit_math.specs.Bounds.{scale, places_of_decimal, whole_limit}
+use Rattle.byte_unit_base.specs.Version.{current}
 use Rattle.byte_unit_base.specs.Spelling.{Flags}
-use Rattle.byte_unit_base.specs.Number.{point}
-use Rattle.byte_unit_base.specs.SizeText.{space}
-use Rattle.byte_unit_base.specs.Fault.{too_long}
-use Rattle.byte_unit_base.specs.Scan.{read}
-use Rattle.byte_unit_base.specs.SizeScan.{Beginning, Whole, Point, size_scan, fixed_point}
-use Rattle.byte_unit_base.specs.ParserEnds.{IsFirst, IsNoSpace, IsStopAt, EndsNumber, IsLeadingNumber, IsUnitStop}
-use Rattle.byte_unit_base.specs.ParserEnds.{missing_digit, next_char, unit_stop_fault}
-use Rattle.byte_unit_base.specs.declared.read.stop.Reason.TheVariants.{NoDigit, TooLong, InUnit}
-use Rattle.byte_unit_base.specs.declared.unit.scan.UnitStop.{UnitStop}
-use Rattle.byte_unit_base.proofs.Scans.{read_through, read_some}
-use Rattle.byte_unit_base.proofs.SizeRuns.{step_first}
-use Rattle.byte_unit_base.proofs.SizeAscii.{number_ascii}
-use Rattle.byte_unit_base.proofs.SizeRest.{first_char, IsNoDigit, wide_no_digit, no_digit_first, missing_at_start}
-use Rattle.byte_unit_base.proofs.SizeRest.{missing_after_point, too_large, too_many_places, read_point}
-use Rattle.byte_unit_base.proofs.SizeRest.{read_after_number, with_number, text_from, utf8_from}
-use Rattle.byte_unit_base.proofs.UnitStops.{run_ascii, stop_read}
-use Rattle.byte_unit_base.proofs.WrongPlaces.{wrong_at_start, wrong_after_point, wrong_in_unit, pointed, pointed_ascii}
-use Rattle.byte_unit_base.proofs.WrongPlaces.{number_of_whole, number_of_fraction}
-use Rattle.byte_unit_base.specs.PlaceReading.{IsWholeLen, IsPlacesLen}
-use Rattle.byte_unit_base.proofs.Positions.{stop_place}
+use Rattle.byte_unit_base.specs.Number.{point, IsWholePart, IsPointed}
+use Rattle.byte_unit_base.specs.Fault.{fault_at, too_long}
+use Rattle.byte_unit_base.specs.Scan.{run}
+use Rattle.byte_unit_base.specs.SizeScan.{SizeScan, Beginning, Whole, Point, Fraction, is_digit, size_step, fixed_point}
+use Rattle.byte_unit_base.specs.SizeScan.{size_parser_state}
+use Rattle.byte_unit_base.specs.ParserEnds.{IsFirst, IsStopAt, IsStoppedBefore, EndsNumber, IsLeadingNumber}
+use Rattle.byte_unit_base.specs.ParserEnds.{IsLimitAt}
+use Rattle.byte_unit_base.specs.declared.read.stop.NumberStop.TheVariants.{NoWhole, NoFraction, TooLong}
+use Rattle.byte_unit_base.specs.declared.read.stop.Reason.TheVariants.{InNumber}
+use Rattle.byte_unit_base.proofs.Scans.{run_through}
+use Rattle.byte_unit_base.proofs.SizeRuns.{run_whole, run_pointed, run_places, number_end}
+use Rattle.byte_unit_base.proofs.SizeRest.{first_char, IsNoDigit, wide_no_digit, no_digit_first, ends_whole, ends_fraction}
+use Rattle.byte_unit_base.proofs.SizeRest.{text_from, utf8_from}
 use Rattle.byte_unit_base.proofs.NumberBytes.{digits_of_run}
-use Rattle.byte_unit_base.specs.UnitScan.{start}
 
--- what follows a number
+-- what follows digits
+
+-- what holds of the byte at an index, if there is one, holds of the first byte from there on
+dropped_first : (Has : ℕ → Type 0) (bytes : List ℕ) (end : ℕ) → (end < length bytes → Has (get_or bytes end 0))
+    → IsFirst Has (drop end bytes)
+dropped_first Has [] zero has = tt
+dropped_first Has [] (suc end) has = tt
+dropped_first Has (b ∷ bs) zero has = has (omega arith)
+dropped_first Has (b ∷ bs) (suc end) has = dropped_first Has bs end (λ inside. has (omega (arith, inside)))
 
 -- no digit follows a run of digits that std finds
 none_after : (bytes : List ℕ) (end : ℕ) → end ≡ 0 + digits_len (drop 0 bytes) → end < length bytes
@@ -53,37 +51,47 @@ none_after bytes end is inside =
     subst (IsFirst IsNoDigit) (drop_more bytes end 0 inside)
     (no_digit_first (drop end bytes) (ap (λ n. digits_len (drop n bytes)) all ∙ ends_digits bytes))
 
--- a run of digits that std finds is a whole part, if its value is below the limit
-whole_len : (bytes : List ℕ) (end whole : ℕ) → end ≡ 0 + digits_len (drop 0 bytes) → end ≤ length bytes
-    → whole < whole_limit → whole ≡ digits_value 10 (take end bytes) → IsWholeLen bytes end
-whole_len bytes end whole is within small value_is = record {
-  within = within;
-  value = whole;
-  digits = digits_of_run bytes end is;
-  value_is = value_is;
-  small = small;
-  next = λ inside digit. let none = none_after bytes end is inside in grind (arith, nat_tests, none, digit);
-}
+-- a digit of digits, by the test of the state machine
+digit_in : (ds : List ℕ) (i : ℕ) → AllDigits 10 ds → i < length ds → is_digit (get_or ds i 0) ≡ true
+digit_in ds i digits inside = let range = digit_at ds i digits inside in grind (arith, nat_tests, range)
 
--- a run of at most 28 digits that std finds is a fraction
-places_len : (bytes : List ℕ) (end : ℕ) → end ≡ 0 + digits_len (drop 0 bytes) → end ≤ length bytes
-    → end ≤ places_of_decimal → IsPlacesLen bytes end
-places_len bytes end is within few = record {
-  within = within;
-  digits = digits_of_run bytes end is;
-  few = few;
-  next = λ inside _. let none = none_after bytes end is inside in grind (arith, nat_tests, none);
-}
+-- if no digit is at the start of the text, the parser stops there
+no_whole : (flags : Flags) (text : List ℕ) → IsFirst IsNoDigit text
+    → IsStoppedBefore flags Beginning (InNumber NoWhole) text
+unfolding size_step
+no_whole flags [] none = refl
+no_whole flags (c ∷ cs) none = (rw none refl, refl)
+
+-- if no digit is after the point, the parser stops there
+no_fraction : (flags : Flags) (w : ℕ) (text : List ℕ) → IsFirst IsNoDigit text
+    → IsStoppedBefore flags (Point w) (InNumber NoFraction) text
+unfolding size_step
+no_fraction flags w [] none = refl
+no_fraction flags w (c ∷ cs) none = (rw none refl, refl)
+
+-- if a digit follows for which the state machine has no step, with the error of a number that is too long, the parser
+-- stops there
+one_too_many : (flags : Flags) (state : SizeScan) (bytes : List ℕ) (place : ℕ) → place < length bytes
+    → is_digit (get_or bytes place 0) ≡ true → size_step state (get_or bytes place 0) ≡ None
+    → too_long ≡ fault_at current flags (size_parser_state state) (get_or bytes place 0)
+    → IsStoppedBefore flags state (InNumber TooLong) (chars (drop place bytes))
+one_too_many flags state bytes place inside digit none fault_is =
+    let c = get_or bytes place 0 in
+    let small : c < 128 = grind (arith, nat_tests, digit) in
+    let next = ap chars (drop_more bytes place 0 inside)
+    ∙ text_from (c ∷ drop (place + 1) bytes) 1 (IsAscii-cons c [] small IsAscii-nil) in
+    subst (IsStoppedBefore flags state (InNumber TooLong)) (sym next) (none, fault_is)
 
 -- if the bytes start with no digit, the parser stops at the start, where a digit is missing
-pub stops_at_start : (bytes : List ℕ) → digits_len bytes ≡ 0 → (flags : Flags) → IsStopAt flags bytes 0 NoDigit
+pub stops_at_start : (bytes : List ℕ) → digits_len bytes ≡ 0 → (flags : Flags) → IsStopAt flags bytes 0 (InNumber NoWhole)
 stops_at_start bytes none flags = record {
   within = omega arith;
   ascii = IsAscii-nil;
-  result_is = λ utf8. missing_at_start flags (chars bytes)
-      (first_char IsNoDigit wide_no_digit bytes utf8 (no_digit_first bytes none));
-  wrong = λ utf8.
-      wrong_at_start bytes utf8 (whole_len bytes 0 0 (omega (arith, none)) (omega arith) (omega arith) refl);
+  stopped = λ utf8. record {
+    state = Beginning;
+    run_is = refl;
+    before = no_whole flags (chars bytes) (first_char IsNoDigit wide_no_digit bytes utf8 (no_digit_first bytes none));
+  };
 }
 
 -- the bytes begin with digits that no digit follows, and `whole` is what the code reads them as; it is below 2^112, so
@@ -92,14 +100,31 @@ module _ (bytes : List ℕ) (end whole : ℕ) (run_is : end ≡ 0 + digits_len (
     (some : end ≡ 0 → ⊥)
     (small : whole < whole_limit) (exact : whole < whole_limit → whole ≡ digits_value 10 (take end bytes)) where
   -- these digits are a whole part
-  abbrev len : IsWholeLen bytes end
-  len = whole_len bytes end whole run_is within small (exact small)
+  whole_is : IsWholePart current (take end bytes) whole
+  whole_is =
+      ((omega (arith, length-take-le end bytes within, some), digits_of_run bytes end run_is), exact small, small)
+
+  -- they are ASCII
+  whole_ascii : IsAscii (take end bytes)
+  whole_ascii = IsAscii-from_digits (take end bytes) (digits_of_run bytes end run_is)
 
   -- a whole part that no point follows is the leading number
   pub leading_whole : (n : ℕ) → (end < length bytes → get_or bytes end 0 ≢ point) → whole * scale ≡ n
       → IsLeadingNumber bytes n end
-  unfolding whole_len
-  leading_whole n other value = number_of_whole bytes end len some n value (none_after bytes end run_is) other
+  leading_whole n no_point at =
+      let ends = EndsNumber (Whole whole) n in
+      record {
+        within = within;
+        number_is = inl (whole, whole_is, sym at);
+        state = Whole whole;
+        run_is = run_whole (take end bytes) whole whole_is;
+        at_end = λ flags. number_end flags n (Whole whole) at;
+        next = λ utf8.
+            first_char ends (λ c wide. ends_whole whole n c at (wide_no_digit c wide) (grind (arith, nat_tests)))
+            (drop end bytes) (utf8_from bytes end utf8 within whole_ascii)
+            (dropped_first ends bytes end (λ inside. ends_whole whole n (get_or bytes end 0) at
+            (none_after bytes end run_is inside) (let differs = no_point inside in grind (arith, nat_tests, differs))));
+      }
 
   -- a point follows
   module _ (not_all : end ≡ length bytes → ⊥) (point_is : get_or bytes end 0 ≡ point) where
@@ -111,34 +136,98 @@ module _ (bytes : List ℕ) (end whole : ℕ) (run_is : end ≡ 0 + digits_len (
     inside : end < length bytes
     inside = omega (arith, not_all, within)
 
-    -- the bytes up to the point are ASCII
-    ascii : IsAscii (take (end + 1) bytes)
-    ascii = pointed_ascii bytes end len some inside point_is
+    -- the bytes up to the point, with it, are a whole part and a point, as the grammar has them
+    abbrev pointed : IsPointed current (take (end + 1) bytes) whole
+    pointed = record {
+      whole = take end bytes;
+      text_is = take_more bytes end 0 inside ∙ ap (λ c. take end bytes ++ c ∷ []) point_is;
+      whole_is = whole_is;
+    }
 
-    -- the result for the bytes is that for the bytes after the point, from the state after the point
-    read_rest : (flags : Flags)
-        → read (size_scan flags) Beginning (chars bytes) ≡ read (size_scan flags) (Point whole) (chars rest)
-    unfolding whole_len
-    read_rest flags =
-        let front = pointed bytes end len some inside point_is in
-        ap (read (size_scan flags) Beginning) (text_from bytes (end + 1) ascii
-        ∙ (ap (λ front. front ++ chars rest) front.text_is ∙ append_assoc front.whole (point ∷ []) (chars rest)))
-        ∙ read_point flags front.whole (chars rest) whole front.whole_is
+    -- they are ASCII
+    pointed_ascii : IsAscii (take (end + 1) bytes)
+    pointed_ascii = subst IsAscii (sym pointed.text_is)
+        (IsAscii-append (take end bytes) (point ∷ []) whole_ascii (IsAscii-cons point [] (omega arith) IsAscii-nil))
 
     -- if no digit follows the point, the parser stops after it, where a digit is missing
-    pub stops_after_point : digits_len rest ≡ 0 → (flags : Flags) → IsStopAt flags bytes (end + 1) NoDigit
+    pub stops_after_point : digits_len rest ≡ 0 → (flags : Flags) → IsStopAt flags bytes (end + 1) (InNumber NoFraction)
     stops_after_point none flags = record {
       within = omega (arith, inside);
-      ascii = ascii;
-      result_is = λ utf8. read_rest flags
-          ∙ (missing_after_point flags whole (chars rest)
-          (first_char IsNoDigit wide_no_digit rest (utf8_from bytes (end + 1) utf8 (omega (arith, inside)) ascii)
-          (no_digit_first rest none))
-          ∙ ap (λ at_start. Err (missing_digit at_start (next_char (chars rest))))
-          (let at_point : false ≡ nat_eq (end + 1) 0 = grind (arith, nat_tests) in at_point));
-      wrong = λ utf8. wrong_after_point bytes end len some inside point_is utf8
-          (places_len rest 0 (omega (arith, none)) (omega arith) (omega arith));
+      ascii = pointed_ascii;
+      stopped = λ utf8. record {
+        state = Point whole;
+        run_is = run_pointed (take (end + 1) bytes) whole pointed;
+        before = no_fraction flags whole (chars rest) (first_char IsNoDigit wide_no_digit rest
+            (utf8_from bytes (end + 1) utf8 (omega (arith, inside)) pointed_ascii) (no_digit_first rest none));
+      };
     }
+
+    -- digits follow the point, of which the first `count` are at most 28
+    module _ (count : ℕ) (count_within : count ≤ length rest) (digits : AllDigits 10 (take count rest))
+        (some_digits : count ≡ 0 → ⊥) (few : count ≤ places_of_decimal) where
+      -- their value
+      abbrev fraction : ℕ
+      fraction = digits_value 10 (take count rest)
+
+      -- there are `count`
+      count_is : length (take count rest) ≡ count
+      count_is = length-take-le count rest count_within
+
+      -- the bytes up to them are whole part, point and digits
+      text_is : take (end + 1 + count) bytes ≡ take (end + 1) bytes ++ take count rest
+      text_is = take-add (end + 1) count bytes
+
+      -- the bytes up to them are ASCII
+      digits_ascii : IsAscii (take (end + 1 + count) bytes)
+      digits_ascii = subst IsAscii (sym text_is)
+          (IsAscii-append (take (end + 1) bytes) (take count rest) pointed_ascii
+          (IsAscii-from_digits (take count rest) digits))
+
+      -- they lead to the state of this fraction
+      run_digits : run size_step Beginning (take (end + 1 + count) bytes)
+          ≡ Some (Fraction whole fraction (length (take count rest)))
+      run_digits = ap (run size_step Beginning) text_is
+          ∙ (run_through size_step Beginning (Point whole) (take (end + 1) bytes) (take count rest)
+          (run_pointed (take (end + 1) bytes) whole pointed)
+          ∙ run_places (take count rest) whole (omega (arith, count_is, some_digits), digits)
+          (omega (arith, count_is, few)))
+
+      -- if no digit follows, whole part, point and fraction are the leading number
+      leading_digits : (n : ℕ) → fixed_point whole fraction (length (take count rest)) ≡ n
+          → (end + 1 + count < length bytes → IsNoDigit (get_or bytes (end + 1 + count) 0))
+          → IsLeadingNumber bytes n (end + 1 + count)
+      leading_digits n at other =
+          let stop = end + 1 + count in
+          let state = Fraction whole fraction (length (take count rest)) in
+          let ends = EndsNumber state n in
+          let ends_number : (c : ℕ) → IsNoDigit c → ends c = λ c none. ends_fraction state n c at refl none in
+          let stop_within : stop ≤ length bytes =
+          omega (arith, count_within, length-drop {A = ℕ} (end + 1) bytes, inside) in
+          record {
+            within = stop_within;
+            number_is = inr record {
+              whole = take end bytes;
+              fraction = take count rest;
+              value = whole;
+              part = fraction * 10 ^ (places_of_decimal - length (take count rest));
+              text_is = text_is ∙ (ap (λ front. front ++ take count rest) pointed.text_is
+                  ∙ append_assoc (take end bytes) (point ∷ []) (take count rest));
+              whole_is = whole_is;
+              fraction_is = (
+                (omega (arith, count_is, some_digits), digits),
+                omega (arith, count_is, few),
+                refl,
+              );
+              number_is = sym at;
+            };
+            state = state;
+            run_is = run_digits;
+            at_end = λ flags. number_end flags n state at;
+            next = λ utf8.
+                first_char ends (λ c wide. ends_number c (wide_no_digit c wide)) (drop stop bytes)
+                (utf8_from bytes stop utf8 stop_within digits_ascii)
+                (dropped_first ends bytes stop (λ more. ends_number (get_or bytes stop 0) (other more)));
+          }
 
     -- digits of a fraction follow the point, up to `stop`
     module _ (stop : ℕ) (stop_is : stop ≡ end + 1 + digits_len rest) (stop_within : stop ≤ length bytes) where
@@ -146,11 +235,7 @@ module _ (bytes : List ℕ) (end whole : ℕ) (run_is : end ≡ 0 + digits_len (
       abbrev places : ℕ
       places = stop - (end + 1)
 
-      -- the digits of the fraction
-      abbrev digits : List ℕ
-      digits = take places rest
-
-      -- the number of digits is that of the run which std finds after the point
+      -- it is that of the run which std finds after the point
       places_are : places ≡ 0 + digits_len (drop 0 rest)
       places_are = omega (arith, stop_is)
 
@@ -159,106 +244,96 @@ module _ (bytes : List ℕ) (end whole : ℕ) (run_is : end ≡ 0 + digits_len (
       places_within = omega (arith, stop_within, length-drop {A = ℕ} (end + 1) bytes)
 
       -- the digits of the fraction are decimal digits
-      digits_are : AllDigits 10 digits
+      digits_are : AllDigits 10 (take places rest)
       digits_are = digits_of_run rest places places_are
 
-      -- there are `places` digits of the fraction
-      count_is : length digits ≡ places
-      count_is = length-take-le places rest places_within
-
       -- the value of the digits is below the power of ten with as many zeros
-      pub fraction_below : (fraction : ℕ) → fraction ≡ digits_value 10 digits → fraction < 10 ^ places
+      pub fraction_below : (fraction : ℕ) → fraction ≡ digits_value 10 (take places rest) → fraction < 10 ^ places
       fraction_below fraction is =
-          omega (arith, is, digits_value-lt 10 digits digits_are, ap (λ n. 10 ^ n) count_is)
+          omega (
+            arith,
+            is,
+            digits_value-lt 10 (take places rest) digits_are,
+            ap (λ n. 10 ^ n) (length-take-le places rest places_within),
+          )
 
-      -- if the fraction has more than 28 digits, the parser stops, since the number is too long
-      pub stops_in_fraction : places_of_decimal < places → (flags : Flags) → IsStopAt flags bytes 0 TooLong
-      stops_in_fraction many flags = record {
-        within = omega arith;
-        ascii = IsAscii-nil;
-        result_is = λ utf8. read_rest flags
-            ∙ (ap (read (size_scan flags) (Point whole)) (text_from rest places (IsAscii-from_digits digits digits_are))
-            ∙ too_many_places flags digits (chars (drop places rest)) whole digits_are (omega (arith, many, count_is)));
-        wrong = λ utf8. tt;
-      }
+      -- if the fraction has more than 28 digits, the parser stops at the 29th
+      pub stops_in_fraction : places_of_decimal < places → (flags : Flags)
+          → IsStopAt flags bytes (end + 1 + places_of_decimal) (InNumber TooLong)
+      unfolding size_step
+      stops_in_fraction many flags =
+          let count = places_of_decimal in
+          let kept : take count (take places rest) ≡ take count rest =
+          sym (take-append-le count (take places rest) (drop places rest)
+          (omega (arith, many, length-take-le places rest places_within)))
+          ∙ ap (take count) (take-append-drop places rest) in
+          let first = subst (AllDigits 10) kept (AllDigits-take count (take places rest) digits_are) in
+          let count_within : count ≤ length rest = omega (arith, many, places_within) in
+          let place = end + 1 + count in
+          let c = get_or bytes place 0 in
+          let here : get_or (take places rest) count 0 ≡ c =
+          get_or-take places rest count 0 many ∙ get_or-drop (end + 1) bytes count 0 in
+          let digit : is_digit c ≡ true = ap is_digit (sym here) ∙ digit_in (take places rest) count digits_are
+          (omega (arith, many, length-take-le places rest places_within)) in
+          let full = length-take-le count rest count_within in
+          record {
+            within = omega (arith, stop_is, stop_within, many);
+            ascii = digits_ascii count count_within first (omega arith) (omega arith);
+            stopped = λ utf8. record {
+              state = Fraction whole (digits_value 10 (take count rest)) (length (take count rest));
+              run_is = run_digits count count_within first (omega arith) (omega arith);
+              before = one_too_many flags (Fraction whole (digits_value 10 (take count rest)) (length (take count rest)))
+                  bytes place (omega (arith, stop_is, stop_within, many)) digit
+                  (grind (arith, nat_tests, digit, full)) (rw digit refl);
+            };
+          }
 
       -- a whole part, a point and a fraction are the leading number
       pub leading_precise : (fraction n : ℕ) → (places ≡ 0 → ⊥)
-          → places ≤ places_of_decimal → fraction ≡ digits_value 10 digits
+          → places ≤ places_of_decimal → fraction ≡ digits_value 10 (take places rest)
           → n ≡ fixed_point whole fraction places → IsLeadingNumber bytes n stop
-      unfolding whole_len
       leading_precise fraction n some_places few value value_of_n =
           let value_is = value_of_n ∙ (ap (λ f. fixed_point whole f places) value
-          ∙ ap (fixed_point whole (digits_value 10 digits)) (sym count_is)) in
+          ∙ ap (fixed_point whole (digits_value 10 (take places rest))) (sym (length-take-le places rest places_within))) in
           subst (IsLeadingNumber bytes n) (omega (arith, stop_is))
-          (number_of_fraction bytes end len some inside point_is places refl
-          (places_len rest places places_are places_within few) some_places n (sym value_is)
+          (leading_digits places places_within digits_are some_places few n (sym value_is)
           (λ more. subst IsNoDigit (get_or-drop (end + 1) bytes places 0)
           (none_after rest places places_are (omega (arith, more, length-drop {A = ℕ} (end + 1) bytes)))))
 
--- digits whose value reaches the limit of a whole part have the error of a number that is too long
-too_large_read : (flags : Flags) (ds rest : List ℕ) → AllDigits 10 ds → whole_limit ≤ digits_value 10 ds
-    → read (size_scan flags) Beginning (ds ++ rest) ≡ Err too_long
-too_large_read flags [] rest digits above = absurd (omega (arith, above))
-too_large_read flags (c ∷ cs) rest digits above =
-    let first : 0 * 10 + digit_value c ≡ digit_value c = omega arith in
-    let value = ap (λ v. digits_value_after 10 v cs) first in
-    read_some (size_scan flags) Beginning (Whole (digit_value c)) c (cs ++ rest) (step_first c digits.0)
-    ∙ too_large flags cs rest (digit_value c) digits.1 (omega (arith, digits.0)) (omega (arith, above, value))
-
--- if the whole part reaches the limit, the parser stops, since the number is too long
-pub stops_in_whole : (bytes : List ℕ) (end : ℕ) → end ≡ 0 + digits_len (drop 0 bytes)
-    → whole_limit ≤ digits_value 10 (take end bytes) → (flags : Flags) → IsStopAt flags bytes 0 TooLong
-stops_in_whole bytes end run_is above flags =
+-- if the whole part reaches the limit, the parser stops at the digit with which it does
+pub stops_in_whole : (bytes : List ℕ) (end place : ℕ) → end ≡ 0 + digits_len (drop 0 bytes) → end ≤ length bytes
+    → IsLimitAt (take end bytes) place → (flags : Flags) → IsStopAt flags bytes place (InNumber TooLong)
+unfolding size_step
+stops_in_whole bytes end place run_is within limit flags =
+    let ds = take end bytes in
     let digits = digits_of_run bytes end run_is in
+    let len = length-take-le end bytes within in
+    let value = digits_value 10 (take place ds) in
+    let c = get_or bytes place 0 in
+    let here : get_or ds place 0 ≡ c = get_or-take end bytes place 0 (omega (arith, limit.inside, len)) in
+    let digit : is_digit c ≡ true = ap is_digit (sym here) ∙ digit_in ds place digits limit.inside in
+    let next : whole_limit ≤ value * 10 + digit_value c =
+    omega (arith, limit.above, digits_value_more 10 ds place limit.inside, ap digit_value here) in
+    let some : place ≡ 0 → ⊥ = λ none.
+    let no_value : value ≡ 0 = ap (λ n. digits_value 10 (take n ds)) none in
+    grind (arith, nat_tests, no_value, next, digit) in
+    let kept : take place ds ≡ take place bytes =
+    sym (take-append-le place ds (drop end bytes) (omega (arith, limit.inside)))
+    ∙ ap (take place) (take-append-drop end bytes) in
+    let first = subst (AllDigits 10) kept (AllDigits-take place ds digits) in
+    let place_within : place ≤ length bytes = omega (arith, limit.inside, len, within) in
+    let whole : IsWholePart current (take place bytes) value = (
+      (omega (arith, length-take-le place bytes place_within, some), first),
+      ap (digits_value 10) kept,
+      limit.below,
+    ) in
     record {
-      within = omega arith;
-      ascii = IsAscii-nil;
-      result_is = λ utf8. ap (read (size_scan flags) Beginning)
-          (text_from bytes end (IsAscii-from_digits (take end bytes) digits))
-          ∙ too_large_read flags (take end bytes) (chars (drop end bytes)) digits above;
-      wrong = λ utf8. tt;
-    }
-
--- after a number and spaces, the parser stops where that of the unit does, with its error
-pub stops_in_unit : (flags : Flags) (bytes rest : List ℕ) (n end spaces place : ℕ) (kept : UnitStop)
-    → IsLeadingNumber bytes n end → drop end bytes ≡ rest → spaces ≤ length rest → take spaces rest ≡ replicate spaces space
-    → IsFirst IsNoSpace (drop spaces rest) → IsUnitStop flags (drop (end + spaces) bytes) kept place
-    → IsStopAt flags bytes (end + spaces + place) (InUnit kept)
-stops_in_unit flags bytes rest n end spaces place kept number rest_is within gap other stop =
-    let number_small = number_ascii (take end bytes) n number.number_is in
-    let gap_small = All-replicate (λ c. c < 128) spaces space (omega arith) in
-    let gap_ascii : IsAscii (take spaces rest) = subst IsAscii (sym gap) (IsAscii-from_all (replicate spaces space) gap_small) in
-    let unit = drop (end + spaces) bytes in
-    let at_unit : drop spaces rest ≡ unit = ap (drop spaces) (sym rest_is) ∙ drop-drop spaces end bytes in
-    let front : take (end + spaces) bytes ≡ take end bytes ++ take spaces rest =
-    take-add end spaces bytes ∙ ap (λ r. take end bytes ++ take spaces r) rest_is in
-    let ascii : IsAscii (take (end + spaces) bytes) =
-    subst IsAscii (sym front) (IsAscii-append (take end bytes) (take spaces rest) number_small gap_ascii) in
-    let inside : end + spaces ≤ length bytes = omega (arith, within, number.within, ap length rest_is, length-drop end bytes) in
-    let text : chars (drop end bytes) ≡ replicate spaces space ++ chars unit =
-    ap chars rest_is ∙ (text_from rest spaces gap_ascii
-    ∙ (ap (λ g. g ++ chars (drop spaces rest)) gap ∙ ap (λ u. replicate spaces space ++ chars u) at_unit)) in
-    record {
-      within = omega (arith, inside, stop.1.0.within, length-drop (end + spaces) bytes);
-      ascii = subst IsAscii (sym (take-add (end + spaces) place bytes))
-          (IsAscii-append (take (end + spaces) bytes) (take place unit) ascii
-          (run_ascii (take place unit) start stop.0 stop.1.0.run_is));
-      result_is = λ utf8.
-          let utf8_unit = utf8_from bytes (end + spaces) utf8 inside ascii in
-          ap (read (size_scan flags) Beginning) (text_from bytes end number_small)
-          ∙ (read_through (size_scan flags) Beginning number.state (take end bytes) (chars (drop end bytes)) number.run_is
-          ∙ (ap (read (size_scan flags) number.state) text
-          ∙ (read_after_number flags n spaces number.state (chars unit) (number.at_end flags)
-          (subst (IsFirst (EndsNumber number.state n)) text (number.next utf8))
-          (first_char IsNoSpace (λ c wide. λ e. omega (arith, wide, e)) unit utf8_unit
-          (subst (IsFirst IsNoSpace) at_unit other))
-          ∙ (ap (with_number n) (stop_read flags unit place kept stop utf8_unit)
-          ∙ ap (λ r. Err (unit_stop_fault flags kept (next_char (chars r)))) (drop-drop place (end + spaces) bytes)))));
-      wrong = λ utf8.
-          let leads = stop_place flags unit kept place stop in
-          wrong_in_unit bytes utf8 n end spaces place leads.0 number
-          (subst (λ r. spaces ≤ length r) (sym rest_is) within)
-          (subst (λ r. take spaces r ≡ replicate spaces space) (sym rest_is) gap)
-          (subst (λ r. IsFirst IsNoSpace (drop spaces r)) (sym rest_is) other) leads.1 leads.2;
+      within = place_within;
+      ascii = IsAscii-from_digits (take place bytes) first;
+      stopped = λ utf8. record {
+        state = Whole value;
+        run_is = run_whole (take place bytes) value whole;
+        before = one_too_many flags (Whole value) bytes place (omega (arith, limit.inside, len, within)) digit
+            (grind (arith, nat_tests, digit, next)) (rw digit refl);
+      };
     }

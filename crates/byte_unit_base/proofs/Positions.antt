@@ -1,33 +1,36 @@
--- The position of an error: the end of the longest viable prefix, where the state machine has no further step.
+-- Where a parser stops in a string, at the end of the longest viable prefix: the error there is that of the string, and
+-- the index is its position.
 --
--- Here `found` is a number, its unit, and that the text is both, or a unit and that the text spells it; `count` is a
--- kind, and that the suffix spells it. In `stop_place`, `stop` is a state, that the text leads to it and no unit ends
--- there, and what the code keeps of it; in `error_at`, `fault` is the error, and that it is the one there; and in
--- `unit_position`, `wrong` is the state of a unit, that the text leads to it, and its error if the text ends there.
-use Rattle.std.proofs.Common.{◌≡◌, ℕ, ◌+◌, Bool, not, inl, inr, List, [], ◌∷◌, Some, None, length, take, drop, refl}
-use Rattle.std.proofs.Common.{sym, ap, subst, ◌∙◌, arith, chars, IsUtf8, length-take-le, ◌≤◌, IsAscii}
+-- Here `found` is a number and its unit, `count` is a kind, and that the suffix spells it, and `stop` is a state of the
+-- unit, that the text leads to it and no unit ends there, and what the code keeps of it.
+use Rattle.std.proofs.Common.{◌≡◌, ℕ, ◌+◌, Bool, not, inl, inr, List, [], ◌∷◌, Option, Some, None, Ok, Err}
+use Rattle.std.proofs.Common.{length, take, drop, refl, sym, ap, ◌∙◌, arith, chars, IsUtf8, length-take-le, ◌≤◌, IsAscii}
+use Rattle.std.proofs.Common.{subst, take-append-drop}
+use Rattle.std.proofs.lemmas.Str.{IsAscii-append, IsUtf8-from_ascii}
 use Rattle.byte_unit_base.specs.Shape.{Shape, shape}
 use Rattle.byte_unit_base.specs.Version.{current}
+use Rattle.byte_unit_base.specs.Units.{shape_of}
 use Rattle.byte_unit_base.specs.Spelling.{Flags, SpellsCount, Spells}
-use Rattle.byte_unit_base.specs.SizeText.{trim_of, IsSizeText}
+use Rattle.byte_unit_base.specs.SizeText.{trim_of}
 use Rattle.byte_unit_base.specs.ViablePrefix.{ParserState}
-use Rattle.byte_unit_base.specs.Fault.{Fault, fault_at, fault_at_end, stops_at_bi, IsFaultAfter}
-use Rattle.byte_unit_base.specs.UnitScan.{unit_step, unit_of, start as unit_start, scan_of, word_parser_state, Multiple}
-use Rattle.byte_unit_base.specs.UnitScan.{SuffixPart, Bi}
-use Rattle.byte_unit_base.specs.Outcome.{IsPositionOfStop}
-use Rattle.byte_unit_base.specs.ParserEnds.{HasVisibleEnds, IsFirst, IsUnitStop, IsWrongAt, IsWrongPlace}
-use Rattle.byte_unit_base.specs.PlaceReading.{IsUnitPlace, IsSizePlace}
+use Rattle.byte_unit_base.specs.Fault.{Fault, fault_at, stops_at_bi, IsFaultAfter, IsFirstFault}
+use Rattle.byte_unit_base.specs.Scan.{Scan, run}
+use Rattle.byte_unit_base.specs.UnitScan.{UnitScan, unit_step, unit_parser_state, unit_of, start as unit_start}
+use Rattle.byte_unit_base.specs.UnitWord.{unit_stop}
+use Rattle.byte_unit_base.specs.SizeScan.{SizeScan, size_step, size_parser_state}
+use Rattle.byte_unit_base.specs.Outcome.{IsStop, IsUnitOrStop}
+use Rattle.byte_unit_base.specs.Readings.{IsNumberReading, IsUnitReading}
+use Rattle.byte_unit_base.specs.ParserEnds.{IsVisibleNext, IsFirst, IsStopAt, IsStoppedBefore, IsUnitStop, next_char}
+use Rattle.byte_unit_base.specs.ParserEnds.{stop_fault, unit_stop_fault}
 use Rattle.byte_unit_base.specs.ErrorPosition.{leading_white, IsErrorAt, IsSizePosition, IsUnitPosition}
 use Rattle.byte_unit_base.specs.declared.read.stop.Reason.{Reason}
-use Rattle.byte_unit_base.specs.declared.read.stop.Reason.TheVariants.{NoDigit, TooLong, InUnit}
+use Rattle.byte_unit_base.specs.declared.unit.Unit.{Unit as UnitName}
 use Rattle.byte_unit_base.specs.declared.unit.scan.UnitStop.{UnitStop}
-use Rattle.byte_unit_base.proofs.Scans.{IsScanOf, first_fault, one_answer}
-use Rattle.byte_unit_base.specs.Scan.{Scan, run}
-use Rattle.byte_unit_base.proofs.UnitReads.{unit_scan_is}
-use Rattle.byte_unit_base.proofs.UnitStops.{run_ascii, spelled_chars, none_left}
+use Rattle.byte_unit_base.proofs.Scans.{IsScanOf, first_fault, one_answer, reads_fault}
+use Rattle.byte_unit_base.proofs.UnitReads.{unit_scan_is, unit_reading}
+use Rattle.byte_unit_base.proofs.UnitStops.{run_ascii, none_left, no_unit, kept_state}
 use Rattle.byte_unit_base.proofs.UnitRuns.{no_other_step}
-use Rattle.byte_unit_base.proofs.SizeReads.{size_scan_is}
-use Rattle.byte_unit_base.proofs.SizeAscii.{size_of_chars}
+use Rattle.byte_unit_base.proofs.SizeReads.{size_scan_is, number_reading}
 use Rattle.byte_unit_base.proofs.SizeRest.{first_char, text_from, utf8_from}
 use Rattle.byte_unit_base.proofs.Trim.{trim_visible, no_leading_white}
 
@@ -43,7 +46,7 @@ count_any flags other text bit (inr (inr (inr (inl h)))) = (_, inr (inr (inr (in
 count_any flags other text bit (inr (inr (inr (inr h)))) = (_, inr (inr (inr (inr (h.0, refl)))))
 
 -- a unit under some flags is one under any flags, perhaps of the other kind
-pub spells_any : (flags other : Flags) (text : List ℕ) (unit : Shape) → Spells current flags text unit
+spells_any : (flags other : Flags) (text : List ℕ) (unit : Shape) → Spells current flags text unit
     → (of : Shape) × Spells current other text of
 spells_any flags other text unit (inl plain) =
     let count = count_any flags other text unit.bit plain.count_is in
@@ -60,96 +63,143 @@ spells_any flags other text unit (inr multiple) =
       },
     )
 
--- a unit that cannot end in its state ends in `bi`
+-- if a string is a number and a unit, it has no position of an error
+pub no_size_position : (flags : Flags) (bytes : List ℕ) (found : ℕ × UnitName)
+    → IsNumberReading flags bytes (Ok found) → IsSizePosition bytes None
+no_size_position flags bytes found reading other fault first =
+    let h = reading.found in
+    let unit = spells_any flags other h.unit_part (shape_of found.1) h.unit_is in
+    (one_answer (size_scan_is other) (trim_of bytes)).not_both (found.0, unit.0) fault
+    record {
+      number_part = h.number_part;
+      spaces = h.spaces;
+      unit_part = h.unit_part;
+      text_is = h.text_is;
+      number_is = h.number_is;
+      unit_is = unit.1;
+    }
+    first
 
--- if no unit ends in a state, an input that ends there has the error of one that ends in `bi`
-no_unit : (flags : Flags) (m : Multiple) (w : SuffixPart) → unit_of flags (scan_of m w) ≡ None
-    → fault_at_end (word_parser_state m w) ≡ Some stops_at_bi
-no_unit flags m Bi none = refl
-no_unit flags m w none = absurd (let z : ⊥ = cc in z)
+-- if a string is a unit, it has no position of an error
+pub no_unit_position : (flags : Flags) (bytes : List ℕ) (unit : UnitName) → IsUnitReading flags bytes (Ok unit)
+    → IsUnitPosition bytes None
+no_unit_position flags bytes unit reading other fault first =
+    let found = spells_any flags other (trim_of bytes) (shape_of unit) reading.found in
+    (one_answer (unit_scan_is other) (trim_of bytes)).not_both found.0 fault found.1 first
 
--- where the parser of a unit stops, the bytes are no unit, and are wrong there
-pub stop_place : (flags : Flags) (bytes : List ℕ) (kept : UnitStop) (place : ℕ) → IsUnitStop flags bytes kept place
-    → IsUnitPlace bytes (Some place)
-stop_place flags bytes kept place stop =
-    (stop.0, stop.1.0, λ all. no_unit flags stop.0.multiple stop.0.word (stop.1.1 all))
+-- `bytes` is a string, and `text` it without the white space at its ends; a state machine has a state after the text up
+-- to this place, and no step for what follows
+module _ {S Meaning : Type 0} {scan : Scan S Meaning} {Reached : S → List ℕ → Type 0}
+    {IsViable : ParserState → List ℕ → Type 0} {Means : List ℕ → Meaning → Type 0}
+    (is : IsScanOf scan Reached IsViable Means) (bytes text : List ℕ) (trimmed : chars text ≡ trim_of bytes) (place : ℕ)
+    (within : place ≤ length text) (ascii : IsAscii (take place text)) (state : S)
+    (run_is : run scan.step scan.start (take place text) ≡ Some state)
+    (next : IsFirst (λ c. scan.step state c ≡ None) (chars (drop place text))) where
+  -- the error there is that of the string
+  abbrev fault_here : (fault : Fault) → IsFaultAfter current scan.flags (scan.place state) (chars (drop place text)) fault
+      → IsFirstFault IsViable current scan.flags (trim_of bytes) fault
+  fault_here fault after = first_fault is state (trim_of bytes) (take place text) (chars (drop place text)) fault
+      (sym trimmed ∙ text_from text place ascii) run_is next after
 
--- the first error after a beginning of ASCII
+  -- its position is the place in the text, after the leading white space
+  error_here : (index : ℕ) → index ≡ leading_white bytes + place
+      → (fault : Fault) × IsFaultAfter current scan.flags (scan.place state) (chars (drop place text)) fault
+      → IsErrorAt IsViable scan.flags bytes index
+  error_here index index_is found = record {
+    fault = found.0;
+    first = fault_here found.0 found.1;
+    position_is = index_is ∙ ap (λ n. leading_white bytes + n) (sym (length-take-le place text within));
+  }
 
--- there is an error at the next character, and at the end if the parser state has one there
-fault_after : (flags : Flags) (place : ParserState) (rest : List ℕ)
-    → (rest ≡ [] → (fault : Fault) × (fault_at_end place ≡ Some fault))
-    → (fault : Fault) × IsFaultAfter current flags place rest fault
-fault_after flags place [] at_end = at_end refl
-fault_after flags place (c ∷ cs) at_end = (fault_at current flags place c, refl)
+-- where the parser of a number and a unit is stopped
 
--- `s` is a string, and `text` it without the white space at its ends
-module _ (s text : List ℕ) (trimmed : chars text ≡ trim_of s) (utf8 : IsUtf8 text) where
-  -- where a state machine has no step in the text, the string has its error, after the leading white space
-  error_at : {S Meaning : Type 0} {scan : Scan S Meaning} {Reached : S → List ℕ → Type 0}
-      {IsViable : ParserState → List ℕ → Type 0} {Means : List ℕ → Meaning → Type 0}
-      → IsScanOf scan Reached IsViable Means → (place : ℕ) (state : S) → place ≤ length text → IsAscii (take place text)
-      → run scan.step scan.start (take place text) ≡ Some state
-      → IsFirst (λ c. scan.step state c ≡ None) (chars (drop place text))
-      → (place ≡ length text → (fault : Fault) × (fault_at_end (scan.place state) ≡ Some fault))
-      → IsErrorAt IsViable scan.flags s (leading_white s + place)
-  error_at {scan} is place state within ascii run_is next at_end =
-      let rest = chars (drop place text) in
-      let fault = fault_after scan.flags (scan.place state) rest
-      (λ none. at_end (none_left text place utf8 within ascii none)) in
-      record {
-        fault = fault.0;
-        first = first_fault is state (trim_of s) (take place text) rest fault.0
-            (sym trimmed ∙ text_from text place ascii) run_is next fault.1;
-        position_is = ap (λ n. leading_white s + n) (sym (length-take-le place text within));
-      }
+-- the state machine has no step
+cannot_step : (flags : Flags) (state : SizeScan) (reason : Reason) (rest : List ℕ)
+    → IsStoppedBefore flags state reason rest → IsFirst (λ c. size_step state c ≡ None) rest
+cannot_step flags state reason [] stopped = tt
+cannot_step flags state reason (c ∷ cs) stopped = stopped.0
 
-  -- the position of the error in the string is that of the place in the text
-  pub size_position : (start place : ℕ) → start ≡ leading_white s → IsSizePlace text (Some place)
-      → IsSizePosition s (Some (start + place))
-  size_position start place start_is wrong flags = rw start_is (error_at (size_scan_is flags) place wrong.state
-      wrong.within wrong.ascii wrong.run_is wrong.next wrong.at_end)
+-- its error is that of the reason
+fault_after : (flags : Flags) (state : SizeScan) (reason : Reason) (rest : List ℕ) → IsStoppedBefore flags state reason rest
+    → IsFaultAfter current flags (size_parser_state state) rest (stop_fault flags reason (next_char rest))
+fault_after flags state reason [] stopped = stopped
+fault_after flags state reason (c ∷ cs) stopped = stopped.1
 
-  -- if the text is a size, the string has no position of an error
-  pub no_size_position : IsSizePlace text None → IsSizePosition s None
-  no_size_position is flags fault first =
-      let found = is flags in
-      let size : IsSizeText current flags (trim_of s) found.0 found.1 =
-      subst (λ t. IsSizeText current flags t found.0 found.1) trimmed
-      (size_of_chars flags text found.0 found.1 found.2) in
-      (one_answer (size_scan_is flags) (trim_of s)).not_both (found.0, found.1) fault size first
+-- it has an error under any flags
+any_fault : (flags other : Flags) (state : SizeScan) (reason : Reason) (rest : List ℕ)
+    → IsStoppedBefore flags state reason rest
+    → (fault : Fault) × IsFaultAfter current other (size_parser_state state) rest fault
+any_fault flags other state reason [] stopped = (_, stopped)
+any_fault flags other state reason (c ∷ cs) stopped = (fault_at current other (size_parser_state state) c, refl)
 
-  -- the position of the error of a unit in the string is that of the place in the text
-  pub unit_position : (start place : ℕ) → start ≡ leading_white s → IsUnitPlace text (Some place)
-      → IsUnitPosition s (Some (start + place))
-  unit_position start place start_is wrong flags =
-      let leads = wrong.1 in
-      let ascii = run_ascii (take place text) unit_start wrong.0 leads.run_is in
-      let next = first_char (λ c. unit_step wrong.0 c ≡ None)
-      (λ c wide. no_other_step wrong.0.multiple wrong.0.word c (inr wide)) (drop place text)
-      (utf8_from text place utf8 leads.within ascii) leads.next in
-      rw start_is (error_at (unit_scan_is flags) place wrong.0 leads.within ascii leads.run_is next
-      (λ all. (stops_at_bi, wrong.2 all)))
+-- where the parser stops in the trimmed string, it stops in the string
+pub stop_in_string : (flags : Flags) (bytes text : List ℕ) (place index : ℕ) (reason : Reason) (next : Option ℕ)
+    → IsUtf8 bytes → chars text ≡ trim_of bytes → IsUtf8 text → IsStopAt flags text place reason
+    → next ≡ next_char (chars (drop place text)) → index ≡ leading_white bytes + place
+    → IsStop flags bytes record { reason = reason; next = next; index = index }
+stop_in_string flags bytes text place index reason next utf8 trimmed utf8_text stop next_is index_is =
+    let at = stop.stopped utf8_text in
+    let rest = chars (drop place text) in
+    let cannot = cannot_step flags at.state reason rest at.before in
+    record {
+      utf8 = utf8;
+      reading = λ error error_is.
+          let first = fault_here (size_scan_is flags) bytes text trimmed place stop.within stop.ascii at.state at.run_is
+          cannot (stop_fault flags reason (next_char rest)) (fault_after flags at.state reason rest at.before) in
+          number_reading flags bytes (Err error)
+          (ap Err (error_is ∙ ap (stop_fault flags reason) next_is)
+          ∙ sym (reads_fault (size_scan_is flags) (trim_of bytes) (stop_fault flags reason (next_char rest)) first));
+      position = λ other. error_here (size_scan_is other) bytes text trimmed place stop.within stop.ascii at.state
+          at.run_is cannot index index_is (any_fault flags other at.state reason rest at.before);
+    }
 
-  -- if the text is a unit, the string has no position of an error
-  pub no_unit_position : IsUnitPlace text None → IsUnitPosition s None
-  no_unit_position is flags fault first =
-      let found = is flags in
-      let unit : Spells current flags (trim_of s) found.0 =
-      subst (λ t. Spells current flags t found.0) (sym (spelled_chars flags text found.0 found.1) ∙ trimmed) found.1 in
-      (one_answer (unit_scan_is flags) (trim_of s)).not_both found.0 fault unit first
+-- ASCII with visible ends is trimmed, so the parser stops in the string where it stops in the bytes
+pub stop_in_visible : (flags : Flags) (bytes : List ℕ) (place : ℕ) (reason : Reason) (next : Option ℕ)
+    → IsVisibleNext bytes place next → IsStopAt flags bytes place reason
+    → IsStop flags bytes record { reason = reason; next = next; index = place }
+stop_in_visible flags bytes place reason next seen stop =
+    let utf8 = IsUtf8-from_ascii bytes (subst IsAscii (take-append-drop place bytes)
+    (IsAscii-append (take place bytes) (drop place bytes) stop.ascii seen.ascii)) in
+    stop_in_string flags bytes bytes place place reason next utf8 (sym (trim_visible bytes utf8 seen.ends)) utf8 stop
+    seen.next_is (omega (arith, no_leading_white bytes utf8 seen.ends))
 
--- a string with nothing to trim
-module _ (bytes : List ℕ) (utf8 : IsUtf8 bytes) (ends : HasVisibleEnds bytes) (place : ℕ) where
-  -- the place where the string is wrong is the position of its error, since it has no white space at its start
-  untrimmed : IsWrongAt bytes place → IsSizePosition bytes (Some place)
-  untrimmed wrong =
-      let at : leading_white bytes + place ≡ place = omega (arith, no_leading_white bytes utf8 ends) in
-      subst (λ n. IsSizePosition bytes (Some n)) at
-      (size_position bytes bytes (sym (trim_visible bytes utf8 ends)) utf8 _ place refl wrong)
+-- where the parser of a unit stops
 
-  -- the place where a parser stops in it is the position of its error
-  pub stop_position : (reason : Reason) → IsWrongPlace bytes place reason → IsPositionOfStop bytes place reason
-  stop_position NoDigit wrong = untrimmed wrong
-  stop_position TooLong wrong = tt
-  stop_position (InUnit stop) wrong = untrimmed wrong
+-- the error of the state at what follows is that of what is kept of it
+unit_fault_after : (flags : Flags) (scan : UnitScan) (rest : List ℕ) → (rest ≡ [] → unit_of flags scan ≡ None)
+    → IsFaultAfter current flags (unit_parser_state scan) rest (unit_stop_fault flags (unit_stop scan) (next_char rest))
+unit_fault_after flags scan [] ends = no_unit flags scan.multiple scan.word (ends refl)
+unit_fault_after flags scan (c ∷ cs) ends =
+    ap (λ state. fault_at current flags state c) (sym (kept_state scan.multiple scan.word))
+
+-- the state has an error under any flags
+any_unit_fault : (flags other : Flags) (scan : UnitScan) (rest : List ℕ) → (rest ≡ [] → unit_of flags scan ≡ None)
+    → (fault : Fault) × IsFaultAfter current other (unit_parser_state scan) rest fault
+any_unit_fault flags other scan [] ends = (stops_at_bi, no_unit flags scan.multiple scan.word (ends refl))
+any_unit_fault flags other scan (c ∷ cs) ends = (fault_at current other (unit_parser_state scan) c, refl)
+
+-- where the parser of a unit stops in the trimmed string, it stops in the string
+pub unit_stop_in_string : (flags : Flags) (bytes text : List ℕ) (place index : ℕ) (kept : UnitStop) (next : Option ℕ)
+    → chars text ≡ trim_of bytes → IsUtf8 text → IsUnitStop flags text kept place
+    → next ≡ next_char (chars (drop place text)) → index ≡ leading_white bytes + place
+    → IsUnitOrStop flags bytes (Err (kept, next, index))
+unit_stop_in_string flags bytes text place index kept next trimmed utf8 stop next_is index_is =
+    let scan = stop.0 in
+    let leads = stop.1.0 in
+    let rest = chars (drop place text) in
+    let ascii = run_ascii (take place text) unit_start scan leads.run_is in
+    let cannot = first_char (λ c. unit_step scan c ≡ None)
+    (λ c wide. no_other_step scan.multiple scan.word c (inr wide)) (drop place text)
+    (utf8_from text place utf8 leads.within ascii) leads.next in
+    let ends = λ (none : rest ≡ []). stop.1.1 (none_left text place utf8 leads.within ascii none) in
+    let fault = unit_stop_fault flags (unit_stop scan) (next_char rest) in (
+      (λ error error_is.
+          let first = fault_here (unit_scan_is flags) bytes text trimmed place leads.within ascii scan leads.run_is cannot
+          fault (unit_fault_after flags scan rest ends) in
+          let same = ap (λ kept. unit_stop_fault flags kept (next_char rest)) (sym stop.2) in
+          unit_reading flags bytes (Err error)
+          (ap Err (error_is ∙ (ap (unit_stop_fault flags kept) next_is ∙ same))
+          ∙ sym (reads_fault (unit_scan_is flags) (trim_of bytes) fault first))),
+      (λ other. error_here (unit_scan_is other) bytes text trimmed place leads.within ascii scan leads.run_is cannot index
+          index_is (any_unit_fault flags other scan rest ends)),
+    )

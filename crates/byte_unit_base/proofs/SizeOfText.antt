@@ -3,9 +3,9 @@
 --
 -- Here `found` is a number, `found.0`, and its unit, `found.1`. Of a size, `size.0` is that it is this number of the
 -- unit that is meant, rounded up, and `size.1` that it is below the limit.
-use Rattle.std.proofs.Common.{◌≡◌, ℕ, Bool, List, Some, None, Ok, Err, sym, ap, arith, inl, inr, refl, ◌∙◌, take, drop}
-use Rattle.std.proofs.Common.{nat_eq, subst, take-append-drop, IsUtf8, IsAscii, chars}
-use Rattle.std.proofs.lemmas.Str.{IsAscii-append, IsUtf8-from_ascii}
+use Rattle.std.proofs.Common.{◌≡◌, ℕ, Bool, List, Some, None, Ok, Err, sym, ap, arith, inl, inr, refl, ◌∙◌}
+use Rattle.std.proofs.Common.{IsUtf8}
+use Rattle.std.proofs.lemmas.Str.{IsUtf8-from_ascii}
 use Rattle.byte_unit_base.specs.Shape.{Shape}
 use Rattle.byte_unit_base.specs.Spelling.{Flags}
 use Rattle.byte_unit_base.specs.Version.{current}
@@ -16,11 +16,9 @@ use Rattle.byte_unit_base.specs.declared.errors.ParseError.{ParseError}
 use Rattle.byte_unit_base.specs.declared.errors.ParseError.TheVariants.{Value}
 use Rattle.byte_unit_base.specs.declared.errors.ValueParseError.TheVariants.{ExceededBounds}
 use Rattle.byte_unit_base.specs.declared.kind.Kind.{Kind}
-use Rattle.byte_unit_base.specs.declared.read.stop.Reason.{Reason}
 use Rattle.byte_unit_base.specs.LeastOfKind.{IsLeastOf}
 use Rattle.byte_unit_base.specs.SizeOrNone.{IsSizeOrNone}
 use Rattle.byte_unit_base.specs.Kinds.{flags_for}
-use Rattle.byte_unit_base.specs.ParserEnds.{HasVisibleEnds, IsStopAt, next_char, stop_fault}
 use Rattle.byte_unit_base.specs.Readings.{IsNumberReading}
 use Rattle.byte_unit_base.specs.Accepted.{IsReadAs}
 use Rattle.byte_unit_base.specs.SizeReading.{IsReadingAs}
@@ -31,9 +29,8 @@ use Rattle.byte_unit_base.specs.Parsed.{parsed_number, parsed_size_as, rounded_u
 use Rattle.byte_unit_base.proofs.Computed.{rounded_up_is_least, size_within, size_above}
 use Rattle.byte_unit_base.proofs.Scans.{reads_meaning, reads_fault}
 use Rattle.byte_unit_base.proofs.SizeAscii.{trimmed_size, size_ascii}
-use Rattle.byte_unit_base.proofs.SizeReads.{size_scan_is, stated_reading, stop_reading}
+use Rattle.byte_unit_base.proofs.SizeReads.{size_scan_is, stated_reading}
 use Rattle.byte_unit_base.proofs.Rounding.{least_is_unique}
-use Rattle.byte_unit_base.proofs.Trim.{trim_visible}
 
 -- an input has only the number and unit that the parser found, so each of its sizes is that number rounded up
 found_as_read : {meant : Shape → Shape} {kind : Kind} {ignore_case : Bool} {bytes : List ℕ} {found : ℕ × UnitName}
@@ -127,21 +124,3 @@ bytes_number flags bytes number unit is = (
   IsUtf8-from_ascii bytes (size_ascii flags bytes number (shape_of unit) is),
   stated_reading flags bytes (number, unit) (trimmed_size flags bytes number (shape_of unit) is),
 )
-
--- bytes in which a parser stops are UTF-8 if the rest of them is ASCII
-pub ascii_stop : {flags : Flags} {reason : Reason} (bytes : List ℕ) (place : ℕ) → IsStopAt flags bytes place reason
-    → IsAscii (drop place bytes) → IsUtf8 bytes
-ascii_stop bytes place stop rest_ascii =
-    IsUtf8-from_ascii bytes (subst IsAscii (take-append-drop place bytes)
-    (IsAscii-append (take place bytes) (drop place bytes) stop.ascii rest_ascii))
-
--- a string with visible ends is trimmed, so the error where a parser stops in its bytes is that of the string
-pub visible_stop : (meant : Shape → Shape) (kind : Kind) (ignore_case : Bool) (bytes : List ℕ) (place : ℕ)
-    (reason : Reason) (error : ParseError) → IsUtf8 bytes → HasVisibleEnds bytes
-    → IsStopAt (flags_for kind ignore_case) bytes place reason
-    → size_fault error
-    ≡ stop_fault (flags_for kind ignore_case) (nat_eq place 0) reason (next_char (chars (drop place bytes)))
-    → IsReadingAs meant kind ignore_case bytes (Err error)
-visible_stop meant kind ignore_case bytes place reason error utf8 ends stop error_is =
-    reading_of_fault meant kind ignore_case bytes error (stop_reading (flags_for kind ignore_case) bytes bytes place
-    reason error (sym (trim_visible bytes utf8 ends)) utf8 stop error_is)

@@ -5,8 +5,7 @@
 -- it, and `r.1` that a unit has begun. Of the end of an input, `e.0` is the unit, `e.1` that it is spelled, and `e.2`
 -- an equation of the result.
 use Rattle.std.proofs.Common.{◌≡◌, ◌≢◌, ℕ, ◌<◌, ◌*◌, inl, inr, List, [], ◌∷◌, ◌++◌, Option, Some, None, Result, Ok, Err}
-use Rattle.std.proofs.Common.{IfErr, length, nat_eq, drop, replicate, sym, refl, ap, ◌∙◌, arith, append-nil, IsOkAnd}
-use Rattle.std.proofs.Common.{chars, IsUtf8}
+use Rattle.std.proofs.Common.{IfErr, length, replicate, sym, refl, ap, ◌∙◌, arith, append-nil, IsOkAnd}
 use Rattle.byte_unit_math.specs.Bounds.{scale}
 use Rattle.byte_unit_base.specs.Shape.{Shape}
 use Rattle.byte_unit_base.specs.Version.{current}
@@ -26,8 +25,6 @@ use Rattle.byte_unit_base.specs.UnitScan.{start as unit_start, UnitScan, Multipl
 use Rattle.byte_unit_base.specs.SizeScan.{size_step, size_scan, size_result, with_shape, size_at_end, size_parser_state}
 use Rattle.byte_unit_base.specs.SizeScan.{size_or_fault, fixed_point, SizeScan, Beginning, Whole, Point, Fraction, Gap}
 use Rattle.byte_unit_base.specs.SizeScan.{UnitAt}
-use Rattle.byte_unit_base.specs.ParserEnds.{IsStopAt, next_char, stop_fault}
-use Rattle.byte_unit_base.specs.declared.read.stop.Reason.{Reason}
 use Rattle.byte_unit_base.specs.declared.unit.Unit.{Unit as UnitName}
 use Rattle.byte_unit_base.specs.declared.errors.ParseError.{ParseError}
 use Rattle.byte_unit_base.proofs.Computed.{number_computed}
@@ -198,14 +195,6 @@ number_reading flags bytes r e = record {
   no_bounds = read_no_bounds flags (trim_of bytes) r e;
   computed = number_computed flags bytes r e;
 }
-
--- a parser that stops in the trimmed input, and returns the error there, is right
-pub stop_reading : (flags : Flags) (bytes text : List ℕ) (place : ℕ) (reason : Reason) (error : ParseError)
-    → chars text ≡ trim_of bytes → IsUtf8 text → IsStopAt flags text place reason
-    → size_fault error ≡ stop_fault flags (nat_eq place 0) reason (next_char (chars (drop place text)))
-    → IsNumberReading flags bytes (Err error)
-stop_reading flags bytes text place reason error trimmed utf8 stop error_is = number_reading flags bytes (Err error)
-    (ap Err error_is ∙ (sym (stop.result_is utf8) ∙ ap (read (size_scan flags) Beginning) trimmed))
 
 -- a parser that returns the number and unit of the input is right, however it found them
 pub stated_reading : (flags : Flags) (bytes : List ℕ) (found : ℕ × UnitName)

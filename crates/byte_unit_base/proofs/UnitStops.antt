@@ -2,7 +2,7 @@
 --
 -- Of a walk `w`, `w.0` is the state where it ends, and `w.1` its length. Of a step `u`, `u.0` is the state after it.
 -- What is known of a walk, as `h`, is that its length is within the text, its run, and that no step follows.
-use Rattle.std.proofs.Common.{◌≡◌, ℕ, ◌+◌, ◌<◌, ◌≤◌, List, [], ◌∷◌, ◌++◌, Some, None, Err, length, take, drop, refl}
+use Rattle.std.proofs.Common.{◌≡◌, ℕ, ◌+◌, ◌<◌, ◌≤◌, List, [], ◌∷◌, ◌++◌, Some, None, length, take, drop, refl}
 use Rattle.std.proofs.Common.{sym, ap, ◌∙◌, arith, inl, inr, ⊎_elim, length-drop, replicate, one-add, chars}
 use Rattle.std.proofs.Common.{encode_utf8_all, IsUtf8, IsAscii, take_all}
 use Rattle.std.proofs.lemmas.Bool.{cases_lt}
@@ -11,19 +11,18 @@ use Rattle.std.proofs.lemmas.Str.Ascii.{IsAscii-nil, IsAscii-cons}
 use Rattle.byte_unit_base.specs.Shape.{Shape}
 use Rattle.byte_unit_base.specs.Version.{current}
 use Rattle.byte_unit_base.specs.Spelling.{Flags, Spells}
-use Rattle.byte_unit_base.specs.Scan.{run, read}
-use Rattle.byte_unit_base.specs.UnitScan.{unit_step, unit_of, unit_at_end, unit_scan, unit_parser_state, scan_of, start}
-use Rattle.byte_unit_base.specs.UnitScan.{UnitScan, Multiple, One, SuffixPart, Empty}
+use Rattle.byte_unit_base.specs.Scan.{run}
+use Rattle.byte_unit_base.specs.UnitScan.{unit_step, unit_of, unit_parser_state, word_parser_state, scan_of}
+use Rattle.byte_unit_base.specs.UnitScan.{start, UnitScan, Multiple, One, SuffixPart, Empty, Bi}
 use Rattle.byte_unit_base.specs.UnitWord.{unit_stop, stop_parser_state}
-use Rattle.byte_unit_base.specs.Fault.{fault_at}
-use Rattle.byte_unit_base.specs.declared.unit.scan.UnitStop.{UnitStop}
-use Rattle.byte_unit_base.specs.ParserEnds.{IsAfterLine, IsFirst, IsLeadingUnit, IsUnitStop, next_char, unit_stop_fault}
+use Rattle.byte_unit_base.specs.Fault.{fault_at_end, stops_at_bi}
+use Rattle.byte_unit_base.specs.ParserEnds.{IsAfterLine, IsFirst, IsLeadingUnit}
 use Rattle.byte_unit_base.proofs.Options.{none_or_some, some_passed}
-use Rattle.byte_unit_base.proofs.Scans.{read_none, read_through, reached}
+use Rattle.byte_unit_base.proofs.Scans.{reached}
 use Rattle.byte_unit_base.proofs.UnitReached.{Spells-reached}
 use Rattle.byte_unit_base.proofs.UnitRuns.{spelling_runs, no_other_step}
 use Rattle.byte_unit_base.proofs.UnitReads.{unit_scan_is}
-use Rattle.byte_unit_base.proofs.SizeRest.{first_char, text_from, utf8_from}
+use Rattle.byte_unit_base.proofs.SizeRest.{utf8_from}
 
 -- beginnings of units are ASCII
 
@@ -53,19 +52,17 @@ spelled flags bytes scan unit place leads all e =
 -- where the parser stops
 
 -- what the code keeps of a state has its parser state
-kept_state : (m : Multiple) (w : SuffixPart)
+pub kept_state : (m : Multiple) (w : SuffixPart)
     → unit_parser_state (scan_of m w) ≡ stop_parser_state (unit_stop (scan_of m w))
 kept_state One Empty = refl
 kept_state m Empty = refl
 kept_state m _ = refl
 
--- if a state has no step for the next character, and no unit at the end, the result is the error by what is kept of it
-stopped : (flags : Flags) (scan : UnitScan) (rest : List ℕ) → (rest ≡ [] → unit_of flags scan ≡ None)
-    → IsFirst (λ c. unit_step scan c ≡ None) rest
-    → read (unit_scan flags) scan rest ≡ Err (unit_stop_fault flags (unit_stop scan) (next_char rest))
-stopped flags scan [] ends next = ap unit_at_end (ends refl)
-stopped flags scan (c ∷ cs) ends next = read_none (unit_scan flags) scan c cs next
-    ∙ ap (λ state. Err (fault_at current flags state c)) (kept_state scan.multiple scan.word)
+-- if no unit ends in a state, an input that ends there has the error of one that ends in `bi`
+pub no_unit : (flags : Flags) (m : Multiple) (w : SuffixPart) → unit_of flags (scan_of m w) ≡ None
+    → fault_at_end (word_parser_state m w) ≡ Some stops_at_bi
+no_unit flags m Bi none = refl
+no_unit flags m w none = absurd (let z : ⊥ = cc in z)
 
 -- if no character is left after the first bytes, which are ASCII, these are all of the bytes
 pub none_left : (bytes : List ℕ) (place : ℕ) → IsUtf8 bytes → place ≤ length bytes → IsAscii (take place bytes)
@@ -75,23 +72,6 @@ none_left bytes place utf8 within ascii none =
     let empty : rest ≡ [] =
     sym (encodes-chars rest (utf8_from bytes place utf8 within ascii)) ∙ ap encode_utf8_all none in
     omega (arith, within, length-drop place bytes, ap length empty)
-
--- the error where the parser of a unit stops is that of the input
-pub stop_read : (flags : Flags) (bytes : List ℕ) (place : ℕ) (kept : UnitStop) → IsUnitStop flags bytes kept place
-    → IsUtf8 bytes → read (unit_scan flags) start (chars bytes)
-    ≡ Err (unit_stop_fault flags kept (next_char (chars (drop place bytes))))
-stop_read flags bytes place kept stop utf8 =
-    let scan = stop.0 in
-    let leads = stop.1.0 in
-    let ascii = run_ascii (take place bytes) start scan leads.run_is in
-    let rest = drop place bytes in
-    let utf8_rest = utf8_from bytes place utf8 leads.within ascii in
-    ap (read (unit_scan flags) start) (text_from bytes place ascii)
-    ∙ (read_through (unit_scan flags) start scan (take place bytes) (chars rest) leads.run_is
-    ∙ (stopped flags scan (chars rest) (λ none. stop.1.1 (none_left bytes place utf8 leads.within ascii none))
-    (first_char (λ c. unit_step scan c ≡ None) (λ c wide. no_other_step scan.multiple scan.word c (inr wide)) rest
-    utf8_rest leads.next)
-    ∙ ap (λ kept. Err (unit_stop_fault flags kept (next_char (chars rest)))) stop.2))
 
 -- the longest beginning of a unit
 

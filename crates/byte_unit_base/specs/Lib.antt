@@ -35,4 +35,3 @@ pub mod Versions
 pub mod ParserEnds
 pub mod Expected
 pub mod Outcome
-pub mod PlaceReading

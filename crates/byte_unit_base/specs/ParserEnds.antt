@@ -1,10 +1,12 @@
 -- Private: where the parsers of a number, of a unit and of both end, and with which result. Contracts of this crate,
 -- and of private functions of byte_unit_c, cite this file.
-use Rattle.std.specs.Prelude.{◌≡◌, ◌≢◌, ⊤, ℕ, ◌-◌, ◌<◌, ◌≤◌, nat_eq, Bool, true, false, List, [], ◌∷◌, ◌++◌, length}
+use Rattle.std.specs.Prelude.{◌≡◌, ◌≢◌, ⊤, ℕ, ◌+◌, ◌-◌, ◌<◌, ◌≤◌, true, List, [], ◌∷◌, ◌++◌, length}
 use Rattle.std.specs.Prelude.{take, replicate}
 use Rattle.std.specs.Prelude.{drop, slice_index, Option, Some, None, Result, Ok, Err}
 use Rattle.std.specs.Char.{is_ascii_graphic}
 use Rattle.std.specs.Str.{IsUtf8, IsAscii, chars}
+use Rattle.std.specs.Str.Parse.{digits_value}
+use Rattle.byte_unit_math.specs.Bounds.{whole_limit}
 use Rattle.byte_unit_base.specs.Version.{current}
 use Rattle.byte_unit_base.specs.Units.{shape_of}
 use Rattle.byte_unit_base.specs.Spelling.{Flags, Spells}
@@ -12,15 +14,17 @@ use Rattle.byte_unit_base.specs.Number.{point, IsNumberText}
 use Rattle.byte_unit_base.specs.SizeText.{space, IsSizeText}
 use Rattle.byte_unit_base.specs.Fault.{Fault, fault_at, fault_at_end, no_unit, not_number, no_value, too_long}
 use Rattle.byte_unit_base.specs.Fault.{stops_at_bi}
-use Rattle.byte_unit_base.specs.Scan.{run, read}
+use Rattle.byte_unit_base.specs.Scan.{run}
 use Rattle.byte_unit_base.specs.UnitScan.{UnitScan, unit_of, unit_step, start}
 use Rattle.byte_unit_base.specs.UnitWord.{unit_stop, stop_parser_state}
-use Rattle.byte_unit_base.specs.SizeScan.{SizeScan, Beginning, size_step, size_scan, size_at_end, size_or_fault}
+use Rattle.byte_unit_base.specs.SizeScan.{SizeScan, Beginning, size_step, size_at_end, size_or_fault}
 use Rattle.byte_unit_base.specs.SizeScan.{size_parser_state, after_number}
 use Rattle.byte_unit_base.specs.declared.unit.Unit.{Unit as UnitName}
-use Rattle.byte_unit_base.specs.declared.read.stop.Stop.{Stop}
+use Rattle.byte_unit_base.specs.declared.read.stop.ByteStop.{ByteStop}
+use Rattle.byte_unit_base.specs.declared.read.stop.NumberStop.{NumberStop}
+use Rattle.byte_unit_base.specs.declared.read.stop.NumberStop.TheVariants.{NoWhole, NoFraction, TooLong}
 use Rattle.byte_unit_base.specs.declared.read.stop.Reason.{Reason}
-use Rattle.byte_unit_base.specs.declared.read.stop.Reason.TheVariants.{NoDigit, TooLong, InUnit}
+use Rattle.byte_unit_base.specs.declared.read.stop.Reason.TheVariants.{InNumber, InUnit}
 use Rattle.byte_unit_base.specs.declared.unit.scan.UnitStop.{UnitStop}
 
 -- the first and the last byte are visible characters of ASCII
@@ -58,11 +62,11 @@ abbrev pub next_char : List ℕ → Option ℕ
 next_char [] = None
 next_char (c ∷ rest) = Some c
 
--- the error of an input in which a digit is missing, at its start or after the point, by the character there
-abbrev pub missing_digit : Bool → Option ℕ → Fault
-missing_digit at_start (Some c) = not_number c
-missing_digit true None = no_value
-missing_digit false None = not_number point
+-- with the digit at this place the value of the digits reaches the limit of a whole part
+pub record IsLimitAt (digits : List ℕ) (place : ℕ) : Type 0 where
+  pub inside : place < length digits
+  pub below : digits_value 10 (take place digits) < whole_limit
+  pub above : whole_limit ≤ digits_value 10 (take (place + 1) digits)
 
 -- the bytes begin with a beginning of a unit, of this length, and with no longer one: the state machine has this state
 -- after it, and no step at what follows
@@ -90,38 +94,44 @@ abbrev pub unit_stop_fault : Flags → UnitStop → Option ℕ → Fault
 unit_stop_fault flags stop (Some c) = fault_at current flags (stop_parser_state stop) c
 unit_stop_fault flags stop None = stops_at_bi
 
--- the error of an input in which the parser stops for this reason, by the character there
-abbrev pub stop_fault : Flags → Bool → Reason → Option ℕ → Fault
-stop_fault flags at_start NoDigit next = missing_digit at_start next
-stop_fault flags at_start TooLong next = too_long
-stop_fault flags at_start (InUnit stop) next = unit_stop_fault flags stop next
+-- the error of an input in which the parser of a number stops for this reason, by the character there
+abbrev pub number_stop_fault : NumberStop → Option ℕ → Fault
+number_stop_fault NoWhole (Some c) = not_number c
+number_stop_fault NoWhole None = no_value
+number_stop_fault NoFraction (Some c) = not_number c
+number_stop_fault NoFraction None = not_number point
+number_stop_fault TooLong next = too_long
 
--- the state machine of sizes has a state after these first bytes, no step at what follows, and an error if they are all
-pub record IsWrongAt (bytes : List ℕ) (place : ℕ) : Type 0 where
-  pub within : place ≤ length bytes
-  pub ascii : IsAscii (take place bytes)
+-- the error of an input in which the parser stops for this reason, by the character there
+abbrev pub stop_fault : Flags → Reason → Option ℕ → Fault
+stop_fault flags (InNumber stop) next = number_stop_fault stop next
+stop_fault flags (InUnit stop) next = unit_stop_fault flags stop next
+
+-- in this state there is an error at what follows, the one of this reason: at the next character, for which the state
+-- machine of sizes has no step, or at the end
+abbrev pub IsStoppedBefore : Flags → SizeScan → Reason → List ℕ → Type 0
+IsStoppedBefore flags state reason [] = fault_at_end (size_parser_state state) ≡ Some (stop_fault flags reason None)
+IsStoppedBefore flags state reason (c ∷ rest) =
+    (size_step state c ≡ None)
+    × (stop_fault flags reason (Some c) ≡ fault_at current flags (size_parser_state state) c)
+
+-- the state machine of sizes has this state after the bytes before this place, and an error there
+pub record IsStopped (flags : Flags) (bytes : List ℕ) (place : ℕ) (reason : Reason) : Type 0 where
   pub state : SizeScan
   pub run_is : run size_step Beginning (take place bytes) ≡ Some state
-  pub next : IsFirst (λ c. size_step state c ≡ None) (chars (drop place bytes))
-  pub at_end : place ≡ length bytes → (fault : Fault) × (fault_at_end (size_parser_state state) ≡ Some fault)
-
--- the bytes are wrong at this place, where the parser stops for this reason, unless the number is too long
-abbrev pub IsWrongPlace : List ℕ → ℕ → Reason → Type 0
-IsWrongPlace bytes place TooLong = ⊤
-IsWrongPlace bytes place _ = IsWrongAt bytes place
+  pub before : IsStoppedBefore flags state reason (chars (drop place bytes))
 
 -- the parser stops in this input at this place and for this reason
 pub record IsStopAt (flags : Flags) (bytes : List ℕ) (place : ℕ) (reason : Reason) : Type 0 where
   pub within : place ≤ length bytes
   pub ascii : IsAscii (take place bytes)
-  pub result_is : IsUtf8 bytes
-      → read (size_scan flags) Beginning (chars bytes)
-      ≡ Err (stop_fault flags (nat_eq place 0) reason (next_char (chars (drop place bytes))))
-  pub wrong : IsUtf8 bytes → IsWrongPlace bytes place reason
+  pub stopped : IsUtf8 bytes → IsStopped flags bytes place reason
 
--- the parser stops here in this input
-abbrev pub IsStop : Flags → List ℕ → Stop → Type 0
-IsStop flags bytes stop = IsStopAt flags bytes stop.place stop.reason
+-- the bytes have visible ends, they are ASCII from this place on, and this is the character there
+pub record IsVisibleNext (bytes : List ℕ) (place : ℕ) (next : Option ℕ) : Type 0 where
+  pub ends : HasVisibleEnds bytes
+  pub ascii : IsAscii (drop place bytes)
+  pub next_is : next ≡ next_char (chars (drop place bytes))
 
 -- the character ends the number `n` of this state: it is a space, or begins a unit, or has the error of one that does
 -- not
@@ -139,12 +149,12 @@ pub record IsLeadingNumber (bytes : List ℕ) (n end : ℕ) : Type 0 where
   pub at_end : (flags : Flags) → size_at_end flags state ≡ size_or_fault n (unit_of flags start)
   pub next : IsUtf8 bytes → IsFirst (EndsNumber state n) (chars (drop end bytes))
 
--- the number with which the bytes begin, or where the parser stops in it
-abbrev pub IsNumberEnd : List ℕ → Result (ℕ × ℕ) Stop → Type 0
+-- the number with which the bytes begin, or why and where the parser stops in it
+abbrev pub IsNumberEnd : List ℕ → Result (ℕ × ℕ) (NumberStop × ℕ) → Type 0
 IsNumberEnd bytes (Ok found) = IsLeadingNumber bytes found.1 found.0
-IsNumberEnd bytes (Err stop) = (flags : Flags) → IsStop flags bytes stop
+IsNumberEnd bytes (Err stop) = (flags : Flags) → IsStopAt flags bytes stop.1 (InNumber stop.0)
 
 -- the number and the unit that the bytes are, or where the parser stops in them
-abbrev pub IsNumberAndUnitEnd : Flags → List ℕ → Result (UnitName × ℕ) Stop → Type 0
+abbrev pub IsNumberAndUnitEnd : Flags → List ℕ → Result (UnitName × ℕ) ByteStop → Type 0
 IsNumberAndUnitEnd flags bytes (Ok found) = IsSizeText current flags bytes found.1 (shape_of found.0)
-IsNumberAndUnitEnd flags bytes (Err stop) = IsStop flags bytes stop
+IsNumberAndUnitEnd flags bytes (Err stop) = IsStopAt flags bytes stop.place stop.reason

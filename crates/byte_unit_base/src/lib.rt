@@ -8,16 +8,15 @@ pub use crate::errors::{
 };
 pub use crate::kind::Kind;
 pub use crate::read::read_size;
-pub use crate::read::stop::{Reason, Stop, error_at};
+pub use crate::read::stop::{ByteStop, NumberStop, Reason, Stop, error_at};
+pub use crate::unit::parse::read_unit_text;
 pub use crate::unit::scan::{Expected, Flags, UnitStop};
 pub use crate::unit::tables::{PREFIXES, prefix_letter, unit_at};
 pub use crate::unit::{Unit, unit_with_prefix};
 
-pub mod binary;
 mod errors;
 mod kind;
 pub mod laws;
-pub mod position;
 mod read;
 pub mod size;
 mod unit;

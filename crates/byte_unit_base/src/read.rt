@@ -1,11 +1,12 @@
-//! The parser of a number and a unit, and a test that bytes have nothing to trim.
+//! The parser of a number and a unit in a string, and a test that bytes have nothing to trim.
 
-ghost use Rattle.std.specs.Prelude.{◌≡◌, IsTrue};
+ghost use Rattle.std.specs.Prelude.{◌≡◌, ◌≤◌, IsTrue, length};
 ghost use Rattle.std.specs.Str.{chars};
 ghost use Rattle.byte_unit_base.specs.Spelling.{flags_of};
 ghost use Rattle.byte_unit_base.specs.SizeText.{trim_of};
 ghost use Rattle.byte_unit_base.specs.ParserEnds.{HasVisibleEnds};
 ghost use Rattle.byte_unit_base.specs.Readings.{IsNumberReading};
+ghost use Rattle.byte_unit_base.specs.ErrorPosition.{leading_white};
 ghost use Rattle.byte_unit_base.specs.Outcome.{IsNumberOrStop};
 
 use crate::read::number::read_number_and_unit;
@@ -16,6 +17,7 @@ use byte_unit_math::Decimal;
 
 pub(crate) mod number;
 pub(crate) mod stop;
+mod value;
 
 /// Parses a number and a unit from a string. White space at its ends is ignored.
 ///
@@ -58,7 +60,7 @@ pub fn read_size(
         Ok(found) => Ok((found.1, found.0)),
         Err(stop) => {
             let next = first_char(&text[stop.place..]);
-            Err(error_at(next, stop.place == 0, stop.reason, flags))
+            Err(error_at(stop.reason, next, flags))
         }
     }
 }
@@ -68,18 +70,29 @@ pub fn read_size(
 /// `read_size` does not call it: a result for both cases would be in memory, for some 10 instructions more per string.
 ///
 /// # Errors
-/// Returns where the parser stops in the trimmed string (0 if the number is too long) and why, and the character there,
-/// or `None` at the end.
+/// Returns where the parser stops in the string, and why.
 #[inline(always)]
-pub(crate) fn read_or_stop(s: &str, flags: Flags) -> Result<(Unit, Decimal), (Stop, Option<char>)>
+pub(crate) fn read_or_stop(s: &str, flags: Flags) -> Result<(Unit, Decimal), Stop>
     ensures { IsNumberOrStop flags s.now result }
 {
     let text = trimmed(s);
     let bytes = text.as_bytes();
     match read_number_and_unit::<true>(bytes, bytes, flags) {
         Ok(found) => Ok(found),
-        Err(stop) => Err((stop, first_char(&text[stop.place..]))),
+        Err(stop) => Err(Stop {
+            reason: stop.reason,
+            next: first_char(&text[stop.place..]),
+            index: leading_len(s) + stop.place,
+        }),
     }
+}
+
+/// Returns the number of bytes of the white space at the start of a string.
+pub(crate) fn leading_len(s: &str) -> usize
+    ensures start { result ≡ leading_white s.now }
+    ensures bound { result ≤ length s.now }
+{
+    s.len() - s.trim_start().len()
 }
 
 /// Returns whether the first and the last byte are visible ASCII, so that there is nothing to trim.

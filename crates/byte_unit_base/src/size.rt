@@ -1,25 +1,28 @@
 //! Sizes of either kind, as numbers below the limit: what the size types have in common.
 
-ghost use Rattle.std.specs.Prelude.{◌≡◌, ℕ, Bool, List, ◌+◌, ◌*◌, ◌<◌, ◌≤◌, SomeIff, IfSome, IfOk, IsTrue, Ok, Err};
-ghost use Rattle.std.specs.Prelude.{MatchOption, length, take, drop};
+ghost use Rattle.std.specs.Prelude.{◌≡◌, ℕ, Bool, List, ◌+◌, ◌*◌, ◌<◌, ◌≤◌, SomeIff, IfSome, IfOk, IfErr, IsTrue};
+ghost use Rattle.std.specs.Prelude.{Ok, MatchOption, length, take, drop};
 ghost use Rattle.std.specs.Str.{IsAscii, IsUtf8};
 ghost use Rattle.byte_unit_math.specs.Bounds.{size_limit};
 ghost use Rattle.byte_unit_base.specs.Kinds.{bits_in, flags_for};
 ghost use Rattle.byte_unit_base.specs.Readings.{IsNumberReading};
 ghost use Rattle.byte_unit_base.specs.BinaryReading.{unit_meant};
-ghost use Rattle.byte_unit_base.specs.SizeReading.{IsReadingAs, IsSizeReading};
-ghost use Rattle.byte_unit_base.specs.SizeReading.{IsBytesReadingAs, IsBytesReading, IsNotUtf8};
+ghost use Rattle.byte_unit_base.specs.SizeReading.{IsReadingAs, IsBytesReadingAs, IsNotUtf8};
 ghost use Rattle.byte_unit_base.specs.Units.{shape_of};
 ghost use Rattle.byte_unit_base.specs.SizeOrNone.{IsSizeOfUnit, IsSizeOfDecimal};
 ghost use Rattle.byte_unit_base.specs.Line.{IsLine};
-ghost use Rattle.byte_unit_base.specs.ParserEnds.{HasVisibleEnds};
-ghost use Rattle.byte_unit_base.specs.Outcome.{IsCharOfStops, IsOutcome, IsSizeOrStop};
+ghost use Rattle.byte_unit_base.specs.ErrorPosition.{IsSizePosition};
+ghost use Rattle.byte_unit_base.specs.ParserEnds.{IsStopAt, IsVisibleNext};
+ghost use Rattle.byte_unit_base.specs.Outcome.{IsNumberOrStop, IsOutcome, IsStop};
+ghost use Rattle.byte_unit_base.specs.Spelling.{Flags};
+ghost use Rattle.byte_unit_base.specs.declared.errors.ParseError.TheVariants.{Value};
+ghost use Rattle.byte_unit_base.specs.declared.errors.ValueParseError.TheVariants.{ExceededBounds};
 
 use crate::read::number::read_number_and_unit;
-use crate::read::stop::{Reason, Stop, error_at, first_ascii};
+use crate::read::stop::{ByteStop, Stop, error_at, first_ascii};
 use crate::read::{has_visible_ends, read_or_stop};
 use crate::unit::scan::Flags;
-use crate::{Kind, ParseError, Unit, ValueParseError, binary, read_size};
+use crate::{Kind, ParseError, Unit, ValueParseError, read_size};
 use byte_unit_math::{Decimal, least_size};
 use std::str;
 
@@ -95,6 +98,9 @@ pub fn from_decimal(number: Decimal, unit: Unit, kind: Kind) -> Option<u128>
 /// `Kind::Byte`, and in bits for `Kind::Bit`. A suffix `b` means bits and `B` bytes; with `ignore_case` both mean
 /// bytes. For `Kind::Bit` `ignore_case` has no effect.
 ///
+/// With `BINARY` a decimal prefix means the binary one, as many programs write them: `10m`, `128MB` and `1G` are by
+/// 1024. Only the unit is replaced: the grammar is the same.
+///
 /// # Errors
 /// Returns the error of `read_size` if the string is not in the grammar: `NoValue`, `NotNumber` or `NumberTooLong` for
 /// its number, or `Unit`. Returns `ExceededBounds`, with the number as it was written, if the size would be 10^30 or
@@ -102,27 +108,14 @@ pub fn from_decimal(number: Decimal, unit: Unit, kind: Kind) -> Option<u128>
 ///
 /// # Examples
 /// ```rust
-/// assert_eq!(rt; size::parse("1.5 KiB", false, Kind::Byte)?, 1536);
-/// assert_eq!(rt; size::parse("9 bits", false, Kind::Byte)?, 2);
-/// let error = size::parse("1.", false, Kind::Byte);
+/// assert_eq!(rt; size::parse::<false>("1.5 KiB", false, Kind::Byte)?, 1536);
+/// assert_eq!(rt; size::parse::<true>("10m", false, Kind::Byte)?, 10_485_760);
+/// assert_eq!(rt; size::parse::<false>("9 bits", false, Kind::Byte)?, 2);
+/// let error = size::parse::<false>("1.", false, Kind::Byte);
 /// assert!(rt; matches!(error, Err(ParseError::Value(ValueParseError::NotNumber('.')))));
 /// ```
 #[inline(never)]
-pub fn parse(s: &str, ignore_case: bool, kind: Kind) -> Result<u128, ParseError>
-    ensures reading { IsSizeReading kind ignore_case s.now result }
-    ensures bound { IfOk result (λ n. n < size_limit) }
-{
-    parse_as::<false>(s, ignore_case, kind)
-}
-
-/// Parses a size from a string as [`parse`] does, or with `BINARY` as [`binary::parse`] does: a decimal prefix then
-/// means the binary one.
-#[inline(always)]
-pub(crate) fn parse_as<const BINARY: bool>(
-    s: &str,
-    ignore_case: bool,
-    kind: Kind,
-) -> Result<u128, ParseError>
+pub fn parse<const BINARY: bool>(s: &str, ignore_case: bool, kind: Kind) -> Result<u128, ParseError>
     ensures reading { IsReadingAs (unit_meant BINARY) kind ignore_case s.now result }
     ensures bound { IfOk result (λ n. n < size_limit) }
 {
@@ -140,15 +133,19 @@ pub(crate) fn parse_as<const BINARY: bool>(
 ///
 /// # Examples
 /// ```rust
-/// assert!(rt; matches!(size::parse_bytes(b"1.5 KiB", false, Kind::Byte), Some(Ok(1536))));
-/// assert!(rt; size::parse_bytes(b"1 KiB\xFF", false, Kind::Byte).is_none());
+/// assert!(rt; matches!(size::parse_bytes::<false>(b"1.5 KiB", false, Kind::Byte), Some(Ok(1536))));
+/// assert!(rt; size::parse_bytes::<false>(b"1 KiB\xFF", false, Kind::Byte).is_none());
 /// ```
 #[inline(always)]
-pub fn parse_bytes(bytes: &[u8], ignore_case: bool, kind: Kind) -> Option<Result<u128, ParseError>>
-    ensures reading { IsBytesReading kind ignore_case bytes.now result }
+pub fn parse_bytes<const BINARY: bool>(
+    bytes: &[u8],
+    ignore_case: bool,
+    kind: Kind,
+) -> Option<Result<u128, ParseError>>
+    ensures reading { IsBytesReadingAs (unit_meant BINARY) kind ignore_case bytes.now result }
     ensures bound { IfSome result (λ answer. IfOk answer (λ n. n < size_limit)) }
 {
-    parse_line::<false>(bytes, bytes.len(), ignore_case, kind)
+    parse_line::<BINARY>(bytes, bytes.len(), ignore_case, kind)
 }
 
 /// Parses a size from the line at the beginning of bytes, its first `len` bytes, as [`parse`] does from a string: it is
@@ -184,27 +181,28 @@ pub fn parse_line<const BINARY: bool>(
     let flags = flags_for(kind, ignore_case);
     match read_number_and_unit::<false>(line, bytes, flags) {
         Ok(found) => Some(size_of::<BINARY>((found.1, found.0), kind)),
-        Err(stop) => {
-            if is_visible_ascii(line, stop.place) {
-                let next = first_ascii(&line[stop.place..]);
-                // Returned here: as one result with that of the call below, LLVM would clear its memory for each line.
-                return Some(Err(error_at(next, stop.place == 0, stop.reason, flags)));
-            }
-            parse_text::<BINARY>(line, ignore_case, kind)
-        }
+        Err(stop) => match next_in_line(line, stop.place) {
+            // Returned here: as one result with that of the call below, LLVM would clear its memory for each line.
+            Some(next) => return Some(Err(error_at(stop.reason, next, flags))),
+            None => parse_text::<BINARY>(line, ignore_case, kind),
+        },
     }
 }
 
-/// What a parser of bytes, none of which is trimmed, returns.
-#[derive(Clone, Copy)]
-pub enum Outcome {
-    /// The bytes are a number with this unit: [`size_of`] makes the size.
-    Accepted(Unit, Decimal),
-    /// The parser stops for this reason, and at this index in bytes, or at 0 if the number is too long.
-    /// [`visible_next`] returns the character there, if the bytes need not be parsed as a string.
-    ///
-    /// The index comes last, where no part of the number is: LLVM would otherwise split the number into bytes.
-    Stopped(Reason, usize),
+/// Parses a size as [`parse_line`] does, but from the string that the bytes are, trimmed.
+#[cold]
+#[inline(never)]
+#[tactic(auto, using(crate::proofs::Computed::test_of_not_utf8))]
+fn parse_text<const BINARY: bool>(
+    bytes: &[u8],
+    ignore_case: bool,
+    kind: Kind,
+) -> Option<Result<u128, ParseError>>
+    ensures reading { IsBytesReadingAs (unit_meant BINARY) kind ignore_case bytes.now result }
+    ensures bound { IfSome result (λ answer. IfOk answer (λ n. n < size_limit)) }
+{
+    let text = str::from_utf8(bytes).ok()?;
+    Some(parse::<BINARY>(text, ignore_case, kind))
 }
 
 /// Parses the unit and the number of a size from bytes, none of which is trimmed.
@@ -212,45 +210,75 @@ pub enum Outcome {
 /// What is accepted is ASCII, so there is no test for UTF-8. It starts with a digit, and ends in spaces only after a
 /// number without a unit, where the grammar allows them, so it is the same when trimmed.
 ///
+/// # Errors
+/// Returns where the parser stops in the bytes: [`visible_stop`] returns where it stops in the string, or [`read_text`].
+///
 /// # Examples
 /// ```rust
-/// let outcome = size::read_bytes(b"1.5 KiB", false, Kind::Byte);
-/// assert!(rt; matches!(outcome, size::Outcome::Accepted(Unit::KiB, _)));
-/// let outcome = size::read_bytes(b"1 bi", false, Kind::Byte);
-/// assert!(rt; matches!(outcome, size::Outcome::Stopped(_, 4)));
+/// let flags = size::flags_for(Kind::Byte, false);
+/// assert!(rt; matches!(size::read_bytes(b"1.5 KiB", flags), Ok((Unit::KiB, _))));
+/// assert!(rt; matches!(size::read_bytes(b"1 bi", flags), Err(ByteStop { place: 4, .. })));
 /// ```
 #[inline(always)]
-pub fn read_bytes(bytes: &[u8], ignore_case: bool, kind: Kind) -> Outcome
-    ensures { IsOutcome kind ignore_case bytes.now result }
+pub fn read_bytes(bytes: &[u8], flags: Flags) -> Result<(Unit, Decimal), ByteStop>
+    ensures { IsOutcome flags bytes.now result }
 {
-    match read_number_and_unit::<true>(bytes, bytes, flags_for(kind, ignore_case)) {
-        Ok(found) => Outcome::Accepted(found.0, found.1),
-        Err(stop) => Outcome::Stopped(stop.reason, stop.place),
+    read_number_and_unit::<true>(bytes, bytes, flags)
+}
+
+/// Returns where the parser stops in the string that the bytes are, by where it stops in the bytes. Returns `None` if
+/// there may be white space to trim, or characters past ASCII: [`read_text`] parses the bytes.
+///
+/// Precondition (proved at every call): `stop.place <= bytes.len()`.
+///
+/// # Examples
+/// ```rust
+/// let reason = Reason::InNumber(NumberStop::NoWhole);
+/// let stop = size::visible_stop(b"x KiB", ByteStop { place: 0, reason });
+/// assert!(rt; matches!(stop, Some(Stop { next: Some('x'), index: 0, .. })));
+/// assert!(rt; size::visible_stop(b" 1 KiB", ByteStop { place: 0, reason }).is_none());
+/// ```
+#[inline(always)]
+pub fn visible_stop(bytes: &[u8], stop: ByteStop) -> Option<Stop>
+    requires { stop.place ≤ length bytes.now }
+    ensures { IfSome result (λ seen. (flags : Flags)
+        → IsStopAt flags bytes.now stop.place stop.reason → IsStop flags bytes.now seen) }
+{
+    match visible_next(bytes, stop.place) {
+        Some(next) => Some(Stop {
+            reason: stop.reason,
+            next,
+            index: stop.place,
+        }),
+        None => None,
     }
 }
 
-/// Returns the character of bytes at the place where a parser stops, or `Some(None)` at their end:
-/// [`error_at`](crate::error_at) makes the error of it, and the place is the position of the error, unless the number
-/// is too long. Returns `None` if there may be white space to trim, or characters past ASCII: [`parse_text`] parses the
-/// bytes.
+/// Returns the character at a place, or `Some(None)` at the end, of bytes that have nothing to trim and are ASCII from
+/// there on. Returns `None` if they may not be so.
 ///
-/// Precondition (proved at every call): `place <= bytes.len()`.
-///
-/// # Examples
-/// ```rust
-/// assert_eq!(rt; size::visible_next(b"1 bi", 4), Some(None));
-/// assert_eq!(rt; size::visible_next(b" 1 KiB", 0), None);
-/// ```
+/// `#[inline(always)]`: a call costs a text that is rejected in C some 20 instructions.
 #[inline(always)]
-pub fn visible_next(bytes: &[u8], place: usize) -> Option<Option<char>>
+fn visible_next(bytes: &[u8], place: usize) -> Option<Option<char>>
     requires { place ≤ length bytes.now }
-    ensures { IfSome result (IsCharOfStops bytes.now place) }
+    ensures { IfSome result (IsVisibleNext bytes.now place) }
 {
     if has_visible_ends(bytes) && is_ascii_from(bytes, place) {
         Some(first_ascii(&bytes[place..]))
     } else {
         None
     }
+}
+
+/// Returns what `visible_next` does, for `parse_line`: with these tests inlined, a line that is accepted takes more
+/// instructions.
+#[cold]
+#[inline(never)]
+fn next_in_line(line: &[u8], place: usize) -> Option<Option<char>>
+    requires { place ≤ length line.now }
+    ensures { IfSome result (IsVisibleNext line.now place) }
+{
+    visible_next(line, place)
 }
 
 /// Returns whether the bytes from an index on are ASCII. If these are at most four, the last four bytes are tested at
@@ -268,73 +296,47 @@ fn is_ascii_from(bytes: &[u8], from: usize) -> bool
     }
 }
 
-/// Returns whether bytes have nothing to trim and are ASCII from an index on, as far as `is_ascii_from` tells.
-///
-/// Not inlined: where these tests are part of `parse_line`, a line that is accepted takes more instructions.
-#[cold]
-#[inline(never)]
-fn is_visible_ascii(bytes: &[u8], from: usize) -> bool
-    requires { from ≤ length bytes.now }
-    ensures ends { IsTrue result → HasVisibleEnds bytes.now }
-    ensures ascii { IsTrue result → IsAscii (drop from bytes.now) }
-{
-    has_visible_ends(bytes) && is_ascii_from(bytes, from)
-}
-
-/// Parses a size as [`parse_line`] does, but from the string that the bytes are, trimmed.
+/// Parses the number and the unit of a size from the string that the bytes are, trimmed. Returns `None` if the bytes
+/// are not UTF-8.
 ///
 /// # Errors
-/// As `parse_bytes`.
+/// Returns where the parser stops in the string: [`error_at`] makes the error of it.
 ///
 /// # Examples
 /// ```rust
-/// assert!(rt; matches!(size::parse_text::<false>(b" 1 KB ", false, Kind::Byte), Some(Ok(1000))));
-/// assert!(rt; matches!(size::parse_text::<true>(b" 1 KB ", false, Kind::Byte), Some(Ok(1024))));
-/// ```
-#[cold]
-#[inline(never)]
-#[tactic(auto, using(crate::proofs::Computed::test_of_not_utf8))]
-pub fn parse_text<const BINARY: bool>(
-    bytes: &[u8],
-    ignore_case: bool,
-    kind: Kind,
-) -> Option<Result<u128, ParseError>>
-    ensures reading { IsBytesReadingAs (unit_meant BINARY) kind ignore_case bytes.now result }
-    ensures bound { IfSome result (λ answer. IfOk answer (λ n. n < size_limit)) }
-{
-    let text = str::from_utf8(bytes).ok()?;
-    // These, and not `parse_as`, so that a program has the parser of strings once for each reading.
-    Some(if BINARY {
-        binary::parse(text, ignore_case, kind)
-    } else {
-        parse(text, ignore_case, kind)
-    })
-}
-
-/// Parses the number and the unit of a size from the string that the bytes are, trimmed, and leaves the error to be
-/// made by [`error_at`](crate::error_at). Returns `None` if the bytes are not UTF-8.
-///
-/// # Errors
-/// Returns where the parser stops in the trimmed string (0 if the number is too long) and why, and the character there,
-/// or `None` at the end.
-///
-/// # Examples
-/// ```rust
-/// let stopped = size::read_text(b" 1 Kx ", false, Kind::Byte);
-/// assert!(rt; matches!(stopped, Some(Err((Stop { place: 3, reason: Reason::InUnit(_) }, Some('x'))))));
+/// let stopped = size::read_text(b" 1 Kx ", size::flags_for(Kind::Byte, false));
+/// assert!(rt; matches!(stopped, Some(Err(Stop { next: Some('x'), index: 4, .. }))));
 /// ```
 #[inline(always)]
 #[tactic(auto, using(crate::proofs::Computed::test_of_not_utf8))]
-pub fn read_text(
-    bytes: &[u8],
-    ignore_case: bool,
-    kind: Kind,
-) -> Option<Result<(Unit, Decimal), (Stop, Option<char>)>>
+pub fn read_text(bytes: &[u8], flags: Flags) -> Option<Result<(Unit, Decimal), Stop>>
     ensures { MatchOption result (IsNotUtf8 bytes.now)
-        (λ read. IsUtf8 bytes.now × IsSizeOrStop kind ignore_case bytes.now read) }
+        (λ read. IsUtf8 bytes.now × IsNumberOrStop flags bytes.now read) }
 {
     let string = str::from_utf8(bytes).ok()?;
-    Some(read_or_stop(string, flags_for(kind, ignore_case)))
+    Some(read_or_stop(string, flags))
+}
+
+/// Returns the index in bytes of the first wrong character of a string that is not in the grammar of sizes: up to there
+/// the string, without the white space at its ends, begins a size, and with that character it begins none. If it ends
+/// too early, the index is that of its end, before white space there; of white space alone, its length.
+///
+/// Returns `None` if the string is in the grammar. The index is the same for both kinds, with and without
+/// `ignore_case`.
+///
+/// # Examples
+/// ```rust
+/// assert_eq!(rt; size::error_position("1 byte"), Some(3));
+/// assert_eq!(rt; size::error_position("  1."), Some(4));
+/// assert_eq!(rt; size::error_position("1 KiB"), None);
+/// ```
+pub fn error_position(s: &str) -> Option<usize>
+    ensures { IsSizePosition s.now result }
+{
+    match read_or_stop(s, Flags::ANY) {
+        Ok(_) => None,
+        Err(stop) => Some(stop.index),
+    }
 }
 
 /// Returns the result of parsing a string with this number and this unit: the size of the number in this unit, or with
@@ -357,6 +359,7 @@ pub fn size_of<const BINARY: bool>(found: (Decimal, Unit), kind: Kind) -> Result
         → IsNumberReading (flags_for kind ignore_case) bytes (Ok found)
         → IsReadingAs (unit_meant BINARY) kind ignore_case bytes result }
     ensures bound { IfOk result (λ n. n < size_limit) }
+    ensures excess { IfErr result (λ error. error ≡ Value (ExceededBounds found.0)) }
 {
     match from_decimal(found.0, unit_meant::<BINARY>(found.1), kind) {
         Some(size) => Ok(size),

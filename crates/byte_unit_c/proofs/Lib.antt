@@ -1,5 +1,5 @@
 mod Zeros
 mod Ascending
 mod Written
-mod Positions
+mod Stops
 mod Escapes

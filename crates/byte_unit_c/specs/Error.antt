@@ -2,8 +2,10 @@
 use Rattle.std.specs.Prelude.{◌≡◌, ℕ, ◌-◌, Bool, false, List, [], ◌++◌, length, map, take, replicate, nat_lt, slice_set}
 use Rattle.std.specs.Prelude.{if◌then◌else◌, Option, Some}
 use Rattle.byte_unit_base.specs.Fault.{Fault, bad_unit, not_number, no_value, too_long, exceeded}
-use Rattle.byte_unit_base.specs.Errors.{unit_fault}
-use Rattle.byte_unit_base.specs.ParserEnds.{unit_stop_fault}
+use Rattle.byte_unit_base.specs.Errors.{size_fault, unit_fault}
+use Rattle.byte_unit_base.specs.ParserEnds.{stop_fault, unit_stop_fault}
+use Rattle.byte_unit_base.specs.declared.errors.ParseError.{ParseError}
+use Rattle.byte_unit_base.specs.declared.read.stop.Stop.{Stop}
 use Rattle.byte_unit_base.specs.declared.unit.scan.Flags.{Flags}
 use Rattle.byte_unit_base.specs.declared.errors.UnitParseError.{UnitParseError}
 use Rattle.byte_unit_base.specs.declared.unit.scan.UnitStop.{UnitStop}
@@ -69,6 +71,12 @@ IsWrittenAt position fault old new =
 abbrev pub IsErrorWritten : (Option ℕ → Type 0) → Fault → List Error → List Error → Type 0
 IsErrorWritten IsPosition fault old new =
     (position : ℕ) × IsPositionOf IsPosition fault position × IsWrittenAt position fault old new
+
+-- Private: the details of the error of a parser that stops here are written with its index, and this is its code
+abbrev pub IsStopWritten : Flags → Stop → ℕ → List Error → List Error → Type 0
+IsStopWritten flags stop code old new =
+    (error : ParseError) × (size_fault error ≡ stop_fault flags stop.reason stop.next)
+    × (code ≡ code_of (size_fault error)) × IsWrittenAt stop.index (size_fault error) old new
 
 -- Private: the details of the error of a unit in which a parser stops, by the character there, are written with this
 -- position

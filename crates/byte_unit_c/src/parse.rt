@@ -1,33 +1,29 @@
 //! Parsing of sizes and of units.
 
-ghost use Rattle.std.specs.Prelude.{◌≡◌, ℕ, Bool, Option, Some, Result, Err, IfSome, IfNone, MatchOption};
+ghost use Rattle.std.specs.Prelude.{◌≡◌, ℕ, List, Option, Some, Result, Ok, IfSome, IfNone, MatchOption};
 ghost use Rattle.std.specs.Str.{IsUtf8};
 ghost use Rattle.byte_unit_base.specs.BinaryReading.{unit_meant};
-ghost use Rattle.byte_unit_base.specs.Errors.{size_fault};
-ghost use Rattle.byte_unit_base.specs.ErrorPosition.{IsSizePosition};
+ghost use Rattle.byte_unit_base.specs.Errors.{value_fault};
 ghost use Rattle.byte_unit_base.specs.Kinds.{flags_for};
 ghost use Rattle.byte_unit_base.specs.Outcome.{IsUnitOrStop};
-ghost use Rattle.byte_unit_base.specs.ParserEnds.{IsStopAt};
-ghost use Rattle.byte_unit_base.specs.Shape.{Shape};
-ghost use Rattle.byte_unit_base.specs.SizeReading.{IsBytesReading, IsBytesReadingAs};
+ghost use Rattle.byte_unit_base.specs.Readings.{IsNumberReading};
+ghost use Rattle.byte_unit_base.specs.SizeReading.{IsBytesReading};
 ghost use Rattle.byte_unit_base.specs.Spelling.{flags_of};
 ghost use Rattle.byte_unit_base.specs.declared.errors.ParseError.{ParseError};
-ghost use Rattle.byte_unit_base.specs.declared.read.stop.Reason.TheVariants.{TooLong};
 ghost use Rattle.byte_unit_base.specs.declared.errors.UnitParseError.{UnitParseError};
 ghost use Rattle.byte_unit_base.specs.declared.unit.Unit.{Unit as UnitName};
 ghost use Rattle.byte_unit_c.specs.Flags.{parse_flags_at, prefers_byte};
-ghost use Rattle.byte_unit_base.specs.declared.kind.Kind.{Kind};
-ghost use Rattle.byte_unit_c.specs.Error.{invalid_argument, code_of, IsWrittenAt, IsErrorWritten, IsUnitStopWritten};
+ghost use Rattle.byte_unit_c.specs.Error.{invalid_argument, code_of, IsWrittenAt, IsStopWritten, IsUnitStopWritten};
 ghost use Rattle.byte_unit_c.specs.Parse.{IsReturned, IsUnitBytesReading, IsUnitReturned, Parses};
 
 use crate::codes::unit_code;
 use crate::error::{Error, INVALID_ARGUMENT, NOT_UTF8, OK, UNIT, bytes_of};
 use crate::flags::{ParseFlags, parse_flags_at};
-use crate::position;
 use crate::values::Number;
-use byte_unit_base::position::read_unit_text;
-use byte_unit_base::size::Outcome;
-use byte_unit_base::{Flags, Kind, ParseError, Reason, Unit, UnitStop, error_at, size};
+use byte_unit_base::{
+    Flags, Kind, Reason, Stop, Unit, UnitStop, ValueParseError, read_unit_text, size,
+};
+use byte_unit_math::Decimal;
 use std::str;
 
 /// Parses a size, rounded up to the next whole byte, or to the next whole bit with the flag `BITS` (1). Sizes are below
@@ -71,110 +67,85 @@ pub fn parse_as<const BINARY: bool>(
     ensures { Parses (unit_meant BINARY) asked text.now result size.old size.new errors.old
         errors.new }
 {
-    match size::read_bytes(text, asked.ignore_case, asked.kind) {
-        Outcome::Accepted(unit, number) => {
-            let answer = Some(size::size_of::<BINARY>((number, unit), asked.kind));
-            write_result(text, answer, size, errors)
-        }
-        Outcome::Stopped(reason, place) => match reason {
-            Reason::InUnit(_) => parse_stopped::<BINARY>(text, place, reason, asked, size, errors),
-            Reason::NoDigit => parse_stopped::<BINARY>(text, place, reason, asked, size, errors),
-            Reason::TooLong => parse_too_long::<BINARY>(text, place, asked, size, errors),
+    let flags = size::flags_for(asked.kind, asked.ignore_case);
+    match size::read_bytes(text, flags) {
+        Ok(found) => write_size::<BINARY>(found, asked, size, errors),
+        Err(stop) => match size::visible_stop(text, stop) {
+            Some(seen) => write_stop(seen, flags, errors),
+            None => parse_string::<BINARY>(text, asked, size, errors),
         },
     }
 }
 
-/// Parses as `parse_as` does, from bytes in which the parser stops at this place and for this reason. If the next
-/// character is not visible to it (not ASCII, or trimmed), parses the string that the bytes are.
-///
-/// Each reason has a call of its own, which does not test it again. `#[inline(always)]`: a call costs a rejected text
-/// some 30 instructions.
-#[inline(always)]
-fn parse_stopped<const BINARY: bool>(
+/// Parses as `parse_as` does, from the string that the bytes are, trimmed.
+#[cold]
+#[inline(never)]
+fn parse_string<const BINARY: bool>(
     text: &[u8],
-    place: usize,
-    reason: Reason,
     asked: ParseFlags,
     size: &mut Number,
     errors: &mut [Error],
 ) -> u32
-    requires { IsStopAt (flags_for asked.kind asked.ignore_case) text.now place reason }
     ensures { Parses (unit_meant BINARY) asked text.now result size.old size.new errors.old
         errors.new }
 {
-    match write_stop(text, place, reason, asked, errors) {
-        Some(code) => code,
-        None => parse_as_string::<BINARY>(text, asked, size, errors),
+    let flags = size::flags_for(asked.kind, asked.ignore_case);
+    match size::read_text(text, flags) {
+        Some(Ok(found)) => write_size::<BINARY>(found, asked, size, errors),
+        Some(Err(stop)) => write_stop(stop, flags, errors),
+        None => NOT_UTF8,
     }
 }
 
-/// Does what `parse_stopped` does for a number that is too long, in a function that is not inlined, since that is rare.
-#[cold]
-#[inline(never)]
-fn parse_too_long<const BINARY: bool>(
-    text: &[u8],
-    place: usize,
+/// Writes the size of a string with this unit and this number, or the details of the error that it is too large, and
+/// returns the code.
+///
+/// `#[inline(always)]`: the size is then never in memory before it is written.
+#[inline(always)]
+fn write_size<const BINARY: bool>(
+    found: (Unit, Decimal),
     asked: ParseFlags,
     size: &mut Number,
     errors: &mut [Error],
 ) -> u32
-    requires { IsStopAt (flags_for asked.kind asked.ignore_case) text.now place TooLong }
-    ensures { Parses (unit_meant BINARY) asked text.now result size.old size.new errors.old
-        errors.new }
+    ensures { (bytes : List ℕ) → IsUtf8 bytes
+        → IsNumberReading (flags_for asked.kind asked.ignore_case) bytes (Ok (found.1, found.0))
+        → Parses (unit_meant BINARY) asked bytes result size.old size.new errors.old errors.new }
 {
-    parse_stopped::<BINARY>(text, place, Reason::TooLong, asked, size, errors)
+    match size::size_of::<BINARY>((found.1, found.0), asked.kind) {
+        Ok(in_kind) => {
+            *size = Number::new(in_kind);
+            OK
+        }
+        Err(_) => write_value(ValueParseError::ExceededBounds(found.1), 0, errors),
+    }
 }
 
-/// Parses as `parse_as` does, from the string that the bytes are.
-#[cold]
-#[inline(never)]
-fn parse_as_string<const BINARY: bool>(
-    text: &[u8],
-    asked: ParseFlags,
-    size: &mut Number,
-    errors: &mut [Error],
-) -> u32
-    ensures { Parses (unit_meant BINARY) asked text.now result size.old size.new errors.old
-        errors.new }
-{
-    let answer = size::parse_text::<BINARY>(text, asked.ignore_case, asked.kind);
-    write_result(text, answer, size, errors)
-}
-
-/// Writes the error of a parser that stops at this place and for this reason, and returns its code. Returns `None` and
-/// writes nothing if the bytes have to be parsed as a string.
+/// Writes the details of the error of a string in which the parser stops here, and returns its code.
 ///
 /// `#[inline(always)]`: the error of a unit, whose parts are written, is then never in memory.
 #[inline(always)]
-fn write_stop(
-    text: &[u8],
-    place: usize,
-    reason: Reason,
-    asked: ParseFlags,
-    errors: &mut [Error],
-) -> Option<u32>
-    requires { IsStopAt (flags_for asked.kind asked.ignore_case) text.now place reason }
-    ensures some { IfSome result (λ code. (error : ParseError)
-        × ((meant : Shape → Shape)
-        → IsBytesReadingAs meant asked.kind asked.ignore_case text.now (Some (Err error)))
-        × (code ≡ code_of (size_fault error))
-        × IsErrorWritten (IsSizePosition text.now) (size_fault error) errors.old errors.new) }
-    ensures none { IfNone result (errors.new ≡ errors.old) }
+fn write_stop(stop: Stop, flags: Flags, errors: &mut [Error]) -> u32
+    ensures { IsStopWritten flags stop result errors.old errors.new }
 {
-    let next = size::visible_next(text, place)?;
-    let flags = size::flags_for(asked.kind, asked.ignore_case);
-    Some(match reason {
-        Reason::InUnit(stop) => {
-            write_unit_stop(stop, next, flags, place, errors);
+    match stop.reason {
+        Reason::InNumber(reason) => write_value(reason.error_before(stop.next), stop.index, errors),
+        Reason::InUnit(reason) => {
+            write_unit_stop(reason, stop.next, flags, stop.index, errors);
             UNIT
         }
-        Reason::NoDigit => write_error(error_at(next, place == 0, reason, flags), place, errors),
-        Reason::TooLong => {
-            let error = error_at(next, place == 0, reason, flags);
-            let position = position::of_error(text, &error);
-            write_error(error, position, errors)
-        }
-    })
+    }
+}
+
+/// Writes the details of an error in a number with its position, and returns its code.
+#[inline(always)]
+fn write_value(error: ValueParseError, position: usize, errors: &mut [Error]) -> u32
+    ensures code { result ≡ code_of (value_fault error) }
+    ensures written { IsWrittenAt position (value_fault error) errors.old errors.new }
+{
+    let (code, details) = Error::of_value(error, position);
+    details.write(errors);
+    code
 }
 
 /// Writes the error of a parser of a unit that stops at this place, by the character there.
@@ -192,52 +163,6 @@ fn write_unit_stop(
     let error = stop.error_before(next, flags);
     let may_end = error.also_expect_no_character;
     Error::of_unit_parts(error.character, expected, may_end, place).write(errors);
-}
-
-/// Writes the result of a parser, and returns its code.
-///
-/// `#[inline(always)]`: each caller knows which result it has, which is then never in memory.
-#[inline(always)]
-fn write_result(
-    text: &[u8],
-    answer: Option<Result<u128, ParseError>>,
-    size: &mut Number,
-    errors: &mut [Error],
-) -> u32
-    ensures { (meant : Shape → Shape) (kind : Kind) (ignore_case : Bool)
-        → IsBytesReadingAs meant kind ignore_case text.now answer
-        → IsReturned text.now answer result size.old size.new errors.old errors.new }
-{
-    match answer {
-        Some(Ok(found)) => {
-            *size = Number::new(found);
-            OK
-        }
-        Some(Err(error)) => {
-            let position = position::of_error(text, &error);
-            write_error(error, position, errors)
-        }
-        None => NOT_UTF8,
-    }
-}
-
-/// Writes the details of an error with its position, and returns its code.
-#[inline(always)]
-fn write_error(error: ParseError, position: usize, errors: &mut [Error]) -> u32
-    ensures code { result ≡ code_of (size_fault error) }
-    ensures written { IsWrittenAt position (size_fault error) errors.old errors.new }
-{
-    match error {
-        ParseError::Value(error) => {
-            let (code, details) = Error::of_value(error, position);
-            details.write(errors);
-            code
-        }
-        ParseError::Unit(error) => {
-            Error::of_unit(error, position).write(errors);
-            UNIT
-        }
-    }
 }
 
 /// Parses a unit by one of its spellings, as `Unit::parse_str` does, and writes its code to `unit`. A spelling without

@@ -1,15 +1,10 @@
 //! Where a string that is rejected is wrong.
 
-ghost use Rattle.std.specs.Prelude.{◌≡◌, ◌⊎◌, Bool, false, if◌then◌else◌, Some, None, Err};
+ghost use Rattle.std.specs.Prelude.{◌≡◌, false, if◌then◌else◌, Some, None};
 ghost use Rattle.std.specs.Str.{IsUtf8};
 ghost use Rattle.byte_unit_base.specs.ErrorPosition.{IsSizePosition, IsUnitPosition};
-ghost use Rattle.byte_unit_base.specs.Errors.{size_fault};
-ghost use Rattle.byte_unit_base.specs.Shape.{Shape};
-ghost use Rattle.byte_unit_base.specs.SizeReading.{IsBytesReadingAs};
-ghost use Rattle.byte_unit_base.specs.declared.kind.Kind.{Kind};
-ghost use Rattle.byte_unit_c.specs.Error.{IsPositionOf};
 
-use byte_unit_base::{ParseError, Unit, ValueParseError, position};
+use byte_unit_base::{Unit, size};
 use std::str;
 
 /// Writes the index in bytes of the first wrong character of a string that `byte_unit_parse_to` rejects: up to there
@@ -29,7 +24,7 @@ pub extern "C" fn byte_unit_error_position(text: &[u8], position: &mut usize) ->
     ensures unchanged { result ≡ false → position.new ≡ position.old }
 {
     match str::from_utf8(text) {
-        Ok(text) => write_position(position::of_size_error(text), position),
+        Ok(text) => write_position(size::error_position(text), position),
         Err(_) => false,
     }
 }
@@ -63,34 +58,4 @@ fn write_position(found: Option<usize>, position: &mut usize) -> bool
         }
         None => false,
     }
-}
-
-/// Returns the position of the error of a string, or 0 if only its size is too large.
-#[inline(always)]
-pub fn of_error(text: &[u8], error: &ParseError) -> usize
-    ensures { (meant : Shape → Shape) (kind : Kind) (ignore_case : Bool)
-        → IsBytesReadingAs meant kind ignore_case text.now (Some (Err error.now))
-        → IsPositionOf (IsSizePosition text.now) (size_fault error.now) result }
-{
-    match error {
-        ParseError::Value(value) => match value {
-            ValueParseError::ExceededBounds(_) => 0,
-            _ => of_size(text),
-        },
-        ParseError::Unit(_) => of_size(text),
-    }
-}
-
-/// Returns the position of the error of a string, or 0 if it is a number and a unit.
-///
-/// `#[cold]`, and not inlined: the string is parsed once more, and few callers reach this.
-#[cold]
-#[inline(never)]
-fn of_size(text: &[u8]) -> usize
-    ensures { IsUtf8 text.now
-        → IsSizePosition text.now None ⊎ IsSizePosition text.now (Some result) }
-{
-    let mut place = 0;
-    byte_unit_error_position(text, &mut place);
-    place
 }

@@ -51,8 +51,8 @@ const FEW_PLACES: u32 = 5;
 ///
 /// `steps` is raised as by `two_five` for the size as it is given, and by one for each place of the number, as long
 /// division would: by at most 116 for a size in bytes, as for `7 << 87` at 27 places, and by at most 119 for a size in
-/// bits, as for `7 << 90` at 27 places with `Family::All`. A size of zero adds no step. These are steps of division: the
-/// code makes few of them, and what it does instead, as the comparisons of the search, is not counted.
+/// bits, as for `7 << 90` at 27 places with `Family::All`. A size of zero adds no step. These are steps of division:
+/// the code makes few of them, and what it does instead, as the comparisons of the search, is not counted.
 ///
 /// # Examples
 /// ```rust

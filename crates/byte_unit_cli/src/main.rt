@@ -12,7 +12,7 @@ use byte_unit_command::run::run;
 use byte_unit_command::streams::Streams;
 use byte_unit_command::values::values_of;
 use byte_unit_command::wrong::{ValueError, Wrong, escaped_lines, with_marks};
-use byte_unit_stream::{FusedReader, FusedWriter};
+use byte_unit_stream::{Reading, Writing};
 use clap::ArgMatches;
 use clap::error::ErrorKind;
 use std::alloc::AllocError;
@@ -38,10 +38,10 @@ fn convert<R: Read + Drop>(
     input: R,
 ) -> u8 {
     let mut streams = Streams {
-        reader: FusedReader::new(input),
+        reader: Reading::new(input),
         word,
-        writer: FusedWriter::new(io::writer(rt)),
-        errors: FusedWriter::new(rt.stderr()),
+        writer: Writing::new(io::writer(rt)),
+        errors: Writing::new(rt.stderr()),
     };
     let ended = run(rt.alloc(), options, &mut streams);
     if let Err(error) = ended {

@@ -12,7 +12,7 @@ use Rattle.byte_unit_command.proofs.Telling.{Tells-nothing, WritesAndTells-by}
 use Rattle.byte_unit_stream.specs.Chunks.{ended_records}
 use Rattle.byte_unit_stream.specs.Beginnings.{IsBeginningOf}
 use Rattle.byte_unit_stream.specs.Streams.{HasWritten, writer_of, writing_failed}
-use Rattle.byte_unit_stream.specs.declared.writer.FusedWriter.{FusedWriter}
+use Rattle.byte_unit_stream.specs.declared.writer.Writing.{Writing}
 
 -- what a call has appended that converts records: text and messages
 pub record HasFed (options : Options) (records : List (List ℕ)) (old new : State) (result : Result ⊤ RunError) : Type 0
@@ -76,7 +76,7 @@ IsAnswered-begun options records old new now written begins (Err Total) fed = ab
 
 -- a piece was converted, all of that was written, and the messages were told
 pub piece-answered : {W E A : Type 0} {contents : W → Option (List ℕ)} {tells : E → Option (List ℕ)}
-    {old_writer writer : FusedWriter W} {old_errors errors : FusedWriter E} {options : Options}
+    {old_writer writer : Writing W} {old_errors errors : Writing E} {options : Options}
     {records : List (List ℕ)} {old : State} {result : Result ⊤ RunError} (fed now : Buffers A)
     → HasFed options records old (state_of fed.converter) result
     → HasWritten contents old_writer writer fed.converter.waiting.items
@@ -92,7 +92,7 @@ piece-answered {result = result} fed now has_fed wrote told same =
 
 -- a piece was converted, its write failed, and nothing was told
 pub piece-unwritten : {W E A : Type 0} {contents : W → Option (List ℕ)} {tells : E → Option (List ℕ)}
-    {old_writer writer : FusedWriter W} {errors : FusedWriter E} {options : Options} {records : List (List ℕ)}
+    {old_writer writer : Writing W} {errors : Writing E} {options : Options} {records : List (List ℕ)}
     {old : State} {result : Result ⊤ RunError} (fed : Buffers A)
     → HasFed options records old (state_of fed.converter) result
     → (written : List ℕ) × HasWritten contents old_writer writer written

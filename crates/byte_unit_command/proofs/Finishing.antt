@@ -18,7 +18,7 @@ use Rattle.byte_unit_command.proofs.Telling.{Tells-nothing}
 use Rattle.byte_unit_stream.specs.Chunks.{nonempty_record}
 use Rattle.byte_unit_stream.specs.Beginnings.{IsBeginningOf}
 use Rattle.byte_unit_stream.specs.Streams.{HasWritten, writer_of, writing_failed}
-use Rattle.byte_unit_stream.specs.declared.writer.FusedWriter.{FusedWriter}
+use Rattle.byte_unit_stream.specs.declared.writer.Writing.{Writing}
 use Rattle.byte_unit_stream.proofs.Bytes.{IsWrittenBy}
 
 -- a part that is not empty is a record
@@ -38,7 +38,7 @@ AddsRecords-idle options part before new none untold adds =
 
 -- the last record, if there is one, was converted, and the messages about it were told
 pub record ConvertsLast {A E : Type 0} (tells : E → Option (List ℕ)) (options : Options) (part : List ℕ)
-    (old now : Converter A) (old_errors errors : FusedWriter E) : Type 0 where
+    (old now : Converter A) (old_errors errors : Writing E) : Type 0 where
   pub messages : List ℕ
   pub adds :
       AddsRecords options (nonempty_record part) (idle (state_of old)) (record (state_of now) { messages = messages })
@@ -46,9 +46,9 @@ pub record ConvertsLast {A E : Type 0} (tells : E → Option (List ℕ)) (option
       × Tells (writing_failed old_errors) (writing_failed errors) messages told
 
 module _ {A E : Type 0} (tells : E → Option (List ℕ)) (options : Options) (part : List ℕ) (old : Converter A)
-    (old_errors : FusedWriter E) (empty : old.waiting.items ≡ []) where
+    (old_errors : Writing E) (empty : old.waiting.items ≡ []) where
   -- there is no last record, and nothing has changed
-  pub ConvertsLast-none : (now : Converter A) (errors : FusedWriter E) → part ≡ [] → now ≡ old → errors ≡ old_errors
+  pub ConvertsLast-none : (now : Converter A) (errors : Writing E) → part ≡ [] → now ≡ old → errors ≡ old_errors
       → ConvertsLast tells options part old now old_errors errors
   ConvertsLast-none now errors none now_is errors_is =
       let idle_state : State = idle (state_of old) in
@@ -66,7 +66,7 @@ module _ {A E : Type 0} (tells : E → Option (List ℕ)) (options : Options) (p
 
   -- a last record was added, and its messages were told
   pub ConvertsLast-one : messages_of old.notices ≡ [] → (after now : Converter A) (notices : Notices A)
-      (then_errors errors : FusedWriter E) → false ≡ (length part == 0)
+      (then_errors errors : Writing E) → false ≡ (length part == 0)
       → AddsRecords options (part ∷ []) (state_of old) (state_of after)
       → (told : List ℕ) × HasWritten tells old_errors then_errors told
       × Tells (writing_failed old_errors) (writing_failed then_errors) (messages_of after.notices) told

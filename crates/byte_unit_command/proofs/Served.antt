@@ -16,7 +16,7 @@ use Rattle.byte_unit_command.proofs.Runs.{IsRunResult-read, IsServed, IsServed-p
 use Rattle.byte_unit_command.proofs.Telling.{IsTold-more, IsTold-nothing}
 use Rattle.byte_unit_stream.specs.Chunks.{ended_records, begun_record}
 use Rattle.byte_unit_stream.specs.Streams.{HasRead, HasReadAll, HasReadNothing, reader_of, writer_of, writing_failed}
-use Rattle.byte_unit_stream.specs.declared.reader.FusedReader.{FusedReader}
+use Rattle.byte_unit_stream.specs.declared.reader.Reading.{Reading}
 use Rattle.byte_unit_stream.proofs.Bytes.{Consumes-at_end}
 
 -- the invariant of the loop: what was read is served, and nothing waits to be written or told
@@ -57,14 +57,14 @@ module _ {R W E A : Type 0} {remaining : R → Option (List ℕ)} {contents : W 
     {tells : E → Option (List ℕ)} {options : Options} {old between : Streams R W E} {buffers : Buffers A}
     (so_far : HasServed remaining contents tells options old between buffers) where
   -- reading a piece extends what was read by it
-  pub HasRead-more : (reader : FusedReader R) (piece : List ℕ) → HasRead remaining between.reader reader piece
+  pub HasRead-more : (reader : Reading R) (piece : List ℕ) → HasRead remaining between.reader reader piece
       → HasRead remaining old.reader reader (so_far.course.read ++ piece)
   HasRead-more reader piece came =
       Consumes-trans (remaining (reader_of old.reader)) (remaining (reader_of between.reader))
       (remaining (reader_of reader)) so_far.course.read piece so_far.course.has_read came
 
   -- reading nothing leaves what was read
-  HasRead-end : (reader : FusedReader R) (piece : List ℕ) → HasRead remaining between.reader reader piece
+  HasRead-end : (reader : Reading R) (piece : List ℕ) → HasRead remaining between.reader reader piece
       → piece ≡ [] → HasRead remaining old.reader reader so_far.course.read
   HasRead-end reader piece came none =
       Consumes-at_end (remaining (reader_of old.reader)) (remaining (reader_of between.reader))
@@ -126,7 +126,7 @@ module _ {R W E A : Type 0} {remaining : R → Option (List ℕ)} {contents : W 
       (Course-more read (HasRead-more new.reader piece came) failed, at.0, at.1)
 
   -- if a read has failed, what is written and told is right for `Read`
-  pub IsRunOf-read : (reader : FusedReader R) → HasReadNothing remaining between.reader reader
+  pub IsRunOf-read : (reader : Reading R) → HasReadNothing remaining between.reader reader
       → IsRunOf remaining contents tells options old (record between { reader = reader }) (Err Read)
   IsRunOf-read reader nothing =
       let at = IsRunResult-read so_far.served (HasReadAll remaining reader) in (

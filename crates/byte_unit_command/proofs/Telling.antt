@@ -4,7 +4,7 @@ use Rattle.byte_unit_stream.specs.Beginnings.{IsBeginningOf}
 use Rattle.byte_unit_command.specs.RunState.{Tells, WritesAndTells}
 use Rattle.byte_unit_command.specs.Told.{IsTold}
 use Rattle.byte_unit_stream.specs.Streams.{HasWritten, writing_failed}
-use Rattle.byte_unit_stream.specs.declared.writer.FusedWriter.{FusedWriter}
+use Rattle.byte_unit_stream.specs.declared.writer.Writing.{Writing}
 use Rattle.byte_unit_stream.proofs.Beginnings.{IsBeginningOf-longer, IsBeginningOf-after}
 
 -- of no messages, nothing was told
@@ -36,7 +36,7 @@ IsTold-more false after messages more told rest so_far tells =
 
 -- what was written, and what a call tells of these messages
 pub WritesAndTells-by : {W E : Type 0} {contents : W → Option (List ℕ)} {tells : E → Option (List ℕ)}
-    {old_writer writer : FusedWriter W} {old_errors errors : FusedWriter E} {Holds : List ℕ → List ℕ → Type 0}
+    {old_writer writer : Writing W} {old_errors errors : Writing E} {Holds : List ℕ → List ℕ → Type 0}
     {messages : List ℕ} (written : List ℕ) → HasWritten contents old_writer writer written
     → (told : List ℕ) × HasWritten tells old_errors errors told
     × Tells (writing_failed old_errors) (writing_failed errors) messages told

@@ -20,7 +20,7 @@ use Rattle.byte_unit_command.specs.declared.error.RunError.TheVariants.{Memory, 
 use Rattle.byte_unit_command.specs.declared.tally.Tally.{Tally}
 use Rattle.byte_unit_stream.specs.Chunks.{nonempty_record}
 use Rattle.byte_unit_stream.specs.Streams.{HasWritten, writing_failed}
-use Rattle.byte_unit_stream.specs.declared.writer.FusedWriter.{FusedWriter}
+use Rattle.byte_unit_stream.specs.declared.writer.Writing.{Writing}
 
 -- the tally of no field
 abbrev pub no_tally : Tally
@@ -164,7 +164,7 @@ pub record Tells (failed_before failed : Bool) (messages told : List ℕ) : Type
 -- from these states of the output and of standard error to those, something was written and told of messages for which
 -- this holds. `contents` and `tells` are those of the two writers
 pub record WritesAndTells {W E : Type 0} (contents : W → Option (List ℕ)) (tells : E → Option (List ℕ))
-    (old_writer writer : FusedWriter W) (old_errors errors : FusedWriter E) (Holds : List ℕ → List ℕ → Type 0)
+    (old_writer writer : Writing W) (old_errors errors : Writing E) (Holds : List ℕ → List ℕ → Type 0)
     : Type 0 where
   pub written : List ℕ
   pub messages : List ℕ

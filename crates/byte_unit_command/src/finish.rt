@@ -12,7 +12,7 @@ use crate::error::{RunError, RunResult};
 use crate::options::Options;
 use crate::tally::{TOTAL_LIMIT, Tally};
 use crate::text::add_in_width;
-use byte_unit_stream::{FusedWriter, write_whole};
+use byte_unit_stream::{Writing, write_whole};
 use std::alloc::Allocator;
 use std::io::Write;
 
@@ -33,8 +33,8 @@ impl<A: Allocator> Converter<A> {
         options: &Options,
         part: &[u8],
         digits: &mut [u8],
-        writer: &mut FusedWriter<W>,
-        errors: &mut FusedWriter<E>,
+        writer: &mut Writing<W>,
+        errors: &mut Writing<E>,
     ) -> Result<Tally, RunError>
         requires empty { self.old.waiting.items ≡ [] }
         requires untold { messages_of self.old.notices ≡ [] }
@@ -75,7 +75,7 @@ fn write_with_total<A: Allocator, W: Write>(
     total: u128,
     digits: &mut [u8],
     waiting: &mut Vec<u8, A>,
-    writer: &mut FusedWriter<W>,
+    writer: &mut Writing<W>,
 ) -> RunResult
     requires { text_limit ≤ length digits.old }
     ensures written { (written : List ℕ)

@@ -18,7 +18,7 @@ use crate::options::{FieldRange, Form, Invalid, Kind, Options, Unit, UnitType};
 use crate::size::ignores_case;
 use crate::values::Values;
 use crate::wrong::{ValueError, Wrong};
-use byte_unit_base::{ParseError, binary, size};
+use byte_unit_base::{ParseError, size};
 
 /// The most digits after the point that the exact form has: the library takes a greater precision as 28.
 const DECIMAL_PLACES: u16 = 28;
@@ -329,8 +329,8 @@ fn parse_size(text: &str, binary: bool, kind: Kind, ignore_case: bool) -> Result
 {
     let ignore_case = ignores_case(kind, ignore_case);
     if binary {
-        binary::parse(text, ignore_case, kind)
+        size::parse::<true>(text, ignore_case, kind)
     } else {
-        size::parse(text, ignore_case, kind)
+        size::parse::<false>(text, ignore_case, kind)
     }
 }

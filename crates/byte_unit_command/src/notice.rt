@@ -18,7 +18,7 @@ use crate::quote::add_quoted;
 use crate::size::{parse, without_suffix};
 use crate::wrong_character::{names_character, wrong_character};
 use byte_unit::ParseError;
-use byte_unit_stream::{FusedWriter, write_whole};
+use byte_unit_stream::{Writing, write_whole};
 use std::alloc::{AllocError, Allocator};
 use std::fmt::Write as WriteText;
 use std::io::Write;
@@ -67,7 +67,7 @@ impl<A: Allocator> Notices<A> {
 
     /// Writes the messages to `errors`, unless a write to it has failed before, and forgets them. `errors` records a
     /// failure.
-    pub(crate) fn tell<E: Write>(&mut self, errors: &mut FusedWriter<E>)
+    pub(crate) fn tell<E: Write>(&mut self, errors: &mut Writing<E>)
         ensures told { (told : List ℕ) × HasWritten E.contents errors.old errors.new told
             × Tells (writing_failed errors.old) (writing_failed errors.new)
             (messages_of self.old) told }

@@ -7,7 +7,7 @@ ghost use Rattle.byte_unit_command.specs.Prefixes.{IsBytesReadingBy};
 
 use crate::options::{Kind, Options};
 use byte_unit::ParseError;
-use byte_unit_base::{binary, size};
+use byte_unit_base::size;
 
 /// Parses a field, without the suffix of the options, as a size of their kind. Returns `None` if it is not UTF-8.
 pub(crate) fn parse(options: &Options, field: &[u8]) -> Option<Result<u128, ParseError>>
@@ -18,9 +18,9 @@ pub(crate) fn parse(options: &Options, field: &[u8]) -> Option<Result<u128, Pars
     let text = without_suffix(options.suffix, field);
     let ignore_case = ignores_case(options.kind, options.ignore_case);
     if options.binary {
-        binary::parse_bytes(text, ignore_case, options.kind)
+        size::parse_bytes::<true>(text, ignore_case, options.kind)
     } else {
-        size::parse_bytes(text, ignore_case, options.kind)
+        size::parse_bytes::<false>(text, ignore_case, options.kind)
     }
 }
 
@@ -95,12 +95,12 @@ fn plain_size(options: &Options, text: &[u8]) -> u128
     ensures none { NO_SIZE ≤ result → IsNoSizeBy options.now text.now }
 {
     match options.kind {
-        Kind::Byte => match size::parse_bytes(text, options.ignore_case, Kind::Byte) {
+        Kind::Byte => match size::parse_bytes::<false>(text, options.ignore_case, Kind::Byte) {
             Some(Ok(size)) => size,
             Some(Err(_)) => NO_SIZE,
             None => NO_SIZE,
         },
-        Kind::Bit => match size::parse_bytes(text, false, Kind::Bit) {
+        Kind::Bit => match size::parse_bytes::<false>(text, false, Kind::Bit) {
             Some(Ok(size)) => size,
             Some(Err(_)) => NO_SIZE,
             None => NO_SIZE,
@@ -117,7 +117,7 @@ fn special_size(options: &Options, field: &[u8]) -> u128
     let text = without_suffix(options.suffix, field);
     if options.binary {
         let ignore_case = ignores_case(options.kind, options.ignore_case);
-        match binary::parse_bytes(text, ignore_case, options.kind) {
+        match size::parse_bytes::<true>(text, ignore_case, options.kind) {
             Some(Ok(size)) => size,
             Some(Err(_)) => NO_SIZE,
             None => NO_SIZE,

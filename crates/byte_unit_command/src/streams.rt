@@ -1,16 +1,16 @@
 //! The streams of a run.
 
-use byte_unit_stream::{FusedReader, FusedWriter};
+use byte_unit_stream::{Reading, Writing};
 
 /// What a run reads from and writes to.
 #[derive(Drop)]
 pub struct Streams<R, W, E> {
     /// The input.
-    pub reader: FusedReader<R>,
+    pub reader: Reading<R>,
     /// What a message calls a record of the input: `line`, `record` or `operand`.
     pub word: &'static str,
     /// The output.
-    pub writer: FusedWriter<W>,
+    pub writer: Writing<W>,
     /// Where messages about fields go. It records a failure; a run goes on without them then.
-    pub errors: FusedWriter<E>,
+    pub errors: Writing<E>,
 }

@@ -8,7 +8,7 @@ ghost use Rattle.byte_unit_command.specs.WrongCharacter.{names_character as has_
 
 use crate::quote::is_boundary;
 use byte_unit::{ParseError, ValueParseError};
-use byte_unit_base::position;
+use byte_unit_base::size;
 use std::str;
 
 /// Returns `true` if the message of an error names a character.
@@ -38,7 +38,7 @@ fn character_of(text: &str) -> Option<usize>
     ensures { (position : Option ℕ) × IsSizePosition text.now position
         × (result ≡ character_at text.now position) }
 {
-    match position::of_size_error(text) {
+    match size::error_position(text) {
         None => None,
         Some(position) => {
             if position < text.trim_end().len() {

@@ -3,17 +3,17 @@
 -- That a size is `exact` at some places is a count and an equation. The highest bit `top` of a size is its index, the
 -- leading zeros before it, and the two powers of two that bound the size.
 use Rattle.std.proofs.Common.{◌≡◌, ◌≢◌, ℕ, ◌+◌, ◌-◌, ◌*◌, ◌/◌, ◌%◌, ◌^◌, ◌<◌, ◌≤◌, ⊎_elim, inl, inr, Bool, true, false}
-use Rattle.std.proofs.Common.{min, zero, suc, arith, ap, sym, refl, ◌∙◌}
+use Rattle.std.proofs.Common.{min, suc, arith, ap, sym, refl, ◌∙◌}
 use Rattle.std.specs.Int.{w128, leading_zeros, trailing_zeros}
 use Rattle.std.proofs.Math.Nat.{eq_of_mul-eq-mul_right, mul-le-mul_right, le_of_mul-le-mul_right, pow-le-pow_right}
 use Rattle.std.proofs.Math.Nat.{one-le-pow, mul-mod_left}
 use Rattle.std.proofs.lemmas.Bool.{cases_lt}
-use Rattle.std.proofs.lemmas.Nat.{pow-add, mul-pow, div-add-mod', leading_top}
+use Rattle.std.proofs.lemmas.Nat.{pow-add, div-add-mod', leading_top}
 use Rattle.byte_unit_math.specs.Bounds.{size_limit, scale}
 use Rattle.byte_unit_math.proofs.TwosFives.{FivesOff-trailing_zeros}
 use Rattle.byte_unit_base.specs.Shape.{Shape, shape, bits}
 use Rattle.byte_unit_base.specs.Version.{current}
-use Rattle.byte_unit_choice.specs.Choice.{IsRecoveredIn, IsExactUnit, places_within}
+use Rattle.byte_unit_choice.specs.Choice.{IsRecoveredIn, IsExactUnit}
 use Rattle.byte_unit_base.specs.Kinds.{bits_in, counts_bits, own_unit}
 use Rattle.byte_unit_choice.specs.Family.{own_family}
 use Rattle.byte_unit_base.specs.declared.kind.Kind.{Kind}
@@ -70,7 +70,7 @@ pub record IsDivided (size whole thousandths power : ℕ) : Type 0 where
 
 -- If a thousandth is left, or fewer than a thousand, no larger decimal prefix fits.
 pub greatest_thousands : {size whole thousandths power : ℕ} → IsDivided size whole thousandths power
-    → (thousandths ≡ 0 → whole < 1000) → IsGreatestPower 3 10 3 size power
+    → (thousandths ≡ 0 → whole < 1000) → IsGreatestPower 10 3 size power
 greatest_thousands {size} {whole} {thousandths} {power} divided ends =
     let prefix = 10 ^ (3 * power) in
     record {
@@ -111,107 +111,26 @@ divided_more {size} {whole} {thousandths} {power} {next} {rest} small divided no
       few = few_thousands (power + 1) size small (omega (arith, value, mul-le-mul_right prefix some));
     }
 
--- The powers of ten of `places` digits, and of the rest of three digits, make 1000.
-places_and_rest : (places : ℕ) → places ≤ 3 → 10 ^ places * 10 ^ (3 - places) ≡ 1000
-places_and_rest places few = grind (arith, pow-add 10 places (3 - places))
-
--- A size with few digits after the point has at most three.
-fits_three : {places size prefix : ℕ} → places ≤ 3 → FitsPrefix places size prefix → FitsPrefix 3 size prefix
-fits_three {places} {size} {prefix} few fits = record {
-  exact = (
-    fits.exact.0 * 10 ^ (3 - places),
-    omega (arith, ap (λ n. size * n) (places_and_rest places few), ap (λ n. n * 10 ^ (3 - places)) fits.exact.1),
-  );
-  not_above = fits.not_above;
-}
-
--- If the thousandths end in enough zeros, the largest prefix for three digits is the largest one for fewer, too.
-pub greatest_of_zeros_left : {places size power : ℕ} (whole thousandths : ℕ) → places ≤ 3
-    → IsGreatestPower 3 10 3 size power → (whole * 1000 + thousandths) * 10 ^ (3 * power) ≡ size * 1000
-    → thousandths % 10 ^ (3 - places) ≡ 0 → IsGreatestPower places 10 3 size power
-greatest_of_zeros_left {places} {size} {power} whole thousandths few greatest value zeros =
-    let rest = 10 ^ (3 - places) in
-    let tens = 10 ^ places in
-    let prefix = 10 ^ (3 * power) in
-    let all = places_and_rest places few in
-    let count : ℕ = whole * tens + thousandths / rest in
-    let counted : count * rest ≡ whole * 1000 + thousandths =
-    omega (arith, div-add-mod' thousandths rest, zeros, ap (λ n. whole * n) all) in
-    record {
-      fits = record {
-        exact = (
-          count,
-          eq_of_mul-eq-mul_right rest (one-le-pow (3 - places) 10 (omega arith)) (size * tens) (count * prefix)
-              (omega (arith, ap (λ n. size * n) all, value, ap (λ n. n * prefix) counted)),
-        );
-        not_above = greatest.fits.not_above;
-      };
-      greatest = λ other fits. greatest.greatest other (fits_three few fits);
-    }
-
--- In the prefix before, the size is a whole number: that of the thousandths here.
-pub value_before : {size power : ℕ} (whole thousandths : ℕ) → 1 ≤ power
-    → (whole * 1000 + thousandths) * 10 ^ (3 * power) ≡ size * 1000
-    → (whole * 1000 + thousandths) * 10 ^ (3 * (power - 1)) ≡ size
-value_before {size} {power} whole thousandths some value =
-    let prefix_is : 10 ^ (3 * power) ≡ 10 ^ (3 * (power - 1)) * 1000 = grind (arith, pow10_next (power - 1)) in
-    omega (arith, value, ap (λ n. (whole * 1000 + thousandths) * n) prefix_is)
-
--- With the digits after the point that are allowed, thousandths that do not end in enough zeros are no thousands.
-left_over : (whole thousandths places : ℕ) → places ≤ 3 → thousandths % 10 ^ (3 - places) ≢ 0
-    → (whole * 1000 + thousandths) * 10 ^ places % 1000 ≢ 0
-left_over whole thousandths zero few left = omega (arith, left)
-left_over whole thousandths (suc zero) few left = omega (arith, left)
-left_over whole thousandths (suc (suc zero)) few left = omega (arith, left)
-left_over whole thousandths (suc (suc (suc zero))) few left = absurd (left (omega arith))
-left_over whole thousandths (suc (suc (suc (suc more)))) few left = absurd (omega (arith, few))
-
--- If the thousandths in a prefix lack the zeros for the places, the prefix before it is the largest one; in that the
--- size is whole.
-pub greatest_before : {places size power : ℕ} (whole thousandths : ℕ) → places ≤ 3 → 1 ≤ power
-    → 10 ^ (3 * power) ≤ size → (whole * 1000 + thousandths) * 10 ^ (3 * power) ≡ size * 1000
-    → thousandths % 10 ^ (3 - places) ≢ 0 → IsGreatestPower places 10 3 size (power - 1)
-greatest_before {places} {size} {power} whole thousandths few some not_above value left =
-    let count : ℕ = (whole * 1000 + thousandths) * 10 ^ places in
-    let counted : count * 10 ^ (3 * (power - 1)) ≡ size * 10 ^ places =
-    omega (arith, ap (λ n. n * 10 ^ places) (value_before whole thousandths some value)) in
-    let less = pow-le-pow_right {n = 10} (omega arith) {i = 3 * (power - 1)} {j = 3 * power} (omega arith) in
-    let odd = left_over whole thousandths places few left in
-    record {
-      fits = record { exact = (count, sym counted); not_above = omega (arith, not_above, less) };
-      greatest = λ other fits.
-          power_divides 10 3 count fits.exact.0 (power - 1) other (omega arith) odd (counted ∙ fits.exact.1);
-    }
-
--- An odd number times a power of five is odd.
-odd_product : (left places : ℕ) → places ≤ 3 → left % 2 ≢ 0 → left * 5 ^ places % 2 ≢ 0
-odd_product left zero few odd = omega (arith, odd)
-odd_product left (suc zero) few odd = omega (arith, odd)
-odd_product left (suc (suc zero)) few odd = omega (arith, odd)
-odd_product left (suc (suc (suc zero))) few odd = omega (arith, odd)
-odd_product left (suc (suc (suc (suc more)))) few odd = absurd (omega (arith, few))
-
 -- The lowest and the highest bit of a size tell the largest binary prefix that fits it, of which it is eighths.
-pub binary_greatest : (places size power : ℕ) → places ≤ 3 → 0 < size → size < size_limit
-    → power ≡ min (trailing_zeros w128 size + places) (128 - 1 - leading_zeros w128 size) / 10
-    → IsGreatestPower places 2 10 size power × (size % 2 ^ (10 * power - 3) ≡ 0)
-binary_greatest places size power at_most some small count =
+pub binary_greatest : (size power : ℕ) → 0 < size → size < size_limit
+    → power ≡ min (trailing_zeros w128 size + 3) (128 - 1 - leading_zeros w128 size) / 10
+    → IsGreatestPower 2 10 size power × (size % 2 ^ (10 * power - 3) ≡ 0)
+binary_greatest size power some small count =
     let twos = trailing_zeros w128 size in
     let left = size / 2 ^ twos in
-    let five = 5 ^ places in
     let off = FivesOff-trailing_zeros size some (omega (arith, small)) in
     let top = leading_top 128 size some (omega (arith, small)) in
     let eighth = 10 * power - 3 in
     let counted : size ≡ left * 2 ^ (twos - eighth) * 2 ^ eighth =
-    omega (arith, off.product, ap (λ n. left * n) (power_split 2 eighth twos (omega (arith, count, at_most)))) in
-    let thousand : left * five * 2 ^ (twos + places) ≡ size * 10 ^ places =
-    rw (mul-pow 2 5 places, pow-add 2 twos places) (omega (arith, ap (λ n. n * 2 ^ places * five) off.product)) in
-    let split = power_split 2 (10 * power) (twos + places) (omega (arith, count)) in (
+    omega (arith, off.product, ap (λ n. left * n) (power_split 2 eighth twos (omega (arith, count)))) in
+    let thousand : left * 125 * 2 ^ (twos + 3) ≡ size * 10 ^ 3 =
+    rw (pow-add 2 twos 3) (omega (arith, ap (λ n. n * 1000) off.product)) in
+    let split = power_split 2 (10 * power) (twos + 3) (omega (arith, count)) in (
       record {
         fits = record {
           exact = (
-            left * five * 2 ^ (twos + places - 10 * power),
-            omega (arith, thousand, ap (λ n. left * five * n) split),
+            left * 125 * 2 ^ (twos + 3 - 10 * power),
+            omega (arith, thousand, ap (λ n. left * 125 * n) split),
           );
           not_above = omega (
             arith,
@@ -220,8 +139,8 @@ binary_greatest places size power at_most some small count =
           );
         };
         greatest = λ other fits.
-            let lowest = power_divides 2 1 (left * five) fits.exact.0 (twos + places) (10 * other) (omega arith)
-            (odd_product left places at_most off.odd) (grind (arith, thousand, fits.exact.1)) in
+            let lowest = power_divides 2 1 (left * 125) fits.exact.0 (twos + 3) (10 * other) (omega arith)
+            (omega (arith, off.odd)) (grind (arith, thousand, fits.exact.1)) in
             let highest = exponent_below 2 (10 * other) (suc top.0) size (omega arith) fits.not_above top.3 in
             omega (arith, lowest, highest, count, top.1);
       },
@@ -239,22 +158,17 @@ eighths_value size power some whole_eighths =
     rw (parts, power_is) (omega (arith, div-add-mod' size (2 ^ eighth), whole_eighths))
 
 -- What is true of each binary prefix that fits a size, and of each decimal one, is true of each prefix that does.
-by_prefix : {places size : ℕ} (At : ℕ → Bool → Type 0)
-    → ((other : ℕ) → FitsPrefix places size (2 ^ (10 * other)) → At other true)
-    → ((other : ℕ) → FitsPrefix places size (10 ^ (3 * other)) → At other false) → (other : ℕ) (binary : Bool)
-    → FitsPrefix places size (prefix_of other binary) → At other binary
+by_prefix : {size : ℕ} (At : ℕ → Bool → Type 0) → ((other : ℕ) → FitsPrefix 3 size (2 ^ (10 * other)) → At other true)
+    → ((other : ℕ) → FitsPrefix 3 size (10 ^ (3 * other)) → At other false) → (other : ℕ) (binary : Bool)
+    → FitsPrefix 3 size (prefix_of other binary) → At other binary
 by_prefix At twos tens other true fits = twos other fits
 by_prefix At twos tens other false fits = tens other fits
 
--- A size of a kind, if at most three digits after the point are allowed.
-module _ (kind : Kind) (places size : ℕ) (few : places ≤ 3) where
-  -- Few places are not cut off.
-  within : places_within places ≡ places
-  within = omega (arith, few)
-
-  -- A size is exact in a unit within these places only if it fits the unit's prefix.
-  fits_of_exact : (unit : Shape) → IsExactUnit (own_family kind) (size * bits_in kind) places unit
-      → FitsPrefix places size (prefix_of unit.power unit.binary)
+-- A size of a kind, if three digits after the point are allowed.
+module _ (kind : Kind) (size : ℕ) where
+  -- A size is exact in a unit within three places only if it fits the unit's prefix.
+  fits_of_exact : (unit : Shape) → IsExactUnit (own_family kind) (size * bits_in kind) 3 unit
+      → FitsPrefix 3 size (prefix_of unit.power unit.binary)
   fits_of_exact unit exact_unit =
       let prefix = prefix_of unit.power unit.binary in
       let same = unit_bits kind unit.power unit.binary unit.bit exact_unit.member.kind in
@@ -263,21 +177,21 @@ module _ (kind : Kind) (places size : ℕ) (few : places ≤ 3) where
       record {
         exact = (
           exact.0,
-          eq_of_mul-eq-mul_right (bits_in kind) positive (size * 10 ^ places) (exact.0 * prefix)
-              (omega (arith, rw within at exact.1, ap (λ n. exact.0 * n) same)),
+          eq_of_mul-eq-mul_right (bits_in kind) positive (size * 10 ^ 3) (exact.0 * prefix)
+              (omega (arith, exact.1, ap (λ n. exact.0 * n) same)),
         );
         not_above = le_of_mul-le-mul_right {k = bits_in kind} (omega (arith, same, exact_unit.not_above)) positive;
       }
 
   -- A unit whose prefix fits the size, and is at least as large as each that does, is the exact unit.
   largest_of_prefixes : (power : ℕ) (binary : Bool) → 1 ≤ power → power ≤ 9
-      → FitsPrefix places size (prefix_of power binary)
-      → ((other : ℕ) (is_binary : Bool) → FitsPrefix places size (prefix_of other is_binary)
+      → FitsPrefix 3 size (prefix_of power binary)
+      → ((other : ℕ) (is_binary : Bool) → FitsPrefix 3 size (prefix_of other is_binary)
       → prefix_of other is_binary ≤ prefix_of power binary)
-      → IsRecoveredIn current kind false size places (shape power binary (counts_bits kind))
+      → IsRecoveredIn current kind false size 3 (shape power binary (counts_bits kind))
   largest_of_prefixes power binary some known fits largest =
       inl (record {
-        has = exact_of_fits {precision = places} kind size power binary some known (rw within fits);
+        has = exact_of_fits {precision = 3} kind size power binary some known fits;
         largest = λ other exact_unit.
             omega (
               arith,
@@ -288,9 +202,9 @@ module _ (kind : Kind) (places size : ℕ) (few : places ≤ 3) where
       })
 
   -- If no decimal prefix of a later position fits the size, the unit with the largest binary prefix is the exact unit.
-  pub recovered_binary : {binary : ℕ} → 1 ≤ binary → binary ≤ 9 → IsGreatestPower places 2 10 size binary
-      → ((other : ℕ) → FitsPrefix places size (10 ^ (3 * other)) → other ≤ binary)
-      → IsRecoveredIn current kind false size places (shape binary true (counts_bits kind))
+  pub recovered_binary : {binary : ℕ} → 1 ≤ binary → binary ≤ 9 → IsGreatestPower 2 10 size binary
+      → ((other : ℕ) → FitsPrefix 3 size (10 ^ (3 * other)) → other ≤ binary)
+      → IsRecoveredIn current kind false size 3 (shape binary true (counts_bits kind))
   recovered_binary {binary} some known twos later =
       let raised = λ (other : ℕ) (at_most : other ≤ binary).
       pow-le-pow_right {n = 2} (omega arith) {i = 10 * other} {j = 10 * binary} (omega (arith, at_most)) in
@@ -300,9 +214,9 @@ module _ (kind : Kind) (places size : ℕ) (few : places ≤ 3) where
       (λ other fits. omega (arith, raised other (later other fits), pow10_le_pow2 other)))
 
   -- If the largest decimal prefix has a later position than the largest binary one, the unit with it is the exact unit.
-  pub recovered_decimal : {decimal binary : ℕ} → 1 ≤ decimal → decimal ≤ 9 → IsGreatestPower places 10 3 size decimal
-      → IsGreatestPower places 2 10 size binary → binary < decimal
-      → IsRecoveredIn current kind false size places (shape decimal false (counts_bits kind))
+  pub recovered_decimal : {decimal binary : ℕ} → 1 ≤ decimal → decimal ≤ 9 → IsGreatestPower 10 3 size decimal
+      → IsGreatestPower 2 10 size binary → binary < decimal
+      → IsRecoveredIn current kind false size 3 (shape decimal false (counts_bits kind))
   recovered_decimal {decimal} {binary} some known tens twos earlier =
       let raised = λ (other : ℕ) (at_most : other ≤ decimal).
       pow-le-pow_right {n = 10} (omega arith) {i = 3 * other} {j = 3 * decimal} (omega (arith, at_most)) in
@@ -314,7 +228,7 @@ module _ (kind : Kind) (places size : ℕ) (few : places ≤ 3) where
       (λ other fits. raised other (tens.greatest other fits)))
 
   -- The exact unit of a size below 1000 is the base unit of its kind.
-  pub recovered_own : size < 1000 → IsRecoveredIn current kind false size places (own_unit kind)
+  pub recovered_own : size < 1000 → IsRecoveredIn current kind false size 3 (own_unit kind)
   recovered_own below =
       inr (
         λ unit exact_unit.
@@ -326,20 +240,6 @@ module _ (kind : Kind) (places size : ℕ) (few : places ≤ 3) where
               prefix_at_least unit.power unit.binary,
               below,
             ),
-        refl,
-      )
-
-  -- So is that of a size that no prefix fits.
-  pub recovered_none : {decimal binary : ℕ} → decimal ≡ 0 → binary ≡ 0 → IsGreatestPower places 10 3 size decimal
-      → IsGreatestPower places 2 10 size binary → IsRecoveredIn current kind false size places (own_unit kind)
-  recovered_none no_decimal no_binary tens twos =
-      inr (
-        λ unit exact_unit.
-            let none = by_prefix (λ other binary. other ≤ 0)
-            (λ other fits. omega (arith, no_binary, twos.greatest other fits))
-            (λ other fits. omega (arith, no_decimal, tens.greatest other fits)) unit.power unit.binary
-            (fits_of_exact unit exact_unit) in
-            omega (arith, none, exact_unit.member.prefix.some),
         refl,
       )
 

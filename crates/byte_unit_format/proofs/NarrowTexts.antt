@@ -24,9 +24,7 @@ use Rattle.byte_unit_choice.proofs.Choosing.{some_bits, own_bits}
 use Rattle.byte_unit_choice.proofs.Quotients.{stated_where_exact}
 use Rattle.byte_unit_format.specs.FewPlaces.{FitsPrefix}
 use Rattle.byte_unit_format.specs.declared.spec.FormatSpec.{FormatSpec}
-use Rattle.byte_unit_format.specs.NamedSpecs.{alternate_spec}
 use Rattle.byte_unit_format.specs.Plain.{plain}
-use Rattle.byte_unit_format.specs.Written.{WritesForm}
 use Rattle.byte_unit_format.specs.Forms.{IsSizeForm, places_of, narrow_text}
 use Rattle.byte_unit_format.proofs.Widths.{name_short, plain_form_fills_width, layout_fills_width}
 use Rattle.byte_unit_format.proofs.WrittenForms.{length_of_fraction_text}
@@ -185,12 +183,6 @@ form_narrow kind size spec text below none form =
     let numeral = recovered_length kind size (places_of spec.precision) form.number form.unit below form.is_recovered
     form.number_is in
     grind (arith, ap length form.text_is, layout_fills_width number name spec, name_short form.unit)
-
--- What is written of a size with its unit, in the alternate form with no other option, has at most 37 bytes.
-pub written_form_narrow : (kind : Kind) (size : ℕ) {old new : List ℕ} {needed : ℕ} → size < current.size_limit
-    → WritesForm (IsSizeForm kind size alternate_spec) old new needed → needed ≤ narrow_text
-written_form_narrow kind size below written =
-    omega (arith, written.needed_is, form_narrow kind size alternate_spec written.form below refl written.is_form)
 
 -- A size formatted as digits has at most 37 bytes if no width is set.
 plain_narrow : (size : ℕ) (spec : FormatSpec) → size < current.size_limit → spec.width ≡ None

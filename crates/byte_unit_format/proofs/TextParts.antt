@@ -99,12 +99,6 @@ pub front_is : {list : List ℕ} {len : ℕ} (text behind : List ℕ) → list �
     → take len list ≡ text
 front_is text behind list_is len_is = rw list_is (take_at text behind _ (sym len_is))
 
--- The text that such a call has written is at the beginning of the buffer.
-pub front_written : {IsForm : List ℕ → Type 0} {old new : List ℕ} {needed : ℕ} (this : WritesForm IsForm old new needed)
-    → needed ≤ length old → take needed new ≡ this.form
-front_written {IsForm} {old} {new} {needed} this room =
-    front_is this.form (drop (length this.form) old) (this.fits (omega (arith, this.needed_is, room))) this.needed_is
-
 -- Padding, number, one run of spaces and the unit's name are the number formatted with its unit.
 pub layout_of_parts :
     (number name : List ℕ) (spec : FormatSpec) (pad before gap : ℕ) → pad ≡ layout_padding number name spec

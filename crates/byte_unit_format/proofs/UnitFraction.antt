@@ -2,29 +2,24 @@
 --
 -- What is `known` of a fraction is that it is less than one, and the two bounds of the position of its prefix.
 use Rattle.std.proofs.Common.{◌≡◌, ℕ, ◌+◌, ◌-◌, ◌*◌, ◌^◌, ◌<◌, ◌≤◌, Bool, false, List, [], ◌∷◌, ◌++◌, length, take}
-use Rattle.std.proofs.Common.{drop, arith, ap, sym, subst, ◌∙◌, append-nil, append_assoc}
+use Rattle.std.proofs.Common.{drop, arith, ap, sym, ◌∙◌, append-nil, append_assoc}
 use Rattle.std.specs.Prelude.{if◌then◌else◌, slice_index, codes}
 use Rattle.std.specs.Fmt.{decimal}
-use Rattle.std.specs.Str.{IsAscii}
 use Rattle.std.proofs.lemmas.Grind.{common_steps}
 use Rattle.std.proofs.lemmas.List.{take-append-drop, drop-take, drop-drop}
 use Rattle.std.proofs.Math.Nat.{mul-le-mul_left, pow-le-pow_right}
 use Rattle.byte_unit_format.proofs.NarrowTexts.{prefix_of, prefix_at_least}
 use Rattle.std.proofs.lemmas.Slice.{drop-append-drop}
-use Rattle.std.proofs.lemmas.Str.{IsAscii-append}
-use Rattle.std.proofs.lemmas.Str.Ascii.{IsAscii-cons}
 use Rattle.byte_unit_math.specs.Bounds.{scale, places_of_decimal, size_limit}
-use Rattle.byte_unit_math.specs.Digits.{last_digits, at_places, trim_zeros, trim_expansion}
+use Rattle.byte_unit_math.specs.Digits.{at_places, trim_expansion}
 use Rattle.byte_unit_math.specs.Numeral.{text_of, short_numeral}
 use Rattle.byte_unit_math.proofs.Texts.{short_numeral_is_expansion, expansion_of_same_fraction, text_of_short_numeral}
-use Rattle.byte_unit_math.proofs.Digits.{last_digits_below_ten, small_without_zeros}
 use Rattle.byte_unit_choice.specs.Choice.{IsRecoveredIn}
 use Rattle.byte_unit_base.specs.Kinds.{bits_in, counts_bits, own_unit}
 use Rattle.byte_unit_base.specs.Shape.{Shape, shape, bits}
 use Rattle.byte_unit_base.specs.Version.{unit_name_in, current}
 use Rattle.byte_unit_base.specs.declared.kind.Kind.{Kind}
-use Rattle.byte_unit_base.proofs.Names.{name_ascii, with_prefix}
-use Rattle.byte_unit_base.proofs.NumberTexts.{number_ascii}
+use Rattle.byte_unit_base.proofs.Names.{with_prefix}
 use Rattle.byte_unit_format.specs.Forms.{IsSizeForm}
 use Rattle.byte_unit_format.specs.NamedSpecs.{alternate_spec}
 use Rattle.byte_unit_format.specs.UnitFraction.{thousandths_text, thousandths_of, unit_of}
@@ -38,12 +33,11 @@ text_of_thousandths : (whole thousandths : ℕ) → thousandths < 1000
     ≡ decimal whole ++ thousandths_text thousandths
 text_of_thousandths whole thousandths below = grind arith
 
--- The thousandths are less than one, and the prefix is one of the nine.
-unit_fraction_bounds : (kind : Kind) (fraction : UnitFraction) → IsProperFraction fraction
-    → (thousandths_of fraction < 1000) × ((unit_of kind fraction).power ≤ 9)
-unit_fraction_bounds kind Own known = (omega arith, omega arith)
-unit_fraction_bounds kind (Eighths eighths power) known = (omega (arith, known.0), known.2)
-unit_fraction_bounds kind (Thousandths thousandths power) known = (known.0, known.2)
+-- The thousandths are less than one.
+thousandths_below : (fraction : UnitFraction) → IsProperFraction fraction → thousandths_of fraction < 1000
+thousandths_below Own known = omega arith
+thousandths_below (Eighths eighths power) known = omega (arith, known.0)
+thousandths_below (Thousandths thousandths power) known = known.0
 
 -- Whole units and thousandths of the unit that the size is shown in are the text of the size.
 pub form_of_thousandths : (kind : Kind) (size whole thousandths : ℕ) (unit : Shape) → thousandths < 1000
@@ -70,11 +64,11 @@ form_of_thousandths kind size whole thousandths unit below recovered product =
 
 -- A split size is the text of its whole part and of what follows.
 pub form_of_split : (kind : Kind) (size whole : ℕ) (fraction : UnitFraction) → IsProperFraction fraction
-    → IsSplit kind size 3 whole fraction
+    → IsSplit kind size whole fraction
     → IsSizeForm kind size alternate_spec (decimal whole ++ unit_fraction_text kind fraction)
 form_of_split kind size whole fraction known split =
     form_of_thousandths kind size whole (thousandths_of fraction) (unit_of kind fraction)
-    (unit_fraction_bounds kind fraction known).0 split.recovered split.value
+    (thousandths_below fraction known) split.recovered split.value
 
 -- A space, the letter of a prefix, an `i` if it is binary, and the letter of the kind are a space and the unit's name.
 pub named : {first last : ℕ} (kind : Kind) (power : ℕ) (binary : Bool) → 1 ≤ power
@@ -117,22 +111,3 @@ pub whole_below : (size power : ℕ) (binary : Bool) (whole thousandths : ℕ) �
 whole_below size power binary whole thousandths small some value =
     let large = pow-le-pow_right {n = 10} (omega arith) {i = 3} {j = 3 * power} (omega (arith, some)) in
     omega (arith, small, value, mul-le-mul_left whole (prefix_at_least power binary), mul-le-mul_left whole large)
-
--- A number with its unit is ASCII.
-pub form_ascii : (whole thousandths : ℕ) (unit : Shape) → whole < 10 ^ 27 → unit.power ≤ 9
-    → IsAscii (decimal whole ++ (thousandths_text thousandths ++ 32 ∷ unit_name_in current unit))
-form_ascii whole thousandths unit small known =
-    let digits = last_digits 3 thousandths in
-    let name = unit_name_in current unit in
-    let number = number_ascii whole (trim_zeros digits)
-    (small_without_zeros digits (last_digits_below_ten 3 thousandths)) (omega (arith, small)) in
-    subst IsAscii (append_assoc (decimal whole) (thousandths_text thousandths) (32 ∷ name))
-    (IsAscii-append (decimal whole ++ thousandths_text thousandths) (32 ∷ name) number
-    (IsAscii-cons 32 name (omega arith) (name_ascii unit known)))
-
--- A size with what follows its whole part is ASCII.
-pub split_ascii : (kind : Kind) (whole : ℕ) (fraction : UnitFraction) → whole < 10 ^ 27 → IsProperFraction fraction
-    → IsAscii (decimal whole ++ unit_fraction_text kind fraction)
-split_ascii kind whole fraction small known =
-    form_ascii whole (thousandths_of fraction) (unit_of kind fraction) small
-    (unit_fraction_bounds kind fraction known).1

@@ -60,7 +60,7 @@ between_powers n some small =
 -- The zeros at the end of a size tell the largest decimal prefix.
 pub greatest_of_zeros :
     (size front zeros len power : ℕ) → size ≡ front * 10 ^ zeros → front % 10 ≢ 0 → 10 ^ (len - 1) ≤ size
-    → size < 10 ^ len → power ≡ min ((len - 1) / 3) ((zeros + 3) / 3) → IsGreatestPower 3 10 3 size power
+    → size < 10 ^ len → power ≡ min ((len - 1) / 3) ((zeros + 3) / 3) → IsGreatestPower 10 3 size power
 greatest_of_zeros size front zeros len power product odd at_least below power_is =
     let next = ap (λ n. front * n) (pow-add 10 zeros 3) in
     let split = power_split 10 (3 * power) (zeros + 3) (omega (arith, power_is)) in
@@ -233,7 +233,7 @@ cut_of_size size used power some small wide is_used few =
 -- What the digits of a size of at least four digits say of the unit that it is shown in.
 pub record FoundPower (size used power : ℕ) : Type 0 where
   pub is_used : IsUsed (padded_digits size) used
-  pub greatest : IsGreatestPower 3 10 3 size power
+  pub greatest : IsGreatestPower 10 3 size power
   pub some : 1 ≤ power
   -- there is a prefix letter of this position: there are nine letters
   pub known : power ≤ 9

@@ -7,7 +7,7 @@ pub record FitsPrefix (places size prefix : ℕ) : Type 0 where
   pub exact : IsExactAt size prefix places
   pub not_above : prefix ≤ size
 
--- The size fits the prefix base^(step * power), and none of a greater power.
-pub record IsGreatestPower (places base step size power : ℕ) : Type 0 where
-  pub fits : FitsPrefix places size (base ^ (step * power))
-  pub greatest : (other : ℕ) → FitsPrefix places size (base ^ (step * other)) → other ≤ power
+-- The size fits the prefix base^(step * power) within three digits after the point, and none of a greater power.
+pub record IsGreatestPower (base step size power : ℕ) : Type 0 where
+  pub fits : FitsPrefix 3 size (base ^ (step * power))
+  pub greatest : (other : ℕ) → FitsPrefix 3 size (base ^ (step * other)) → other ≤ power

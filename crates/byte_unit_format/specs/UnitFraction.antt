@@ -32,9 +32,9 @@ abbrev pub unit_fraction_text : Kind → UnitFraction → List ℕ
 unit_fraction_text kind fraction =
     thousandths_text (thousandths_of fraction) ++ 32 ∷ unit_name_in current (unit_of kind fraction)
 
--- Whole units and thousandths of one are the size, in its largest unit within the precision.
-pub record IsSplit (kind : Kind) (size precision whole : ℕ) (fraction : UnitFraction) : Type 0 where
-  pub recovered : IsRecoveredIn current kind false size precision (unit_of kind fraction)
+-- Whole units and thousandths of one are the size, in its largest unit within three digits after the point.
+pub record IsSplit (kind : Kind) (size whole : ℕ) (fraction : UnitFraction) : Type 0 where
+  pub recovered : IsRecoveredIn current kind false size 3 (unit_of kind fraction)
   -- a thousandth, scaled by 10^28, is 10^25
   pub value : (whole * scale + thousandths_of fraction * 10 ^ 25) * bits (unit_of kind fraction)
       ≡ size * bits_in kind * scale

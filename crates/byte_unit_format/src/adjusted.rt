@@ -3,15 +3,12 @@
 ghost use Rattle.std.specs.Prelude.{◌≡◌, ℕ, ◌*◌, ◌^◌, ◌<◌, ◌≤◌, List, length, IfSome, Some};
 ghost use Rattle.std.specs.Fmt.{DisplaysOnOk, DisplaysStyledOnOk};
 ghost use Rattle.byte_unit_math.specs.Finite.{IsExpansion};
-ghost use Rattle.byte_unit_math.specs.ShortExpansion.{IsShortExpansion};
-ghost use Rattle.byte_unit_math.specs.Numeral.{numeral, text_of};
+ghost use Rattle.byte_unit_math.specs.Numeral.{text_of};
 ghost use Rattle.byte_unit_math.specs.Padded.{pad_of};
 ghost use Rattle.byte_unit_base.specs.Shape.{bits};
-ghost use Rattle.byte_unit_math.specs.Bounds.{places_of_decimal, size_limit};
+ghost use Rattle.byte_unit_math.specs.Bounds.{size_limit};
 ghost use Rattle.byte_unit_base.specs.Units.{shape_of};
 ghost use Rattle.byte_unit_base.specs.Kinds.{bits_in};
-ghost use Rattle.byte_unit_base.specs.Version.{unit_name};
-ghost use Rattle.byte_unit_format.specs.Layout.{layout};
 ghost use Rattle.byte_unit_format.specs.Rounding.{rule_from, FitsRounding, IsRoundingOf};
 ghost use Rattle.byte_unit_format.specs.TextParts.{IsReady, parts_text};
 ghost use Rattle.byte_unit_format.specs.Room.{AppendsForm};
@@ -20,13 +17,10 @@ ghost use Rattle.byte_unit_format.specs.Forms.{text_limit};
 ghost use Rattle.byte_unit_format.specs.Adjusted.{IsNumeralBy, IsAdjustedForm, adjusted_text, most_adjusted_text};
 
 use crate::FormatSpec;
-use crate::layout::{append_layout, layout_len, layout_parts, write_layout};
+use crate::layout::{append_layout, layout_parts, write_layout};
 use crate::parts::{Fraction, TextParts};
 use byte_unit_base::{Kind, Unit};
-use byte_unit_math::{
-    DECIMAL_PLACES, Expansion, ShortExpansion, Ties, div_rem, power_of_ten, rounded_quotient,
-    short_expansion,
-};
+use byte_unit_math::{Expansion, Ties, div_rem, power_of_ten, rounded_quotient, short_expansion};
 use std::alloc::{AllocError, Allocator};
 use std::fmt;
 use std::fmt::Display;
@@ -38,14 +32,6 @@ const ALTERNATE_PLACES: u16 = 16;
 /// Up to this many digits after the point, a number is rounded by one division: any size in bits times 10^7 fits 127
 /// bits.
 const ONE_DIVISION_PLACES: u32 = 7;
-
-/// The kind of a size, and the unit that it is formatted in. These two are passed in registers; with the size they
-/// would be passed in memory, which takes 6 to 15 instructions more.
-#[derive(Clone, Copy)]
-struct Target {
-    kind: Kind,
-    unit: Unit,
-}
 
 /// How the number of a size in a unit is rounded.
 #[derive(Clone, Copy)]
@@ -77,15 +63,7 @@ pub fn adjusted_len(size: u128, kind: Kind, unit: Unit, spec: FormatSpec) -> usi
     ensures bound { result < text_limit }
     ensures narrow { result ≤ most_adjusted_text spec }
 {
-    let rounding = rounding_of(unit, spec);
-    match short_parts(size, Target { kind, unit }, rounding, spec) {
-        Some(parts) => parts.len,
-        None => {
-            let mut number = number_in_unit(size, kind, unit);
-            let places = round(&mut number, rounding);
-            layout_len(&number, places, unit, spec)
-        }
-    }
+    write_adjusted(size, kind, unit, spec, &mut [])
 }
 
 /// Appends a size formatted in a unit.
@@ -118,7 +96,7 @@ pub fn append_adjusted<A: Allocator>(
     ensures { AppendsForm (IsAdjustedForm kind size unit spec) text.old text.new result }
 {
     let rounding = rounding_of(unit, spec);
-    match short_parts(size, Target { kind, unit }, rounding, spec) {
+    match short_parts(size, kind, unit, rounding, spec) {
         Some(parts) => parts.append(text),
         None => {
             let mut number = number_in_unit(size, kind, unit);
@@ -140,7 +118,6 @@ pub fn append_adjusted<A: Allocator>(
 /// assert!(rt; out == *b"1.536 KB.");
 /// ```
 #[inline(always)]
-#[tactic(auto, using(crate::proofs::AdjustedForms::scaled_size_small))]
 pub fn write_adjusted(size: u128, kind: Kind, unit: Unit, spec: FormatSpec, out: &mut [u8]) -> usize
     requires { size < size_limit }
     ensures written { WritesForm (IsAdjustedForm kind size unit spec) out.old out.new result }
@@ -148,13 +125,9 @@ pub fn write_adjusted(size: u128, kind: Kind, unit: Unit, spec: FormatSpec, out:
     ensures narrow { result ≤ most_adjusted_text spec }
 {
     let rounding = rounding_of(unit, spec);
-    match rounding {
-        Rounding::To(places) if places <= ONE_DIVISION_PLACES => {
-            let scaled = size * kind.bits() * power_of_ten(places);
-            let number = rounded_quotient(scaled, unit.as_bits_u128());
-            scaled_parts(number, places, unit, spec).write(out)
-        }
-        _ => write_slow(size, Target { kind, unit }, rounding, spec, out),
+    match short_parts(size, kind, unit, rounding, spec) {
+        Some(parts) => parts.write(out),
+        None => write_full(size, kind, unit, rounding, spec, out),
     }
 }
 
@@ -181,32 +154,24 @@ pub fn display_adjusted<W: fmt::Write>(
     f.write_str(unit.as_str())
 }
 
-/// Writes as `write_adjusted`, with the rounding of the spec: the slow path.
+/// Writes as `write_adjusted`, by all digits of the number: the slow path.
 #[inline(never)]
-#[tactic(auto, using(crate::proofs::TextParts::writes_form))]
-fn write_slow(size: u128, of: Target, rounding: Rounding, spec: FormatSpec, out: &mut [u8]) -> usize
+fn write_full(
+    size: u128,
+    kind: Kind,
+    unit: Unit,
+    rounding: Rounding,
+    spec: FormatSpec,
+    out: &mut [u8],
+) -> usize
     requires bound { size < size_limit }
-    requires rounding { IsRoundingOf of.unit spec rounding }
-    ensures written { WritesForm (IsAdjustedForm of.kind size of.unit spec) out.old out.new result }
+    requires rounding { IsRoundingOf unit spec rounding }
+    ensures written { WritesForm (IsAdjustedForm kind size unit spec) out.old out.new result }
     ensures bound { result < text_limit }
 {
-    if let Some(parts) = short_parts(size, of, rounding, spec) {
-        return parts.write(out);
-    }
-    write_full(size, of, rounding, spec, out)
-}
-
-/// Writes as `write_slow`, by all digits of the number.
-#[inline(never)]
-fn write_full(size: u128, of: Target, rounding: Rounding, spec: FormatSpec, out: &mut [u8]) -> usize
-    requires bound { size < size_limit }
-    requires rounding { IsRoundingOf of.unit spec rounding }
-    ensures written { WritesForm (IsAdjustedForm of.kind size of.unit spec) out.old out.new result }
-    ensures bound { result < text_limit }
-{
-    let mut number = number_in_unit(size, of.kind, of.unit);
+    let mut number = number_in_unit(size, kind, unit);
     let places = round(&mut number, rounding);
-    write_layout(&number, places, of.unit, spec, out)
+    write_layout(&number, places, unit, spec, out)
 }
 
 /// Returns how the spec rounds a number in the unit.
@@ -228,64 +193,40 @@ fn rounding_of(unit: Unit, spec: FormatSpec) -> Rounding
     }
 }
 
-/// Returns the parts of a size in a unit with the unit, if one product and one division give the number. Then it has at
-/// most 38 digits after the point.
+/// Returns the parts of a size in a unit with the unit, if one product and one division give the number: all digits if
+/// they are at most 38, or at most seven to which ties to even round.
 #[inline(always)]
+#[tactic(auto, using(crate::proofs::AdjustedForms::scaled_size_small, byte_unit_math::proofs::Digits::one_le_pow10))]
 fn short_parts(
     size: u128,
-    of: Target,
+    kind: Kind,
+    unit: Unit,
     rounding: Rounding,
     spec: FormatSpec,
 ) -> Option<TextParts<'static>>
     requires bound { size < size_limit }
-    requires rounding { IsRoundingOf of.unit spec rounding }
-    ensures text { IfSome result
-        (λ parts. IsAdjustedForm of.kind size of.unit spec (parts_text parts)) }
+    requires rounding { IsRoundingOf unit spec rounding }
+    ensures text { IfSome result (λ parts. IsAdjustedForm kind size unit spec (parts_text parts)) }
     ensures len { IfSome result (λ parts. parts.len ≡ length (parts_text parts)) }
     ensures bound { IfSome result (λ parts. parts.len < text_limit) }
     ensures ready { IfSome result (λ parts. IsReady parts) }
 {
+    let in_bits = size * kind.bits();
     match rounding {
         Rounding::Exact => {
-            let number = short_number(size, of.kind, of.unit)?;
+            let (twos, fives) = unit.powers();
+            let number = short_expansion(in_bits, twos, fives)?;
             let fraction = Fraction::Last(number.digits, number.places);
-            Some(layout_parts(number.whole, fraction, of.unit, spec))
+            Some(layout_parts(number.whole, fraction, unit, spec))
         }
-        Rounding::To(places) => {
-            let scaled = scaled_size(size, of.kind, places)?;
-            let number = rounded_quotient(scaled, of.unit.as_bits_u128());
-            Some(scaled_parts(number, places, of.unit, spec))
+        Rounding::To(places) if places <= ONE_DIVISION_PLACES => {
+            let power = power_of_ten(places);
+            let number = rounded_quotient(in_bits * power, unit.as_bits_u128());
+            let (whole, digits) = div_rem(number, power);
+            Some(layout_parts(whole, Fraction::Last(digits, places), unit, spec))
         }
-        // `rounded_quotient` rounds ties to even, and here they go up.
-        Rounding::AtMost(_) => None,
+        _ => None,
     }
-}
-
-/// Returns the size in the unit, exactly, if one product and one division give it. Then it has at most 38 digits after
-/// the point.
-#[inline(always)]
-fn short_number(size: u128, kind: Kind, unit: Unit) -> Option<ShortExpansion>
-    requires { size < size_limit }
-    ensures { IfSome result (IsShortExpansion (size * bits_in kind) (bits (shape_of unit))) }
-{
-    let (twos, fives) = unit.powers();
-    short_expansion(size * kind.bits(), twos, fives)
-}
-
-/// Returns the size in bits times 10^places. Returns `None` if that is 2^127 or more, or `places` is more than 28.
-#[inline(always)]
-fn scaled_size(size: u128, kind: Kind, places: u32) -> Option<u128>
-    requires { size < size_limit }
-    ensures scaled { IfSome result (λ n. n ≡ size * bits_in kind * 10 ^ places) }
-    ensures bound { IfSome result (λ n. n < 2 ^ 127) }
-    ensures places { IfSome result (λ n. places ≤ places_of_decimal) }
-{
-    if places > DECIMAL_PLACES {
-        return None;
-    }
-    let scaled = (size * kind.bits()).checked_mul(power_of_ten(places))?;
-    // The bound of the numerator of `rounded_quotient`.
-    (scaled < 1 << 127).then_some(scaled)
 }
 
 /// Rounds a number, and returns how many of its digits after the point are shown.
@@ -307,20 +248,6 @@ fn round(number: &mut Expansion, rounding: Rounding) -> u32
             number.places()
         }
     }
-}
-
-/// Returns the parts of a number, which is scaled by 10^places, with its unit.
-#[inline(always)]
-#[tactic(auto, using(crate::proofs::AdjustedForms::scaled_text, byte_unit_math::proofs::Digits::one_le_pow10))]
-fn scaled_parts<'a>(number: u128, places: u32, unit: Unit, spec: FormatSpec) -> TextParts<'a>
-    requires { places ≤ places_of_decimal }
-    ensures text { parts_text result ≡ layout (numeral number places) (unit_name unit) spec }
-    ensures len { result.len ≡ length (parts_text result) }
-    ensures bound { result.len < text_limit }
-    ensures ready { IsReady result }
-{
-    let (whole, digits) = div_rem(number, power_of_ten(places));
-    layout_parts(whole, Fraction::Last(digits, places), unit, spec)
 }
 
 /// Returns the size in the unit, exactly: with at most 93 digits after the point.

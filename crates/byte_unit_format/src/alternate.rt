@@ -1,7 +1,7 @@
 //! The alternate form with no other option set, written from the beginning to the end.
 
 ghost use Rattle.std.specs.Prelude.{◌≡◌, ◌+◌, ◌-◌, ◌*◌, ◌<◌, ◌≤◌, [], ◌∷◌, ◌++◌, length, take, drop};
-ghost use Rattle.std.specs.Prelude.{◌^◌, IsAscii};
+ghost use Rattle.std.specs.Prelude.{◌^◌};
 ghost use Rattle.std.specs.Fmt.{decimal};
 ghost use Rattle.byte_unit_math.specs.Bounds.{size_limit};
 ghost use Rattle.byte_unit_base.specs.Kinds.{own_unit};
@@ -20,47 +20,6 @@ use byte_unit_math::{decimal_len, put_u128};
 /// in `KiB` at a precision of 5.
 pub(crate) const NARROW_TEXT: usize = 37;
 
-/// Writes the size in its unit to the beginning of `out` if it fits, and returns its length.
-#[inline(always)]
-pub(crate) fn write_alternate(size: u128, kind: Kind, out: &mut [u8]) -> usize
-    requires { size < size_limit }
-    ensures { WritesForm (IsSizeForm kind size alternate_spec) out.old out.new result }
-{
-    if out.len() < NARROW_TEXT {
-        return write_if_fits(size, kind, out);
-    }
-    // The cast tells the compiler that it can divide in 64 bits.
-    if size < 1 << 64 {
-        put_form(u128::from(size as u64), kind, out)
-    } else {
-        put_form_wide(size, kind, out)
-    }
-}
-
-/// Writes as `write_alternate`, by way of an array: the slow path, for a buffer that some texts do not fit.
-#[inline(never)]
-fn write_if_fits(size: u128, kind: Kind, out: &mut [u8]) -> usize
-    requires { size < size_limit }
-    ensures { WritesForm (IsSizeForm kind size alternate_spec) out.old out.new result }
-{
-    let mut bytes = [0; NARROW_TEXT];
-    let len = put_form(size, kind, &mut bytes);
-    if len <= out.len() {
-        put(&bytes[..len], out, len);
-    }
-    len
-}
-
-/// Writes as `put_form`: the slow path, for a size of more than 64 bits.
-#[inline(never)]
-fn put_form_wide(size: u128, kind: Kind, out: &mut [u8]) -> usize
-    requires bound { size < size_limit }
-    requires room { narrow_text ≤ length out.old }
-    ensures { WritesForm (IsSizeForm kind size alternate_spec) out.old out.new result }
-{
-    put_form(size, kind, out)
-}
-
 /// Writes the size in its unit to the beginning of `out`, and returns its length.
 #[inline(always)]
 pub(crate) fn put_form(size: u128, kind: Kind, out: &mut [u8]) -> usize
@@ -68,9 +27,8 @@ pub(crate) fn put_form(size: u128, kind: Kind, out: &mut [u8]) -> usize
     requires room { narrow_text ≤ length out.old }
     ensures written { WritesForm (IsSizeForm kind size alternate_spec) out.old out.new result }
     ensures bound { result ≤ narrow_text }
-    ensures ascii { IsAscii (take result out.new) }
 {
-    let (whole, fraction) = split(size, 3);
+    let (whole, fraction) = split(size);
     put_split(whole, fraction, kind, out)
 }
 

@@ -1,9 +1,9 @@
 //! Writing into the spare capacity of a string.
 
-ghost use Rattle.std.specs.Prelude.{◌≡◌, ◌≤◌, ◌<◌, [], ◌∷◌, length, replicate, OnOk, OnErr, IsAscii};
+ghost use Rattle.std.specs.Prelude.{◌≡◌, ◌≤◌, ◌<◌, length, replicate, OnOk, OnErr, IsAscii};
 ghost use Rattle.std.specs.String.{string_bytes};
 ghost use Rattle.byte_unit_format.specs.Pushed.{IsPushed};
-ghost use Rattle.byte_unit_format.specs.Room.{spare_capacity, AppendsForm};
+ghost use Rattle.byte_unit_format.specs.Room.{spare_capacity};
 
 use std::alloc::{AllocError, Allocator};
 use std::str;
@@ -32,28 +32,6 @@ pub(crate) fn push_ascii<A: Allocator>(text: &mut String<A>, ascii: &[u8])
     // ASCII is UTF-8, as the unchecked call requires, and the capacity suffices, so `push_str` does not fail.
     text.push_str(unsafe { str::from_utf8_unchecked(ascii) })
         .unwrap();
-}
-
-/// Appends ASCII bytes. Allocates at most once, before it writes.
-pub(crate) fn append_ascii<A: Allocator>(
-    text: &mut String<A>,
-    ascii: &[u8],
-) -> Result<(), AllocError>
-    requires { IsAscii ascii.now }
-    ensures { AppendsForm (λ form. form ≡ ascii.now) text.old text.new result }
-{
-    reserve(text, ascii.len())?;
-    push_ascii(text, ascii);
-    Ok(())
-}
-
-/// Appends an ASCII character.
-pub(crate) fn push<A: Allocator>(text: &mut String<A>, c: char)
-    requires ascii { c < 128 }
-    requires room { 1 ≤ spare_capacity text.old }
-    ensures { IsPushed (c ∷ []) text.old text.new }
-{
-    text.push(c).unwrap();
 }
 
 /// Appends `count` copies of an ASCII character.

@@ -7,14 +7,14 @@ ghost use Rattle.byte_unit_format.specs.TextParts.{IsReady, parts_text};
 ghost use Rattle.byte_unit_format.specs.Written.{WritesForm};
 ghost use Rattle.byte_unit_format.specs.Forms.{IsText, narrow_text, text_limit};
 
-use crate::alternate::{NARROW_TEXT, put_form, write_alternate};
-use crate::capacity::append_ascii;
+use crate::alternate::{NARROW_TEXT, put_form};
 use crate::layout::layout_parts;
 use crate::parts::{Fraction, TextParts};
 use crate::plain::plain_parts;
 use crate::spec::FormatSpec;
-use crate::thousandths::unit_within;
 use byte_unit_base::Kind;
+use byte_unit_choice::recoverable_unit;
+use byte_unit_math::Steps;
 use std::alloc::{AllocError, Allocator};
 
 /// The precision of the alternate form if none is set, as in the Rust crate.
@@ -59,11 +59,6 @@ pub fn append_text<A: Allocator>(
     requires { size < size_limit }
     ensures { AppendsForm (IsText kind size spec) text.old text.new result }
 {
-    if spec == FormatSpec::ALTERNATE {
-        let mut bytes = [0; NARROW_TEXT];
-        let len = put_form(size, kind, &mut bytes);
-        return append_ascii(text, &bytes[..len]);
-    }
     text_parts(size, kind, spec).append(text)
 }
 
@@ -86,8 +81,8 @@ pub fn write_text(size: u128, kind: Kind, spec: FormatSpec, out: &mut [u8]) -> u
     ensures bound { result < text_limit }
     ensures narrow { spec.width ≡ None → result ≤ narrow_text }
 {
-    if spec == FormatSpec::ALTERNATE {
-        return write_alternate(size, kind, out);
+    if spec == FormatSpec::ALTERNATE && out.len() >= NARROW_TEXT {
+        return put_form(size, kind, out);
     }
     text_parts(size, kind, spec).write(out)
 }
@@ -108,7 +103,7 @@ fn text_parts(size: u128, kind: Kind, spec: FormatSpec) -> TextParts<'static>
         Some(precision) => usize::from(precision),
         None => DEFAULT_PRECISION,
     };
-    let (number, unit) = unit_within(size, kind, places);
+    let (number, unit) = recoverable_unit(size, kind, false, places, &mut Steps::new());
     let fraction = Fraction::Last(number.digits(), number.places());
     layout_parts(number.whole(), fraction, unit, spec)
 }

@@ -69,7 +69,7 @@ pub fn layout_fills_width()
 {}
 
 /// States that the string of an adjusted size is parsed as its size if it has at most 28 digits after the point, and
-/// else rejected at the 29th.
+/// else rejected as too long.
 pub fn adjusted_string_reads_back()
     ensures { AdjustedStringReadsBack }
 {}

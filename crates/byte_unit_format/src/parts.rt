@@ -9,7 +9,7 @@ ghost use Rattle.byte_unit_format.specs.Room.{spare_capacity, AppendsForm};
 ghost use Rattle.byte_unit_format.specs.TextParts.{fraction_of, places_in, FitsPlaces, IsReady, parts_text};
 ghost use Rattle.byte_unit_format.specs.Written.{WritesForm};
 
-use crate::capacity::{push, push_ascii, push_run, reserve};
+use crate::capacity::{push_ascii, push_run, reserve};
 use byte_unit_math::{DecimalDigits, Expansion, glyphs_of, put_fraction, put_u128};
 use std::alloc::{AllocError, Allocator};
 
@@ -183,7 +183,7 @@ fn push_first<A: Allocator>(text: &mut String<A>, e: &Expansion, places: u32)
 {
     if places > 0 {
         let shown = places.min(e.places()) as usize;
-        push(text, '.');
+        push_run(text, b'.', 1);
         push_ascii(text, &glyphs_of(e)[..shown]);
         push_run(text, b'0', places as usize - shown);
     }

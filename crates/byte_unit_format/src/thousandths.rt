@@ -1,23 +1,17 @@
-//! The unit of a size at a precision of at most three places, found without a search.
+//! The unit of a size at the default precision, three places, found without a search: the size is a number of eighths
+//! of a binary prefix, or of thousandths of a decimal one.
 
-ghost use Rattle.std.specs.Prelude.{◌≡◌, ℕ, ◌+◌, ◌*◌, ◌-◌, ◌/◌, ◌%◌, ◌^◌, ◌<◌, ◌≤◌, true, false};
-ghost use Rattle.byte_unit_math.specs.Bounds.{scale, size_limit};
+ghost use Rattle.std.specs.Prelude.{◌≡◌, ◌+◌, ◌*◌, ◌-◌, ◌%◌, ◌^◌, ◌<◌, ◌≤◌, true, false};
+ghost use Rattle.byte_unit_math.specs.Bounds.{size_limit};
 ghost use Rattle.byte_unit_base.specs.declared.kind.Kind.{Kind as OfKind};
-ghost use Rattle.byte_unit_choice.specs.Choice.{IsRecovered, IsRecoveredIn};
-ghost use Rattle.byte_unit_base.specs.Kinds.{bits_in, counts_bits};
-ghost use Rattle.byte_unit_base.specs.Shape.{bits, shape};
-ghost use Rattle.byte_unit_base.specs.Units.{shape_of};
+ghost use Rattle.byte_unit_choice.specs.Choice.{IsRecoveredIn};
+ghost use Rattle.byte_unit_base.specs.Kinds.{counts_bits};
+ghost use Rattle.byte_unit_base.specs.Shape.{shape};
 ghost use Rattle.byte_unit_base.specs.Version.{current};
 ghost use Rattle.byte_unit_format.specs.FewPlaces.{IsGreatestPower};
 ghost use Rattle.byte_unit_format.specs.UnitFraction.{IsProperFraction, IsSplit};
 
-use byte_unit_base::{Kind, Unit, unit_with_prefix};
-use byte_unit_choice::recoverable_unit;
-use byte_unit_math::{Decimal, Steps, div_rem_thousand, power_of_ten};
-
-/// The precision up to which the unit is found without a search: the size is then a number of eighths of a binary
-/// prefix, or of thousandths of a decimal one.
-const THOUSANDTH_PLACES: usize = 3;
+use byte_unit_math::div_rem_thousand;
 
 /// What follows the whole part of a size in a unit: the digits after the point, and the unit.
 #[derive(Clone, Copy)]
@@ -30,55 +24,26 @@ pub(crate) enum UnitFraction {
     Thousandths(u64, u32),
 }
 
-/// Returns the size in the largest unit of its kind, not above it, in which it is exact within `places` decimal places:
-/// the number and the unit. If there is no such unit, returns the size itself in `B` or `Bit`.
-pub(crate) fn unit_within(size: u128, kind: Kind, places: usize) -> (Decimal, Unit)
-    requires { size < size_limit }
-    ensures recovered { IsRecovered kind false size places result.1 }
-    ensures exact { result.0 * bits (shape_of result.1) ≡ size * bits_in kind * scale }
-{
-    if places > THOUSANDTH_PLACES {
-        return recoverable_unit(size, kind, false, places, &mut Steps::new());
-    }
-    let (whole, fraction) = split(size, places as u32);
-    match fraction {
-        UnitFraction::Own => (Decimal::from_digits(whole, 0, 0), kind.unit()),
-        // An eighth is 125 thousandths.
-        UnitFraction::Eighths(eighths, power) => (
-            Decimal::from_digits(whole, u128::from(125 * eighths), 3),
-            unit_with_prefix(power, true, kind),
-        ),
-        UnitFraction::Thousandths(thousandths, power) => (
-            Decimal::from_digits(whole, u128::from(thousandths), 3),
-            unit_with_prefix(power, false, kind),
-        ),
-    }
-}
-
-/// Splits a size in the largest unit of its kind, not above it, in which it is exact within `places` decimal places, at
-/// most three, into its whole part and what follows. If there is no such unit, the whole part is the size.
+/// Splits a size in the largest unit of its kind, not above it, in which it is exact within three decimal places, into
+/// its whole part and what follows. Below 1000 there is no such unit, and the whole part is the size.
 #[inline(always)]
-pub(crate) fn split(size: u128, places: u32) -> (u128, UnitFraction)
-    requires bound { size < size_limit }
-    requires places { places ≤ 3 }
-    ensures split { (kind : OfKind) → IsSplit kind size places result.0 result.1 }
-    ensures whole { result.0 < size_limit }
-    ensures narrow { places ≡ 3 → result.0 < 10 ^ 27 }
+pub(crate) fn split(size: u128) -> (u128, UnitFraction)
+    requires { size < size_limit }
+    ensures split { (kind : OfKind) → IsSplit kind size result.0 result.1 }
+    ensures whole { result.0 < 10 ^ 27 }
     ensures prefix { IsProperFraction result.1 }
 {
     // No prefix is below 1000.
     if size < 1000 {
         return (size, UnitFraction::Own);
     }
-    let (whole, thousandths, power) = in_thousands(size, places);
-    let binary = binary_power(size, places);
+    let (whole, thousandths, power) = in_thousands(size);
+    let binary = binary_power(size);
     // A binary prefix is larger than the decimal one of its position, and smaller than the next decimal one.
     if binary < power {
         (whole, UnitFraction::Thousandths(thousandths, power))
-    } else if binary > 0 {
-        in_eighths(size, binary)
     } else {
-        (size, UnitFraction::Own)
+        in_eighths(size, binary)
     }
 }
 
@@ -89,9 +54,9 @@ pub(crate) fn in_eighths(size: u128, power: u32) -> (u128, UnitFraction)
     requires positive { 1 ≤ power }
     requires power_bound { power ≤ 9 }
     requires eighths { size % 2 ^ (10 * power - 3) ≡ 0 }
-    ensures split { (kind : OfKind) (places : ℕ)
-        → IsRecoveredIn current kind false size places (shape power true (counts_bits kind))
-        → IsSplit kind size places result.0 result.1 }
+    ensures split { (kind : OfKind)
+        → IsRecoveredIn current kind false size 3 (shape power true (counts_bits kind))
+        → IsSplit kind size result.0 result.1 }
     ensures whole { result.0 < 10 ^ 27 }
     ensures prefix { IsProperFraction result.1 }
 {
@@ -102,36 +67,15 @@ pub(crate) fn in_eighths(size: u128, power: u32) -> (u128, UnitFraction)
     )
 }
 
-/// Returns the size in the largest decimal prefix, not above it, in which it is exact within `places` decimal places:
-/// whole units, thousandths of one, and the position of the prefix, or 0 if there is none.
+/// Returns the size in the largest decimal prefix, not above it, in which it is exact within three decimal places:
+/// whole units, thousandths of one, and the position of the prefix.
 #[inline(always)]
-#[tactic(auto, using(byte_unit_math::proofs::Digits::one_le_pow10))]
-fn in_thousands(size: u128, places: u32) -> (u128, u64, u32)
-    requires large { 1000 ≤ size }
-    requires bound { size < size_limit }
-    requires places { places ≤ 3 }
-    ensures bound { result.2 ≤ 9 }
-    ensures greatest { IsGreatestPower places 10 3 size result.2 }
-    ensures value { (result.0 * 1000 + result.1) * 10 ^ (3 * result.2) ≡ size * 1000 }
-    ensures thousandths { result.1 < 1000 }
-    ensures positive { places ≡ 3 → 1 ≤ result.2 }
-{
-    let (whole, thousandths, power) = in_three_places(size);
-    if thousandths % power_of_ten(3 - places) as u64 == 0 {
-        return (whole, thousandths, power);
-    }
-    // In the prefix before it the size is whole.
-    (whole * 1000 + u128::from(thousandths), 0, power - 1)
-}
-
-/// Returns the same for three places, for which there is a prefix.
-#[inline(always)]
-fn in_three_places(size: u128) -> (u128, u64, u32)
+fn in_thousands(size: u128) -> (u128, u64, u32)
     requires large { 1000 ≤ size }
     requires bound { size < size_limit }
     ensures positive { 1 ≤ result.2 }
     ensures bound { result.2 ≤ 9 }
-    ensures greatest { IsGreatestPower 3 10 3 size result.2 }
+    ensures greatest { IsGreatestPower 10 3 size result.2 }
     ensures value { (result.0 * 1000 + result.1) * 10 ^ (3 * result.2) ≡ size * 1000 }
     ensures thousandths { result.1 < 1000 }
 {
@@ -149,18 +93,17 @@ fn in_three_places(size: u128) -> (u128, u64, u32)
     (whole, thousandths, power)
 }
 
-/// Returns the position of the largest binary prefix, not above the size, in which it is exact within `places` decimal
-/// places, at most three, or 0 if there is none: 2^(10 n) divides 10^p times the size if 2^(10 n - p) divides the size.
+/// Returns the position of the largest binary prefix, not above the size, in which it is exact within three decimal
+/// places, or 0 if there is none: 2^(10 n) divides 1000 times the size if 2^(10 n - 3) divides the size.
 #[inline(always)]
-pub(crate) fn binary_power(size: u128, places: u32) -> u32
+pub(crate) fn binary_power(size: u128) -> u32
     requires positive { 1 ≤ size }
     requires bound { size < size_limit }
-    requires places { places ≤ 3 }
     ensures bound { result ≤ 9 }
-    ensures greatest { IsGreatestPower places 2 10 size result }
+    ensures greatest { IsGreatestPower 2 10 size result }
     ensures eighths { size % 2 ^ (10 * result - 3) ≡ 0 }
 {
-    let twos = size.trailing_zeros() + places;
+    let twos = size.trailing_zeros() + 3;
     let last_bit = u128::BITS - 1 - size.leading_zeros();
     twos.min(last_bit) / 10
 }

@@ -90,7 +90,7 @@ fn put_form_of(
     if most == 0 {
         return put_split(size, UnitFraction::Own, kind, out);
     }
-    let binary = binary_power(size, 3);
+    let binary = binary_power(size);
     if binary < most {
         let used = significant(digits);
         // The size is exact in 10^(3 n) within three decimal places if 3 n - 3 zeros are at its end.

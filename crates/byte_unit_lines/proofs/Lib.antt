@@ -1,5 +1,4 @@
 pub mod Answering
-pub mod Feeding
 pub mod OneAnswer
 pub mod Runs
 pub mod Messages

@@ -1,12 +1,13 @@
 -- A call of the program: what its arguments ask for, its output, its exit status, its line for standard error.
 use Rattle.std.specs.Prelude.{◌≡◌, ◌⊎◌, ℕ, List, [], ◌∷◌, Option, None, Some, Ok, Err, codes}
+use Rattle.std.specs.declared.convert.Infallible.{Infallible}
 use Rattle.byte_unit_lines.specs.Answer.{Kind}
 use Rattle.byte_unit.specs.declared.Kind.TheVariants.{Byte, Bit}
 use Rattle.byte_unit_lines.specs.RunOutput.{IsWritten}
 use Rattle.byte_unit_lines.specs.declared.ending.Ending.{Ending}
 use Rattle.byte_unit_lines.specs.declared.ending.Ending.TheVariants.{Done, Usage, Failed}
-use Rattle.byte_unit_lines.specs.declared.report.RunError.{RunError}
-use Rattle.byte_unit_lines.specs.declared.report.RunError.TheVariants.{Memory, Read, Write}
+use Rattle.byte_unit_stream.specs.declared.run.RunError.{RunError}
+use Rattle.byte_unit_stream.specs.declared.run.RunError.TheVariants.{Memory, Read, Write, Ended}
 
 -- these arguments, each as its bytes, ask for sizes of this kind: none or `byte` for bytes, `bit` for bits
 abbrev pub AskFor : List (List ℕ) → Kind → Type 0
@@ -26,11 +27,12 @@ status_of Done = 0
 status_of (Failed _) = 1
 status_of Usage = 2
 
--- the line for standard error, without its line end, if a run fails with this error
-abbrev pub message_of : RunError → List ℕ
+-- the line for standard error, without its line end, if a run fails with this error. No line ends a run
+abbrev pub message_of : RunError Infallible → List ℕ
 message_of Memory = codes "out of memory"
 message_of Read = codes "read failed"
 message_of Write = codes "write failed"
+message_of (Ended _) = []
 
 -- the line for standard error, without its line end; `None` if all lines are answered
 abbrev pub line_of : Ending → Option (List ℕ)

@@ -5,10 +5,11 @@ ghost use Rattle.std.specs.String.{string_bytes};
 ghost use Rattle.byte_unit_lines.specs.Ending.{AskFor, IsWrittenAtEnding, status_of, message_of, line_of};
 ghost use Rattle.byte_unit_stream.specs.Streams.{HasRead, HasReadAll, reading_failed};
 ghost use Rattle.byte_unit_stream.specs.Streams.{HasWritten, writing_failed};
+ghost use Rattle.byte_unit_stream.specs.declared.run.RunError.{RunError};
 
 use crate::report::{RunError, run};
 use byte_unit::Kind;
-use byte_unit_stream::{FusedReader, FusedWriter};
+use byte_unit_stream::{Reading, Writing};
 use std::alloc::Global;
 use std::io::{Read, Write};
 
@@ -55,6 +56,7 @@ pub fn fault_words(error: RunError) -> &'static str
         RunError::Memory => "out of memory",
         RunError::Read => "read failed",
         RunError::Write => "write failed",
+        RunError::Ended(never) => match never {},
     }
 }
 
@@ -62,8 +64,8 @@ pub fn fault_words(error: RunError) -> &'static str
 pub fn serve<R: Read, W: Write>(
     alloc: Global,
     words: &[String],
-    reader: &mut FusedReader<R>,
-    writer: &mut FusedWriter<W>,
+    reader: &mut Reading<R>,
+    writer: &mut Writing<W>,
 ) -> Ending
     ensures run { (kind : Kind) → AskFor (map string_bytes words.now) kind → (read written : List ℕ)
         × HasRead R.remaining reader.old reader.new read

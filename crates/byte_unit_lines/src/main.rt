@@ -9,7 +9,7 @@ mod report;
 mod tests;
 
 pub use byte_unit::Kind;
-pub use byte_unit_stream::{FusedReader as Reading, FusedWriter as Writing};
+pub use byte_unit_stream::{Reading, Writing};
 pub use ending::{fault_words, kind_of};
 use ending::{Ending, serve};
 pub use report::{RunError, run};

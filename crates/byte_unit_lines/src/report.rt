@@ -1,22 +1,20 @@
-//! The report on an input: a loop that reads a chunk, answers the lines that end in it, and writes the answers.
-//!
-//! The memory of [`Buffers`] is kept from one read to the next.
+//! The report on an input: the answers to its lines. The run is that of `byte_unit_stream`, with an answer as its step.
 
-ghost use Rattle.std.specs.Prelude.{◌≡◌, ◌<◌, ℕ, List, [], length};
+ghost use Rattle.std.specs.Prelude.{◌≡◌, ◌<◌, ℕ, List, length};
 ghost use Rattle.std.specs.Prelude.{IsTrue, IsErrOf, OnOk};
-ghost use Rattle.byte_unit_lines.specs.Lines.{line_end};
 ghost use Rattle.byte_unit_lines.specs.RunOutput.{AreEmpty, IsWritten};
-ghost use Rattle.byte_unit_lines.specs.Answered.{AddsAnswers, AddsFirst, IsAnswered};
-ghost use Rattle.byte_unit_stream.specs.Chunks.{ended_records, begun_record};
 ghost use Rattle.byte_unit_stream.specs.Streams.{HasRead, HasReadAll, reading_failed};
 ghost use Rattle.byte_unit_stream.specs.Streams.{HasWritten, writing_failed};
+ghost use Rattle.byte_unit_stream.specs.declared.run.RunError.{RunError};
 
 use crate::laws::each_line_has_an_answer;
 use crate::line::add_answer;
 use byte_unit::Kind;
-use byte_unit_stream::{FusedReader, FusedWriter, end_of, write_whole};
-use std::alloc::{AllocError, Allocator, Global};
-use std::io::{Read, Write};
+use byte_unit_stream::run::{self, Steps, run_steps};
+use byte_unit_stream::{Reading, Writing};
+use std::alloc::{Allocator, Global};
+use std::convert::Infallible;
+use std::io::{self, Read, Write};
 
 /// The byte that ends a line.
 const LINE_END: u8 = b'\n';
@@ -24,11 +22,65 @@ const LINE_END: u8 = b'\n';
 /// The number of bytes that [`run`] asks for in each read: 64 KiB, as many as a pipe of Linux holds by default.
 const CHUNK: usize = 65536;
 
+/// The reason why a run ended before the end of its input. No line is one.
+pub type RunError = run::RunError<Infallible>;
+
+/// The answers that are not written yet.
+#[derive(Drop)]
+pub(crate) struct Answers<A: Allocator> {
+    /// The kind of the sizes.
+    pub(crate) kind: Kind,
+    /// The answers, each whole.
+    pub(crate) waiting: Vec<u8, A>,
+}
+
+impl<A: Allocator> Steps for Answers<A> {
+    ghost use Rattle.std.specs.Prelude.{[]};
+    ghost use Rattle.byte_unit_lines.specs.Answer.{Kind};
+    ghost use Rattle.byte_unit_lines.specs.Answered.{answering};
+    ghost use Rattle.byte_unit_lines.specs.Lines.{line_end};
+
+    type End = Infallible;
+
+    ghost State = { Kind };
+
+    ghost at = { λ answers. record { state = answers.kind; out = answers.waiting.items; messages = [] } };
+
+    ghost end_byte = { λ _. line_end };
+
+    ghost relation = { answering };
+
+    // Inlined: a call more for each line would take 12 instructions.
+    #[inline(always)]
+    fn step(&mut self, bytes: &[u8], len: usize) -> Result<(), RunError> {
+        match add_answer(bytes, len, self.kind, &mut self.waiting) {
+            Ok(()) => Ok(()),
+            Err(_) => Err(RunError::Memory),
+        }
+    }
+
+    fn close(&mut self) -> Result<(), RunError> {
+        Ok(())
+    }
+
+    fn waiting(&self) -> &[u8] {
+        &self.waiting
+    }
+
+    fn untold(&self) -> &[u8] {
+        &[]
+    }
+
+    fn clear(&mut self) {
+        self.waiting.clear();
+    }
+}
+
 /// What a run keeps from one read to the next.
 #[derive(Drop)]
 pub struct Buffers<A: Allocator> {
-    /// The answers that are not written yet, each whole.
-    pub(crate) waiting: Vec<u8, A>,
+    /// The answers that are not written yet.
+    pub(crate) answers: Answers<A>,
     /// The part that was read of a line whose end was not read yet.
     pub(crate) line: Vec<u8, A>,
 }
@@ -39,31 +91,12 @@ impl<A: Allocator + Copy> Buffers<A> {
         ensures { AreEmpty result }
     {
         Buffers {
-            waiting: Vec::new(alloc),
+            answers: Answers {
+                kind: Kind::Byte,
+                waiting: Vec::new(alloc),
+            },
             line: Vec::new(alloc),
         }
-    }
-}
-
-/// The reason why a run ended before the end of its input.
-#[derive(Debug, Clone, Copy, PartialEq, Eq)]
-pub enum RunError {
-    /// Allocation failed, for a line or for the answers.
-    Memory,
-    /// A read failed.
-    Read,
-    /// A write failed.
-    Write,
-}
-
-/// Converts a failed allocation to `Memory`.
-impl From<AllocError> for RunError {
-    ghost use Rattle.byte_unit_lines.specs.declared.report.RunError.TheVariants.{Memory};
-
-    ghost from_gives = { λ _ error. error ≡ Memory };
-
-    fn from(_: AllocError) -> RunError {
-        RunError::Memory
     }
 }
 
@@ -78,8 +111,8 @@ impl From<AllocError> for RunError {
 /// - `Write` if a write fails. A beginning of the report on what was read has been written.
 pub fn run<R: Read, W: Write>(
     alloc: Global,
-    reader: &mut FusedReader<R>,
-    writer: &mut FusedWriter<W>,
+    reader: &mut Reading<R>,
+    writer: &mut Writing<W>,
     kind: Kind,
 ) -> Result<(), RunError>
     ensures run { (read written : List ℕ)
@@ -106,8 +139,8 @@ pub fn run<R: Read, W: Write>(
 pub fn run_with_buffers<A: Allocator, R: Read, W: Write>(
     buffers: &mut Buffers<A>,
     buffer: &mut [u8],
-    reader: &mut FusedReader<R>,
-    writer: &mut FusedWriter<W>,
+    reader: &mut Reading<R>,
+    writer: &mut Writing<W>,
     kind: Kind,
 ) -> Result<(), RunError>
     requires { 0 < length buffer.old }
@@ -119,100 +152,18 @@ pub fn run_with_buffers<A: Allocator, R: Read, W: Write>(
     ensures read_failed { IsErrOf result RunError.Read → IsTrue (reading_failed reader.new) }
     ensures write_failed { IsErrOf result RunError.Write → IsTrue (writing_failed writer.new) }
 {
-    buffers.line.clear();
-    buffers.waiting.clear();
-    // The goals about the loop have their names from this label.
-    'reads: loop {
-        match reader.read(buffer) {
-            None => return Err(RunError::Read),
-            Some(0) => break 'reads,
-            Some(n) => {
-                let piece = &buffer[..n];
-                match answer_piece(&mut buffers.line, piece, kind, &mut buffers.waiting, writer) {
-                    Ok(()) => {}
-                    Err(error) => {
-                        // For the proof: a report that was begun has an answer to each unanswered line too.
-                        each_line_has_an_answer();
-                        return Err(error);
-                    }
-                }
-            }
-        }
-    }
-    if buffers.line.is_empty() {
-        Ok(())
-    } else {
-        add_answer(
-            &buffers.line,
-            buffers.line.len(),
-            kind,
-            &mut buffers.waiting,
-        )?;
-        write_whole(writer, &buffers.waiting, RunError::Write)
-    }
-}
-
-/// Answers the lines that end in `bytes`, and writes the answers.
-///
-/// `line` is the part of the first of them that was read before, and then the part of the next one that was read.
-///
-/// Precondition (proved at every call): `waiting` is empty.
-///
-/// # Errors
-/// - `Memory` if allocation fails. The answers to the lines before have been written.
-/// - `Write` if a write fails. A beginning of the answers has been written.
-fn answer_piece<A: Allocator, W: Write>(
-    line: &mut Vec<u8, A>,
-    bytes: &[u8],
-    kind: Kind,
-    waiting: &mut Vec<u8, A>,
-    writer: &mut FusedWriter<W>,
-) -> Result<(), RunError>
-    requires { waiting.old.items ≡ [] }
-    ensures written { (written : List ℕ)
-        × HasWritten W.contents writer.old writer.new written
-        × IsAnswered kind (ended_records line_end line.old.items bytes.now) result written }
-    ensures line { OnOk result (line.new.items ≡ begun_record line_end line.old.items bytes.now) }
-    ensures waiting { OnOk result (waiting.new.items ≡ []) }
-    ensures failed { IsErrOf result RunError.Write → IsTrue (writing_failed writer.new) }
-{
-    let fed = feed(line, bytes, kind, waiting);
-    // If allocation failed, the answers to the lines before are written all the same.
-    write_whole(writer, waiting, RunError::Write)?;
-    waiting.clear();
-    // `?` converts an `AllocError` to a `RunError`.
-    Ok(fed?)
-}
-
-/// Appends the answers to the lines that end in `bytes` to `waiting`.
-///
-/// `line` is the part of the first of them that was read before, and then the part of the next one that was read.
-///
-/// # Errors
-/// Returns `AllocError` if allocation fails. The answers to the lines before have been appended, each whole.
-fn feed<A: Allocator>(
-    line: &mut Vec<u8, A>,
-    bytes: &[u8],
-    kind: Kind,
-    waiting: &mut Vec<u8, A>,
-) -> Result<(), AllocError>
-    ensures added { AddsFirst kind (ended_records line_end line.old.items bytes.now)
-        waiting.old.items waiting.new.items }
-    ensures ok { OnOk result (AddsAnswers kind (ended_records line_end line.old.items bytes.now)
-        waiting.old.items waiting.new.items) }
-    ensures line { OnOk result (line.new.items ≡ begun_record line_end line.old.items bytes.now) }
-{
-    let mut rest = bytes;
-    while let Some(n) = end_of(rest, LINE_END) {
-        if line.is_empty() {
-            // Nothing of the line was read before: it is answered where it lies, without a copy.
-            add_answer(rest, n, kind, waiting)?;
-        } else {
-            line.extend_from_slice(&rest[..n])?;
-            add_answer(line, line.len(), kind, waiting)?;
-            line.clear();
-        }
-        rest = &rest[n + 1..];
-    }
-    line.extend_from_slice(rest)
+    // For the proof: a report that was begun has an answer to each unanswered line too.
+    each_line_has_an_answer();
+    buffers.answers.kind = kind;
+    // No line has messages.
+    let mut errors = Writing::new(io::sink());
+    run_steps(
+        &mut buffers.answers,
+        LINE_END,
+        &mut buffers.line,
+        buffer,
+        reader,
+        writer,
+        &mut errors,
+    )
 }

@@ -4,7 +4,6 @@ pub mod RoundedUp
 pub mod Estimates
 pub mod ShortDecimals
 pub mod ShortExpansions
-pub mod BinaryDigits
 pub mod Digits
 pub mod WrittenDigits
 pub mod PairsInLanes

@@ -1,17 +1,14 @@
 -- Expansions with few digits after the point, from one product.
 use Rattle.std.proofs.Common.{◌≡◌, ◌≢◌, ℕ, zero, suc, ◌+◌, ◌-◌, ◌*◌, ◌/◌, ◌%◌, ◌^◌, ◌<◌, ◌≤◌, min, bit_and, arith, ap, ◌∙◌}
-use Rattle.std.proofs.Common.{⊎_elim}
-use Rattle.std.proofs.lemmas.Bool.{cases_lt}
 use Rattle.std.specs.Int.{trailing_zeros, w128}
 use Rattle.std.specs.Int.Count.{trailing_of_zero}
 use Rattle.std.proofs.Math.Nat.{mul-lt-mul_of_pos_right, one-le-pow, div-add-mod', pow-zero, mod-eq_of_lt}
-use Rattle.std.proofs.Math.Nat.{pow-le-pow_right, mul-le-mul_left, le_of_mul-le-mul_right}
+use Rattle.std.proofs.Math.Nat.{pow-le-pow_right}
 use Rattle.std.proofs.lemmas.Nat.{mul-pow, mul-le, mod_below, and_mask}
 use Rattle.std.proofs.lemmas.Nat.Bits.{bit_at-trailing_zeros}
 use Rattle.byte_unit_math.specs.Bounds.{scale, places_of_decimal, expansion_places}
 pub use Rattle.byte_unit_math.specs.DecimalFields.{AreFields}
 use Rattle.byte_unit_math.specs.Digits.{last_digits}
-use Rattle.byte_unit_math.specs.Exact.{IsExactAt}
 use Rattle.byte_unit_math.specs.Finite.{IsExpansion}
 use Rattle.byte_unit_math.specs.ShortExpansion.{IsShortExpansion, finite_of}
 use Rattle.byte_unit_math.specs.declared.short.ShortExpansion.{ShortExpansion}
@@ -144,43 +141,3 @@ reduced_decimal number reduced shared left twos fives sum number_is =
       positive' = product_positive twos fives;
       same = rw (number_is, first, second, ten_power fives) (omega arith);
     }
-
--- A short expansion is exactly the fraction.
-pub short_is_exact : {num den : ℕ} {e : ShortExpansion} → IsShortExpansion num den e
-    → num * 10 ^ e.places ≡ (e.whole * 10 ^ e.places + e.digits) * den
-short_is_exact {num} {den} {e} h = grind (arith, length_last_digits, mod-eq_of_lt, value_of_last_digits)
-
--- A short expansion has no more places than the fraction is exact with.
-pub short_places : {num den : ℕ} {e : ShortExpansion} (places : ℕ) → IsShortExpansion num den e → IsExactAt num den places
-    → e.places ≤ places
-short_places {num} {den} {e} places h exact =
-    omega (arith, h.is_expansion.least places exact, length_last_digits e.places e.digits)
-
--- The last digit of a short expansion is not 0, since the fraction is exact with no fewer places.
-pub short_trimmed : {num den : ℕ} {e : ShortExpansion} → IsShortExpansion num den e → 0 < e.places → 0 < e.digits % 10
-short_trimmed {num} {den} {e} h some = ⊎_elim (λ last. last)
-    (λ none.
-    let before = 10 ^ (e.places - 1) in
-    let power = pow10_split 1 e.places some in
-    let tens : e.digits ≡ e.digits / 10 * 10 = omega (arith, none) in
-    let scaled = ap (λ n. num * n) power in
-    let whole = ap (λ n. e.whole * n * den) power in
-    let digits = ap (λ n. n * den) tens in
-    let fewer : num * before ≡ (e.whole * before + e.digits / 10) * den =
-    omega (arith, short_is_exact h, scaled, whole, digits) in
-    absurd (omega (arith, some, short_places (e.places - 1) h (e.whole * before + e.digits / 10, fewer))))
-    (cases_lt 0 (e.digits % 10))
-
--- The whole part of a short expansion is at most the numerator, so for a size it is below the limit of a `Decimal`.
-pub short_whole : {num den : ℕ} {e : ShortExpansion} → 1 ≤ den → IsShortExpansion num den e → e.whole ≤ num
-short_whole {num} {den} {e} some h = grind (arith, le_of_mul-le-mul_right, mul-le-mul_left, one-le-pow, short_is_exact)
-
--- A short expansion scaled by 10^28, times the denominator, is the numerator scaled by 10^28.
-pub short_scaled : {num den : ℕ} {e : ShortExpansion} → e.places ≤ places_of_decimal → IsShortExpansion num den e
-    → (e.whole * scale + e.digits * 10 ^ (places_of_decimal - e.places)) * den ≡ num * scale
-short_scaled {num} {den} {e} few h =
-    let behind = 10 ^ (places_of_decimal - e.places) in
-    let times = ap (λ n. n * behind) (short_is_exact h) in
-    let all = ap (λ n. num * n) (pow10_times_rest e.places few) in
-    let whole = ap (λ n. e.whole * n * den) (pow10_times_rest e.places few) in
-    omega (arith, times, all, whole)

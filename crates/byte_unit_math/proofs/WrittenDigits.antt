@@ -109,15 +109,6 @@ decimal_of_one_and_digits places digits below few =
     ∙ (sym (rw (div-mul-add 1 power digits below, mod-mul-add 1 power digits below) at cut)
     ∙ ap (λ l. l ++ glyphs (last_digits places digits)) (decimal_one_digit 1 (omega arith)))
 
--- The last 18 digits are two and then 16.
-pub two_and_16_digits : (n : ℕ)
-    → glyphs (last_digits 18 n) ≡ glyphs (last_digits 2 (n / 10 ^ 16)) ++ glyphs (last_digits 16 (n % 10 ^ 16))
-two_and_16_digits n =
-    let first : n / 10 ^ 17 % 10 ≡ n / 10 ^ 16 / 10 ^ 1 % 10 = omega arith in
-    let second : n / 10 ^ 16 % 10 ≡ n / 10 ^ 16 / 10 ^ 0 % 10 = omega arith in
-    let others = last_digits_of_rest 16 n in
-    λ i. (48 + first i) ∷ (48 + second i) ∷ glyphs (sym others i)
-
 -- A table of the two digits of each of `count` numbers, as characters, beginning at a given number.
 abbrev pairs_from : ℕ → ℕ → List ℕ
 pairs_from zero n = []
@@ -225,10 +216,6 @@ four_more = decimal_length_split 4
 pub ruleset groups_written =
     (decimal_one_digit, decimal_length_one, decimal_two_digits, last_two, last_four, two_more, four_more, drop-set)
 
--- A number of 10^18 or more has 18 digits more than its quotient by 10^18.
-pub eighteen_more : (n : ℕ) → 10 ^ 18 ≤ n → n < 2 ^ 128 → length (decimal n) ≡ length (decimal (n / 10 ^ 18)) + 18
-eighteen_more = decimal_length_split 18
-
 -- A number below 10^30 has at most 30 digits.
 pub few_30 : (n : ℕ) → n < 10 ^ 30 → length (decimal n) ≤ 30
 few_30 n small = length-decimal-le_wide 30 n (omega arith) small (omega (arith, small))
@@ -237,9 +224,9 @@ few_30 n small = length-decimal-le_wide 30 n (omega arith) small (omega (arith, 
 pub few_16 : (n : ℕ) → n < 10 ^ 16 → length (decimal n) ≤ 16
 few_16 n small = length-decimal-le_wide 16 n (omega arith) small (omega (arith, small))
 
--- A number of 10^16 or more, below 10^30, has 16 digits more than its quotient by 10^16.
-pub more_16 : (n : ℕ) → 10 ^ 16 ≤ n → n < 10 ^ 30 → length (decimal n) ≡ length (decimal (n / 10 ^ 16)) + 16
-more_16 n wide small = decimal_length_split 16 n wide (omega (arith, small))
+-- A number of 10^16 or more has 16 digits more than its quotient by 10^16.
+pub more_16 : (n : ℕ) → 10 ^ 16 ≤ n → n < 2 ^ 128 → length (decimal n) ≡ length (decimal (n / 10 ^ 16)) + 16
+more_16 = decimal_length_split 16
 
 -- The estimated number of decimal digits of a number of this many bits: 1233 / 4096 is just below log10(2).
 abbrev digits_estimate : ℕ → ℕ
@@ -305,10 +292,7 @@ module _ (k n : ℕ) (few : k ≤ 128) (wide : 10 ≤ n) (small : n < 2 ^ k) whe
   more_digits reached = decimal_length_between _ n reached bounds.1 wide_enough
 
 -- The length of a number, as the proofs of writing it in groups of 16 digits use it.
-pub ruleset lengths_by_16 = (few_30, few_16, more_16)
-
--- The length of a number, as the proof of writing it in groups of 18 digits uses it.
-pub ruleset lengths_by_18 = (eighteen_more, decimal_length_positive)
+pub ruleset lengths_by_16 = (few_30, few_16, more_16, decimal_length_positive)
 
 -- The length of a number by its binary digits.
 pub ruleset lengths_by_bits = (decimal_length_one, few_digits, more_digits)

@@ -176,7 +176,7 @@ impl Decimal {
     /// Creates the same number from digits of which the last is not 0.
     #[inline(always)]
     #[tactic(auto, using(crate::proofs::ShortDecimals::digits_are_normalized))]
-    pub(crate) fn from_trimmed_digits(whole: u128, digits: u128, places: u32) -> Decimal
+    fn from_trimmed_digits(whole: u128, digits: u128, places: u32) -> Decimal
         requires whole { whole < whole_limit }
         requires places { places ≤ places_of_decimal }
         requires digits { digits < 10 ^ places }

@@ -7,8 +7,8 @@ ghost use Rattle.byte_unit_math.specs.Digits.{last_digits};
 ghost use Rattle.byte_unit_math.specs.Numeral.{fraction_text, glyphs};
 ghost use Rattle.byte_unit_math.specs.PutBefore.{FitBefore, IsPutBefore};
 
-use crate::dividing::split_last_18_digits;
-use crate::lanes::{TEN_POW_16, put_16_digits};
+use crate::dividing::split_last_16_digits;
+use crate::lanes::put_16_digits;
 use crate::tens::power_of_ten;
 use std::marker::Model;
 use std::{fmt, str};
@@ -222,9 +222,9 @@ pub fn put_fraction(digits: u128, places: u32, bytes: &mut [u8], end: usize) -> 
     point
 }
 
-/// Writes digits as `put_u128`, 18 at a time: the slow path, for numbers of more than 64 bits.
+/// Writes digits as `put_u128`, 16 at a time: the slow path, for numbers of more than 64 bits.
 #[inline(never)]
-#[tactic(auto, using(crate::proofs::WrittenDigits::lengths_by_18))]
+#[tactic(auto, using(crate::proofs::WrittenDigits::lengths_by_16))]
 fn put_u128_wide(n: u128, bytes: &mut [u8], end: usize) -> usize
     requires room { length (decimal n) ≤ end }
     requires end_bound { end ≤ length bytes.old }
@@ -233,22 +233,11 @@ fn put_u128_wide(n: u128, bytes: &mut [u8], end: usize) -> usize
     let mut start = end;
     let mut rest = n;
     while rest > u128::from(u64::MAX) {
-        let (before, last) = split_last_18_digits(rest);
-        start = put_18_digits(last, bytes, start);
+        let (before, last) = split_last_16_digits(rest);
+        start = put_16_digits(last, bytes, start);
         rest = before;
     }
     put_u64(rest as u64, bytes, start)
-}
-
-/// Writes 18 digits, leading zeros included, and returns the index where they begin.
-#[inline]
-#[tactic(auto, using(crate::proofs::WrittenDigits::two_and_16_digits))]
-fn put_18_digits(n: u64, bytes: &mut [u8], end: usize) -> usize
-    requires { FitBefore 18 n end bytes.old }
-    ensures { IsPutBefore (glyphs (last_digits 18 n)) end bytes.old bytes.new result }
-{
-    let middle = put_16_digits(n % TEN_POW_16, bytes, end);
-    put_2_digits((n / TEN_POW_16) as u32, bytes, middle)
 }
 
 /// Writes the digits of a number of 64 bits as `put_u128`.

@@ -9,7 +9,6 @@ ghost use Rattle.byte_unit_math.specs.Finite.{IsExpansion, ulps_of, cut_after};
 ghost use Rattle.byte_unit_math.specs.Nearest.{IsNearest};
 ghost use Rattle.byte_unit_math.specs.Numeral.{fraction_text, glyphs, text_of};
 
-use crate::binary::binary_digits;
 use crate::decimal::{Decimal, ONE};
 use crate::decimal_digits::fmt_u128;
 use crate::dividing::{div_rem, div_rem_digit};
@@ -65,7 +64,7 @@ impl Model for Expansion {
 }
 
 impl Expansion {
-    /// Creates the expansion of `numerator / (2^twos * 5^fives)`. Over a power of 2 it takes no division.
+    /// Creates the expansion of `numerator / (2^twos * 5^fives)`.
     ///
     /// Precondition (proved at every call): `numerator < 8 * 10^30` and `2^twos * 5^fives <= 2^93`.
     ///
@@ -80,22 +79,9 @@ impl Expansion {
         requires den { 2 ^ twos * 5 ^ fives ≤ unit_limit }
         ensures { IsExpansion numerator (2 ^ twos * 5 ^ fives) result }
     {
-        if fives == 0 {
-            return Expansion::binary(numerator, twos);
-        }
         let den = power_of_two(twos) * power_of_five(fives);
         let (whole, rest) = div_rem(numerator, den);
         divide(whole, rest, den)
-    }
-
-    /// Creates the same expansion as `new`, over `2^twos`.
-    fn binary(numerator: u128, twos: u32) -> Expansion
-        requires bound { numerator < bits_limit }
-        requires twos_bound { twos ≤ expansion_places }
-        ensures { IsExpansion numerator (2 ^ twos) result }
-    {
-        let shared = numerator.trailing_zeros().min(twos);
-        in_lowest_terms(numerator >> shared, twos - shared)
     }
 
     /// Creates an `Expansion` with the digits of a `Decimal`.
@@ -334,24 +320,6 @@ pub fn glyphs_of(e: &Expansion) -> [u8; EXPANSION_PLACES]
         glyphs[i as usize] = b'0' + e.digit(i + 1);
     }
     glyphs
-}
-
-/// Expands `numerator / 2^places`, which is in lowest terms.
-#[inline(always)]
-fn in_lowest_terms(numerator: u128, places: u32) -> Expansion
-    requires bound { numerator < bits_limit }
-    requires places_bound { places ≤ expansion_places }
-    requires odd { 0 < places → numerator % 2 ≢ 0 }
-    ensures { IsExpansion numerator (2 ^ places) result }
-{
-    let whole = numerator >> places;
-    // The last `places` bits are the fraction.
-    let rest = numerator & ((1 << places) - 1);
-    Expansion {
-        whole,
-        digits: binary_digits(rest, places),
-        places,
-    }
 }
 
 /// Expands `whole + remainder / den` by long division.

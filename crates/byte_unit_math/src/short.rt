@@ -1,15 +1,11 @@
-//! Terminating decimal expansions with few digits after the point, by one product and one division or shift, and exact
-//! quotients by them.
-ghost use Rattle.std.specs.Prelude.{◌≡◌, ◌≢◌, ℕ, ◌*◌, ◌%◌, ◌^◌, ◌<◌, ◌≤◌, IfSome};
-ghost use Rattle.byte_unit_math.specs.Bounds.{bits_limit, scale, unit_limit};
-ghost use Rattle.byte_unit_math.specs.Exact.{IsLeastPlaces};
-ghost use Rattle.byte_unit_math.specs.Steps.{saturating_add};
-ghost use Rattle.byte_unit_math.specs.ShortExpansion.{IsExactWithin, IsShortExpansion};
+//! Terminating decimal expansions with few digits after the point, by one product and one division or shift.
+ghost use Rattle.std.specs.Prelude.{◌≢◌, ◌*◌, ◌%◌, ◌^◌, ◌<◌, ◌≤◌, IfSome};
+ghost use Rattle.byte_unit_math.specs.Bounds.{bits_limit, unit_limit};
+ghost use Rattle.byte_unit_math.specs.ShortExpansion.{IsShortExpansion};
 
 use crate::dividing::div_rem;
-use crate::quotient::exact_quotient;
-use crate::tens::{power_of_five, power_of_ten, power_of_two};
-use crate::{DECIMAL_PLACES, Decimal, Steps};
+use crate::tens::{power_of_five, power_of_ten};
+use crate::{DECIMAL_PLACES, Decimal};
 
 /// The most digits after the point of a [`ShortExpansion`]: any 38 digits are a number of 128 bits.
 const MOST_PLACES: u32 = 38;
@@ -100,59 +96,4 @@ fn decimal_expansion(numerator: u128, twos: u32, tens: u32) -> Option<ShortExpan
         digits,
         places,
     })
-}
-
-/// Returns `numerator / (2^twos * 5^fives)`, which is exact within `places` digits after the point; more than 28 count
-/// as 28. It takes one product and one division or shift, or else long division.
-///
-/// Precondition (proved at every call): `numerator < 8 * 10^30`, `2^twos * 5^fives <= 2^93`, and the quotient is exact
-/// within these digits.
-///
-/// Adds the steps of long division: one for each digit after the point of the result.
-///
-/// # Examples
-/// ```rust
-/// let mut steps = Steps::new();
-/// assert_eq!(rt; exact_number(13, 3, 0, 3, &mut steps), Decimal::from_digits(1, 625, 3));
-/// assert_eq!(rt; steps.count(), 3);
-/// ```
-#[inline(never)]
-pub fn exact_number(
-    numerator: u128,
-    twos: u32,
-    fives: u32,
-    places: u32,
-    steps: &mut Steps,
-) -> Decimal
-    requires { IsExactWithin numerator twos fives places }
-    ensures exact { result * (2 ^ twos * 5 ^ fives) ≡ numerator * scale }
-    ensures steps { (least : ℕ) × IsLeastPlaces result scale least
-        × (steps.new ≡ saturating_add steps.old least) }
-{
-    if fives > twos {
-        return divided(numerator, twos, fives, places, steps);
-    }
-    match short_expansion(numerator, twos, fives) {
-        Some(parts) => {
-            let number = Decimal::from_trimmed_digits(parts.whole, parts.digits, parts.places);
-            steps.advance_by(number.places());
-            number
-        }
-        None => divided(numerator, twos, fives, places, steps),
-    }
-}
-
-/// Returns the same as `exact_number`, by long division.
-#[inline(never)]
-#[tactic(auto, using(crate::proofs::Expanding::powers))]
-fn divided(numerator: u128, twos: u32, fives: u32, places: u32, steps: &mut Steps) -> Decimal
-    requires { IsExactWithin numerator twos fives places }
-    ensures exact { result * (2 ^ twos * 5 ^ fives) ≡ numerator * scale }
-    ensures steps { (least : ℕ) × IsLeastPlaces result scale least
-        × (steps.new ≡ saturating_add steps.old least) }
-{
-    let unit = power_of_two(twos) * power_of_five(fives);
-    let number = exact_quotient(numerator, unit, places, &mut Steps::new()).unwrap();
-    steps.advance_by(number.places());
-    number
 }

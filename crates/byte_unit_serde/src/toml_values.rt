@@ -73,9 +73,12 @@ impl Error for TomlUnitError {}
 ///
 /// let text = "lines = 3\n\n[[user]]\nused = \"15.5 KB\"\n\n[[user]]\nused = \"5 Kx\"\n";
 /// let table = toml::table_from_str(alloc, text)?;
-/// assert!(rt; matches!(byte_from_toml(&table["lines"]), Err(TomlSizeError::NotString)));
-/// for (index, user) in table["user"].as_array().unwrap().iter().enumerate() {
-///     let used = &user["used"];
+/// let lines = byte_from_toml(table.get("lines").expect(&rt, "lines"));
+/// assert!(rt; matches!(lines, Err(TomlSizeError::NotString)));
+/// let users = table.get("user").expect(&rt, "user");
+/// let users = users.as_array().expect(&rt, "an array");
+/// for (index, user) in users.iter().enumerate() {
+///     let used = user.get("used").expect(&rt, "used");
 ///     match byte_from_toml(used) {
 ///         Ok(size) => assert_eq!(rt; (index, size), (0, Byte::from_u64(15_500))),
 ///         Err(error) => {

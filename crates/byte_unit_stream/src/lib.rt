@@ -4,11 +4,12 @@
 
 pub mod paced;
 mod reader;
+pub mod run;
 mod search;
 #[cfg(test)]
 mod tests;
 mod writer;
 
-pub use reader::FusedReader;
+pub use reader::Reading;
 pub use search::end_of;
-pub use writer::{FusedWriter, write_whole};
+pub use writer::{Writing, write_whole};

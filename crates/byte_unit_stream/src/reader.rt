@@ -13,17 +13,17 @@ use std::io::Read;
 ///
 /// # Examples
 /// ```rust
-/// use byte_unit_stream::FusedReader;
+/// use byte_unit_stream::Reading;
 /// use byte_unit_stream::paced::{MemoryReader, Pace, Then};
 /// let inner = MemoryReader { rest: b"1 KiB\n", pace: Pace::new(4, 1, Then::Fail) };
-/// let mut reader = FusedReader::new(inner);
+/// let mut reader = Reading::new(inner);
 /// let mut buffer = [0; 16];
 /// assert_eq!(rt; reader.read(&mut buffer), Some(4));
 /// assert_eq!(rt; (reader.read(&mut buffer), reader.failed()), (None, true));
 /// assert_eq!(rt; reader.into_inner().rest, b"B\n".as_slice());
 /// ```
 #[derive(Drop)]
-pub struct FusedReader<R> {
+pub struct Reading<R> {
     /// The reader.
     inner: R,
     /// Whether a read has returned `None`.
@@ -32,14 +32,14 @@ pub struct FusedReader<R> {
     count: u64,
 }
 
-impl<R: Read> FusedReader<R> {
-    /// Creates a `FusedReader` over a reader, with no read made and no failure recorded.
-    pub fn new(inner: R) -> FusedReader<R>
+impl<R: Read> Reading<R> {
+    /// Creates a `Reading` over a reader, with no read made and no failure recorded.
+    pub fn new(inner: R) -> Reading<R>
         ensures inner { reader_of result ≡ inner }
         ensures failed { reading_failed result ≡ false }
         ensures left { reads_left result ≡ 2 ^ 64 - 1 }
     {
-        FusedReader {
+        Reading {
             inner,
             failed: false,
             count: 0,
@@ -57,7 +57,7 @@ impl<R: Read> FusedReader<R> {
     pub fn into_inner(self) -> R
         ensures { result ≡ reader_of self }
     {
-        let FusedReader {
+        let Reading {
             inner,
             failed: _,
             count: _,

@@ -1,7 +1,7 @@
 //! Tests of a reader, a writer and a whole buffer at each pace, of failures, and of the search for an end.
 
 use crate::paced::{ALL_BUT_ONE, AT_ONCE, BYTE_BY_BYTE, MemoryReader, MemoryWriter, Pace, Then};
-use crate::{FusedReader, FusedWriter, end_of, write_whole};
+use crate::{Reading, Writing, end_of, write_whole};
 use std::io::{self, Error, ErrorKind, Read, Write};
 use std::process::Abort;
 
@@ -9,8 +9,8 @@ use std::process::Abort;
 const BYTES: &[u8] = b"0123456789";
 
 /// Returns a writer in memory with this pace.
-fn writer(rt: &(impl Abort + AllocGlobal), pace: Pace) -> FusedWriter<MemoryWriter> {
-    FusedWriter::new(MemoryWriter {
+fn writer(rt: &(impl Abort + AllocGlobal), pace: Pace) -> Writing<MemoryWriter> {
+    Writing::new(MemoryWriter {
         taken: Vec::new(rt.alloc()),
         pace,
     })
@@ -24,7 +24,7 @@ fn each_pace_of_reads(rt: HostRuntime) {
         .iter()
         .enumerate()
     {
-        let mut reader = FusedReader::new(MemoryReader {
+        let mut reader = Reading::new(MemoryReader {
             rest: BYTES,
             pace: *pace,
         });
@@ -74,7 +74,7 @@ fn each_pace_of_writes(rt: HostRuntime) {
 #[test]
 fn a_failure_is_remembered(rt: HostRuntime) {
     let mut buffer = [0u8; 8];
-    let mut reader = FusedReader::new(MemoryReader {
+    let mut reader = Reading::new(MemoryReader {
         rest: BYTES,
         pace: Pace::new(1, 1, Then::Fail),
     });
@@ -119,7 +119,7 @@ impl Write for Failing {
 #[test]
 fn only_a_broken_pipe_closes(rt: HostRuntime) {
     for (kind, closed) in [(ErrorKind::BrokenPipe, true), (ErrorKind::Other, false)] {
-        let mut writer = FusedWriter::new(Failing(kind));
+        let mut writer = Writing::new(Failing(kind));
         let before = writer.closed();
         let found = (before, writer.write(b"1"), writer.failed(), writer.closed());
         assert_eq!(rt; found, (false, None, true, closed), "{kind:?}");

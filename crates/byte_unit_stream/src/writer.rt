@@ -3,6 +3,7 @@
 ghost use Rattle.std.specs.Prelude.{ℕ, List, false, ◌≡◌, ◌≤◌, ◌<◌, ◌↔◌, take, length};
 ghost use Rattle.std.specs.Prelude.{IsTrue, IsNone, IsSome, IfNone, IfSome, IfErr, OnOk, OnErr};
 ghost use Rattle.byte_unit_stream.specs.Beginnings.{IsBeginningOf};
+ghost use Rattle.byte_unit_stream.specs.Runs.{HasTold};
 ghost use Rattle.byte_unit_stream.specs.Streams.{HasWritten, HasWrittenNothing, writer_of, writing_failed};
 ghost use Rattle.byte_unit_stream.specs.Streams.{output_closed};
 
@@ -12,16 +13,16 @@ use std::io::{ErrorKind, Write};
 ///
 /// # Examples
 /// ```rust
-/// use byte_unit_stream::FusedWriter;
+/// use byte_unit_stream::Writing;
 /// use byte_unit_stream::paced::{MemoryWriter, Pace, Then};
 /// let inner = MemoryWriter { taken: Vec::new(alloc), pace: Pace::new(4, 1, Then::Fail) };
-/// let mut writer = FusedWriter::new(inner);
+/// let mut writer = Writing::new(inner);
 /// assert_eq!(rt; writer.write(b"1 KiB\n"), Some(4));
 /// assert_eq!(rt; (writer.write(b"B\n"), writer.failed(), writer.closed()), (None, true, false));
 /// assert_eq!(rt; writer.into_inner().taken.as_slice(), b"1 Ki".as_slice());
 /// ```
 #[derive(Drop)]
-pub struct FusedWriter<W> {
+pub struct Writing<W> {
     /// The writer.
     inner: W,
     /// How the first write that failed has failed; `None` if none has.
@@ -37,14 +38,14 @@ enum Failure {
     Other,
 }
 
-impl<W: Write> FusedWriter<W> {
-    /// Creates a `FusedWriter` over a writer, with no failure recorded.
-    pub fn new(inner: W) -> FusedWriter<W>
+impl<W: Write> Writing<W> {
+    /// Creates a `Writing` over a writer, with no failure recorded.
+    pub fn new(inner: W) -> Writing<W>
         ensures inner { writer_of result ≡ inner }
         ensures failed { writing_failed result ≡ false }
         ensures closed { output_closed result ≡ false }
     {
-        FusedWriter {
+        Writing {
             inner,
             failure: None,
         }
@@ -73,7 +74,7 @@ impl<W: Write> FusedWriter<W> {
     pub fn into_inner(self) -> W
         ensures { result ≡ writer_of self }
     {
-        let FusedWriter { inner, failure: _ } = self;
+        let Writing { inner, failure: _ } = self;
         inner
     }
 
@@ -133,14 +134,14 @@ impl<W: Write> FusedWriter<W> {
 ///
 /// # Examples
 /// ```rust
-/// use byte_unit_stream::{FusedWriter, write_whole};
+/// use byte_unit_stream::{Writing, write_whole};
 /// use byte_unit_stream::paced::{BYTE_BY_BYTE, MemoryWriter};
-/// let mut writer = FusedWriter::new(MemoryWriter { taken: Vec::new(alloc), pace: BYTE_BY_BYTE });
+/// let mut writer = Writing::new(MemoryWriter { taken: Vec::new(alloc), pace: BYTE_BY_BYTE });
 /// assert!(rt; write_whole(&mut writer, b"1 KiB\n", "no output").is_ok());
 /// assert_eq!(rt; writer.into_inner().taken.as_slice(), b"1 KiB\n".as_slice());
 /// ```
 pub fn write_whole<W: Write, E: Copy>(
-    writer: &mut FusedWriter<W>,
+    writer: &mut Writing<W>,
     bytes: &[u8],
     error: E,
 ) -> Result<(), E>
@@ -158,4 +159,16 @@ pub fn write_whole<W: Write, E: Copy>(
         }
     }
     Ok(())
+}
+
+/// Writes messages, unless a write has failed before. Records a failure, and no more.
+pub(crate) fn tell<W: Write>(errors: &mut Writing<W>, messages: &[u8])
+    ensures { HasTold W.contents errors.old errors.new messages.now }
+{
+    if messages.is_empty() {
+        return;
+    }
+    if !errors.failed() {
+        let _ = write_whole(errors, messages, ());
+    }
 }

@@ -1,7 +1,6 @@
-//! Sizes in a unit for display.
+//! Units from strings, and a size in one.
 
 ghost use Rattle.std.specs.Prelude.{◌≡◌, ℕ, IfOk, IfErr, IsOkAnd, true, false};
-ghost use Rattle.byte_unit.specs.AdjustedSize.{IsAdjustedReading};
 ghost use Rattle.byte_unit.specs.Version.{current};
 ghost use Rattle.byte_unit.specs.Errors.{size_fault, unit_fault};
 ghost use Rattle.byte_unit.specs.Fault.{IsSizeFault, IsUnitFault};
@@ -9,7 +8,6 @@ ghost use Rattle.byte_unit.specs.Shape.{Shape};
 ghost use Rattle.byte_unit.specs.Spelling.{flags_of, Spells};
 ghost use Rattle.byte_unit.specs.SizeText.{trim_of, IsSizeText};
 ghost use Rattle.byte_unit.specs.Units.{shape_of};
-ghost use Rattle.byte_unit.specs.declared.Kind.TheVariants.{Byte as InBytes};
 
 use byte_unit::{AdjustedByte, Byte, ParseError, Unit, UnitParseError, read_size};
 
@@ -44,15 +42,4 @@ pub fn parse_unit(text: &str) -> Result<Unit, ParseError>
 {
     let (_, unit) = read_size(text, false, true)?;
     Ok(unit)
-}
-
-/// Parses a size, and returns it in the largest unit that is not above it.
-///
-/// # Errors
-/// Returns the parse error if the string represents no size.
-pub fn parse_adjusted(text: &str) -> Result<AdjustedByte, ParseError>
-    ensures { IsAdjustedReading InBytes text.now result }
-{
-    let size: AdjustedByte = text.parse()?;
-    Ok(size)
 }

@@ -1,8 +1,7 @@
 //! Limits with a maximum, and matches on an error that holds a size.
 
-ghost use Rattle.std.specs.Prelude.{◌≡◌, ◌≤◌, ℕ, IfOk, IfErr, min, false};
-ghost use Rattle.byte_unit.specs.Accepted.{IsAccepted, IsRejected};
-ghost use Rattle.byte_unit.specs.Errors.{size_fault};
+ghost use Rattle.std.specs.Prelude.{◌≡◌, ◌≤◌, IfOk, IfErr, false};
+ghost use Rattle.byte_unit.specs.Accepted.{IsAccepted};
 ghost use Rattle.byte_unit.specs.declared.Kind.TheVariants.{Byte as InBytes};
 ghost use Rattle.byte_unit_uses.specs.Capped.{IsLimitError, capped_limit, exceeded_max};
 
@@ -63,17 +62,4 @@ pub fn max_exceeded(read: &Result<Byte, LimitError>) -> Option<Byte>
         Err(LimitError::Above(max)) => Some(*max),
         _ => None,
     }
-}
-
-/// Parses a limit, and returns `max` if the size is larger.
-///
-/// # Errors
-/// Returns the parse error if the string represents no size.
-pub fn limit_at_most(text: &str, max: Byte) -> Result<Byte, ParseError>
-    ensures limit { IfOk result (λ limit.
-        (size : ℕ) × IsAccepted InBytes false text.now size × (limit ≡ min size max)) }
-    ensures reason { IfErr result (λ error.
-        IsRejected InBytes false text.now (size_fault error)) }
-{
-    cap(read_limit(text, max))
 }

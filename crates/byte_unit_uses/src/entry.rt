@@ -1,8 +1,9 @@
 //! Entries of a report: a name, borrowed from the input, and a size.
 
 ghost use Rattle.std.specs.Prelude.{◌≡◌, ◌++◌, ◌∷◌, [], ◌<◌, ◌≤◌, IfOk, IfErr, SomeIff, OnOk, OnErr, false};
-ghost use Rattle.std.specs.Prelude.{vec_len, vec_capacity};
+ghost use Rattle.std.specs.Prelude.{sum_by, vec_len, vec_capacity};
 ghost use Rattle.byte_unit.specs.Accepted.{IsAccepted, IsRejected};
+ghost use Rattle.byte_unit.specs.Bounds.{size_limit};
 ghost use Rattle.byte_unit.specs.Errors.{size_fault};
 ghost use Rattle.byte_unit.specs.declared.Kind.TheVariants.{Byte as InBytes};
 
@@ -81,4 +82,16 @@ pub fn add<'a>(report: &mut Vec<Entry<'a>>, entry: Entry<'a>) -> Result<(), Allo
 {
     report.push(entry)?;
     Ok(())
+}
+
+/// Returns the total size of the entries. Returns `None` if it is 10^30 bytes or more.
+pub fn total(report: &[Entry]) -> Option<Byte>
+    ensures { let total = sum_by (λ entry. entry.size) report.now in
+        SomeIff result (total < size_limit) total }
+{
+    let mut sum = Byte::default();
+    for entry in report {
+        sum = sum.add(entry.size)?;
+    }
+    Some(sum)
 }

@@ -1,10 +1,10 @@
-//! Limits and rates from strings.
+//! Limits from strings, and a rate in bits from a size in bytes.
 
-ghost use Rattle.std.specs.Prelude.{◌≡◌, ℕ, ◌⊎◌, IfSome, false, true};
-ghost use Rattle.std.specs.Result.{result_unwrap_or};
+ghost use Rattle.std.specs.Prelude.{◌≡◌, ◌*◌, ◌/◌, ◌<◌, ℕ, ◌⊎◌, IfSome, SomeIff, false, true};
 ghost use Rattle.byte_unit.specs.Accepted.{IsAccepted};
+ghost use Rattle.byte_unit.specs.Bounds.{size_limit};
 ghost use Rattle.byte_unit.specs.SizeReading.{IsSizeReading};
-ghost use Rattle.byte_unit.specs.declared.Kind.TheVariants.{Byte as InBytes, Bit as InBits};
+ghost use Rattle.byte_unit.specs.declared.Kind.TheVariants.{Byte as InBytes};
 
 use byte_unit::{Bit, Byte, ParseError};
 
@@ -17,17 +17,6 @@ pub fn limit(text: &str) -> Result<Byte, ParseError>
 {
     let limit = text.parse::<Byte>()?;
     Ok(limit)
-}
-
-/// Parses a rate in bits per second.
-///
-/// # Errors
-/// Returns the parse error if the string represents no size.
-pub fn rate(text: &str) -> Result<Bit, ParseError>
-    ensures { IsSizeReading InBits false text.now result }
-{
-    let rate: Bit = text.parse()?;
-    Ok(rate)
 }
 
 /// Parses a limit, ignoring case. Returns `None` if the string represents no size.
@@ -46,9 +35,10 @@ pub fn limit_or(text: &str, default: Byte) -> Byte
     text.parse().unwrap_or(default)
 }
 
-/// Returns the parsed limit, or the default if parsing failed. A parse result can be passed as a parameter.
-pub fn unwrap_limit_or(parsed: Result<Byte, ParseError>, default: Byte) -> Byte
-    ensures { result ≡ result_unwrap_or parsed default }
+/// Returns the rate of a transfer in bits per second, rounded down. Returns `None` if it took no second, or the size is
+/// 10^30 bits or more.
+pub fn rate(size: Byte, seconds: usize) -> Option<Bit>
+    ensures { SomeIff result ((8 * size < size_limit) × (0 < seconds)) (8 * size / seconds) }
 {
-    parsed.unwrap_or(default)
+    Bit::from_u128(8 * size.as_u128())?.divide(seconds)
 }

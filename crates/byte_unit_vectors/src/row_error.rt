@@ -13,7 +13,7 @@ pub enum RowError {
     OpenText,
     /// A backslash begins no escape.
     Escape,
-    /// There is no call of this name with as many words, or it has a text where it should have none, or none where it
+    /// There is no call of this name with this number of words, or it has a text and should have none, or has none and
     /// should have one.
     NoCall,
     /// A word of the call is not one of those in its place, such as a number, a unit or a format string.

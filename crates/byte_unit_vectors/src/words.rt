@@ -1,4 +1,4 @@
-//! The words of calls: numbers, kinds, units and what else stands in their place.
+//! The words of calls: numbers, kinds, units and other arguments.
 
 ghost use Rattle.std.specs.Prelude.{◌≡◌, ◌⊎◌, IfOk};
 

@@ -13,7 +13,7 @@ README, GUIDE, COMMAND = "README.md", "docs/GUIDE.md", "command/README.md"
 # The languages of the blocks of README.md, which `readme` takes in this order.
 KINDS = ["text", "sh", "text", "sh", "sh", "rust", "sh", "text", "rust"]
 COMMAND_PROGRAM = "crates/byte_unit_cli/out/byte_unit_cli"
-EXAMPLE, LITERAL = "crates/example_first", "crates/byte_unit_uses/src/literal.rt"
+EXAMPLE = "crates/example_first"
 # The calls in the table of sizes of programs, as the test vectors have them.
 READ_BY = {"Byte::parse_str": 'parse byte uncased "{}"', "Byte::parse_str_binary": 'parse_binary byte uncased "{}"',
            "Byte::from_u64_with_unit": "make_in byte {} KiB", "Bit::parse_str": 'parse bit cased "{}"'}  # fmt: skip
@@ -77,8 +77,7 @@ def readme():
         wrong.append(f"{README}: the logic of rt version is {logic}")
     if not promise(README) or promise(README) != promise("docs/PROVED.md"):
         wrong.append(f"{README}: the promise is not that of docs/PROVED.md")
-    wrong += [f"{README}:{literal.line}: {LITERAL} has not\n{part}" for part in literal.text.split("\n\n")
-              if part.strip() not in read(LITERAL)]
+    wrong += [f"{README}:{literal.line}: {GUIDE} has no such block"] * (literal.text not in read(GUIDE))
     if gate.text != "rt ci\n":  # the gate runs it; all other commands are run here
         wrong.append(f"{README}:{gate.line}: a command that is not run here")
     with tempfile.TemporaryDirectory() as folder:
@@ -102,7 +101,7 @@ def installs():
 
 def guide():
     page, wrong = read(GUIDE), []
-    programs = {name for name in os.listdir(path("crates")) if name.startswith("example_")} - {"example_first"}
+    programs = {name for name in os.listdir(path("crates")) if name.startswith("example_")}
     listed = re.findall(r"^\| `(example_\w+)` \|", page, re.M)
     if sorted(listed) != sorted(programs):
         wrong.append(f"{GUIDE}: the table of programs lists {listed}, the crates are {sorted(programs)}")
@@ -112,10 +111,11 @@ def guide():
     sizes = re.findall(r"^.* \| `(.+)` \| ([\d,]+) \| `([\w:]+)`$", re.sub(r"\[(.*?)\]\(.*?\)", r"\1", page), re.M)
     said += [(READ_BY.get(name, name).format(size), number.replace(",", "")) for size, number, name in sizes]
     answers = {row.call: row.answer for row in rows()}
-    wrong += [f"{GUIDE}: no row of {FILE} says {asked} = {answer}" for asked, answer in said if answers.get(asked) != answer]
+    wrong += [f"{GUIDE}: no row of {FILE} says {asked} = {answer}"
+              for asked, answer in said if answers.get(asked) != answer]  # fmt: skip
     if not formats or not sizes:
         wrong.append(f"{GUIDE}: it has no table of format strings, or none of sizes of programs")
-    return wrong, f"{len(listed)} programs are the examples, {len(formats)} format strings and {len(sizes)} sizes of rows"
+    return wrong, f"{len(listed)} programs, {len(formats)} format strings and {len(sizes)} sizes are as in the tree"
 
 
 def command():

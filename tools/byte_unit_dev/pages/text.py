@@ -32,8 +32,6 @@ VERSIONS = [
     (RATTLE, "\n    {number:_}\n"),
     ("crates/byte_unit_command/src/arguments.rt", '.version("{version}")'),
     ("bindings/c/byte_unit.map", "\nBYTE_UNIT_{major} "),
-    ("tools/byte_unit_dev/dist/debian.py", '"libbyte-unit{major}": "exact'),
-    ("bindings/c/byte_unit.3", "which is {number} for {version}.\n"),
     ("bindings/c/README.md", "`libbyte_unit.so.{major}`"),
     ("bindings/c/Cargo.toml", '\nversion = "{version}"\n'),
     (C_EXAMPLE, '"version {version}"'),
@@ -150,6 +148,22 @@ def names():
     read_here = [page for page in pages() if page != "CHANGELOG.md"]
     found = [line for page in read_here for line in missing(page, known, ends)]
     return found, f"each name in {len(read_here)} pages is in the tree"
+
+
+def facts():
+    """Compares what two places say: the calls that may be out of memory, the statuses of `byte-unit`, the toolchain."""
+    calling, proved, wrong = "CALLING.md", "docs/PROVED.md", []
+    calls = set(re.findall(r"^fn (?:\w+::)?(\w+).*AllocError>$", pages()[calling], re.M))
+    for name, start, end in (calling, "| allocation |", "\n"), (proved, "### When out of memory", "\n## "):
+        listed = pages()[name].partition(start)[2].partition(end)[0]
+        wrong += [f"{name}: {call} is not in {start!r}" for call in sorted(calls) if f"`{call}`" not in listed]
+    forms = {"command/README.md": r"^\| (\d+) \|", "command/byte-unit.1": r"^\.It (\d+)$",
+             "crates/byte_unit_command/src/arguments.rt": r"^  (\d+) +\w"}  # fmt: skip
+    found = {name: list(dict.fromkeys(re.findall(form, read(name), re.M))) for name, form in forms.items()}
+    wrong += [f"the statuses differ: {found}"] * (len(set(map(tuple, found.values()))) > 1)
+    said = {name: re.findall(r"`(\S+ logic \w+)`", pages()[name]) for name in ("README.md", proved)}
+    wrong += [f"the toolchains differ: {said}"] * (len({one for many in said.values() for one in many}) != 1)
+    return wrong, f"{len(calls)} calls, {len(found['command/README.md'])} statuses and the toolchain are said alike"
 
 
 def version():

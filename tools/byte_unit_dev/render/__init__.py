@@ -18,12 +18,12 @@ import os
 from itertools import chain, zip_longest
 
 from ..common import Failure, path, read, reason, report, write
-from . import bindings, bits, contracts, pages, rust, rust_programs, tables
+from . import bits, contracts, pages, rust, rust_programs, tables
 
 # Each yields the name and the text of each file that it renders, or no text for one that has to go, and may end by a
 # failure for what else is wrong.
-PARTS = {"tables": tables.made, "bits": bits.made, "rust": lambda: chain(rust.made(), rust_programs.made()),
-         "bindings": bindings.made, "calling": contracts.calling, "definitions": contracts.definitions,
+PARTS = {"tables": tables.tables, "bits": bits.made, "rust": lambda: chain(rust.made(), rust_programs.made()),
+         "bindings": tables.bindings, "calling": contracts.calling, "definitions": contracts.definitions,
          "laws": pages.laws, "guide": pages.guide, "tools": pages.tools}  # fmt: skip
 
 

@@ -1,13 +1,10 @@
 """The words and rows by which byte_unit_bit is rendered from byte_unit_byte."""
 
 import functools
-import os
 import re
 import tomllib
-from pathlib import Path
 
 from ..common import Failure, files, read
-from ..source import catalogue
 
 CRATE = "byte_unit_bit"
 SOURCE, TARGET, MOST_COLUMNS = "crates/byte_unit_byte", f"crates/{CRATE}", 120
@@ -95,57 +92,26 @@ def constants(text):
     return changed
 
 
-def crate(name):
-    """Returns the sources of a crate by their names, and its mutants by their titles, those of must-fail/ first."""
-    texts = {found.removeprefix(f"{name}/"): read(found) for found in files() if found.startswith(f"{name}/")
-             and not found.endswith(("/mutants.edits", ROWS))}  # fmt: skip
-    mutants = {Path(found).stem: texts.pop(found) for found in [*texts] if re.match(r"must-fail/[^/]*\.edit$", found)}
-    more = catalogue(os.path.basename(name))
-    wrong = [found for found in texts if not found.endswith(".rt")] + [title for title in mutants if title in more]
-    if wrong:
-        raise Failure(f"{name}: neither a source file nor a mutant, or a second mutant of this title: {wrong[0]}")
-    return texts, {**mutants, **more}
-
-
-def mutants():
-    """Returns the mutants of byte_unit_bit by their titles: those of byte_unit_byte, but for those of `without`."""
-    found = {}
-    for title, text in crate(SOURCE)[1].items():
-        edited = re.match(r"file: (\S+)\n", text)
-        if not edited:
-            raise Failure(f"{SOURCE}: the first line of the mutant {title} names no file")
-        if title not in differences()["without"]:
-            in_its_file = in_bits(edited[1], text[edited.end():], is_whole=False)
-            found[named(title)] = f"file: {named(edited[1])}\n{in_its_file}"
-    return found
-
-
-def misfits(name, texts, mutants):
-    """Yields a line for each mutant of a crate that cannot be applied."""
-    for title, text in mutants.items():
-        edited = texts.get(text.partition("\n")[0].removeprefix("file: "), "")
-        for old, new in re.findall(r"^old: (.*)\nnew: ?(.*)$", text, re.M) or [(text, "")]:
-            if edited.count(old) != 1:
-                yield f"{name}: the mutant {title} cannot be applied, for this is not in its file exactly once: {old}"
-            edited = edited.replace(old, new)
+def mutant(title, text):
+    """Returns the title and text of the mutant of byte_unit_bit that is rendered from one of byte_unit_byte."""
+    first, _, pairs = text.partition("\n")
+    name = first.removeprefix("file: ")
+    return named(title), f"file: {named(name)}\n{in_bits(name, pairs, is_whole=False)}"
 
 
 def made():
-    """Each file of src/. A mutant of either crate that cannot be applied, because its old text is not in its file
-    exactly once, is a failure."""
-    texts, edits = crate(SOURCE)
+    """Yields the name and the text of each file of byte_unit_bit, those of byte_unit_byte but its mutants and ROWS."""
+    texts = {found.removeprefix(f"{SOURCE}/"): read(found) for found in files() if found.startswith(f"{SOURCE}/")
+             and found != ROWS and not found.endswith((".edit", ".edits"))}  # fmt: skip
     made_texts = {named(name): HEAD(f"{SOURCE}/{name}") + in_bits(
         name, constants(text) if name == CONSTANTS else text) for name, text in texts.items()}
-    without = differences()["without"]
-    made_edits = mutants()
-    unknown = [name for name in [*differences(), *without] if name not in {**texts, **edits, "without": without}]
-    if unknown or (len(made_texts), len(made_edits)) != (len(texts), len(edits) - len(without)):
-        raise Failure(f"{SOURCE}: two are rendered by one name, or {ROWS} has rows for what is not there: {unknown}")
+    unknown = [name for name in texts if not name.endswith(".rt")] + [*differences().keys() - texts.keys()]
+    if unknown or len(made_texts) != len(texts):
+        raise Failure(f"{SOURCE}: no source, or two are rendered by one name, or {ROWS} has rows for none: {unknown}")
     there = [name.removeprefix(f"{TARGET}/") for name in files() if name.startswith(f"{TARGET}/")]
     for name in sorted({*made_texts, *there}):
         yield f"{TARGET}/{name}", made_texts.get(name, "")
     wrong = [f"{TARGET}/{name}:{number}: more than {MOST_COLUMNS} columns: {line}" for name, text in made_texts.items()
              for number, line in enumerate(text.splitlines(), 1) if len(line) > MOST_COLUMNS]
-    wrong += [*misfits(SOURCE, texts, edits), *misfits(TARGET, made_texts, made_edits)]
     if wrong:
         raise Failure("\n".join(wrong))

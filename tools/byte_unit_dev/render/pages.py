@@ -4,12 +4,11 @@ import re
 
 from .. import tests, verbs
 from ..common import Failure, files, read, reason
-from ..source import line_of, source
+from ..pages.examples import Example, imports_of
+from ..source import SHOWN, beside, line_of, source, use_line
 
 # The files of laws, and the crate whose laws are those of bytes once more.
 LAWS, BITS = re.compile(r"crates/(\w+)/src/laws(?:/\w+)?\.rt"), "byte_unit_bit"
-# A block of code, with the comment before it that names its source.
-BLOCK = re.compile(r"(?ms)^((?:<!-- from ([^\s:]+)(?:: ([^\n]+))? -->\n)?```(\w+)\n)(.*?)^```$")
 # A line of a docstring that lists a part: its name, two spaces or more, and what it is.
 PART = re.compile(r"^ +([a-z-]+) {2,}\S", re.M)
 
@@ -50,16 +49,33 @@ def laws(page="docs/PROVED.md"):
     yield page, with_parts(page, section("Laws", "\n".join(["<!-- laws: rendered -->", "", *rows, "", *notes])))
 
 
+def whole(name, parts):
+    """Returns parts of a file with what they need to be pasted."""
+    file = source(name)
+    code = "\n".join(file.part(part) for part in parts if part != "attributes")
+    if parts[0].startswith("example"):
+        lines = imports_of(Example(name, 0, code, "byte_unit", ""))
+        uses = use_line("use byte_unit::", [line[:-1].rpartition(":")[2] for line in lines])
+    else:
+        uses = file.imports_for(code)
+        crate, _, module = name.removeprefix("crates/").partition("/src/")
+        near = beside(name, "\n".join([*uses, code]))
+        uses = [f"// src/{module} of {crate}, with {', '.join(near)}"] * bool(near) + uses
+    attributes = [file.part(part) for part in parts if part == "attributes"]
+    return "\n".join([*attributes, *["\n".join(uses) + "\n"] * bool(uses), code])
+
+
 def guide(page="docs/GUIDE.md"):
     """A comment in the line before a block, `<!-- from crates/NAME/src/FILE.rt: PART, PART -->`, names its source.
 
-    Each block of Rust has to have one. A file alone is the whole file. A part is one of
+    Each block of Rust has to have one. A file alone is the whole file. Parts have the imports that they need before
+    them, and first a comment with the files that they need beside them, so that they can be pasted. A part is one of
 
-        fn cell, struct Log     an item by its kind and name, with its attributes and without its doc comment
+        fn cell, struct Log     an item by its kind and name, or an `impl` by its head as in `impl Model for Entry`, with
+                                its attributes and without its doc comment
         fn Log::write           an item of an `impl` of the type `Log`
-        body fn left            what is between the braces of a function
         example fn Byte::add    the examples in the doc comment of an item; `example` alone: in that of the module
-        imports, attributes     the `use` and `ghost use` lines of the file; its lines `#![..]`
+        attributes              the lines `#![..]` of the file
     """
     text = read(page)
 
@@ -69,13 +85,13 @@ def guide(page="docs/GUIDE.md"):
             if not file and language == "rust":
                 raise Failure("no comment names the source of this block")
             if parts:
-                code = "\n".join(source(file).part(words.strip()) for words in parts.split(","))
+                code = whole(file, re.split(", *", parts))
             return f"{head}{read(file) if file and not parts else code}```"
         except (Failure, OSError) as failure:
             line = 1 + text.count("\n", 0, block.start())
             raise Failure(f"{page}:{line}: {reason(failure)}") from None
 
-    yield page, BLOCK.sub(with_code, text)
+    yield page, SHOWN.sub(with_code, text)
 
 
 def tools(page="CONTRIBUTING.md"):

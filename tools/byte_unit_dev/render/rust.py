@@ -6,7 +6,7 @@ from collections import namedtuple
 from concurrent.futures import ThreadPoolExecutor
 
 from ..common import Failure, call, files, path, read
-from ..source import QUOTED, sources
+from ..source import QUOTED, Source, sources
 from .rust_rules import (
     ALONE, ATTRIBUTES, BY_HAND, CLAUSE, COMMENT_FORMS, CONST, CONST_FORMS, DERIVED, EXAMPLE_FORMS, FORMS, HIDDEN,
     INLINED, ITEMS_LEFT_OUT, LEFT_OUT, NAMES_LEFT_OUT, PRELUDE, PUBLIC, STD, TRAITS, UNKNOWN,
@@ -32,7 +32,7 @@ def blanked(text):
     return QUOTED.sub(lambda found: re.sub(r"[^\n]", " ", found[0]), text)
 
 
-class Rendered:
+class Rendered(Source):
     """A file while it is rendered. A line that is dropped leaves a mark, so that each place keeps its line."""
 
     MARK = "\0\n"
@@ -42,18 +42,6 @@ class Rendered:
         self.name, self.text, self.crate = name, re.sub(r"\A// Rendered.*", "", read(name)), crate
         # The text with spaces for comments, strings and characters.
         self.code = blanked(self.text)
-
-    def wrong(self, place, why):
-        return Failure(f"{self.name}:{1 + self.text.count(chr(10), 0, place)}: {why}")
-
-    def closing(self, start, code):
-        """Returns the place after the bracket that closes the one at `start`."""
-        depth = 0
-        for found in re.compile(r"[(\[{]|[)\]}]").finditer(code, start):
-            depth += 1 if found[0] in "([{" else -1
-            if depth == 0:
-                return found.end()
-        raise self.wrong(start, "a bracket is not closed")
 
     def put(self, start, end, new):
         """Replaces a part. Lines that are fewer are marked at its end."""
@@ -81,17 +69,57 @@ class Rendered:
         if attribute not in self.text[self.above(start, ("#[",)):start]:
             self.put(start, start, attribute + " ")
 
-    def end_of_item(self, start, code):
+    def end_of_item(self, start):
         """Returns the place after an item: its `;`, or the brace of its body."""
+        code = self.code
         found = re.compile(r"[;{]").search(code, start)
         while found[0] == ";" and code.count("(", start, found.start()) > code.count(")", start, found.start()):
             found = re.compile(r"[;{]").search(code, found.end())
-        return found.end() if found[0] == ";" else self.closing(found.start(), code)
+        return found.end() if found[0] == ";" else self.closing(found.start())
 
     def each(self, pattern, change):
         """Calls a function with each match in the code, the last first."""
         for found in reversed([*re.finditer(pattern, self.code, re.M)]):
             change(found)
+
+    def drop_item(self, found):
+        """Drops the item that a match begins, with its comments and attributes."""
+        self.drop(self.above(found.start(), ("//", "#[")), self.end_of_item(found.start()))
+
+    def rewrite(self, forms):
+        """Rewrites forms: each is a pattern, what is in its place, and why."""
+        for pattern, new, _ in forms:
+            self.each(pattern, lambda found, new=new: self.put(found.start(), found.end(), found.expand(new)))
+
+    def uses(self, target):
+        """Rewrites each `use`. For a match, a name and whether it is of a module here, `target` returns its path, or
+        None if the name is dropped."""
+        modules = re.findall(r"^ *(?:pub(?:\(\w+\))? )?mod (\w+);", self.code, re.M)
+
+        def change(found):
+            start, names = re.fullmatch(r"([^{]*)(?:\{(.*)\})?", found[2], re.S).groups()
+            groups = {}
+            for name in re.split(r",\s*", names.strip(" ,\n")) if names else [""]:
+                whole, as_, other = (start + name).partition(" as ")
+                path = target(found, whole, whole.partition("::")[0] in modules)
+                if path:
+                    parent, _, last = path.rpartition("::")
+                    groups.setdefault(parent, []).append(last + as_ + other)
+            lines = [f"{found[1]}use {parent}::{{{', '.join(last)}}};" for parent, last in groups.items()]
+            (self.put if lines else self.drop)(found.start(), found.end(), *[" ".join(lines)] * bool(lines))
+
+        self.each(r"^((?:pub(?:\(\w+\))? )?)use ([^;]+);", change)
+
+    def known(self, unknown):
+        """Checks that nothing is left in the code that no rule knows."""
+        found = unknown.search(self.code)
+        if found:
+            line = self.text.splitlines()[self.text[:found.start()].count("\n")]
+            raise self.wrong(found.start(), f"a form that no rule knows: {line.strip()}")
+
+    def finished(self, text):
+        """Returns the text of the file, before rustfmt."""
+        return HEAD(self.name) + re.sub(r"\n{3,}", "\n\n", text.replace(self.MARK, "")).lstrip("\n")
 
 
 def without_proofs(file):
@@ -100,18 +128,18 @@ def without_proofs(file):
         if found[2] not in ATTRIBUTES:
             raise file.wrong(found.start(), f"an attribute that no rule knows: {found[0].strip()}")
         if not ATTRIBUTES[found[2]]:
-            file.drop(found.start(), file.closing(found.start(1), file.code))
+            file.drop(found.start(), file.closing(found.start(1)))
 
     def ghost(found):
         code, end = file.code, found.end()
         while code[end] != ";":
-            end = file.closing(end, code) if code[end] in "([{" else end + 1
+            end = file.closing(end) if code[end] in "([{" else end + 1
         file.drop(file.above(found.start(), ("// ",)), end + 1)
 
     def clause(found):
         before = file.code[:found.start()]
         method = found[1] == "requires" and re.search(r"^ +pub (?:const )?fn [^;{}]*\Z", before, re.M)
-        file.drop(file.above(found.start(), ("// ",)), file.closing(found.end(), file.code))
+        file.drop(file.above(found.start(), ("// ",)), file.closing(found.end()))
         if method:
             file.mark(method.start(), "#[doc(hidden)]")
 
@@ -124,15 +152,12 @@ def without_proofs(file):
 
 def without_items(file):
     """Drops the items of `ITEMS_LEFT_OUT`, and private constants that nothing else has used."""
-    def item(found):
-        file.drop(file.above(found.start(), ("//", "#[")), file.end_of_item(found.start(), file.code))
-
     def constant(found):
         if len(re.findall(rf"\b{found[1]}\b", file.code)) == 1:
-            item(found)
+            file.drop_item(found)
 
     for pattern in ITEMS_LEFT_OUT:
-        file.each(rf"^(?:#\[\S*\])? *(?:{pattern})", item)
+        file.each(rf"^(?:#\[\S*\])? *(?:{pattern})", file.drop_item)
     file.each(r"^const (\w+)", constant)
 
 
@@ -168,34 +193,18 @@ def path_of(name, crate):
 
 def imports(file):
     """Rewrites `use`, without names that nothing but proofs has used."""
-    modules = re.findall(r"^ *(?:pub(?:\(\w+\))? )?mod (\w+);", file.code, re.M)
-
     def is_used(name):
         word = r"[iu]\d+x\d+" if name == "*" else name
         return name in TRAITS or len(re.findall(rf"\b{word}\b", file.code)) > (name != "*")
 
-    def change(found):
-        start, *names = [part for part in re.split(r"[{},\s]+", found[2]) if part]
-        given = [start + name for name in names] or [start]
-        is_local = start.partition("::")[0] in modules
+    def target(found, name, is_local):
         try:
-            new = [name if is_local else path_of(name, file.crate) for name in given
-                   if not NAMES_LEFT_OUT.fullmatch(name)]  # fmt: skip
+            path = None if NAMES_LEFT_OUT.fullmatch(name) else name if is_local else path_of(name, file.crate)
         except Failure as failure:
             raise file.wrong(found.start(), failure) from None
-        groups = {}
-        for each in filter(None, new):
-            parent, _, name = each.rpartition("::")
-            if found[1] or is_used(name):
-                groups.setdefault(parent, []).append(name)
-        lines = [f"{found[1]}use {parent}::{', '.join(names).join('{}' if len(names) > 1 else ['', ''])};"
-                 for parent, names in groups.items()]  # fmt: skip
-        if lines:
-            file.put(found.start(), found.end(), " ".join(lines))
-        else:
-            file.drop(found.start(), found.end())
+        return path if path and (found[1] or is_used(path.rpartition("::")[2])) else None
 
-    file.each(r"^((?:pub(?:\(\w+\))? )?)use ([^;]+);", change)
+    file.uses(target)
 
 
 def paths(file):
@@ -233,7 +242,7 @@ def exports(file):
 def calls_of_exports(file, exported):
     """Passes slices to a function of the C API as it takes them."""
     def change(found):
-        end = file.closing(found.end() - 1, file.code)
+        end = file.closing(found.end() - 1)
         given = [part.strip() for part in file.text[found.end():end - 1].split(",")]
         wanted = exported[found[1]]
         new = [f"{part}.as_{'mut_' * (kind == 'mut')}ptr(), {part}.len()" if kind else part
@@ -241,12 +250,6 @@ def calls_of_exports(file, exported):
         file.put(found.end(), end - 1, ", ".join(new))
 
     file.each(rf"(?<!fn )\b({'|'.join(exported)})\(", change)
-
-
-def forms(file):
-    """Rewrites the forms of `FORMS`."""
-    for pattern, new, _ in FORMS:
-        file.each(pattern, lambda found, new=new: file.put(found.start(), found.end(), found.expand(new)))
 
 
 def functions(file):
@@ -257,7 +260,7 @@ def functions(file):
     def change(found):
         if found[3] in constant:
             start = file.code.index("{", found.end())
-            end = file.closing(start, file.code)
+            end = file.closing(start)
             body = file.text[start:end]
             for pattern, new in CONST_FORMS:
                 body = re.sub(pattern, new, body)
@@ -294,14 +297,6 @@ def examples(file):
     return re.sub(r"^( *//[/!] )```rust\n((?:\1?.*\n)*?)\1```\n", change, file.text, flags=re.M)
 
 
-def known(file):
-    """Checks that nothing is left that no rule knows."""
-    found = UNKNOWN.search(file.code)
-    if found:
-        line = file.text[:found.start()].count("\n")
-        raise file.wrong(found.start(), f"a form that no rule knows: {file.text.splitlines()[line].strip()}")
-
-
 def rendered(name, crate, exported):
     """Returns the text of a file in Rust, before rustfmt."""
     file = Rendered(name, crate)
@@ -310,10 +305,10 @@ def rendered(name, crate, exported):
     if exported:
         calls_of_exports(file, exported)
         exports(file)
-    for step in (forms, functions, known):
-        step(file)
-    text = examples(file).replace(Rendered.MARK, "")
-    return HEAD(name) + re.sub(r"\n{3,}", "\n\n", text).lstrip("\n")
+    file.rewrite(FORMS)
+    functions(file)
+    file.known(UNKNOWN)
+    return file.finished(examples(file))
 
 
 def formatted(text):
@@ -349,14 +344,18 @@ def exports_of(crate):
     return found
 
 
+def files_of(texts, *folders):
+    """Yields each file that is rendered, as rustfmt has it, or that is in the folders, and then has no text."""
+    with ThreadPoolExecutor() as pool:
+        texts = dict(zip(texts, pool.map(formatted, texts.values())))
+    for name in sorted({*texts, *(name for name in files() if name.startswith(folders))}):
+        yield name, texts.get(name, "")
+
+
 def made():
     """Each file of the two folders."""
     texts = {MODULES: LAYERS_MODULE}
     for crate in HOMES:
         exported = exports_of(crate) if crate == "byte_unit_c" else {}
         texts |= {target(name, crate): rendered(name, crate, exported) for name in sources_of(crate)}
-    with ThreadPoolExecutor() as pool:
-        texts = dict(zip(texts, pool.map(formatted, texts.values())))
-    there = [name for name in files() if name.startswith(FOLDERS)]
-    for name in sorted({*texts, *there}):
-        yield name, texts.get(name, "")
+    yield from files_of(texts, *FOLDERS)

@@ -6,7 +6,7 @@ names that Rattle's std and clap have, with their calls (`rattle` and `clap`), a
 
 import re
 
-from ..common import files, read
+from ..common import read
 from ..source import sources
 from . import rust, rust_rules
 
@@ -100,34 +100,19 @@ def without_items(file):
 
 def imports(file):
     """Rewrites `use`, and adds the names that every file of Rattle has."""
-    modules = re.findall(r"^ *(?:pub(?:\(\w+\))? )?mod (\w+);", file.code, re.M)
-
-    def change(found):
-        start, names = re.fullmatch(r"([\w:]*?)(?:\{(.*)\}|(\w+|\*)(?: as \w+)?)", found[2], re.S).group(1, 2)
-        groups = {}
-        for name in re.split(r",\s*", names.strip(" ,\n")) if names else [found[2].removeprefix(start)]:
-            whole, as_, other = (start + name).partition(" as ")
-            if whole not in TRAITS_LEFT_OUT:
-                is_local = whole.partition("::")[0] in modules
-                at = f"{file.module}::{whole}" if is_local else file.path_of(whole, found.start())
-                parent, _, last = at.rpartition("::")
-                groups.setdefault(parent, []).append(last + as_ + other)
-        file.put(found.start(), found.end(), " ".join(map(used(found[1]), groups.items())))
+    def target(found, name, is_local):
+        if name not in TRAITS_LEFT_OUT:
+            return f"{file.module}::{name}" if is_local else file.path_of(name, found.start())
 
     # Rustc has this function without the module from 1.87 on.
     needs_str = re.search(r"\bstr::from_utf8\b", file.code) and "use std::str;" not in file.code
-    file.each(r"^((?:pub(?:\(\w+\))? )?)use ([^;]+);", change)
+    file.uses(target)
     names = [name for name in PRELUDE if re.search(rf"\b{name}" + r"\b" * name[-1].isalpha(), file.code)]
-    own = [used("")(("crate::rattle", [name.strip("!") for name in names]))] if names else []
+    own = [f"use crate::rattle::{{{', '.join(name.strip('!') for name in names)}}};"] if names else []
     own += ["use std::str;"] * bool(needs_str)
     first = re.search(r"^use ", file.code, re.M)
     place = first.start() if first else re.match(r"(?:\s*//!.*\n)+", file.text).end()
     file.put(place, place, " ".join(own) + "\n" * (not first))
-
-
-def used(before):
-    """Returns what makes a `use` of a path and the names below it."""
-    return lambda group: f"{before}use {group[0]}::{{{', '.join(group[1])}}};"
 
 
 def paths(file):
@@ -142,18 +127,13 @@ def rendered(name, crate, facade):
     file = Program(name, crate, facade)
     without_items(file)
     rust.without_proofs(file)
-    file.each(r"^impl(?:<[^>]*>)? Model for", lambda found: file.drop(
-        file.above(found.start(), ("//", "#[")), file.end_of_item(found.start(), file.code)))
+    file.each(r"^impl(?:<[^>]*>)? Model for", file.drop_item)
     rust.derived(file)
     imports(file)
     paths(file)
-    for pattern, new, _ in FORMS:
-        file.each(pattern, lambda found, new=new: file.put(found.start(), found.end(), new))
-    unknown = UNKNOWN.search(file.code)
-    if unknown:
-        raise file.wrong(unknown.start(), f"a form that no rule knows: {unknown[0]}")
-    text = file.text.replace(rust.Rendered.MARK, "").replace(" (proved at every call)", "")
-    return rust.HEAD(name) + re.sub(r"\n{3,}", "\n\n", text).lstrip("\n")
+    file.rewrite(FORMS)
+    file.known(UNKNOWN)
+    return file.finished(file.text.replace(" (proved at every call)", ""))
 
 
 def target(name):
@@ -170,6 +150,4 @@ def made():
         names = [file.name for file in sources(crate)]
         texts |= {target(name): rendered(name, crate, facade) for name in names
                   if not left_out.search(name.removeprefix(f"crates/{crate}/src"))}
-    there = [name for name in files() if name.startswith(f"{FOLDER}/")]
-    for name in sorted({*texts, *there}):
-        yield name, name in texts and rust.formatted(texts[name]) or ""
+    yield from rust.files_of(texts, f"{FOLDER}/")

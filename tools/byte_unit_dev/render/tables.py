@@ -1,14 +1,40 @@
-"""The tables of the crates that follow from the table of prefixes and the lists of expected characters: the positions
-of prefix letters by their byte, and for C the bytes of the characters and the rest of each message."""
+"""What follows from the table of prefixes and the lists of expected characters: in the bindings the codes of units in
+C's header and the letters for JavaScript; in crates the positions of prefix letters by their byte, and for C the bytes
+of the characters and the rest of each message."""
 
 import re
 from itertools import zip_longest
 
-from ..source import source
-from .bindings import SCAN, TABLES, expected, prefixes
+from ..source import line_of, source
 from .pages import with_parts
 
+TABLES, SCAN = "crates/byte_unit_base/src/unit/tables.rt", "crates/byte_unit_base/src/unit/scan.rt"
+HEADER, JAVASCRIPT = "bindings/c/byte_unit.h", "bindings/js/library.js"
 ERROR, MESSAGE = "crates/byte_unit_c/src/error.rt", "crates/byte_unit_c/src/message.rt"
+
+
+def prefixes():
+    """Returns the letter of each prefix, and its units in the order of their codes."""
+    rows = re.findall(r"'(\w)' ((?:\w+ ){4})\d", source(TABLES).part("macro_rules! with_prefixes"))
+    return {letter: units.split() for letter, units in rows}
+
+
+def in_lines(form):
+    """Returns the units in a form, those of a prefix in a line."""
+    return ",\n".join("    " + ", ".join(map(form, row)) for row in [["Bit", "B"], *prefixes().values()])
+
+
+def expected():
+    """Returns the lists of expected characters, in the order of the variants."""
+    body = source(SCAN).part("body fn Expected::characters").replace("&BEGINNING", str(["B", *prefixes()]))
+    return [re.findall(r"'(\w)'", row) for row in re.findall(r"\[[^\]]+\]", line_of(body))]
+
+
+def bindings():
+    codes = in_lines(lambda unit: f"BYTE_UNIT_{unit.upper()}")
+    yield HEADER, with_parts(HEADER, (r"The codes of the units\. \*/\nenum \{\n", r"\n\};", codes))
+    letters = "".join(prefixes())
+    yield JAVASCRIPT, with_parts(JAVASCRIPT, (r'^const PREFIXES = \[\.\.\."', r'"\];', letters))
 
 
 def positions():
@@ -30,7 +56,7 @@ def rest(characters, or_end):
     return f"' is incorrect ({' or '.join(filter(None, named))} is expected)"
 
 
-def made():
+def tables():
     names = re.findall(r"Expected::(\w+) =>", source(SCAN).part("body fn Expected::characters"))
     (no_end,) = re.findall(r"!matches!\(self, Expected::(\w+)\)", source(SCAN).part("body fn Expected::or_end"))
     lists = dict(zip_longest(names, expected(), fillvalue=[]))

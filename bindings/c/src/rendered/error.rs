@@ -3,7 +3,7 @@
 //! The errors of parsing in the C API: a code, and a struct of details.
 
 use crate::rendered::values::DecimalParts;
-use byte_unit::rendered::base::{Expected, UnitParseError, ValueParseError};
+use byte_unit::rendered::base::{Expected, ValueParseError};
 
 /// The details of a parse error. A field that the error's code does not use is zero.
 #[repr(C)]
@@ -68,15 +68,8 @@ impl Error {
         }
     }
 
-    /// Returns the details of an error in the unit, at a position. Its code is `UNIT`.
-    pub fn of_unit(error: UnitParseError, position: usize) -> Error {
-        let expected = expected_bytes(error.expected_characters);
-        let may_end = error.also_expect_no_character;
-        Error::of_unit_parts(error.character, expected, may_end, position)
-    }
-
     /// Returns the details of an error in the unit, from its character, the bytes of the expected characters, whether
-    /// the string could end there, and the position.
+    /// the string could end there, and the position. Its code is `UNIT`.
     pub fn of_unit_parts(character: char, expected: [u8; 16], may_end: bool, position: usize) -> Error {
         Error {
             character: character as u32,
@@ -95,17 +88,8 @@ impl Error {
     }
 }
 
-/// Returns the first 15 characters as bytes, padded with zeros to 16, so that C can read them as a string. The parsers
-/// expect at most ten characters, all of them ASCII.
-pub fn expected_bytes(characters: &[char]) -> [u8; 16] {
-    let mut bytes = [0; 16];
-    for i in 0..characters.len().min(15) {
-        bytes[i] = as_byte(characters[i]);
-    }
-    bytes
-}
-
-/// Returns the characters that an error names as expected, as `expected_bytes` returns them.
+/// Returns the characters that an error names as expected, all of them ASCII, padded with zeros to 16 bytes, so that C
+/// can read them as a string.
 pub fn bytes_of(expected: Expected) -> [u8; 16] {
     EXPECTED_BYTES[index_of(expected)]
 }
@@ -135,8 +119,3 @@ static EXPECTED_BYTES: [[u8; 16]; 8] = [
     *b"s\0\0\0\0\0\0\0\0\0\0\0\0\0\0\0",
     [0; 16],
 ];
-
-/// Returns an ASCII character as its byte, and `?` for any other character.
-fn as_byte(c: char) -> u8 {
-    if c.is_ascii() { c as u8 } else { b'?' }
-}

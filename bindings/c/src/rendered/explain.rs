@@ -5,8 +5,7 @@
 use crate::rendered::flags::{ParseFlags, binary_flags_at, parse_flags_at};
 use crate::rendered::message::{write_message, write_not_utf8, write_unit_message, write_unknown_flag};
 use crate::rendered::parse::{read_unit, unit_flags};
-use byte_unit::rendered::base::size::Outcome;
-use byte_unit::rendered::base::{Flags, ParseError, Reason, error_at, size};
+use byte_unit::rendered::base::{Flags, ParseError, Reason, Stop, size};
 
 /// Writes the error message for a string that is rejected to the start of `out`, and returns its length, at most 256
 /// bytes. Returns the length and writes nothing if `out` is shorter. Returns 0 if and only if all flags are known and
@@ -35,13 +34,11 @@ pub extern "C" fn byte_unit_explain(
 
 /// Explains as `byte_unit_explain` does, with known flags. With `BINARY` a decimal prefix means the binary one.
 fn explain_as<const BINARY: bool>(text: &[u8], asked: ParseFlags, out: &mut [u8]) -> usize {
-    match size::read_bytes(text, asked.ignore_case, asked.kind) {
-        Outcome::Accepted(unit, number) => explain_size(size::size_of::<BINARY>((number, unit), asked.kind), out),
-        Outcome::Stopped(reason, place) => match size::visible_next(text, place) {
-            Some(next) => {
-                let flags = size::flags_for(asked.kind, asked.ignore_case);
-                write_stop_message(next, place == 0, reason, flags, out)
-            }
+    let flags = size::flags_for(asked.kind, asked.ignore_case);
+    match size::read_bytes(text, flags) {
+        Ok(found) => explain_size(size::size_of::<BINARY>((found.1, found.0), asked.kind), out),
+        Err(stop) => match size::visible_stop(text, stop) {
+            Some(seen) => write_stop_message(seen, flags, out),
             None => explain_string::<BINARY>(text, asked, out),
         },
     }
@@ -51,28 +48,22 @@ fn explain_as<const BINARY: bool>(text: &[u8], asked: ParseFlags, out: &mut [u8]
 #[cold]
 #[inline(never)]
 fn explain_string<const BINARY: bool>(text: &[u8], asked: ParseFlags, out: &mut [u8]) -> usize {
-    match size::read_text(text, asked.ignore_case, asked.kind) {
+    let flags = size::flags_for(asked.kind, asked.ignore_case);
+    match size::read_text(text, flags) {
+        Some(Ok(found)) => explain_size(size::size_of::<BINARY>((found.1, found.0), asked.kind), out),
+        Some(Err(stop)) => write_stop_message(stop, flags, out),
         None => write_not_utf8(out),
-        Some(Ok(found)) => {
-            let (unit, number) = found;
-            explain_size(size::size_of::<BINARY>((number, unit), asked.kind), out)
-        }
-        Some(Err(stopped)) => {
-            let (stop, next) = stopped;
-            let flags = size::flags_for(asked.kind, asked.ignore_case);
-            write_stop_message(next, stop.place == 0, stop.reason, flags, out)
-        }
     }
 }
 
-/// Writes the message of the error of a parser that stops for this reason, by the character there.
+/// Writes the message of the error of a string in which the parser stops here.
 ///
 /// `#[inline(always)]`: a call costs a rejected text some 25 instructions.
 #[inline(always)]
-fn write_stop_message(next: Option<char>, at_start: bool, reason: Reason, flags: Flags, out: &mut [u8]) -> usize {
-    match reason {
-        Reason::InUnit(stop) => write_unit_message(stop, next, flags, out),
-        _ => write_message(&error_at(next, at_start, reason, flags), out),
+fn write_stop_message(stop: Stop, flags: Flags, out: &mut [u8]) -> usize {
+    match stop.reason {
+        Reason::InNumber(reason) => write_message(&ParseError::Value(reason.error_before(stop.next)), out),
+        Reason::InUnit(reason) => write_unit_message(reason, stop.next, flags, out),
     }
 }
 

@@ -2,7 +2,7 @@
 
 //! Where a string that is rejected is wrong.
 
-use byte_unit::rendered::base::{ParseError, Unit, ValueParseError, position};
+use byte_unit::rendered::base::{Unit, size};
 use core::str;
 
 /// Writes the index in bytes of the first wrong character of a string that `byte_unit_parse_to` rejects: up to there
@@ -18,7 +18,7 @@ use core::str;
 pub extern "C" fn byte_unit_error_position(text: *const u8, text_len: usize, position: &mut usize) -> bool {
     let text = unsafe { crate::slices::slice(text, text_len) };
     match str::from_utf8(text) {
-        Ok(text) => write_position(position::of_size_error(text), position),
+        Ok(text) => write_position(size::error_position(text), position),
         Err(_) => false,
     }
 }
@@ -45,27 +45,4 @@ fn write_position(found: Option<usize>, position: &mut usize) -> bool {
         }
         None => false,
     }
-}
-
-/// Returns the position of the error of a string, or 0 if only its size is too large.
-#[inline(always)]
-pub fn of_error(text: &[u8], error: &ParseError) -> usize {
-    match error {
-        ParseError::Value(value) => match value {
-            ValueParseError::ExceededBounds(_) => 0,
-            _ => of_size(text),
-        },
-        ParseError::Unit(_) => of_size(text),
-    }
-}
-
-/// Returns the position of the error of a string, or 0 if it is a number and a unit.
-///
-/// `#[cold]`, and not inlined: the string is parsed once more, and few callers reach this.
-#[cold]
-#[inline(never)]
-fn of_size(text: &[u8]) -> usize {
-    let mut place = 0;
-    byte_unit_error_position(text.as_ptr(), text.len(), &mut place);
-    place
 }

@@ -5,7 +5,7 @@ use std::fs::File;
 use std::os::fd::AsFd;
 use std::sync::OnceLock;
 
-pub use std::io::{Error, ErrorKind, Read, Result, Write};
+pub use std::io::{Error, ErrorKind, Read, Result, Write, sink};
 
 /// What a program does outside itself.
 pub struct HostRuntime;

@@ -19,7 +19,7 @@ use crate::rendered::command::run::run;
 use crate::rendered::command::streams::Streams;
 use crate::rendered::command::values::values_of;
 use crate::rendered::command::wrong::{ValueError, Wrong, escaped_lines, with_marks};
-use crate::rendered::stream::{FusedReader, FusedWriter};
+use crate::rendered::stream::{Reading, Writing};
 use std::process::ExitCode;
 
 /// The exit status if a write failed, or if the call was out of memory.
@@ -35,10 +35,10 @@ const CLOSED: u8 = 141;
 /// Converts what `input` gives, and returns the exit status.
 fn convert<R: Read>(rt: &HostRuntime, options: &Options, word: &'static str, input: R) -> u8 {
     let mut streams = Streams {
-        reader: FusedReader::new(input),
+        reader: Reading::new(input),
         word,
-        writer: FusedWriter::new(io::writer(rt)),
-        errors: FusedWriter::new(rt.stderr()),
+        writer: Writing::new(io::writer(rt)),
+        errors: Writing::new(rt.stderr()),
     };
     let ended = run(rt.alloc(), options, &mut streams);
     if let Err(error) = ended {

@@ -11,7 +11,7 @@ use crate::rattle::{env, io};
 use crate::rendered::lines::ending::{Ending, serve};
 pub use crate::rendered::lines::ending::{fault_words, kind_of};
 pub use crate::rendered::lines::report::{RunError, run};
-pub use crate::rendered::stream::{FusedReader as Reading, FusedWriter as Writing};
+pub use crate::rendered::stream::{Reading, Writing};
 pub use byte_unit::rendered::base::Kind;
 use std::process::ExitCode;
 

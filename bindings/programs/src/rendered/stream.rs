@@ -4,9 +4,10 @@
 //! reader and a writer in memory, for tests.
 
 mod reader;
+pub mod run;
 mod search;
 mod writer;
 
-pub use crate::rendered::stream::reader::FusedReader;
+pub use crate::rendered::stream::reader::Reading;
 pub use crate::rendered::stream::search::end_of;
-pub use crate::rendered::stream::writer::{FusedWriter, write_whole};
+pub use crate::rendered::stream::writer::{Writing, write_whole};

@@ -51,8 +51,14 @@ class SizeError(ByteUnitError):
       the end of the text if `also_expect_no_character` is true.
     - `not_utf8`: the text has bytes that are not UTF-8, or a lone surrogate.
 
-    `character` and `number` are `None` if the name does not use them. `row` is the place of the text in a column, if
-    `parse_many` or `parse_buffers` raises the error; then the message has it too.
+    `character` and `number` are `None` if the name does not use them.
+
+    `position` is the index in `text` of the first wrong character, which no size, or unit, can have there; in `bytes`
+    that of a byte. If the text ends too early, it is the index of its end, before white space there; of white space
+    alone, its length. It is `None` if only the size is too large, and for `not_utf8`.
+
+    `row` is the place of the text in a column, if `parse_many` or `parse_buffers` raises the error; then the message
+    has it too.
 
     An instance can be pickled and copied.
     """
@@ -61,6 +67,7 @@ class SizeError(ByteUnitError):
 
     # The extension module sets all fields itself but those that are `None`, without a call of `__init__`.
     text: "str | bytes | None" = None
+    position: "int | None" = None
     row: "int | None" = None
     character: "str | None" = None
     number: "Decimal | None" = None
@@ -77,22 +84,16 @@ class SizeError(ByteUnitError):
     ) -> None:
         """Creates the error. All arguments are in `args`, from which it is pickled and copied."""
         super().__init__(reason, name, character, expected, also_expect_no_character, number)
-        self.name = name
         self.character = character
         self.expected = expected
         self.also_expect_no_character = also_expect_no_character
         self.number = number
 
     @property
-    def position(self) -> "int | None":
-        """The index in `text` of the first wrong character, which no size, or unit, can have there.
-
-        If the text ends too early, it is the index of its end, before white space there; of white space alone, its
-        length. It is `None` if only the size is too large, and for `not_utf8`. In `bytes` it is the index of a byte.
-        """
-        import byte_unit._native  # which imports this module
-
-        return None if self.text is None else byte_unit._native.position(self.text, bool(self._of_unit))
+    def name(self) -> str:
+        """The name of the code. It is read from `args`, so that the dictionary of an error has at most five fields."""
+        name: str = self.args[1]
+        return name
 
     def __str__(self) -> str:
         """Returns the message, which is the reason alone if there is no text."""

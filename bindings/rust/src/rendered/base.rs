@@ -7,15 +7,14 @@
 pub use crate::rendered::base::errors::{ExceededBoundsError, ParseError, UnitParseError, ValueParseError};
 pub use crate::rendered::base::kind::Kind;
 pub use crate::rendered::base::read::read_size;
-pub use crate::rendered::base::read::stop::{Reason, Stop, error_at};
+pub use crate::rendered::base::read::stop::{ByteStop, NumberStop, Reason, Stop, error_at};
+pub use crate::rendered::base::unit::parse::read_unit_text;
 pub use crate::rendered::base::unit::scan::{Expected, Flags, UnitStop};
 pub use crate::rendered::base::unit::tables::{PREFIXES, prefix_letter, unit_at};
 pub use crate::rendered::base::unit::{Unit, unit_with_prefix};
 
-pub mod binary;
 mod errors;
 mod kind;
-pub mod position;
 mod read;
 pub mod size;
 mod unit;

@@ -1,7 +1,7 @@
 //! Vectors of a few lanes, as arrays, with the few calls that are used; those on all bytes go by words of eight.
 #![allow(non_camel_case_types)]
 
-use core::ops::{BitOr, Sub};
+use core::ops::BitOr;
 
 /// A vector of `N` lanes.
 #[derive(Clone, Copy, Debug, PartialEq, Eq)]
@@ -51,16 +51,7 @@ impl<T: Copy + Default, const N: usize> Lanes<T, N> {
     /// Returns the vector of the first lanes of a slice. Panics if it is shorter.
     #[inline(always)]
     pub fn from_slice(slice: &[T]) -> Self {
-        match slice.first_chunk() {
-            Some(lanes) => Lanes(*lanes),
-            None => panic!("{} lanes of a slice of {}", N, slice.len()),
-        }
-    }
-
-    /// Writes the lanes to the beginning of a slice. Panics if it is shorter.
-    #[inline(always)]
-    pub fn copy_to_slice(self, slice: &mut [T]) {
-        slice[..N].copy_from_slice(&self.0);
+        Lanes(*slice.first_chunk().expect("a slice with a lane for each"))
     }
 }
 
@@ -107,15 +98,6 @@ impl<const N: usize> BitOr for Lanes<u8, N> {
     #[inline(always)]
     fn bitor(self, other: Self) -> Self {
         Lanes(from_fn(|lane| self.0[lane] | other.0[lane]))
-    }
-}
-
-impl<const N: usize> Sub for Lanes<u8, N> {
-    type Output = Self;
-
-    #[inline(always)]
-    fn sub(self, other: Self) -> Self {
-        Lanes(from_fn(|lane| self.0[lane].wrapping_sub(other.0[lane])))
     }
 }
 

@@ -1,13 +1,18 @@
 //! The parser of a unit in a string.
 
 ghost use Rattle.byte_unit_base.specs.Spelling.{flags_of};
+ghost use Rattle.byte_unit_base.specs.Outcome.{IsUnitOrStop};
 
-use crate::unit::scan::Flags;
-use crate::{Unit, UnitParseError, position};
+use crate::read::leading_len;
+use crate::read::number::read_unit;
+use crate::read::stop::first_char;
+use crate::unit::scan::{Flags, UnitStop};
+use crate::{Unit, UnitParseError};
 use std::str::FromStr;
 
 impl Unit {
     ghost use Rattle.byte_unit_base.specs.Readings.{IsUnitReading};
+    ghost use Rattle.byte_unit_base.specs.ErrorPosition.{IsUnitPosition};
 
     /// Parses a unit from a string. White space at its ends is ignored.
     ///
@@ -34,12 +39,60 @@ impl Unit {
             ignore_case,
             prefer_byte,
         };
-        match position::read_unit_text(s, flags) {
+        match read_unit_text(s, flags) {
             Ok(unit) => Ok(unit),
             Err(stopped) => {
                 let (stop, next, _) = stopped;
                 Err(stop.error_before(next, flags))
             }
+        }
+    }
+
+    /// Returns the index in bytes of the first wrong character of a string that [`Unit::parse_str`] rejects: up to
+    /// there the string, without the white space at its ends, begins a unit, and with that character it begins none.
+    /// If it ends too early, the index is that of its end, before white space there; of white space alone, its length.
+    ///
+    /// Returns `None` if the string spells a unit. The index does not depend on the options of `parse_str`.
+    ///
+    /// # Examples
+    /// ```rust
+    /// assert_eq!(rt; Unit::error_position("Kix"), Some(2));
+    /// assert_eq!(rt; Unit::error_position(" bi "), Some(3));
+    /// assert_eq!(rt; Unit::error_position("Kib"), None);
+    /// ```
+    pub fn error_position(s: &str) -> Option<usize>
+        ensures { IsUnitPosition s.now result }
+    {
+        match read_unit_text(s, Flags::ANY) {
+            Ok(_) => None,
+            Err(stopped) => Some(stopped.2),
+        }
+    }
+}
+
+/// Parses a unit as [`Unit::parse_str`] does, and leaves the error to be made by [`UnitStop::error_before`].
+///
+/// # Errors
+/// Returns what was read before the parser stops, the character there, or `None` at the end, and the position, as
+/// [`Unit::error_position`] returns it.
+///
+/// # Examples
+/// ```rust
+/// let flags = size::flags_for(Kind::Byte, false);
+/// assert!(rt; matches!(read_unit_text("KiB", flags), Ok(Unit::KiB)));
+/// assert!(rt; matches!(read_unit_text(" Kix", flags), Err((_, Some('x'), 3))));
+/// ```
+#[inline(always)]
+pub fn read_unit_text(s: &str, flags: Flags) -> Result<Unit, (UnitStop, Option<char>, usize)>
+    ensures { IsUnitOrStop flags s.now result }
+{
+    let text = s.trim();
+    let bytes = text.as_bytes();
+    match read_unit(bytes, bytes, 0, flags) {
+        Ok(found) => Ok(found),
+        Err(stop) => {
+            let next = first_char(&text[stop.1..]);
+            Err((stop.0, next, leading_len(s) + stop.1))
         }
     }
 }

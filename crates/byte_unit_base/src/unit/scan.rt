@@ -1,6 +1,7 @@
 //! Where the parser of a unit stops, and the error there; the options of the parsers.
 
-ghost use Rattle.std.specs.Prelude.{◌≡◌, ℕ};
+ghost use Rattle.std.specs.Prelude.{◌≡◌, ◌≤◌, ℕ, Bool};
+ghost use Rattle.byte_unit_base.specs.UnitWord.{letters_of, word_of};
 
 use crate::UnitParseError;
 use crate::unit::tables::BEGINNING;
@@ -59,6 +60,14 @@ pub struct Flags {
     pub prefer_byte: bool,
 }
 
+impl Flags {
+    /// Flags for a caller to which the unit does not matter: no flag changes where a string is wrong.
+    pub(crate) const ANY: Flags = Flags {
+        ignore_case: false,
+        prefer_byte: true,
+    };
+}
+
 impl UnitStop {
     ghost use Rattle.byte_unit_base.specs.UnitWord.{stop_parser_state};
     ghost use Rattle.byte_unit_base.specs.ParserEnds.{unit_stop_fault};
@@ -72,7 +81,7 @@ impl UnitStop {
     /// # Examples
     /// ```rust
     /// let flags = size::flags_for(Kind::Byte, false);
-    /// let error = position::read_unit_text("Kix", flags).map_err(|(stop, next, _)| stop.error_before(next, flags));
+    /// let error = read_unit_text("Kix", flags).map_err(|(stop, next, _)| stop.error_before(next, flags));
     /// assert!(rt; matches!(error, Err(UnitParseError { character: 'x', .. })));
     /// ```
     #[inline(always)]
@@ -94,7 +103,7 @@ impl UnitStop {
     /// # Examples
     /// ```rust
     /// let flags = size::flags_for(Kind::Byte, false);
-    /// let named = position::read_unit_text("Kix", flags).map_err(|(stop, next, _)| stop.expected_before(next, flags));
+    /// let named = read_unit_text("Kix", flags).map_err(|(stop, next, _)| stop.expected_before(next, flags));
     /// assert!(rt; matches!(named, Err(Expected::EitherB)));
     /// ```
     #[inline(always)]
@@ -158,5 +167,20 @@ impl Expected {
             Expected::S => &['s'],
             Expected::Nothing => &[],
         }
+    }
+}
+
+/// Returns the first `length` letters of `bits`, for the error of a unit in which the parser stops after them.
+#[inline(always)]
+pub(crate) fn letters(length: usize) -> Word
+    requires bound { length ≤ 4 }
+    ensures { (upper : Bool) → letters_of (word_of length upper) ≡ result }
+{
+    match length {
+        0 => Word::Empty,
+        1 => Word::B,
+        2 => Word::Bi,
+        3 => Word::Bit,
+        _ => Word::Bits,
     }
 }

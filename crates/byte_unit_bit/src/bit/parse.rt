@@ -41,7 +41,7 @@ impl Bit {
     pub fn parse_str(s: &str) -> Result<Bit, ParseError>
         ensures { IsSizeReading InBits false s.now result }
     {
-        let size = size::parse(s, false, Kind::Bit)?;
+        let size = size::parse::<false>(s, false, Kind::Bit)?;
         Ok(Bit { size })
     }
 

@@ -4,7 +4,7 @@
 ghost use Rattle.byte_unit_base.specs.ErrorPosition.{IsSizePosition};
 
 use super::Bit;
-use byte_unit_base::position;
+use byte_unit_base::size;
 
 impl Bit {
     /// Returns the index in bytes of the first wrong character of a string that [`Bit::parse_str`] rejects: up to
@@ -24,6 +24,6 @@ impl Bit {
     pub fn error_position(s: &str) -> Option<usize>
         ensures { IsSizePosition s.now result }
     {
-        position::of_size_error(s)
+        size::error_position(s)
     }
 }

@@ -40,7 +40,7 @@ impl Byte {
     pub fn parse_str(s: &str, ignore_case: bool) -> Result<Byte, ParseError>
         ensures { IsSizeReading InBytes ignore_case s.now result }
     {
-        let size = size::parse(s, ignore_case, Kind::Byte)?;
+        let size = size::parse::<false>(s, ignore_case, Kind::Byte)?;
         Ok(Byte { size })
     }
 

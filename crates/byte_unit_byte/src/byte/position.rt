@@ -3,7 +3,7 @@
 ghost use Rattle.byte_unit_base.specs.ErrorPosition.{IsSizePosition};
 
 use super::Byte;
-use byte_unit_base::position;
+use byte_unit_base::size;
 
 impl Byte {
     /// Returns the index in bytes of the first wrong character of a string that [`Byte::parse_str`] rejects: up to
@@ -23,6 +23,6 @@ impl Byte {
     pub fn error_position(s: &str) -> Option<usize>
         ensures { IsSizePosition s.now result }
     {
-        position::of_size_error(s)
+        size::error_position(s)
     }
 }

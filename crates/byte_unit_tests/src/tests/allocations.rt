@@ -1,21 +1,38 @@
 //! Tests of the allocations of calls that make or append a text: each makes one, or none if the text fits the capacity,
-//! and if it fails, neither text nor capacity is changed.
+//! and if it fails, neither text nor capacity is changed. Calls of `Bit` are as those of `Byte`.
 //!
 //! Each test makes three allocations, and ends with the error of one that fails. The command `tools/dev test memory`
 //! runs these tests under `rt try --test --fail-alloc N`, which makes the Nth allocation of each test fail: they have
 //! to end with that error for N = 1, 2 and 3, and to pass for each other N. So a call that allocates more often is
 //! seen.
 use super::asserting::{assert_for, assert_is};
-use super::shown::{self, AnySize, bits, bits_in, bytes, bytes_in, text_in, text_of};
-use byte_unit::{Bit, Byte, Expansion, FormatSpec, Unit, UnitType, append_layout, append_plain};
+use byte_unit::{
+    AdjustedBit, AdjustedByte, Bit, Byte, Expansion, FormatSpec, Unit, UnitType, append_layout,
+    append_plain, unit_to_json,
+};
+use serde_json::Value;
 use std::alloc::{AllocError, Global};
 use std::process::Abort;
+
+/// Returns 1536 bytes in KB.
+fn bytes_in_kb() -> AdjustedByte {
+    Byte::from_u64(1536).get_adjusted_unit(Unit::KB)
+}
+
+/// Returns 8192 bits in Kb.
+fn bits_in_kbit() -> AdjustedBit {
+    Bit::from_u64(8192).get_adjusted_unit(Unit::Kbit)
+}
 
 /// What is appended to a string.
 #[derive(Clone, Copy)]
 enum Added {
-    /// A size.
-    Size(AnySize, FormatSpec),
+    /// 1536 bytes.
+    Bytes(FormatSpec),
+    /// 1536 bytes in KB.
+    BytesIn,
+    /// 8192 bits in Kb.
+    BitsIn,
     /// The number 10.
     Plain,
     /// The number 10 with a unit.
@@ -23,10 +40,12 @@ enum Added {
 }
 
 /// Appends a text.
-fn append(added: &Added, text: &mut String) -> Result<(), AllocError> {
+fn append(added: Added, text: &mut String) -> Result<(), AllocError> {
     let ten = Expansion::new(10, 0, 0);
     match added {
-        Added::Size(size, spec) => shown::append(size, *spec, text),
+        Added::Bytes(spec) => Byte::from_u64(1536).append_text(spec, text),
+        Added::BytesIn => bytes_in_kb().append_text(FormatSpec::PLAIN, text),
+        Added::BitsIn => bits_in_kbit().append_text(FormatSpec::ALTERNATE, text),
         Added::Plain => append_plain(10, FormatSpec::PLAIN, text),
         Added::Layout => append_layout(&ten, 0, Unit::KiB, FormatSpec::PLAIN, text),
     }
@@ -45,7 +64,7 @@ fn with_capacity(alloc: Global, capacity: usize) -> Result<String, AllocError> {
 fn assert_appended(
     rt: &impl Abort,
     alloc: Global,
-    added: &Added,
+    added: Added,
     whole: &str,
 ) -> Result<(), AllocError> {
     let mut text = with_capacity(alloc, whole.len().saturating_sub(1))?;
@@ -66,85 +85,75 @@ fn assert_appended(
 
 #[test]
 fn appended_bytes(rt: HostRuntime) -> Result<(), AllocError> {
-    let added = Added::Size(bytes(1536), FormatSpec::PLAIN);
-    assert_appended(&rt, rt.alloc(), &added, "ab1536")
+    let added = Added::Bytes(FormatSpec::PLAIN);
+    assert_appended(&rt, rt.alloc(), added, "ab1536")
 }
 
 #[test]
 fn appended_bytes_with_a_unit(rt: HostRuntime) -> Result<(), AllocError> {
-    let added = Added::Size(bytes(1536), FormatSpec::ALTERNATE);
-    assert_appended(&rt, rt.alloc(), &added, "ab1.5 KiB")
-}
-
-#[test]
-fn appended_bits(rt: HostRuntime) -> Result<(), AllocError> {
-    let added = Added::Size(bits(8192), FormatSpec::PLAIN);
-    assert_appended(&rt, rt.alloc(), &added, "ab8192")
-}
-
-#[test]
-fn appended_bits_with_a_unit(rt: HostRuntime) -> Result<(), AllocError> {
-    let added = Added::Size(bits(8192), FormatSpec::ALTERNATE);
-    assert_appended(&rt, rt.alloc(), &added, "ab8 Kib")
+    let added = Added::Bytes(FormatSpec::ALTERNATE);
+    assert_appended(&rt, rt.alloc(), added, "ab1.5 KiB")
 }
 
 #[test]
 fn appended_adjusted_bytes(rt: HostRuntime) -> Result<(), AllocError> {
-    let added = Added::Size(bytes_in(1536, Unit::KB), FormatSpec::PLAIN);
-    assert_appended(&rt, rt.alloc(), &added, "ab1.536 KB")
+    assert_appended(&rt, rt.alloc(), Added::BytesIn, "ab1.536 KB")
 }
 
 #[test]
 fn appended_adjusted_bits(rt: HostRuntime) -> Result<(), AllocError> {
-    let added = Added::Size(bits_in(8192, Unit::Kbit), FormatSpec::ALTERNATE);
-    assert_appended(&rt, rt.alloc(), &added, "ab8.192 Kb")
+    assert_appended(&rt, rt.alloc(), Added::BitsIn, "ab8.192 Kb")
 }
 
 #[test]
 fn appended_number(rt: HostRuntime) -> Result<(), AllocError> {
-    assert_appended(&rt, rt.alloc(), &Added::Plain, "ab10")
+    assert_appended(&rt, rt.alloc(), Added::Plain, "ab10")
 }
 
 #[test]
 fn appended_number_with_a_unit(rt: HostRuntime) -> Result<(), AllocError> {
-    assert_appended(&rt, rt.alloc(), &Added::Layout, "ab10 KiB")
+    assert_appended(&rt, rt.alloc(), Added::Layout, "ab10 KiB")
 }
 
 /// A call that returns a text of its own.
 #[derive(Clone, Copy)]
 enum Made {
-    /// `to_text` with a unit.
-    Text(AnySize),
-    /// `to_text_in` with a unit.
-    TextIn(AnySize),
-    /// `Byte::approximate_text` with one digit after the point.
-    ApproximateBytes(u64),
-    /// `Bit::approximate_text` with one digit after the point.
-    ApproximateBits(u64),
+    /// `to_text` of 1536 bytes.
+    Bytes,
+    /// `to_text` of 8192 bits in Kb.
+    BitsIn,
+    /// `approximate_text` of 10,000 bits.
+    Approximate,
+    /// `to_json` of 1536 bytes.
+    JsonOfBytes,
+    /// `to_json` of 8192 bits in Kb.
+    JsonOfBitsIn,
+    /// `unit_to_json` of Kb.
+    JsonOfUnit,
 }
 
-/// Returns a text.
-fn make(made: &Made, alloc: Global) -> Result<String, AllocError> {
+/// Returns a text, or the string of a JSON value.
+fn make(made: Made, alloc: Global) -> Result<String, AllocError> {
     let spec = FormatSpec::ALTERNATE;
-    match made {
-        Made::Text(size) => text_of(size, alloc, spec),
-        Made::TextIn(size) => text_in(size, alloc, spec),
-        Made::ApproximateBytes(size) => {
-            Byte::from_u64(*size).approximate_text(alloc, UnitType::Binary, places!(1))
+    let value = match made {
+        Made::Bytes => Value::String(Byte::from_u64(1536).to_text(alloc, spec)?),
+        Made::BitsIn => Value::String(bits_in_kbit().to_text(alloc, spec)?),
+        Made::Approximate => {
+            let bits = Bit::from_u64(10_000);
+            Value::String(bits.approximate_text(alloc, UnitType::Decimal, spec)?)
         }
-        Made::ApproximateBits(size) => {
-            Bit::from_u64(*size).approximate_text(alloc, UnitType::Binary, places!(1))
-        }
+        Made::JsonOfBytes => Byte::from_u64(1536).to_json(alloc)?,
+        Made::JsonOfBitsIn => bits_in_kbit().to_json(alloc)?,
+        Made::JsonOfUnit => unit_to_json(alloc, Unit::Kbit)?,
+    };
+    match value {
+        Value::String(text) => Ok(text),
+        _ => Ok(String::new(alloc)),
     }
 }
 
 /// Asserts the text of a call, which makes one allocation, of just its length.
-fn assert_text(
-    rt: &impl Abort,
-    alloc: Global,
-    made: &Made,
-    wanted: &str,
-) -> Result<(), AllocError> {
+fn assert_text(rt: &impl Abort, alloc: Global, made: Made, wanted: &str) -> Result<(), AllocError> {
     let text = make(made, alloc)?;
     assert_is(rt, text.as_str(), wanted);
     assert_is(rt, text.capacity(), wanted.len());
@@ -152,12 +161,7 @@ fn assert_text(
 }
 
 /// Asserts the text of three calls, whatever becomes of those before.
-fn assert_made(
-    rt: &impl Abort,
-    alloc: Global,
-    made: &Made,
-    wanted: &str,
-) -> Result<(), AllocError> {
+fn assert_made(rt: &impl Abort, alloc: Global, made: Made, wanted: &str) -> Result<(), AllocError> {
     let first = assert_text(rt, alloc, made, wanted);
     let second = assert_text(rt, alloc, made, wanted);
     let third = assert_text(rt, alloc, made, wanted);
@@ -168,54 +172,30 @@ fn assert_made(
 
 #[test]
 fn text_of_bytes(rt: HostRuntime) -> Result<(), AllocError> {
-    assert_made(&rt, rt.alloc(), &Made::Text(bytes(1536)), "1.5 KiB")
-}
-
-#[test]
-fn text_of_bits(rt: HostRuntime) -> Result<(), AllocError> {
-    assert_made(&rt, rt.alloc(), &Made::Text(bits(8192)), "8 Kib")
-}
-
-#[test]
-fn text_of_adjusted_bytes(rt: HostRuntime) -> Result<(), AllocError> {
-    let made = Made::Text(bytes_in(1536, Unit::KB));
-    assert_made(&rt, rt.alloc(), &made, "1.536 KB")
+    assert_made(&rt, rt.alloc(), Made::Bytes, "1.5 KiB")
 }
 
 #[test]
 fn text_of_adjusted_bits(rt: HostRuntime) -> Result<(), AllocError> {
-    let made = Made::Text(bits_in(8192, Unit::Kbit));
-    assert_made(&rt, rt.alloc(), &made, "8.192 Kb")
+    assert_made(&rt, rt.alloc(), Made::BitsIn, "8.192 Kb")
 }
 
 #[test]
-fn text_in_of_bytes(rt: HostRuntime) -> Result<(), AllocError> {
-    assert_made(&rt, rt.alloc(), &Made::TextIn(bytes(1536)), "1.5 KiB")
+fn approximate_text(rt: HostRuntime) -> Result<(), AllocError> {
+    assert_made(&rt, rt.alloc(), Made::Approximate, "10 Kb")
 }
 
 #[test]
-fn text_in_of_bits(rt: HostRuntime) -> Result<(), AllocError> {
-    assert_made(&rt, rt.alloc(), &Made::TextIn(bits(8192)), "8 Kib")
+fn json_string_of_bytes(rt: HostRuntime) -> Result<(), AllocError> {
+    assert_made(&rt, rt.alloc(), Made::JsonOfBytes, "1.5 KiB")
 }
 
 #[test]
-fn text_in_of_adjusted_bytes(rt: HostRuntime) -> Result<(), AllocError> {
-    let made = Made::TextIn(bytes_in(1536, Unit::KB));
-    assert_made(&rt, rt.alloc(), &made, "1.536 KB")
+fn json_string_of_adjusted_bits(rt: HostRuntime) -> Result<(), AllocError> {
+    assert_made(&rt, rt.alloc(), Made::JsonOfBitsIn, "8.192 Kb")
 }
 
 #[test]
-fn text_in_of_adjusted_bits(rt: HostRuntime) -> Result<(), AllocError> {
-    let made = Made::TextIn(bits_in(8192, Unit::Kbit));
-    assert_made(&rt, rt.alloc(), &made, "8.192 Kb")
-}
-
-#[test]
-fn approximate_text_of_bytes(rt: HostRuntime) -> Result<(), AllocError> {
-    assert_made(&rt, rt.alloc(), &Made::ApproximateBytes(10_000), "9.8 KiB")
-}
-
-#[test]
-fn approximate_text_of_bits(rt: HostRuntime) -> Result<(), AllocError> {
-    assert_made(&rt, rt.alloc(), &Made::ApproximateBits(10_000), "9.8 Kib")
+fn json_string_of_a_unit(rt: HostRuntime) -> Result<(), AllocError> {
+    assert_made(&rt, rt.alloc(), Made::JsonOfUnit, "Kb")
 }

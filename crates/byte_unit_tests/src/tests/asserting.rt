@@ -1,6 +1,7 @@
 //! Assertions that the tests of each module call. Each is proved once, and a call costs the proof of a test less than a
 //! macro that asserts.
-use std::fmt::Debug;
+use std::alloc::Global;
+use std::fmt::{Debug, Display};
 use std::process::Abort;
 
 /// Asserts a condition; the message says of what.
@@ -25,4 +26,15 @@ pub fn assert_each<S: PartialEq>(rt: &impl Abort, rows: &[(&str, S, S)]) {
     for (name, made, wanted) in rows {
         assert!(rt; *made == *wanted, "{name}");
     }
+}
+
+/// Asserts that two texts are equal.
+pub fn assert_same(rt: &impl Abort, text: &str, wanted: &str) {
+    assert!(rt; text == wanted, "{text} in place of {wanted}");
+}
+
+/// Asserts the text of a value through the bound `Display`.
+pub fn assert_display<D: Display>(rt: &impl Abort, alloc: Global, value: &D, wanted: &str) {
+    let text = format!(in alloc; "{value}").expect(rt, "memory");
+    assert_same(rt, text.as_str(), wanted);
 }

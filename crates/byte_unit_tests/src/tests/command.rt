@@ -1,22 +1,25 @@
-//! Runs of the command `byte-unit` with input and output in memory: the options and the assertion that its tests share.
+//! Tests of runs of the command `byte-unit` over streams in memory that go in small steps or fail, one run after
+//! another in the same buffers. What a run converts is tested from outside, by `command/tests`.
 use byte_unit_command::error::RunError;
 use byte_unit_command::options::{FieldRange, Form, Invalid, Kind, Options};
-use byte_unit_command::run::run;
+use byte_unit_command::run::{Buffers, run_with_buffers};
 use byte_unit_command::streams::Streams;
 use byte_unit_command::tally::Tally;
-use byte_unit_stream::paced::{MemoryReader, MemoryWriter, Pace};
-use byte_unit_stream::{FusedReader, FusedWriter};
-use std::alloc::AllocError;
+use byte_unit_stream::paced::{
+    ALL_BUT_ONE, AT_ONCE, BYTE_BY_BYTE, MemoryReader, MemoryWriter, Pace, Then,
+};
+use byte_unit_stream::{Reading, Writing};
 use std::process::Abort;
 
-/// The first field, which a call without `--field` converts.
-const FIRST: &[FieldRange] = &[FieldRange {
-    first: 1,
-    last: Some(1),
-}];
+/// The options of a call that copies the first two lines and goes on at a rejected field.
+const HEADER: Options<'static> = Options {
+    header: 2,
+    invalid: Invalid::Warn,
+    ..PLAIN
+};
 
 /// The options of a call without options.
-pub const PLAIN: Options<'static> = Options {
+const PLAIN: Options<'static> = Options {
     kind: Kind::Byte,
     ignore_case: false,
     binary: false,
@@ -27,7 +30,10 @@ pub const PLAIN: Options<'static> = Options {
     align_left: false,
     delimiter: None,
     blanks: false,
-    fields: FIRST,
+    fields: &[FieldRange {
+        first: 1,
+        last: Some(1),
+    }],
     record_end: b'\n',
     output_end: b'\n',
     header: 0,
@@ -37,39 +43,31 @@ pub const PLAIN: Options<'static> = Options {
     min: None,
 };
 
-/// The capacity of the output and of the messages before a run. It is enough for most; those of a longer run grow.
-const LONGEST: usize = 256;
-
-/// What a run returns, the lines that it writes, and its messages.
-type Ended<'a> = (Result<Tally, RunError>, &'a [u8], &'a [u8]);
-
 /// Streams in memory: the input, the output, and the messages.
-pub type MemoryStreams<'a> = Streams<MemoryReader<'a>, MemoryWriter, Vec<u8>>;
+type MemoryStreams<'a> = Streams<MemoryReader<'a>, MemoryWriter, Vec<u8>>;
 
 /// Returns streams over an input in memory, with reads and writes at these paces.
-pub fn streams_of<'a>(
+fn streams_of<'a>(
     rt: &(impl Abort + AllocGlobal),
     input: &'a [u8],
     (reads, writes): (Pace, Pace),
 ) -> MemoryStreams<'a> {
-    let taken = Vec::with_capacity(rt.alloc(), LONGEST).expect(rt, "memory");
-    let messages = Vec::with_capacity(rt.alloc(), LONGEST).expect(rt, "memory");
     Streams {
-        reader: FusedReader::new(MemoryReader {
+        reader: Reading::new(MemoryReader {
             rest: input,
             pace: reads,
         }),
         word: "line",
-        writer: FusedWriter::new(MemoryWriter {
-            taken,
+        writer: Writing::new(MemoryWriter {
+            taken: Vec::new(rt.alloc()),
             pace: writes,
         }),
-        errors: FusedWriter::new(messages),
+        errors: Writing::new(Vec::new(rt.alloc())),
     }
 }
 
 /// Returns what was written, and the messages.
-pub fn output_of(streams: MemoryStreams<'_>) -> (Vec<u8>, Vec<u8>) {
+fn output_of(streams: MemoryStreams<'_>) -> (Vec<u8>, Vec<u8>) {
     let Streams {
         reader: _reader,
         word: _,
@@ -79,28 +77,71 @@ pub fn output_of(streams: MemoryStreams<'_>) -> (Vec<u8>, Vec<u8>) {
     (writer.into_inner().taken, errors.into_inner())
 }
 
-/// Asserts what a run over an input in memory does, with reads and writes at these paces. The name and the number tell
-/// which of a table's rows it is.
-pub fn assert_run(
-    rt: &(impl Abort + AllocGlobal),
-    options: &Options,
-    input: &[u8],
-    paces: (Pace, Pace),
-    wanted: Ended<'_>,
-    (name, number): (&str, usize),
-) {
-    let mut streams = streams_of(rt, input, paces);
-    let result = run(rt.alloc(), options, &mut streams);
-    allocated(result).expect(rt, "memory");
-    let (written, told) = output_of(streams);
-    let found = (result, written.as_slice(), told.as_slice());
-    assert_eq!(rt; found, wanted, "{name} {number}");
-}
+/// The options, the paces of reads and of writes, and the input; the sum and whether a field was rejected, or why the
+/// run ends early; the output and the messages.
+type Row = (
+    Options<'static>,
+    (Pace, Pace),
+    &'static [u8],
+    Result<(u128, bool), RunError>,
+    &'static [u8],
+    &'static [u8],
+);
 
-/// Returns an error if the run ended because an allocation failed.
-fn allocated(end: Result<Tally, RunError>) -> Result<(), AllocError> {
-    match end {
-        Err(RunError::Memory) => Err(AllocError),
-        Ok(_) | Err(_) => Ok(()),
+/// An input, and what is written for it.
+const INPUT: &[u8] = b"1024\n1.5 KiB\n100 MB\n7";
+
+const OUTPUT: &[u8] = b"1 KiB\n1.5 KiB\n100 MB\n7 B\n";
+
+/// What is written for an input whose third line is rejected, and the message.
+const COPIED: &[u8] = b"5 KB\nname\nx\n7 B\n";
+
+const REJECTED: &[u8] =
+    b"byte-unit: line 3: 'x': the character 'x' is not a number (character 1)\n";
+
+/// Runs in the same buffers, one after another. Some leave a part of a record, a text that waits, or a message.
+const ROWS: &[Row] = &rows! {
+    (HEADER, (AT_ONCE, AT_ONCE), b"x", Ok((0, false)), b"x\n", b""),
+    (PLAIN, (BYTE_BY_BYTE, BYTE_BY_BYTE), INPUT, Ok((100_002_567, false)), OUTPUT, b""),
+    (PLAIN, (ALL_BUT_ONE, ALL_BUT_ONE), INPUT, Ok((100_002_567, false)), OUTPUT, b""),
+    // Reads of five bytes, before one that fails.
+    (PLAIN, (Pace { step: 5, calls: 0, then: Then::Fail }, AT_ONCE), INPUT, Err(RunError::Read), b"", b""),
+    (PLAIN, (Pace { step: 5, calls: 3, then: Then::Fail }, AT_ONCE), INPUT, Err(RunError::Read),
+        b"1 KiB\n1.5 KiB\n", b""),
+    (HEADER, (AT_ONCE, AT_ONCE), b"5 KB\nname\nx\n7", Ok((7, true)), COPIED, REJECTED),
+    // Writes of three bytes, before one that fails or accepts no byte.
+    (HEADER, (AT_ONCE, Pace { step: 3, calls: 0, then: Then::Fail }), b"5 KB\nname\nx\n", Err(RunError::Write),
+        b"", b""),
+    (PLAIN, (AT_ONCE, Pace { step: 3, calls: 3, then: Then::AtMost(0) }), INPUT, Err(RunError::Write),
+        b"1 KiB\n1.5", b""),
+    (PLAIN, (AT_ONCE, AT_ONCE), b"6 KB\n", Ok((6000, false)), b"6 KB\n", b""),
+};
+
+#[test]
+fn runs_in_the_same_buffers(rt: HostRuntime) {
+    let mut buffers = Buffers::new(rt.alloc());
+    for (number, (options, paces, input, wanted, output, messages)) in ROWS.iter().enumerate() {
+        let mut streams = streams_of(&rt, input, *paces);
+        let end = run_with_buffers(
+            &mut buffers,
+            options,
+            &mut [0u8; 80],
+            &mut [0u8; 65_600],
+            &mut streams,
+        );
+        let (written, told) = output_of(streams);
+        let counted = match end {
+            Ok(
+                Tally {
+                    total,
+                    beyond: false,
+                    rejected,
+                },
+            ) => Ok((total, rejected)),
+            Ok(_) => panic!(rt; "a size is beyond a limit in run {number}"),
+            Err(error) => Err(error),
+        };
+        let found = (counted, written.as_slice(), told.as_slice());
+        assert_eq!(rt; found, (*wanted, *output, *messages), "run {number}");
     }
 }

@@ -1,7 +1,7 @@
 //! Tests of the messages of errors: by themselves, as other errors and with the flags of a formatter, and of errors
 //! that no string has. Other tests import `assert_error`.
+use super::asserting::assert_display;
 use super::flags::assert_printed_with_each_flag;
-use super::shown::assert_display;
 use byte_unit::{
     Decimal, ExceededBoundsError, JsonSizeError, JsonUnitError, ParseError, UnitParseError,
     ValueParseError,

@@ -1,7 +1,6 @@
 //! Tests that the flags of a formatter do not change the text of a number, a unit or a size, and that the default spec
 //! is plain. `error_texts` imports the assertion.
-use super::asserting::assert_for;
-use super::shown::assert_same;
+use super::asserting::{assert_for, assert_same};
 use byte_unit::{Bit, Byte, Decimal, Expansion, FormatSpec, Unit};
 use std::alloc::Global;
 use std::fmt::Display;

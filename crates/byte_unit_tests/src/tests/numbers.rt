@@ -8,38 +8,6 @@ use std::process::Abort;
 /// The maximum size.
 const MAX_SIZE: u128 = 999_999_999_999_999_999_999_999_999_999;
 
-#[test]
-fn sizes_and_integers(rt: HostRuntime) {
-    assert_each(
-        &rt,
-        &[
-            ("i64", Byte::from_i64(5), Some(Byte::from_u64(5))),
-            ("i64 below 0", Byte::from_i64(-5), None),
-            ("i128", Byte::from_i128(5), Some(Byte::from_u64(5))),
-            ("i128 below 0", Byte::from_i128(i128::MIN), None),
-            ("u128", Byte::from_u128(5), Some(Byte::from_u64(5))),
-            ("the greatest", Byte::from_u128(MAX_SIZE), Some(Byte::MAX)),
-        ],
-    );
-    assert_each(
-        &rt,
-        &[
-            ("i64", Bit::from_i64(5), Some(Bit::from_u64(5))),
-            ("i64 below 0", Bit::from_i64(-5), None),
-            ("i128", Bit::from_i128(5), Some(Bit::from_u64(5))),
-            ("i128 below 0", Bit::from_i128(i128::MIN), None),
-            ("u128", Bit::from_u128(5), Some(Bit::from_u64(5))),
-            ("the greatest", Bit::from_u128(MAX_SIZE), Some(Bit::MAX)),
-        ],
-    );
-    let size = Byte::from_u64(5);
-    assert_is(&rt, (size.as_u64(), size.as_u64_checked()), (5, Some(5)));
-    assert_is(&rt, Byte::from_u128_unsafe(7).as_u128(), 7);
-    let size = Bit::from_u64(5);
-    assert_is(&rt, (size.as_u64(), size.as_u64_checked()), (5, Some(5)));
-    assert_is(&rt, Bit::from_u128_unsafe(7).as_u128(), 7);
-}
-
 /// The order of 1024 and each number.
 const ORDERS: &[(u64, Ordering)] = &[
     (1025, Ordering::Less),
@@ -97,9 +65,9 @@ fn try_convert<N, S: TryFrom<N>>(number: N) -> Result<S, S::Error> {
     S::try_from(number)
 }
 
-/// Tests the conversions of integers into a type of sizes, with its constant of 10^27.
+/// Tests the conversions of integers into a type of sizes, by methods and by traits.
 macro_rules! from_integers {
-    ($rt:expr, $size:ident, $ronna:expr) => {
+    ($rt:expr, $size:ident) => {
         let five = $size::from_u64(5);
         assert_each(
             $rt,
@@ -121,7 +89,12 @@ macro_rules! from_integers {
                 ("i64", try_convert::<i64, $size>(5).ok(), Some(five)),
                 ("i128", try_convert::<i128, $size>(5).ok(), Some(five)),
                 ("u128", try_convert::<u128, $size>(5).ok(), Some(five)),
-                ("10^27", try_convert::<u128, $size>(1_000_000_000_000_000_000_000_000_000).ok(), Some($ronna)),
+                ("from_i64", $size::from_i64(5), Some(five)),
+                ("from_i64 below 0", $size::from_i64(-5), None),
+                ("from_i128", $size::from_i128(5), Some(five)),
+                ("from_i128 below 0", $size::from_i128(i128::MIN), None),
+                ("from_u128", $size::from_u128(MAX_SIZE), Some($size::MAX)),
+                ("from_u128_unsafe", Some($size::from_u128_unsafe(5)), Some(five)),
             },
         );
         let error = Some(ExceededBoundsError);
@@ -137,12 +110,12 @@ macro_rules! from_integers {
 
 #[test]
 fn bytes_from_integers(rt: HostRuntime) {
-    from_integers!(&rt, Byte, Byte::RONNABYTE);
+    from_integers!(&rt, Byte);
 }
 
 #[test]
 fn bits_from_integers(rt: HostRuntime) {
-    from_integers!(&rt, Bit, Bit::RONNABIT);
+    from_integers!(&rt, Bit);
 }
 
 /// Returns `true` if a conversion through the bound `TryFrom` fails, with std's error.

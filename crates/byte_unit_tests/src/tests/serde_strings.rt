@@ -1,5 +1,4 @@
-//! Tests of sizes and units that are stored by `serde`, in JSON and in TOML, and of TOML values. `stored_limits`
-//! imports the structs and the assertions.
+//! Tests of sizes and units that are stored by `serde`, in JSON and in TOML, and of TOML values.
 use super::asserting::{assert_for, assert_is};
 use super::error_texts::assert_error;
 use byte_unit::{Bit, Byte, Unit};
@@ -28,7 +27,7 @@ const REJECTED: &[(&str, &str, &str)] = &rows! {
 
 /// Reads the value of `limit` from a TOML document. If the document cannot be allocated, an empty one is read, which
 /// fails the test of the caller.
-pub fn toml_limit<T: DeserializeOwned>(
+fn toml_limit<T: DeserializeOwned>(
     alloc: Global,
     value: &str,
 ) -> Result<BTreeMap<String, T>, toml::de::Error> {
@@ -39,7 +38,7 @@ pub fn toml_limit<T: DeserializeOwned>(
 }
 
 /// Asserts the message of an error in TOML, which adds the key, and in JSON, of a value that was read before.
-pub fn assert_rejected<T: DeserializeOwned>(
+fn assert_rejected<T: DeserializeOwned>(
     rt: &impl Abort,
     alloc: Global,
     text: &str,
@@ -105,7 +104,7 @@ fn lists_round_trip(rt: HostRuntime) {
 }
 
 /// Asserts that a JSON text and a TOML document are written as they were read, and returns what was read from each.
-pub fn read_and_write<'a, T: Serialize + Deserialize<'a> + DeserializeOwned + Drop>(
+fn read_and_write<'a, T: Serialize + Deserialize<'a> + DeserializeOwned + Drop>(
     rt: &impl Abort,
     alloc: Global,
     json: &'a str,
@@ -122,59 +121,88 @@ pub fn read_and_write<'a, T: Serialize + Deserialize<'a> + DeserializeOwned + Dr
 
 /// A struct with a value of each type.
 #[derive(Drop, Serialize, Deserialize)]
-pub struct Values {
+struct Values {
     #[serde(with = "byte_unit_serde::byte")]
-    pub size: Byte,
+    size: Byte,
     #[serde(with = "byte_unit_serde::bit")]
-    pub rate: Bit,
+    rate: Bit,
     #[serde(with = "byte_unit_serde::unit")]
-    pub unit: Unit,
+    unit: Unit,
 }
+
+/// Strings of a size and of a rate that are one number, and the number: the last is the greatest.
+const VALUES: &[(&str, &str, u128)] = &rows! {
+    ("20 MB", "20 Mb", 20_000_000),
+    ("16 EiB", "16 Eib", 18_446_744_073_709_551_616),
+    ("999999999999999999999999999.999 KB", "999999999999999999999999999.999 Kb",
+        999_999_999_999_999_999_999_999_999_999),
+};
 
 #[test]
 fn fields_with_a_value(rt: HostRuntime) {
-    let json = "{\"size\":\"20 MB\",\"rate\":\"8 Mb\",\"unit\":\"GiB\"}";
-    let document = "size = \"20 MB\"\nrate = \"8 Mb\"\nunit = \"GiB\"\n";
-    let (read, _): (Values, Values) = read_and_write(&rt, rt.alloc(), json, document);
-    let wanted = (
-        Byte::from_u64(20_000_000),
-        Bit::from_u64(8_000_000),
-        Unit::GiB,
-    );
-    assert_is(&rt, (read.size, read.rate, read.unit), wanted);
+    let alloc = rt.alloc();
+    for (size, rate, number) in VALUES {
+        let json = format!(in alloc;
+            "{{\"size\":\"{size}\",\"rate\":\"{rate}\",\"unit\":\"GiB\"}}"
+        );
+        let document = format!(in alloc; "size = \"{size}\"\nrate = \"{rate}\"\nunit = \"GiB\"\n");
+        let json = json.expect(&rt, "memory");
+        let document = document.expect(&rt, "memory");
+        let (read, again): (Values, Values) = read_and_write(
+            &rt,
+            alloc,
+            json.as_str(),
+            document.as_str(),
+        );
+        for values in [&read, &again] {
+            let found = (values.size.as_u128(), values.rate.as_u128(), values.unit);
+            assert_is(&rt, found, (*number, *number, Unit::GiB));
+        }
+    }
 }
 
 /// A struct with an optional value of each type.
 #[derive(Drop, Serialize, Deserialize)]
-pub struct Options {
+struct Options {
     #[serde(with = "byte_unit_serde::optional_byte", default)]
-    pub limit: Option<Byte>,
+    limit: Option<Byte>,
     #[serde(with = "byte_unit_serde::optional_bit", default)]
-    pub most: Option<Bit>,
+    most: Option<Bit>,
     #[serde(with = "byte_unit_serde::optional_unit", default)]
-    pub other: Option<Unit>,
+    other: Option<Unit>,
 }
 
+/// Asserts that all values are none.
+fn assert_no_value(rt: &impl Abort, read: &Options) {
+    assert_is(rt, (read.limit, read.most, read.other), (None, None, None));
+}
+
+/// A value is read, and from nothing, in TOML, and `null`, in JSON, none.
 #[test]
 fn fields_with_an_optional_value(rt: HostRuntime) {
+    let alloc = rt.alloc();
     let json = "{\"limit\":\"1 GiB\",\"most\":\"1 Kb\",\"other\":\"Kb\"}";
-    let (read, none): (Options, Options) = read_and_write(&rt, rt.alloc(), json, "");
+    let (read, absent): (Options, Options) = read_and_write(&rt, alloc, json, "");
     let wanted = (
         Some(Byte::GIBIBYTE),
         Some(Bit::from_u64(1000)),
         Some(Unit::Kbit),
     );
     assert_is(&rt, (read.limit, read.most, read.other), wanted);
-    assert_is(&rt, (none.limit, none.most, none.other), (None, None, None));
+    let json = "{\"limit\":null,\"most\":null,\"other\":null}";
+    let document = "limit = \"1 GiB\"\nmost = \"1 Kb\"\nother = \"Kb\"\n";
+    let (null, _): (Options, Options) = read_and_write(&rt, alloc, json, document);
+    assert_no_value(&rt, &absent);
+    assert_no_value(&rt, &null);
 }
 
 /// A struct with a list of each type of size.
 #[derive(Drop, Serialize, Deserialize)]
-pub struct Lists {
+struct Lists {
     #[serde(with = "byte_unit_serde::byte_vec")]
-    pub parts: Vec<Byte>,
+    parts: Vec<Byte>,
     #[serde(with = "byte_unit_serde::bit_vec")]
-    pub rates: Vec<Bit>,
+    rates: Vec<Bit>,
 }
 
 #[test]

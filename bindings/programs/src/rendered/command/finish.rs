@@ -10,7 +10,7 @@ use crate::rendered::command::error::{RunError, RunResult};
 use crate::rendered::command::options::Options;
 use crate::rendered::command::tally::{TOTAL_LIMIT, Tally};
 use crate::rendered::command::text::add_in_width;
-use crate::rendered::stream::{FusedWriter, write_whole};
+use crate::rendered::stream::{Writing, write_whole};
 
 impl<A: Allocator> Converter<A> {
     /// Converts the last record, if there is one, and writes it and the total.
@@ -29,8 +29,8 @@ impl<A: Allocator> Converter<A> {
         options: &Options,
         part: &[u8],
         digits: &mut [u8],
-        writer: &mut FusedWriter<W>,
-        errors: &mut FusedWriter<E>,
+        writer: &mut Writing<W>,
+        errors: &mut Writing<E>,
     ) -> Result<Tally, RunError> {
         if !part.is_empty() {
             let added = self.add_record(options, part, digits);
@@ -63,7 +63,7 @@ fn write_with_total<A: Allocator, W: Write>(
     total: u128,
     digits: &mut [u8],
     waiting: &mut Vec<u8, A>,
-    writer: &mut FusedWriter<W>,
+    writer: &mut Writing<W>,
 ) -> RunResult {
     if total >= TOTAL_LIMIT {
         write_whole(writer, waiting, RunError::Write)?;

@@ -7,7 +7,7 @@ use crate::rendered::command::options::{FieldRange, Form, Invalid, Kind, Options
 use crate::rendered::command::size::ignores_case;
 use crate::rendered::command::values::Values;
 use crate::rendered::command::wrong::{ValueError, Wrong};
-use byte_unit::rendered::base::{ParseError, binary, size};
+use byte_unit::rendered::base::{ParseError, size};
 
 /// The most digits after the point that the exact form has: the library takes a greater precision as 28.
 const DECIMAL_PLACES: u16 = 28;
@@ -244,5 +244,5 @@ fn limit_of<'a>(
 /// Parses a size of a kind. Decimal prefixes mean binary ones if `binary` is set.
 fn parse_size(text: &str, binary: bool, kind: Kind, ignore_case: bool) -> Result<u128, ParseError> {
     let ignore_case = ignores_case(kind, ignore_case);
-    if binary { binary::parse(text, ignore_case, kind) } else { size::parse(text, ignore_case, kind) }
+    if binary { size::parse::<true>(text, ignore_case, kind) } else { size::parse::<false>(text, ignore_case, kind) }
 }

@@ -3,16 +3,15 @@
 //! Messages about fields, for standard error.
 
 use crate::rattle::alloc::{AllocError, Allocator};
+use crate::rattle::io::Write;
 use crate::rattle::{String, Vec};
 use crate::rendered::command::error::RunError;
 use crate::rendered::command::options::{Invalid, Options};
 use crate::rendered::command::quote::add_quoted;
 use crate::rendered::command::size::{parse, without_suffix};
 use crate::rendered::command::wrong_character::{names_character, wrong_character};
-use crate::rendered::stream::{FusedWriter, write_whole};
+use crate::rendered::stream::{Writing, write_whole};
 use byte_unit::rendered::base::ParseError;
-
-use crate::rattle::io::Write;
 
 /// The place of a record in the input.
 #[derive(Debug, Clone, Copy)]
@@ -53,7 +52,7 @@ impl<A: Allocator> Notices<A> {
 
     /// Writes the messages to `errors`, unless a write to it has failed before, and forgets them. `errors` records a
     /// failure.
-    pub(crate) fn tell<E: Write>(&mut self, errors: &mut FusedWriter<E>) {
+    pub(crate) fn tell<E: Write>(&mut self, errors: &mut Writing<E>) {
         if self.messages.is_empty() {
             return;
         }

@@ -4,7 +4,7 @@
 
 use crate::rendered::command::options::{Kind, Options};
 use byte_unit::rendered::base::ParseError;
-use byte_unit::rendered::base::{binary, size};
+use byte_unit::rendered::base::size;
 use std::str;
 
 /// Parses a field, without the suffix of the options, as a size of their kind. Returns `None` if it is not UTF-8.
@@ -12,9 +12,9 @@ pub(crate) fn parse(options: &Options, field: &[u8]) -> Option<Result<u128, Pars
     let text = without_suffix(options.suffix, field);
     let ignore_case = ignores_case(options.kind, options.ignore_case);
     if options.binary {
-        binary::parse_bytes(text, ignore_case, options.kind)
+        size::parse_bytes::<true>(text, ignore_case, options.kind)
     } else {
-        size::parse_bytes(text, ignore_case, options.kind)
+        size::parse_bytes::<false>(text, ignore_case, options.kind)
     }
 }
 
@@ -72,12 +72,12 @@ pub(crate) fn accepted(options: &Options, field: &[u8]) -> Option<u128> {
 #[inline(never)]
 fn plain_size(options: &Options, text: &[u8]) -> u128 {
     match options.kind {
-        Kind::Byte => match size::parse_bytes(text, options.ignore_case, Kind::Byte) {
+        Kind::Byte => match size::parse_bytes::<false>(text, options.ignore_case, Kind::Byte) {
             Some(Ok(size)) => size,
             Some(Err(_)) => NO_SIZE,
             None => NO_SIZE,
         },
-        Kind::Bit => match size::parse_bytes(text, false, Kind::Bit) {
+        Kind::Bit => match size::parse_bytes::<false>(text, false, Kind::Bit) {
             Some(Ok(size)) => size,
             Some(Err(_)) => NO_SIZE,
             None => NO_SIZE,
@@ -91,7 +91,7 @@ fn special_size(options: &Options, field: &[u8]) -> u128 {
     let text = without_suffix(options.suffix, field);
     if options.binary {
         let ignore_case = ignores_case(options.kind, options.ignore_case);
-        match binary::parse_bytes(text, ignore_case, options.kind) {
+        match size::parse_bytes::<true>(text, ignore_case, options.kind) {
             Some(Ok(size)) => size,
             Some(Err(_)) => NO_SIZE,
             None => NO_SIZE,

@@ -3,7 +3,7 @@
 //! Where a text is wrong: the number of its first wrong character, for messages.
 
 use crate::rendered::command::quote::is_boundary;
-use byte_unit::rendered::base::position;
+use byte_unit::rendered::base::size;
 use byte_unit::rendered::base::{ParseError, ValueParseError};
 use std::str;
 
@@ -27,7 +27,7 @@ pub(crate) fn wrong_character(text: &[u8]) -> Option<usize> {
 
 /// Returns what [`wrong_character`] does, for a string.
 fn character_of(text: &str) -> Option<usize> {
-    match position::of_size_error(text) {
+    match size::error_position(text) {
         None => None,
         Some(position) => {
             if position < text.trim_end().len() {

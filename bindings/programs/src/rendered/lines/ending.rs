@@ -6,7 +6,7 @@ use crate::rattle::String;
 use crate::rattle::alloc::Global;
 use crate::rattle::io::{Read, Write};
 use crate::rendered::lines::report::{RunError, run};
-use crate::rendered::stream::{FusedReader, FusedWriter};
+use crate::rendered::stream::{Reading, Writing};
 use byte_unit::rendered::base::Kind;
 
 /// How a call of the program ended.
@@ -46,6 +46,7 @@ pub fn fault_words(error: RunError) -> &'static str {
         RunError::Memory => "out of memory",
         RunError::Read => "read failed",
         RunError::Write => "write failed",
+        RunError::Ended(never) => match never {},
     }
 }
 
@@ -53,8 +54,8 @@ pub fn fault_words(error: RunError) -> &'static str {
 pub fn serve<R: Read, W: Write>(
     alloc: Global,
     words: &[String],
-    reader: &mut FusedReader<R>,
-    writer: &mut FusedWriter<W>,
+    reader: &mut Reading<R>,
+    writer: &mut Writing<W>,
 ) -> Ending {
     match kind_of(words) {
         None => Ending::Usage,

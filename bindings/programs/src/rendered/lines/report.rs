@@ -1,15 +1,15 @@
 // Rendered from crates/byte_unit_lines/src/report.rt by `tools/dev render rust`. Do not edit.
 
-//! The report on an input: a loop that reads a chunk, answers the lines that end in it, and writes the answers.
-//!
-//! The memory of [`Buffers`] is kept from one read to the next.
+//! The report on an input: the answers to its lines. The run is that of `byte_unit_stream`, with an answer as its step.
 
 use crate::rattle::Vec;
-use crate::rattle::alloc::{AllocError, Allocator, Global};
-use crate::rattle::io::{Read, Write};
+use crate::rattle::alloc::{Allocator, Global};
+use crate::rattle::io::{self, Read, Write};
 use crate::rendered::lines::line::add_answer;
-use crate::rendered::stream::{FusedReader, FusedWriter, end_of, write_whole};
+use crate::rendered::stream::run::{self, Steps, run_steps};
+use crate::rendered::stream::{Reading, Writing};
 use byte_unit::rendered::base::Kind;
+use std::convert::Infallible;
 
 /// The byte that ends a line.
 const LINE_END: u8 = b'\n';
@@ -17,10 +17,50 @@ const LINE_END: u8 = b'\n';
 /// The number of bytes that [`run`] asks for in each read: 64 KiB, as many as a pipe of Linux holds by default.
 const CHUNK: usize = 65536;
 
+/// The reason why a run ended before the end of its input. No line is one.
+pub type RunError = run::RunError<Infallible>;
+
+/// The answers that are not written yet.
+pub(crate) struct Answers<A: Allocator> {
+    /// The kind of the sizes.
+    pub(crate) kind: Kind,
+    /// The answers, each whole.
+    pub(crate) waiting: Vec<u8, A>,
+}
+
+impl<A: Allocator> Steps for Answers<A> {
+    type End = Infallible;
+
+    // Inlined: a call more for each line would take 12 instructions.
+    #[inline(always)]
+    fn step(&mut self, bytes: &[u8], len: usize) -> Result<(), RunError> {
+        match add_answer(bytes, len, self.kind, &mut self.waiting) {
+            Ok(()) => Ok(()),
+            Err(_) => Err(RunError::Memory),
+        }
+    }
+
+    fn close(&mut self) -> Result<(), RunError> {
+        Ok(())
+    }
+
+    fn waiting(&self) -> &[u8] {
+        &self.waiting
+    }
+
+    fn untold(&self) -> &[u8] {
+        &[]
+    }
+
+    fn clear(&mut self) {
+        self.waiting.clear();
+    }
+}
+
 /// What a run keeps from one read to the next.
 pub struct Buffers<A: Allocator> {
-    /// The answers that are not written yet, each whole.
-    pub(crate) waiting: Vec<u8, A>,
+    /// The answers that are not written yet.
+    pub(crate) answers: Answers<A>,
     /// The part that was read of a line whose end was not read yet.
     pub(crate) line: Vec<u8, A>,
 }
@@ -28,25 +68,7 @@ pub struct Buffers<A: Allocator> {
 impl<A: Allocator + Copy> Buffers<A> {
     /// Creates empty buffers. Does not allocate.
     pub fn new(alloc: A) -> Buffers<A> {
-        Buffers { waiting: Vec::new(alloc), line: Vec::new(alloc) }
-    }
-}
-
-/// The reason why a run ended before the end of its input.
-#[derive(Debug, Clone, Copy, PartialEq, Eq)]
-pub enum RunError {
-    /// Allocation failed, for a line or for the answers.
-    Memory,
-    /// A read failed.
-    Read,
-    /// A write failed.
-    Write,
-}
-
-/// Converts a failed allocation to `Memory`.
-impl From<AllocError> for RunError {
-    fn from(_: AllocError) -> RunError {
-        RunError::Memory
+        Buffers { answers: Answers { kind: Kind::Byte, waiting: Vec::new(alloc) }, line: Vec::new(alloc) }
     }
 }
 
@@ -61,8 +83,8 @@ impl From<AllocError> for RunError {
 /// - `Write` if a write fails. A beginning of the report on what was read has been written.
 pub fn run<R: Read, W: Write>(
     alloc: Global,
-    reader: &mut FusedReader<R>,
-    writer: &mut FusedWriter<W>,
+    reader: &mut Reading<R>,
+    writer: &mut Writing<W>,
     kind: Kind,
 ) -> Result<(), RunError> {
     let mut buffer = [0u8; CHUNK];
@@ -81,83 +103,12 @@ pub fn run<R: Read, W: Write>(
 pub fn run_with_buffers<A: Allocator, R: Read, W: Write>(
     buffers: &mut Buffers<A>,
     buffer: &mut [u8],
-    reader: &mut FusedReader<R>,
-    writer: &mut FusedWriter<W>,
+    reader: &mut Reading<R>,
+    writer: &mut Writing<W>,
     kind: Kind,
 ) -> Result<(), RunError> {
-    buffers.line.clear();
-    buffers.waiting.clear();
-    // The goals about the loop have their names from this label.
-    'reads: loop {
-        match reader.read(buffer) {
-            None => return Err(RunError::Read),
-            Some(0) => break 'reads,
-            Some(n) => {
-                let piece = &buffer[..n];
-                match answer_piece(&mut buffers.line, piece, kind, &mut buffers.waiting, writer) {
-                    Ok(()) => {}
-                    Err(error) => {
-                        return Err(error);
-                    }
-                }
-            }
-        }
-    }
-    if buffers.line.is_empty() {
-        Ok(())
-    } else {
-        add_answer(&buffers.line, buffers.line.len(), kind, &mut buffers.waiting)?;
-        write_whole(writer, &buffers.waiting, RunError::Write)
-    }
-}
-
-/// Answers the lines that end in `bytes`, and writes the answers.
-///
-/// `line` is the part of the first of them that was read before, and then the part of the next one that was read.
-///
-/// Precondition: `waiting` is empty.
-///
-/// # Errors
-/// - `Memory` if allocation fails. The answers to the lines before have been written.
-/// - `Write` if a write fails. A beginning of the answers has been written.
-fn answer_piece<A: Allocator, W: Write>(
-    line: &mut Vec<u8, A>,
-    bytes: &[u8],
-    kind: Kind,
-    waiting: &mut Vec<u8, A>,
-    writer: &mut FusedWriter<W>,
-) -> Result<(), RunError> {
-    let fed = feed(line, bytes, kind, waiting);
-    // If allocation failed, the answers to the lines before are written all the same.
-    write_whole(writer, waiting, RunError::Write)?;
-    waiting.clear();
-    // `?` converts an `AllocError` to a `RunError`.
-    Ok(fed?)
-}
-
-/// Appends the answers to the lines that end in `bytes` to `waiting`.
-///
-/// `line` is the part of the first of them that was read before, and then the part of the next one that was read.
-///
-/// # Errors
-/// Returns `AllocError` if allocation fails. The answers to the lines before have been appended, each whole.
-fn feed<A: Allocator>(
-    line: &mut Vec<u8, A>,
-    bytes: &[u8],
-    kind: Kind,
-    waiting: &mut Vec<u8, A>,
-) -> Result<(), AllocError> {
-    let mut rest = bytes;
-    while let Some(n) = end_of(rest, LINE_END) {
-        if line.is_empty() {
-            // Nothing of the line was read before: it is answered where it lies, without a copy.
-            add_answer(rest, n, kind, waiting)?;
-        } else {
-            line.extend_from_slice(&rest[..n])?;
-            add_answer(line, line.len(), kind, waiting)?;
-            line.clear();
-        }
-        rest = &rest[n + 1..];
-    }
-    line.extend_from_slice(rest)
+    buffers.answers.kind = kind;
+    // No line has messages.
+    let mut errors = Writing::new(io::sink());
+    run_steps(&mut buffers.answers, LINE_END, &mut buffers.line, buffer, reader, writer, &mut errors)
 }

@@ -7,7 +7,7 @@ use crate::rattle::io::Read;
 /// A reader that records whether a read has failed. After a failure it does not call the reader again.
 ///
 /// It also counts its reads. The bound of 2^64 - 1 on that count is what proves that a loop of reads ends.
-pub struct FusedReader<R> {
+pub struct Reading<R> {
     /// The reader.
     inner: R,
     /// Whether a read has returned `None`.
@@ -16,10 +16,10 @@ pub struct FusedReader<R> {
     count: u64,
 }
 
-impl<R: Read> FusedReader<R> {
-    /// Creates a `FusedReader` over a reader, with no read made and no failure recorded.
-    pub fn new(inner: R) -> FusedReader<R> {
-        FusedReader { inner, failed: false, count: 0 }
+impl<R: Read> Reading<R> {
+    /// Creates a `Reading` over a reader, with no read made and no failure recorded.
+    pub fn new(inner: R) -> Reading<R> {
+        Reading { inner, failed: false, count: 0 }
     }
 
     /// Returns `true` if a read has returned `None`.
@@ -29,7 +29,7 @@ impl<R: Read> FusedReader<R> {
 
     /// Returns the reader inside, with the bytes that it has left.
     pub fn into_inner(self) -> R {
-        let FusedReader { inner, failed: _, count: _ } = self;
+        let Reading { inner, failed: _, count: _ } = self;
         inner
     }
 

@@ -5,7 +5,7 @@
 use crate::rattle::io::{ErrorKind, Write};
 
 /// A writer that records whether a write has failed. After a failure it does not call the writer again.
-pub struct FusedWriter<W> {
+pub struct Writing<W> {
     /// The writer.
     inner: W,
     /// How the first write that failed has failed; `None` if none has.
@@ -21,10 +21,10 @@ enum Failure {
     Other,
 }
 
-impl<W: Write> FusedWriter<W> {
-    /// Creates a `FusedWriter` over a writer, with no failure recorded.
-    pub fn new(inner: W) -> FusedWriter<W> {
-        FusedWriter { inner, failure: None }
+impl<W: Write> Writing<W> {
+    /// Creates a `Writing` over a writer, with no failure recorded.
+    pub fn new(inner: W) -> Writing<W> {
+        Writing { inner, failure: None }
     }
 
     /// Returns `true` if a write has returned `None`.
@@ -43,7 +43,7 @@ impl<W: Write> FusedWriter<W> {
 
     /// Returns the writer inside, with the bytes that it holds.
     pub fn into_inner(self) -> W {
-        let FusedWriter { inner, failure: _ } = self;
+        let Writing { inner, failure: _ } = self;
         inner
     }
 
@@ -83,7 +83,7 @@ impl<W: Write> FusedWriter<W> {
 /// # Errors
 ///
 /// Returns `error` if a write fails. A beginning of `bytes` has been written.
-pub fn write_whole<W: Write, E: Copy>(writer: &mut FusedWriter<W>, bytes: &[u8], error: E) -> Result<(), E> {
+pub fn write_whole<W: Write, E: Copy>(writer: &mut Writing<W>, bytes: &[u8], error: E) -> Result<(), E> {
     let mut rest = bytes;
     while !rest.is_empty() {
         match writer.write(rest) {
@@ -92,4 +92,14 @@ pub fn write_whole<W: Write, E: Copy>(writer: &mut FusedWriter<W>, bytes: &[u8],
         }
     }
     Ok(())
+}
+
+/// Writes messages, unless a write has failed before. Records a failure, and no more.
+pub(crate) fn tell<W: Write>(errors: &mut Writing<W>, messages: &[u8]) {
+    if messages.is_empty() {
+        return;
+    }
+    if !errors.failed() {
+        let _ = write_whole(errors, messages, ());
+    }
 }

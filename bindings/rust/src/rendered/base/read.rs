@@ -1,6 +1,6 @@
 // Rendered from crates/byte_unit_base/src/read.rt by `tools/dev render rust`. Do not edit.
 
-//! The parser of a number and a unit, and a test that bytes have nothing to trim.
+//! The parser of a number and a unit in a string, and a test that bytes have nothing to trim.
 
 use crate::rendered::base::read::number::read_number_and_unit;
 use crate::rendered::base::read::stop::{Stop, error_at, first_char};
@@ -10,6 +10,7 @@ use crate::rendered::math::Decimal;
 
 pub(crate) mod number;
 pub(crate) mod stop;
+mod value;
 
 /// Parses a number and a unit from a string. White space at its ends is ignored.
 ///
@@ -47,7 +48,7 @@ pub fn read_size(s: &str, ignore_case: bool, prefer_byte: bool) -> Result<(Decim
         Ok(found) => Ok((found.1, found.0)),
         Err(stop) => {
             let next = first_char(&text[stop.place..]);
-            Err(error_at(next, stop.place == 0, stop.reason, flags))
+            Err(error_at(stop.reason, next, flags))
         }
     }
 }
@@ -57,16 +58,22 @@ pub fn read_size(s: &str, ignore_case: bool, prefer_byte: bool) -> Result<(Decim
 /// `read_size` does not call it: a result for both cases would be in memory, for some 10 instructions more per string.
 ///
 /// # Errors
-/// Returns where the parser stops in the trimmed string (0 if the number is too long) and why, and the character there,
-/// or `None` at the end.
+/// Returns where the parser stops in the string, and why.
 #[inline(always)]
-pub(crate) fn read_or_stop(s: &str, flags: Flags) -> Result<(Unit, Decimal), (Stop, Option<char>)> {
+pub(crate) fn read_or_stop(s: &str, flags: Flags) -> Result<(Unit, Decimal), Stop> {
     let text = trimmed(s);
     let bytes = text.as_bytes();
     match read_number_and_unit::<true>(bytes, bytes, flags) {
         Ok(found) => Ok(found),
-        Err(stop) => Err((stop, first_char(&text[stop.place..]))),
+        Err(stop) => {
+            Err(Stop { reason: stop.reason, next: first_char(&text[stop.place..]), index: leading_len(s) + stop.place })
+        }
     }
+}
+
+/// Returns the number of bytes of the white space at the start of a string.
+pub(crate) fn leading_len(s: &str) -> usize {
+    s.len() - s.trim_start().len()
 }
 
 /// Returns whether the first and the last byte are visible ASCII, so that there is nothing to trim.

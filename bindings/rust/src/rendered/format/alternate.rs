@@ -11,37 +11,10 @@ use crate::rendered::math::{decimal_len, put_u128};
 /// in `KiB` at a precision of 5.
 pub(crate) const NARROW_TEXT: usize = 37;
 
-/// Writes the size in its unit to the beginning of `out` if it fits, and returns its length.
-#[inline(always)]
-pub(crate) fn write_alternate(size: u128, kind: Kind, out: &mut [u8]) -> usize {
-    if out.len() < NARROW_TEXT {
-        return write_if_fits(size, kind, out);
-    }
-    // The cast tells the compiler that it can divide in 64 bits.
-    if size < 1 << 64 { put_form(u128::from(size as u64), kind, out) } else { put_form_wide(size, kind, out) }
-}
-
-/// Writes as `write_alternate`, by way of an array: the slow path, for a buffer that some texts do not fit.
-#[inline(never)]
-fn write_if_fits(size: u128, kind: Kind, out: &mut [u8]) -> usize {
-    let mut bytes = [0; NARROW_TEXT];
-    let len = put_form(size, kind, &mut bytes);
-    if len <= out.len() {
-        put(&bytes[..len], out, len);
-    }
-    len
-}
-
-/// Writes as `put_form`: the slow path, for a size of more than 64 bits.
-#[inline(never)]
-fn put_form_wide(size: u128, kind: Kind, out: &mut [u8]) -> usize {
-    put_form(size, kind, out)
-}
-
 /// Writes the size in its unit to the beginning of `out`, and returns its length.
 #[inline(always)]
 pub(crate) fn put_form(size: u128, kind: Kind, out: &mut [u8]) -> usize {
-    let (whole, fraction) = split(size, 3);
+    let (whole, fraction) = split(size);
     put_split(whole, fraction, kind, out)
 }
 

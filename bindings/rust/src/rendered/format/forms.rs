@@ -3,12 +3,13 @@
 //! Formatting of a size: digits only, or with a unit.
 
 use crate::rendered::base::Kind;
-use crate::rendered::format::alternate::write_alternate;
+use crate::rendered::choice::recoverable_unit;
+use crate::rendered::format::alternate::{NARROW_TEXT, put_form};
 use crate::rendered::format::layout::layout_parts;
 use crate::rendered::format::parts::{Fraction, TextParts};
 use crate::rendered::format::plain::plain_parts;
 use crate::rendered::format::spec::FormatSpec;
-use crate::rendered::format::thousandths::unit_within;
+use crate::rendered::math::Steps;
 
 /// The precision of the alternate form if none is set, as in the Rust crate.
 const DEFAULT_PRECISION: usize = 3;
@@ -36,8 +37,8 @@ pub fn text_len(size: u128, kind: Kind, spec: FormatSpec) -> usize {
 /// ```
 #[inline(always)]
 pub fn write_text(size: u128, kind: Kind, spec: FormatSpec, out: &mut [u8]) -> usize {
-    if spec == FormatSpec::ALTERNATE {
-        return write_alternate(size, kind, out);
+    if spec == FormatSpec::ALTERNATE && out.len() >= NARROW_TEXT {
+        return put_form(size, kind, out);
     }
     text_parts(size, kind, spec).write(out)
 }
@@ -52,7 +53,7 @@ fn text_parts(size: u128, kind: Kind, spec: FormatSpec) -> TextParts<'static> {
         Some(precision) => usize::from(precision),
         None => DEFAULT_PRECISION,
     };
-    let (number, unit) = unit_within(size, kind, places);
+    let (number, unit) = recoverable_unit(size, kind, false, places, &mut Steps::new());
     let fraction = Fraction::Last(number.digits(), number.places());
     layout_parts(number.whole(), fraction, unit, spec)
 }

@@ -126,7 +126,7 @@ impl Decimal {
 
     /// Creates the same number from digits of which the last is not 0.
     #[inline(always)]
-    pub(crate) const fn from_trimmed_digits(whole: u128, digits: u128, places: u32) -> Decimal {
+    const fn from_trimmed_digits(whole: u128, digits: u128, places: u32) -> Decimal {
         Decimal { whole, digits, places }
     }
 

@@ -2,8 +2,8 @@
 
 //! The decimal digits of a number, or of a fraction after its point, as ASCII, and the number of digits.
 
-use crate::rendered::math::dividing::split_last_18_digits;
-use crate::rendered::math::lanes::{TEN_POW_16, put_16_digits};
+use crate::rendered::math::dividing::split_last_16_digits;
+use crate::rendered::math::lanes::put_16_digits;
 use crate::rendered::math::tens::power_of_ten;
 use core::{fmt, str};
 
@@ -175,24 +175,17 @@ pub fn put_fraction(digits: u128, places: u32, bytes: &mut [u8], end: usize) -> 
     point
 }
 
-/// Writes digits as `put_u128`, 18 at a time: the slow path, for numbers of more than 64 bits.
+/// Writes digits as `put_u128`, 16 at a time: the slow path, for numbers of more than 64 bits.
 #[inline(never)]
 fn put_u128_wide(n: u128, bytes: &mut [u8], end: usize) -> usize {
     let mut start = end;
     let mut rest = n;
     while rest > u128::from(u64::MAX) {
-        let (before, last) = split_last_18_digits(rest);
-        start = put_18_digits(last, bytes, start);
+        let (before, last) = split_last_16_digits(rest);
+        start = put_16_digits(last, bytes, start);
         rest = before;
     }
     put_u64(rest as u64, bytes, start)
-}
-
-/// Writes 18 digits, leading zeros included, and returns the index where they begin.
-#[inline]
-fn put_18_digits(n: u64, bytes: &mut [u8], end: usize) -> usize {
-    let middle = put_16_digits(n % TEN_POW_16, bytes, end);
-    put_2_digits((n / TEN_POW_16) as u32, bytes, middle)
 }
 
 /// Writes the digits of a number of 64 bits as `put_u128`.

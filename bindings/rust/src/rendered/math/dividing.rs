@@ -2,11 +2,11 @@
 
 //! Division of 128 bits, with remainder or rounded; by constants; and for one digit of a long division.
 
-/// 10^18, the radix of the groups of digits in which `put_u128_wide` writes a long number.
-const TEN_POW_18: u64 = 1_000_000_000_000_000_000;
+/// 10^16, the radix of groups of 16 digits: as many bytes as a vector `u8x16` has.
+pub(crate) const TEN_POW_16: u64 = 10_000_000_000_000_000;
 
-/// The reciprocal of `TEN_POW_18`: 2^123 / 10^18, rounded down. With a greater power of 2 it would not fit 64 bits.
-const TEN_POW_18_INVERSE: u64 = 10_633_823_966_279_326_983;
+/// The reciprocal of `TEN_POW_16`: 2^117 / 10^16, rounded down. With a greater power of 2 it would not fit 64 bits.
+pub(crate) const TEN_POW_16_INVERSE: u64 = 16_615_349_947_311_448_411;
 
 /// The base of a long division by a number of at most 2^24: each step fits 64 bits.
 const BASE: u64 = 1 << 40;
@@ -89,15 +89,15 @@ pub fn div_rem_thousand(n: u128) -> (u128, u64) {
     div_rem_u24(n, 1000)
 }
 
-/// Splits a number into its last 18 digits and those before them. Numbers below 2^122 take no division.
+/// Splits a number into its last 16 digits and those before them. Numbers below 2^100 take no division.
 #[inline(always)]
-pub(crate) fn split_last_18_digits(n: u128) -> (u128, u64) {
-    if n < 1 << 122 {
-        // 58 + 65 is 123, the power of the reciprocal, and at most 64 bits of `n` are left after the cut by 58.
-        let (before, last) = div_rem_by_inverse(n, TEN_POW_18, TEN_POW_18_INVERSE, 58, 65);
+pub(crate) fn split_last_16_digits(n: u128) -> (u128, u64) {
+    if n < 1 << 100 {
+        // 36 + 81 is 117, the power of the reciprocal, and at most 64 bits of `n` are left after the cut by 36.
+        let (before, last) = div_rem_by_inverse(n, TEN_POW_16, TEN_POW_16_INVERSE, 36, 81);
         return (u128::from(before), last);
     }
-    let (before, last) = div_rem(n, u128::from(TEN_POW_18));
+    let (before, last) = div_rem(n, u128::from(TEN_POW_16));
     (before, last as u64)
 }
 
@@ -113,8 +113,15 @@ macro_rules! digit_and_rest {
     }};
 }
 
-/// Returns the quotient, which is a digit, and the remainder.
+/// Returns the quotient, which is a digit, and the remainder. Inlined, so that the tests of the divisor are made once,
+/// before a loop.
+#[inline(always)]
 pub(crate) fn div_rem_digit(dividend: u128, divisor: u128) -> (u128, u128) {
+    let twos = divisor.trailing_zeros();
+    if divisor >> twos == 1 {
+        // A power of 2 takes a shift and a mask.
+        return (dividend >> twos, dividend & (divisor - 1));
+    }
     if divisor < 1 << 60 {
         // Ten times the divisor fits 64 bits, and so does the dividend.
         let (digit, rest) = digit_and_rest!(subtract_multiple_u64, dividend as u64, divisor as u64);

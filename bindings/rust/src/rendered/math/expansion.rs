@@ -2,7 +2,6 @@
 
 //! Terminating decimal expansions: a whole part and at most 93 digits after the point; their rounding and their text.
 
-use crate::rendered::math::binary::binary_digits;
 use crate::rendered::math::decimal::{Decimal, ONE};
 use crate::rendered::math::decimal_digits::fmt_u128;
 use crate::rendered::math::dividing::{div_rem, div_rem_digit};
@@ -35,7 +34,7 @@ pub struct Expansion {
 }
 
 impl Expansion {
-    /// Creates the expansion of `numerator / (2^twos * 5^fives)`. Over a power of 2 it takes no division.
+    /// Creates the expansion of `numerator / (2^twos * 5^fives)`.
     ///
     /// Precondition: `numerator < 8 * 10^30` and `2^twos * 5^fives <= 2^93`.
     ///
@@ -47,18 +46,9 @@ impl Expansion {
     /// ```
     #[doc(hidden)]
     pub fn new(numerator: u128, twos: u32, fives: u32) -> Expansion {
-        if fives == 0 {
-            return Expansion::binary(numerator, twos);
-        }
         let den = power_of_two(twos) * power_of_five(fives);
         let (whole, rest) = div_rem(numerator, den);
         divide(whole, rest, den)
-    }
-
-    /// Creates the same expansion as `new`, over `2^twos`.
-    fn binary(numerator: u128, twos: u32) -> Expansion {
-        let shared = numerator.trailing_zeros().min(twos);
-        in_lowest_terms(numerator >> shared, twos - shared)
     }
 
     /// Creates an `Expansion` with the digits of a `Decimal`.
@@ -237,15 +227,6 @@ pub fn glyphs_of(e: &Expansion) -> [u8; EXPANSION_PLACES] {
         glyphs[i as usize] = b'0' + e.digit(i + 1);
     }
     glyphs
-}
-
-/// Expands `numerator / 2^places`, which is in lowest terms.
-#[inline(always)]
-fn in_lowest_terms(numerator: u128, places: u32) -> Expansion {
-    let whole = numerator >> places;
-    // The last `places` bits are the fraction.
-    let rest = numerator & ((1 << places) - 1);
-    Expansion { whole, digits: binary_digits(rest, places), places }
 }
 
 /// Expands `whole + remainder / den` by long division.

@@ -3,17 +3,11 @@
 //! The decimal digits of a number, sixteen at a time.
 
 use crate::rendered::math::decimal_digits::{decimal_len, put_u64};
-use crate::rendered::math::dividing::div_rem_by_inverse;
+use crate::rendered::math::dividing::{TEN_POW_16, TEN_POW_16_INVERSE, div_rem_by_inverse};
 use crate::support::lanes::*;
 
 /// The length of the array of [`put_padded_digits`]: two groups of 16 digits, since a number has up to 30.
 pub const PADDED_DIGITS: usize = 32;
-
-/// 10^16, the radix of groups of 16 digits: as many bytes as a vector `u8x16` has.
-pub(crate) const TEN_POW_16: u64 = 10_000_000_000_000_000;
-
-/// The reciprocal of `TEN_POW_16`: 2^117 / 10^16, rounded down. With a greater power of 2 it would not fit 64 bits.
-const TEN_POW_16_INVERSE: u64 = 16_615_349_947_311_448_411;
 
 /// Writes the digits of a number as ASCII to the beginning of an array and the digit 0 to the rest of it, and returns
 /// the number of its digits, 1 to 30.
@@ -49,13 +43,13 @@ fn digits_with_zeros(n: u128) -> ([u8; 48], usize) {
     // At most 32 digits, and 16 bytes more, since 32 are copied from the first digit that is not a leading zero.
     let mut digits = [b'0'; 48];
     if n < u128::from(TEN_POW_16) {
-        last_16_digits(n as u64).copy_to_slice(&mut digits[..16]);
+        put_16_digits(n as u64, &mut digits, 16);
         return (digits, 16);
     }
     // 36 + 81 is 117, the power of the reciprocal, and at most 64 bits of `n` are left after the cut by 36.
     let (before, last) = div_rem_by_inverse(n, TEN_POW_16, TEN_POW_16_INVERSE, 36, 81);
-    last_16_digits(before).copy_to_slice(&mut digits[..16]);
-    last_16_digits(last).copy_to_slice(&mut digits[16..32]);
+    let middle = put_16_digits(last, &mut digits, 32);
+    put_16_digits(before, &mut digits, middle);
     (digits, 32)
 }
 
@@ -63,12 +57,7 @@ fn digits_with_zeros(n: u128) -> ([u8; 48], usize) {
 #[inline(always)]
 pub(crate) fn put_16_digits(n: u64, bytes: &mut [u8], end: usize) -> usize {
     let start = end - 16;
-    bytes[start..end].copy_from_slice(&last_16_digits(n).to_array());
+    let digits: u8x16 = last_16_digits(n);
+    bytes[start..end].copy_from_slice(&digits.to_array());
     start
-}
-
-/// Returns the digits of a number below 10^16 as numbers, with leading zeros.
-#[inline(always)]
-pub(crate) fn last_16_values(n: u64) -> u8x16 {
-    last_16_digits(n) - u8x16::splat(b'0')
 }

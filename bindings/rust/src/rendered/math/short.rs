@@ -1,12 +1,10 @@
 // Rendered from crates/byte_unit_math/src/short.rt by `tools/dev render rust`. Do not edit.
 
-//! Terminating decimal expansions with few digits after the point, by one product and one division or shift, and exact
-//! quotients by them.
+//! Terminating decimal expansions with few digits after the point, by one product and one division or shift.
 
 use crate::rendered::math::dividing::div_rem;
-use crate::rendered::math::quotient::exact_quotient;
-use crate::rendered::math::tens::{power_of_five, power_of_ten, power_of_two};
-use crate::rendered::math::{DECIMAL_PLACES, Decimal, Steps};
+use crate::rendered::math::tens::{power_of_five, power_of_ten};
+use crate::rendered::math::{DECIMAL_PLACES, Decimal};
 
 /// The most digits after the point of a [`ShortExpansion`]: any 38 digits are a number of 128 bits.
 const MOST_PLACES: u32 = 38;
@@ -79,45 +77,4 @@ fn decimal_expansion(numerator: u128, twos: u32, tens: u32) -> Option<ShortExpan
     // Leaves trailing zeros out.
     let (whole, digits, places) = Decimal::from_digits(whole, digits, places).fields();
     Some(ShortExpansion { whole, digits, places })
-}
-
-/// Returns `numerator / (2^twos * 5^fives)`, which is exact within `places` digits after the point; more than 28 count
-/// as 28. It takes one product and one division or shift, or else long division.
-///
-/// Precondition: `numerator < 8 * 10^30`, `2^twos * 5^fives <= 2^93`, and the quotient is exact
-/// within these digits.
-///
-/// Adds the steps of long division: one for each digit after the point of the result.
-///
-/// # Examples
-/// ```
-/// # use byte_unit::rendered::{base::{size::parse_line, *}, bit::*, byte::*, choice::*, format::*, math::*};
-/// use byte_unit::Decimal;
-///
-/// let mut steps = Steps::new();
-/// assert_eq!(exact_number(13, 3, 0, 3, &mut steps), Decimal::from_digits(1, 625, 3));
-/// assert_eq!(steps.count(), 3);
-/// ```
-#[inline(never)]
-pub fn exact_number(numerator: u128, twos: u32, fives: u32, places: u32, steps: &mut Steps) -> Decimal {
-    if fives > twos {
-        return divided(numerator, twos, fives, places, steps);
-    }
-    match short_expansion(numerator, twos, fives) {
-        Some(parts) => {
-            let number = Decimal::from_trimmed_digits(parts.whole, parts.digits, parts.places);
-            steps.advance_by(number.places());
-            number
-        }
-        None => divided(numerator, twos, fives, places, steps),
-    }
-}
-
-/// Returns the same as `exact_number`, by long division.
-#[inline(never)]
-fn divided(numerator: u128, twos: u32, fives: u32, places: u32, steps: &mut Steps) -> Decimal {
-    let unit = power_of_two(twos) * power_of_five(fives);
-    let number = exact_quotient(numerator, unit, places, &mut Steps::new()).unwrap();
-    steps.advance_by(number.places());
-    number
 }

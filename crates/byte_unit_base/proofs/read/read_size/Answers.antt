@@ -1,19 +1,21 @@
 -- The number and unit of the trimmed string, or the error of the rest of it, where the parser stops.
-use Rattle.std.proofs.Common.{nat_eq, ap, subst, ◌∙◌, chars, IsUtf8}
+use Rattle.std.proofs.Common.{ap, refl, subst, ◌∙◌, chars, IsUtf8}
 use Rattle.byte_unit_base.specs.Spelling.{flags_of}
 use Rattle.byte_unit_base.specs.Units.{shape_of}
-use Rattle.byte_unit_base.specs.ParserEnds.{IsStop, next_char, stop_fault}
+use Rattle.byte_unit_base.specs.ParserEnds.{IsStopAt, next_char}
+use Rattle.byte_unit_base.proofs.Positions.{stop_in_string}
 use Rattle.byte_unit_base.proofs.SizeAscii.{size_of_chars}
-use Rattle.byte_unit_base.proofs.SizeReads.{stop_reading, stated_reading}
+use Rattle.byte_unit_base.proofs.SizeReads.{stated_reading}
 use Rattle.byte_unit_base.proofs.SizeRest.{boundary_at}
 use Rattle.byte_unit_base.proofs.read.read_size.Goals as goal
 
 pub range_from-requires : goal.range_from-requires
 range_from-requires c =
     let flags = flags_of c.args.ignore_case c.args.prefer_byte in
-    let stop = subst (λ text. IsStop flags text c.in-Err.stop) c.as_bytes-bytes.ensures.value c.in-Err.ensures in
+    let stop = c.in-Err.stop in
+    let stops = subst (λ text. IsStopAt flags text stop.place stop.reason) c.as_bytes-bytes.ensures.value c.in-Err.ensures in
     let utf8 = subst IsUtf8 c.as_bytes-bytes.ensures.value c.as_bytes-bytes.ensures.utf8 in
-    λ _. boundary_at c.trimmed-text.result.now c.in-Err.stop.place utf8 stop.within stop.ascii
+    λ _. boundary_at c.trimmed-text.result.now stop.place utf8 stops.within stops.ascii
 
 pub returns-in-Ok : goal.returns-in-Ok
 returns-in-Ok c =
@@ -28,8 +30,9 @@ returns-in-Err c =
     let flags = flags_of c.args.ignore_case c.args.prefer_byte in
     let stop = c.in-Err.stop in
     let text = c.trimmed-text.result.now in
-    let stops = subst (λ text. IsStop flags text stop) c.as_bytes-bytes.ensures.value c.in-Err.ensures in
+    let stops = subst (λ text. IsStopAt flags text stop.place stop.reason) c.as_bytes-bytes.ensures.value c.in-Err.ensures in
     let utf8 = subst IsUtf8 c.as_bytes-bytes.ensures.value c.as_bytes-bytes.ensures.utf8 in
-    stop_reading flags c.args.s.now text stop.place stop.reason c.error_at.result c.trimmed-text.ensures utf8 stops
-    (c.error_at.ensures ∙ ap (stop_fault flags (nat_eq stop.place 0) stop.reason)
-    (c.first_char-next.ensures ∙ ap (λ rest. next_char (chars rest)) c.range_from.ensures.value))
+    let next_is = c.first_char-next.ensures ∙ ap (λ rest. next_char (chars rest)) c.range_from.ensures.value in
+    let is = stop_in_string flags c.args.s.now text stop.place _ stop.reason _ c.utf8.s c.trimmed-text.ensures utf8 stops
+    next_is refl in
+    is.reading c.error_at.result c.error_at.ensures

@@ -7,4 +7,4 @@ use Rattle.byte_unit_c.proofs.position.byte_unit_error_position.Goals as goal
 pub returns-in-Ok-clause-position : goal.returns-in-Ok-clause-position
 returns-in-Ok-clause-position c = λ utf8.
     subst (IsSizePosition c.args.text.now) c.write_position.ensures.position
-    (subst (λ text. IsSizePosition text c.of_size_error.result) c.in-Ok.ensures.cases.0 c.of_size_error.ensures)
+    (subst (λ text. IsSizePosition text c.error_position.result) c.in-Ok.ensures.cases.0 c.error_position.ensures)

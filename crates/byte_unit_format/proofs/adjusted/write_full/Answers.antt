@@ -9,4 +9,4 @@ returns-clause-written c =
     let places = c.round-places in
     let form = adjusted_by_expansion places.new.number places.result c.requires.rounding places.ensures.text
     c.number_in_unit-number.ensures in
-    writes_form (layout_of places.new.number places.result c.args.of.unit c.args.spec) form c.write_layout.ensures.written
+    writes_form (layout_of places.new.number places.result c.args.unit c.args.spec) form c.write_layout.ensures.written

@@ -1,9 +1,8 @@
 -- The whole part and what follows it are the text of the size.
-use Rattle.std.proofs.Common.{◌++◌, ap, arith, refl, ◌∙◌, drop}
+use Rattle.std.proofs.Common.{◌++◌, ap, arith, ◌∙◌, drop}
 use Rattle.std.specs.Fmt.{decimal}
 use Rattle.byte_unit_format.specs.UnitFraction.{unit_fraction_text}
-use Rattle.byte_unit_format.proofs.TextParts.{front_is}
-use Rattle.byte_unit_format.proofs.UnitFraction.{form_of_split, split_ascii}
+use Rattle.byte_unit_format.proofs.UnitFraction.{form_of_split}
 use Rattle.byte_unit_format.proofs.alternate.put_form.Goals as goal
 
 -- `split.result` is the whole part and what follows it in its unit.
@@ -20,9 +19,3 @@ returns-clause-written c =
       fits = λ room. c.put_split.ensures.bytes ∙ ap (λ n. text ++ drop n c.args.out.now) ends;
       too_long = λ less. absurd (omega (arith, less, ends, c.put_split.ensures.bound, c.requires.room));
     }
-
--- What was put is ASCII.
-pub returns-clause-ascii : goal.returns-clause-ascii
-returns-clause-ascii c = rw (front_is _ _ c.put_split.ensures.bytes c.put_split.ensures.ends)
-    (split_ascii c.args.kind c.split-whole.result.0 c.split-whole.result.1 (c.split-whole.ensures.narrow refl)
-    c.split-whole.ensures.prefix)

@@ -6,9 +6,9 @@ use Rattle.byte_unit_format.proofs.forms.text_parts.Goals as goal
 
 pub returns-clause-text : goal.returns-clause-text
 returns-clause-text c =
-    let found = c.unit_within-number.ensures in
+    let found = c.recoverable_unit-number.ensures in
     let least = c.places.ensures.least in
-    let fields : AreFields c.unit_within-number.result.0 c.whole.result c.digits.result c.places.result =
+    let fields : AreFields c.recoverable_unit-number.result.0 c.whole.result c.digits.result c.places.result =
     search (rules, c.digits.ensures.value c.places.result least, c.digits.ensures.bound c.places.result least) in
     size_form_is_text c.args.kind c.args.size c.args.spec (search rules)
     (rw c.layout_parts.ensures.text

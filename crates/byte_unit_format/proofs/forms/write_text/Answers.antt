@@ -3,23 +3,13 @@
 use Rattle.std.proofs.Common.{arith, sym, ◌∙◌}
 use Rattle.byte_unit_format.specs.TextParts.{parts_text}
 use Rattle.byte_unit_format.proofs.NamedSpecs.{is_alternate}
-use Rattle.byte_unit_format.proofs.NarrowTexts.{text_without_width_narrow, written_form_narrow}
+use Rattle.byte_unit_format.proofs.NarrowTexts.{text_without_width_narrow}
 use Rattle.byte_unit_format.proofs.forms.write_text.Goals as goal
 
 -- The spec is the alternate form.
-pub returns-then-eq-clause-written : goal.returns-then-eq-clause-written
-returns-then-eq-clause-written c =
-    rw (is_alternate c.args.spec (sym c.eq.ensures ∙ c.if-eq.true)) c.write_alternate.ensures
-
--- The alternate form has at most 37 bytes, so it is shorter than the limit of a text.
-pub returns-then-eq-clause-bound : goal.returns-then-eq-clause-bound
-returns-then-eq-clause-bound c =
-    omega (arith, written_form_narrow c.args.kind c.args.size c.requires c.write_alternate.ensures)
-
--- The alternate form, which has no width, has at most 37 bytes.
-pub returns-then-eq-clause-narrow : goal.returns-then-eq-clause-narrow
-returns-then-eq-clause-narrow c = λ _.
-    written_form_narrow c.args.kind c.args.size c.requires c.write_alternate.ensures
+pub returns-then-out-ge-NARROW_TEXT-clause-written : goal.returns-then-out-ge-NARROW_TEXT-clause-written
+returns-then-out-ge-NARROW_TEXT-clause-written c =
+    rw (is_alternate c.args.spec (sym c.eq.ensures ∙ c.if-eq.true)) c.put_form.ensures.written
 
 -- Every other text without a width has at most 37 bytes.
 pub returns-clause-narrow : goal.returns-clause-narrow

@@ -17,7 +17,7 @@ returns-then-places-gt0 g c =
     let text = fraction_text_of_shown c.args.places c.min-shown.result c.args.e.now.digits c.glyphs_of.result
     c.if-places-gt0.true (omega (arith, c.min-shown.ensures, c.places.ensures.exact)) c.glyphs_of.ensures.front in
     record {
-      bytes = rw (c.push_run.ensures.bytes, c.push_ascii.ensures.bytes, c.push.ensures.bytes)
+      bytes = rw (c.push_run-then-places-gt0.ensures.bytes, c.push_ascii.ensures.bytes, c.push_run.ensures.bytes)
           (simp (append_assoc {A = ℕ}) (ap (λ text. string_bytes c.args.text.now ++ text) text));
       spare = grind (arith, common_steps, fraction_length);
     }

@@ -6,7 +6,7 @@ use Rattle.byte_unit_format.proofs.thousandths.binary_power.Goals as goal
 -- The first part of the lemma: the prefix is the greatest that fits.
 pub returns-clause-greatest : goal.returns-clause-greatest
 returns-clause-greatest c =
-    (binary_greatest c.args.places c.args.size _ c.requires.places c.requires.positive c.requires.bound
+    (binary_greatest c.args.size _ c.requires.positive c.requires.bound
     (omega (arith, c.min.ensures))).0
 
 -- The position of the prefix is at most 9.
@@ -16,5 +16,5 @@ returns-clause-bound c = few_binary _ c.args.size c.requires.bound (returns-clau
 -- The second part of the lemma: the size is a number of eighths of its unit.
 pub returns-clause-eighths : goal.returns-clause-eighths
 returns-clause-eighths c =
-    (binary_greatest c.args.places c.args.size _ c.requires.places c.requires.positive c.requires.bound
+    (binary_greatest c.args.size _ c.requires.positive c.requires.bound
     (omega (arith, c.min.ensures))).1

@@ -6,7 +6,7 @@ use Rattle.byte_unit_format.proofs.thousandths.in_eighths.Goals as goal
 
 -- In each kind, the size is split as the whole part and the eighths.
 pub returns-clause-split : goal.returns-clause-split
-returns-clause-split c = λ kind places recovered. record {
+returns-clause-split c = λ kind recovered. record {
   recovered = recovered;
   value = number_of_units kind c.args.size c.args.power true _ _
       (eighths_value c.args.size c.args.power c.requires.positive c.requires.eighths);

@@ -19,7 +19,7 @@ returns-then-most-eq0-clause-form c =
     let size = c.args.size in
     let below = (few_digits size c.requires.bound).2 (omega (arith, c.requires.len, c.if-most-eq0.true)) in
     rw (front_is _ _ c.put_split.ensures.bytes c.put_split.ensures.ends)
-    (form_of_thousandths kind size size 0 (own_unit kind) (omega arith) (recovered_own kind 3 size (omega arith) below)
+    (form_of_thousandths kind size size 0 (own_unit kind) (omega arith) (recovered_own kind size below)
     (omega (arith, own_number kind size (size * scale) (own_unit kind) refl refl)))
 
 -- `found`, here and below, is what the digits tell of the largest decimal prefix: no more are used than there are.
@@ -62,7 +62,7 @@ returns-then-binary-power-clause-form c =
     rw (c.put_decimal.ensures.text, name, c.requires.digits, c.requires.len, cut.whole_is, cut.fraction_is)
     (form_of_thousandths kind size (size / 10 ^ (3 * power)) cut.thousandths (shape power false (counts_bits kind))
     cut.below
-    (recovered_decimal kind 3 size (omega arith) found.some found.known found.greatest
+    (recovered_decimal kind size found.some found.known found.greatest
     c.binary_power-binary.ensures.greatest c.if-binary-power.true)
     (number_of_units kind size power false (size / 10 ^ (3 * power)) cut.thousandths cut.value))
 
@@ -96,5 +96,5 @@ returns-clause-form c =
     let split = c.in_eighths-whole in
     rw (front_is _ _ c.put_split-2.ensures.bytes c.put_split-2.ensures.ends)
     (form_of_split c.args.kind size split.result.0 split.result.1 split.ensures.prefix
-    (split.ensures.split c.args.kind 3
-    (recovered_binary c.args.kind 3 size (omega arith) not_less.0 twos.bound twos.greatest not_less.1)))
+    (split.ensures.split c.args.kind
+    (recovered_binary c.args.kind size not_less.0 twos.bound twos.greatest not_less.1)))

@@ -2,22 +2,14 @@
 
 //! Parses a number and a unit from a line. Eight bytes are loaded at once, as a `u64` whose lowest byte is the first.
 
-use crate::rendered::base::read::stop::{Reason, Stop};
+use crate::rendered::base::read::stop::{ByteStop, NumberStop, Reason};
+use crate::rendered::base::read::value::{value_of, whole_of};
 use crate::rendered::base::unit::Unit;
-use crate::rendered::base::unit::scan::{Flags, UnitStop, Word};
+use crate::rendered::base::unit::scan::{Flags, UnitStop, letters};
 use crate::rendered::base::unit::tables::{BY_POWER, LETTER_POWERS};
 use crate::rendered::math::{DECIMAL_PLACES, Decimal, WHOLE_LIMIT};
 use crate::support::lanes::*;
 use crate::support::read_digits;
-
-/// The most digits whose value always fits a `u64`: 19.
-const SHORT_DIGITS: usize = 19;
-
-/// The most digits whose value always fits a `u128`: 38.
-const LONG_DIGITS: usize = 38;
-
-/// 10^19, by which the digits before the last 19 are multiplied.
-const NINETEEN_DIGITS: u128 = 10_000_000_000_000_000_000;
 
 /// Keeps the lowest byte of every four bytes: the value of one pair of digits.
 const PAIR_OF_FOUR_BYTES: u64 = 0x0000_00ff_0000_00ff;
@@ -35,17 +27,17 @@ pub fn read_number_and_unit<const ALONE: bool>(
     line: &[u8],
     bytes: &[u8],
     flags: Flags,
-) -> Result<(Unit, Decimal), Stop> {
+) -> Result<(Unit, Decimal), ByteStop> {
     match read_number::<ALONE>(line, bytes) {
         Ok(found) => {
             let (end, number) = found;
             let start = end + leading_spaces(&line[end..]);
             match read_unit(line, bytes, start, flags) {
                 Ok(unit) => Ok((unit, number)),
-                Err(stop) => Err(Stop { place: start + stop.1, reason: Reason::InUnit(stop.0) }),
+                Err(stop) => Err(ByteStop { place: start + stop.1, reason: Reason::InUnit(stop.0) }),
             }
         }
-        Err(stop) => Err(stop),
+        Err(stop) => Err(ByteStop { place: stop.1, reason: Reason::InNumber(stop.0) }),
     }
 }
 
@@ -62,16 +54,16 @@ pub fn leading_spaces(bytes: &[u8]) -> usize {
 /// and it. The line is at the beginning of `bytes`.
 ///
 /// # Errors
-/// Returns where the parser stops: `NoDigit` or `TooLong`.
+/// Returns why the parser stops, and the index where it does.
 #[inline(always)]
-fn read_number<const ALONE: bool>(line: &[u8], bytes: &[u8]) -> Result<(usize, Decimal), Stop> {
+fn read_number<const ALONE: bool>(line: &[u8], bytes: &[u8]) -> Result<(usize, Decimal), (NumberStop, usize)> {
     let (end, value) = leading_digits::<ALONE>(line, bytes, 0);
     if end == 0 {
-        return Err(Stop { place: 0, reason: Reason::NoDigit });
+        return Err((NumberStop::NoWhole, 0));
     }
-    let whole = value_of(&line[..end], value);
+    let (whole, place) = whole_of(&line[..end], value);
     if whole >= WHOLE_LIMIT {
-        return Err(Stop { place: 0, reason: Reason::TooLong });
+        return Err((NumberStop::TooLong, place));
     }
     if end == line.len() || line[end] != b'.' {
         return Ok((end, Decimal::from_digits(whole, 0, 0)));
@@ -80,50 +72,14 @@ fn read_number<const ALONE: bool>(line: &[u8], bytes: &[u8]) -> Result<(usize, D
     let (stop, value) = leading_digits::<ALONE>(line, bytes, start);
     let places = stop - start;
     if places == 0 {
-        return Err(Stop { place: start, reason: Reason::NoDigit });
+        return Err((NumberStop::NoFraction, start));
     }
     if places > DECIMAL_PLACES as usize {
-        return Err(Stop { place: 0, reason: Reason::TooLong });
+        return Err((NumberStop::TooLong, start + DECIMAL_PLACES as usize));
     }
     let digits = value_of(&line[start..stop], value);
     let number = Decimal::from_digits(whole, digits, places as u32);
     Ok((stop, number))
-}
-
-/// Returns the value of digits, from the last 64 bits of that value. For more than 38 digits the result may be another
-/// number if both are 2^112 or more.
-#[inline(always)]
-fn value_of(digits: &[u8], last_bits: u64) -> u128 {
-    if digits.len() <= SHORT_DIGITS {
-        u128::from(last_bits)
-    } else if digits.len() <= LONG_DIGITS {
-        long_value(digits, last_bits)
-    } else {
-        longer_value(digits)
-    }
-}
-
-/// Slow path: returns the value of any number of digits. If it is 2^112 or more, the result may be another such number.
-#[inline(never)]
-fn longer_value(digits: &[u8]) -> u128 {
-    let mut whole = 0;
-    for digit in digits {
-        whole = whole * 10 + u128::from(*digit - b'0');
-        if whole >= WHOLE_LIMIT {
-            return whole;
-        }
-    }
-    whole
-}
-
-/// Slow path: returns the value of 19 to 38 digits, from the last 64 bits of that value.
-#[inline(never)]
-fn long_value(digits: &[u8], last_bits: u64) -> u128 {
-    let (front, _) = digits.split_at(digits.len() - SHORT_DIGITS);
-    let (_, high) = read_digits(front, 0, 0);
-    let product = u128::from(high) * NINETEEN_DIGITS;
-    // The value of the last 19 digits fits 64 bits, so it follows from these bits.
-    product + u128::from(last_bits.wrapping_sub((product % (1 << 64)) as u64))
 }
 
 /// Parses the digits of a line from an index on. Returns where they end, and the last 64 bits of their value. The line
@@ -229,18 +185,6 @@ fn suffix_len(word: u64) -> usize {
 #[inline(always)]
 fn counts_bits(length: usize, upper: bool, flags: Flags) -> bool {
     (length > 2) | ((length == 1) & !upper & !flags.ignore_case) | ((length == 0) & !flags.prefer_byte)
-}
-
-/// Returns the first `length` letters of `bits`, for the error of a unit in which the parser stops after them.
-#[inline(always)]
-fn letters(length: usize) -> Word {
-    match length {
-        0 => Word::Empty,
-        1 => Word::B,
-        2 => Word::Bi,
-        3 => Word::Bit,
-        _ => Word::Bits,
-    }
 }
 
 /// Returns the first eight bytes from an index on. After the end of the bytes they are 0.

@@ -2,8 +2,11 @@
 
 //! The parser of a unit in a string.
 
-use crate::rendered::base::unit::scan::Flags;
-use crate::rendered::base::{Unit, UnitParseError, position};
+use crate::rendered::base::read::leading_len;
+use crate::rendered::base::read::number::read_unit;
+use crate::rendered::base::read::stop::first_char;
+use crate::rendered::base::unit::scan::{Flags, UnitStop};
+use crate::rendered::base::{Unit, UnitParseError};
 use core::str::FromStr;
 
 impl Unit {
@@ -32,12 +35,63 @@ impl Unit {
     pub fn parse_str<S: AsRef<str>>(s: S, ignore_case: bool, prefer_byte: bool) -> Result<Unit, UnitParseError> {
         let s = s.as_ref();
         let flags = Flags { ignore_case, prefer_byte };
-        match position::read_unit_text(s, flags) {
+        match read_unit_text(s, flags) {
             Ok(unit) => Ok(unit),
             Err(stopped) => {
                 let (stop, next, _) = stopped;
                 Err(stop.error_before(next, flags))
             }
+        }
+    }
+
+    /// Returns the index in bytes of the first wrong character of a string that [`Unit::parse_str`] rejects: up to
+    /// there the string, without the white space at its ends, begins a unit, and with that character it begins none.
+    /// If it ends too early, the index is that of its end, before white space there; of white space alone, its length.
+    ///
+    /// Returns `None` if the string spells a unit. The index does not depend on the options of `parse_str`.
+    ///
+    /// # Examples
+    /// ```
+    /// # use byte_unit::rendered::{base::{size::parse_line, *}, bit::*, byte::*, choice::*, format::*, math::*};
+    /// use byte_unit::Unit;
+    ///
+    /// assert_eq!(Unit::error_position("Kix"), Some(2));
+    /// assert_eq!(Unit::error_position(" bi "), Some(3));
+    /// assert_eq!(Unit::error_position("Kib"), None);
+    /// ```
+    pub fn error_position<S: AsRef<str>>(s: S) -> Option<usize> {
+        let s = s.as_ref();
+        match read_unit_text(s, Flags::ANY) {
+            Ok(_) => None,
+            Err(stopped) => Some(stopped.2),
+        }
+    }
+}
+
+/// Parses a unit as [`Unit::parse_str`] does, and leaves the error to be made by [`UnitStop::error_before`].
+///
+/// # Errors
+/// Returns what was read before the parser stops, the character there, or `None` at the end, and the position, as
+/// [`Unit::error_position`] returns it.
+///
+/// # Examples
+/// ```
+/// # use byte_unit::rendered::{base::{size::parse_line, *}, bit::*, byte::*, choice::*, format::*, math::*};
+/// use byte_unit::{Byte, Unit};
+///
+/// let flags = size::flags_for(Kind::Byte, false);
+/// assert!(matches!(read_unit_text("KiB", flags), Ok(Unit::KiB)));
+/// assert!(matches!(read_unit_text(" Kix", flags), Err((_, Some('x'), 3))));
+/// ```
+#[inline(always)]
+pub fn read_unit_text(s: &str, flags: Flags) -> Result<Unit, (UnitStop, Option<char>, usize)> {
+    let text = s.trim();
+    let bytes = text.as_bytes();
+    match read_unit(bytes, bytes, 0, flags) {
+        Ok(found) => Ok(found),
+        Err(stop) => {
+            let next = first_char(&text[stop.1..]);
+            Err((stop.0, next, leading_len(s) + stop.1))
         }
     }
 }

@@ -59,6 +59,11 @@ pub struct Flags {
     pub prefer_byte: bool,
 }
 
+impl Flags {
+    /// Flags for a caller to which the unit does not matter: no flag changes where a string is wrong.
+    pub(crate) const ANY: Flags = Flags { ignore_case: false, prefer_byte: true };
+}
+
 impl UnitStop {
     /// Returns the error of a string in which the parser of a unit stops here, by the character there.
     ///
@@ -68,7 +73,7 @@ impl UnitStop {
     /// use byte_unit::{Byte, UnitParseError};
     ///
     /// let flags = size::flags_for(Kind::Byte, false);
-    /// let error = position::read_unit_text("Kix", flags).map_err(|(stop, next, _)| stop.error_before(next, flags));
+    /// let error = read_unit_text("Kix", flags).map_err(|(stop, next, _)| stop.error_before(next, flags));
     /// assert!(matches!(error, Err(UnitParseError { character: 'x', .. })));
     /// ```
     #[inline(always)]
@@ -91,7 +96,7 @@ impl UnitStop {
     /// use byte_unit::Byte;
     ///
     /// let flags = size::flags_for(Kind::Byte, false);
-    /// let named = position::read_unit_text("Kix", flags).map_err(|(stop, next, _)| stop.expected_before(next, flags));
+    /// let named = read_unit_text("Kix", flags).map_err(|(stop, next, _)| stop.expected_before(next, flags));
     /// assert!(matches!(named, Err(Expected::EitherB)));
     /// ```
     #[inline(always)]
@@ -145,5 +150,17 @@ impl Expected {
             Expected::S => &['s'],
             Expected::Nothing => &[],
         }
+    }
+}
+
+/// Returns the first `length` letters of `bits`, for the error of a unit in which the parser stops after them.
+#[inline(always)]
+pub(crate) fn letters(length: usize) -> Word {
+    match length {
+        0 => Word::Empty,
+        1 => Word::B,
+        2 => Word::Bi,
+        3 => Word::Bit,
+        _ => Word::Bits,
     }
 }

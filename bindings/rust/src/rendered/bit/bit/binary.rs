@@ -3,7 +3,7 @@
 //! Parsing of sizes in bits whose decimal prefixes mean binary ones.
 
 use super::Bit;
-use crate::rendered::base::{Kind, ParseError, binary};
+use crate::rendered::base::{Kind, ParseError, size};
 
 impl Bit {
     /// Parses a size from a string, as [`Bit::parse_str`] does, except that a decimal prefix means the binary one:
@@ -29,7 +29,7 @@ impl Bit {
     #[inline]
     pub fn parse_str_binary<S: AsRef<str>>(s: S) -> Result<Bit, ParseError> {
         let s = s.as_ref();
-        let size = binary::parse(s, false, Kind::Bit)?;
+        let size = size::parse::<true>(s, false, Kind::Bit)?;
         Ok(Bit { size })
     }
 
@@ -47,7 +47,7 @@ impl Bit {
     /// ```
     #[inline]
     pub fn parse_bytes_binary(bytes: &[u8]) -> Option<Result<Bit, ParseError>> {
-        match binary::parse_bytes(bytes, false, Kind::Bit)? {
+        match size::parse_bytes::<true>(bytes, false, Kind::Bit)? {
             Ok(size) => Some(Ok(Bit { size })),
             Err(error) => Some(Err(error)),
         }

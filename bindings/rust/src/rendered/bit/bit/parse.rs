@@ -41,7 +41,7 @@ impl Bit {
     #[inline]
     pub fn parse_str<S: AsRef<str>>(s: S) -> Result<Bit, ParseError> {
         let s = s.as_ref();
-        let size = size::parse(s, false, Kind::Bit)?;
+        let size = size::parse::<false>(s, false, Kind::Bit)?;
         Ok(Bit { size })
     }
 

@@ -3,7 +3,7 @@
 //! Where a string that is no size in bits is wrong.
 
 use super::Bit;
-use crate::rendered::base::position;
+use crate::rendered::base::size;
 
 impl Bit {
     /// Returns the index in bytes of the first wrong character of a string that [`Bit::parse_str`] rejects: up to
@@ -26,6 +26,6 @@ impl Bit {
     #[inline]
     pub fn error_position<S: AsRef<str>>(s: S) -> Option<usize> {
         let s = s.as_ref();
-        position::of_size_error(s)
+        size::error_position(s)
     }
 }

@@ -41,7 +41,7 @@ impl Byte {
     #[inline]
     pub fn parse_str<S: AsRef<str>>(s: S, ignore_case: bool) -> Result<Byte, ParseError> {
         let s = s.as_ref();
-        let size = size::parse(s, ignore_case, Kind::Byte)?;
+        let size = size::parse::<false>(s, ignore_case, Kind::Byte)?;
         Ok(Byte { size })
     }
 

@@ -3,7 +3,7 @@
 //! Where a string that is no size in bytes is wrong.
 
 use super::Byte;
-use crate::rendered::base::position;
+use crate::rendered::base::size;
 
 impl Byte {
     /// Returns the index in bytes of the first wrong character of a string that [`Byte::parse_str`] rejects: up to
@@ -26,6 +26,6 @@ impl Byte {
     #[inline]
     pub fn error_position<S: AsRef<str>>(s: S) -> Option<usize> {
         let s = s.as_ref();
-        position::of_size_error(s)
+        size::error_position(s)
     }
 }

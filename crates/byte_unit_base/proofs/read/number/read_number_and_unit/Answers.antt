@@ -1,7 +1,6 @@
 -- The line is a number, spaces and a unit, one after the other, or stops at one of these.
-use Rattle.std.proofs.Common.{sym}
 use Rattle.std.proofs.lemmas.List.{take_rest}
-use Rattle.byte_unit_base.proofs.NumberEnds.{stops_in_unit}
+use Rattle.byte_unit_base.proofs.UnitEnds.{stops_in_unit}
 use Rattle.byte_unit_base.proofs.read.number.read_number_and_unit.Goals as goal
 
 -- after the number, which is `found`: its end and its value; `stop` is what the parser of the unit keeps, and its place
@@ -12,4 +11,4 @@ returns-in-Err-read_unit g c =
     let spaces = c.leading_spaces in
     let stop = c.in-Err-read_unit.stop in
     stops_in_unit c.args.flags line _ c.in-Ok.found.1 end spaces.result stop.1 stop.0 c.in-Ok.ensures
-    (sym (take_rest line end)) spaces.ensures.bound spaces.ensures.spaces spaces.ensures.all c.in-Err-read_unit.ensures
+    (take_rest line end) spaces.ensures.bound spaces.ensures.spaces spaces.ensures.all c.in-Err-read_unit.ensures

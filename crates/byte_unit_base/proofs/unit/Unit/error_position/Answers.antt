@@ -1,7 +1,9 @@
--- The trimmed string has no wrong place, so the string has none.
+-- A string that is a unit has no position of an error; else it is that where the parser stops.
 use Rattle.byte_unit_base.proofs.Positions.{no_unit_position}
 use Rattle.byte_unit_base.proofs.unit.Unit.error_position.Goals as goal
 
-pub returns-in-None : goal.returns-in-None
-returns-in-None c =
-    no_unit_position c.args.s.now _ c.trimmed-start.ensures.text c.trimmed-start.ensures.utf8 c.in-None.ensures
+pub returns-in-Ok : goal.returns-in-Ok
+returns-in-Ok c = no_unit_position _ c.args.s.now _ c.in-Ok.ensures
+
+pub returns-in-Err : goal.returns-in-Err
+returns-in-Err c = c.in-Err.ensures.1

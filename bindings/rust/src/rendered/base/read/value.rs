@@ -1,0 +1,79 @@
+// Rendered from crates/byte_unit_base/src/read/value.rt by `tools/dev render rust`. Do not edit.
+
+//! The value of the digits of a number, of which at least the last 64 bits are known.
+
+use crate::rendered::math::WHOLE_LIMIT;
+use crate::support::read_digits;
+
+/// The most digits whose value always fits a `u64`: 19.
+const SHORT_DIGITS: usize = 19;
+
+/// The most digits whose value always fits a `u128`: 38.
+const LONG_DIGITS: usize = 38;
+
+/// 10^19, by which the digits before the last 19 are multiplied.
+const NINETEEN_DIGITS: u128 = 10_000_000_000_000_000_000;
+
+/// Returns the value of the digits of a whole part, from the last 64 bits of it. If it reaches the limit, returns the
+/// index of the digit with which it does too, and for more than 38 digits a value that may be another above the limit.
+#[inline(always)]
+pub fn whole_of(digits: &[u8], last_bits: u64) -> (u128, usize) {
+    if digits.len() <= SHORT_DIGITS {
+        (u128::from(last_bits), 0)
+    } else if digits.len() <= LONG_DIGITS {
+        let value = long_value(digits, last_bits);
+        (value, digits.len() - 1 - digits_past_limit(value))
+    } else {
+        longest_value(digits)
+    }
+}
+
+/// Returns how many digits follow the one with which a value of at most 38 digits reaches the limit of a whole part, or
+/// 0 if it does not.
+#[inline(always)]
+fn digits_past_limit(value: u128) -> usize {
+    if value < WHOLE_LIMIT * 10 {
+        0
+    } else if value < WHOLE_LIMIT * 100 {
+        1
+    } else if value < WHOLE_LIMIT * 1000 {
+        2
+    } else if value < WHOLE_LIMIT * 10_000 {
+        3
+    } else {
+        4
+    }
+}
+
+/// Slow path: returns the value of any number of digits, and 0. If it reaches the limit of a whole part, returns that
+/// of the digits up to the one with which it does, and the index of this digit.
+#[cold]
+#[inline(never)]
+fn longest_value(digits: &[u8]) -> (u128, usize) {
+    let mut value = 0;
+    let mut count = 0;
+    while count < digits.len() {
+        value = value * 10 + u128::from(digits[count] - b'0');
+        if value >= WHOLE_LIMIT {
+            return (value, count);
+        }
+        count += 1;
+    }
+    (value, 0)
+}
+
+/// Returns the value of at most 38 digits, from the last 64 bits of that value.
+#[inline(always)]
+pub fn value_of(digits: &[u8], last_bits: u64) -> u128 {
+    if digits.len() <= SHORT_DIGITS { u128::from(last_bits) } else { long_value(digits, last_bits) }
+}
+
+/// Slow path: returns the value of 19 to 38 digits, from the last 64 bits of that value.
+#[inline(never)]
+fn long_value(digits: &[u8], last_bits: u64) -> u128 {
+    let (front, _) = digits.split_at(digits.len() - SHORT_DIGITS);
+    let (_, high) = read_digits(front, 0, 0);
+    let product = u128::from(high) * NINETEEN_DIGITS;
+    // The value of the last 19 digits fits 64 bits, so it follows from these bits.
+    product + u128::from(last_bits.wrapping_sub((product % (1 << 64)) as u64))
+}

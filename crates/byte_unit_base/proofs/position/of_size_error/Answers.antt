@@ -1,7 +1,0 @@
--- The trimmed string has no wrong place, so the string has none.
-use Rattle.byte_unit_base.proofs.Positions.{no_size_position}
-use Rattle.byte_unit_base.proofs.position.of_size_error.Goals as goal
-
-pub returns-in-None : goal.returns-in-None
-returns-in-None c =
-    no_size_position c.args.s.now _ c.trimmed-start.ensures.text c.trimmed-start.ensures.utf8 c.in-None.ensures

@@ -1,0 +1,35 @@
+-- What is returned and written where the parser stops in a string, or has found a number and a unit.
+use Rattle.std.proofs.Common.{◌≡◌, ◌≢◌, ℕ, List, Option, Some, Err, refl}
+use Rattle.byte_unit_base.specs.Shape.{Shape}
+use Rattle.byte_unit_base.specs.ErrorPosition.{IsSizePosition}
+use Rattle.byte_unit_base.specs.Fault.{Fault, exceeded, not_number, no_value, too_long, bad_unit}
+use Rattle.byte_unit_base.specs.Kinds.{flags_for}
+use Rattle.byte_unit_base.specs.Outcome.{IsStop}
+use Rattle.byte_unit_base.specs.declared.read.stop.Stop.{Stop}
+use Rattle.byte_unit_base.proofs.SizeOfText.{reading_of_fault}
+use Rattle.byte_unit_c.specs.declared.error.Error.{Error}
+use Rattle.byte_unit_c.specs.declared.flags.ParseFlags.{ParseFlags}
+use Rattle.byte_unit_c.specs.declared.values.Number.{Number}
+use Rattle.byte_unit_c.specs.Error.{IsPositionOf, IsStopWritten}
+use Rattle.byte_unit_c.specs.Parse.{Parses}
+
+-- the position of each error but that of a size which is too large
+position_of : (IsPosition : Option ℕ → Type 0) (fault : Fault) (position : ℕ) → ((n : ℕ) → fault ≢ exceeded n)
+    → IsPosition (Some position) → IsPositionOf IsPosition fault position
+position_of IsPosition (exceeded n) position within is = absurd (within n refl)
+position_of IsPosition (not_number c) position within is = is
+position_of IsPosition no_value position within is = is
+position_of IsPosition too_long position within is = is
+position_of IsPosition (bad_unit c expected may_end) position within is = is
+
+-- the code and the details of the error where the parser stops are those of the string, in each reading
+pub stop_parsed : (meant : Shape → Shape) (asked : ParseFlags) (bytes : List ℕ) (stop : Stop) (code : ℕ) (size : Number)
+    (old new : List Error) → IsStop (flags_for asked.kind asked.ignore_case) bytes stop
+    → IsStopWritten (flags_for asked.kind asked.ignore_case) stop code old new
+    → Parses meant asked bytes code size size old new
+stop_parsed meant asked bytes stop code size old new is (error, error_is, code_is, written) =
+    let reading = is.reading error error_is in (
+      Some (Err error),
+      (is.utf8, reading_of_fault meant asked.kind asked.ignore_case bytes error reading),
+      (code_is, (stop.index, position_of (IsSizePosition bytes) _ stop.index reading.no_bounds is.position, written), refl),
+    )

@@ -1,2 +1,0 @@
--- The definitions that the contracts of this program are written in.
-pub mod Settings

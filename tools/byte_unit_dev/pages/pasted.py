@@ -1,0 +1,56 @@
+"""The blocks of Rattle in the guide, pasted into empty crates, which `rt ci` proves over the library that it proved."""
+
+import os
+import re
+import tempfile
+
+from ..common import call, copy_to, read, write
+from ..source import SHOWN, beside, copy_crates, crates, source
+from .commands import GUIDE
+from .examples import Example, test_of
+
+
+def paste(top, name, codes):
+    """Writes a crate with the name of a file's crate, with the blocks of this file and what they need beside them."""
+    crate, _, module = name.removeprefix("crates/").removesuffix(".rt").partition("/src/")
+    folder, is_root, code = f"{top}/crates/{crate}", module in ("lib", "main"), "\n".join(codes)
+    if codes[1:]:  # each has its own `use` lines, which may name one thing twice
+        code = re.sub(r"^(?:ghost )?use [^;]*;\n", "", code, flags=re.M)
+        code = "\n".join([*source(name).imports_for(code), code])
+    tactic = "" if "#![" in code and is_root else "#![tactic(auto)]\n"
+    root = f"{folder}/src/lib.rt"
+    before = read(root) if os.path.exists(root) else f"//! Blocks of the guide.\n{tactic}"
+    write(root, f"{before}\n{code}" if is_root else f"{before}\npub mod {module};\n")
+    if not is_root:
+        write(f"{folder}/src/{module}.rt", f"//! A block of the guide.\n{code}")
+    for file in beside(name, code):
+        write(f"{folder}/{file}", read(f"crates/{crate}/{file}"))
+        if file.count("/") == 1:
+            kind, library = file.split("/")[0], f"{folder}/{file.split('/')[0]}/Lib.antt"
+            modules = read(library) if os.path.exists(library) else f"-- The {kind} of the blocks.\n"
+            write(library, f"{modules}pub mod {file.split('/')[1].removesuffix('.antt')}\n")
+
+
+def pasted():
+    found, tests = {}, []
+    for _, file, parts, language, code in SHOWN.findall(read(GUIDE)):
+        if language == "rust" and parts.startswith("example"):
+            tests.append(Example(file, 0, code, "byte_unit", f"block_{len(tests)}"))
+        elif language == "rust":
+            found.setdefault(file, []).append(code)
+    made = {name: crates()[name] for name in dict.fromkeys(file.split("/")[1] for file in found)}
+    used = sorted({*sum(made.values(), []), "byte_unit_serde", *crates()["byte_unit_serde"]})
+    with tempfile.TemporaryDirectory() as top:
+        copy_crates(top, [name for name in used if name in crates()], {**made, "pasted": used}, ["out"])
+        copy_to(top, "HANDLES")
+        for file, codes in found.items():
+            paste(top, file, codes)
+        modules = "".join(f"\n#[cfg(test)]\nmod {test.test};\n" for test in tests)
+        write(f"{top}/crates/pasted/src/lib.rt", f"//! Bodies of tests.\n#![tactic(auto)]\n{modules}")
+        for test in tests:
+            write(f"{top}/crates/pasted/src/{test.test}.rt", f"//! A block of the guide.\n\n{test_of(test)}")
+        for name in [*made, "pasted"]:
+            call("rt", "fmt", cwd=f"{top}/crates/{name}")
+        got = call("rt", "ci", *made, "pasted", cwd=top)
+    wrong = [] if got.returncode == 0 else [f"{GUIDE}: status {got.returncode} of rt ci over its blocks\n{got.stdout}"]
+    return wrong, f"{sum(map(len, found.values()))} blocks and {len(tests)} bodies of tests are proved"
