@@ -20,11 +20,14 @@ BY_C = BY_RUST | {"make_decimal", "compute", "as_u64"}
 BY_JAVASCRIPT = BY_C | {"exact", "recoverable", "make_in"}
 # The rows of version 3.0.0: those of a section are the numbers up to this one, and a digest has their lines.
 ROWS_OF_3_0_0 = {
-    "parse": (129, "5009c428ac124b42"), "errors": (562, "52ad0371c5965163"), "units": (119, "9f8d342461b3db37"),
-    "numbers": (40, "5cfdea713a21f53b"), "messages": (15, "1ea9680c5f4278e6"), "texts": (150, "7d82cd8dbfee49b1"),
-    "adjusted": (121, "15d7b78306d18b3a"), "choices": (73, "8b003715ff081366"), "products": (28, "99fcd67edb6c3e9a"),
-    "decimals": (37, "b92a745485982fdf"), "json": (82, "6fbbac9f9e7bce47"), "properties": (38, "3a95f1cd58fb3fcd"),
-    "constants": (78, "c96d7a66c741b0f8"),
+    "parse": (148, "a4f97b7748245c92"), "binary": (138, "22eeb8428e592c08"), "errors": (569, "7b44e835bf9fcb00"),
+    "positions": (94, "e20f2b6a93a41ac9"), "units": (119, "9f8d342461b3db37"), "numbers": (49, "5704baa2901ba03f"),
+    "messages": (59, "002042e8c7969a02"), "texts": (169, "f99973bf8d9c106a"), "adjusted": (237, "78a68f7b89fe16af"),
+    "layouts": (12, "d9770aae37b16091"), "choices": (102, "c710a2e6fe04892d"), "products": (29, "8088f7d40a185209"),
+    "arithmetic": (18, "5b53071a3763ea28"), "decimals": (48, "3353e6bd6a650977"),
+    "rounding": (14, "3ba042980cdfe552"), "quotients": (38, "d5fb50e31ecfa709"), "json": (283, "6a5fc413a105d622"),
+    "properties": (76, "8d6ff5484986ba51"), "constants": (78, "c96d7a66c741b0f8"),
+    "programs": (22, "13a61d20c4bbaa64"),
 }  # fmt: skip
 
 
