@@ -1,6 +1,6 @@
 """Measures calls and programs beside others; with --write in the tables of docs/SPEED.md.
 
-    calls      a call from C, over an archive of Rattle's, and from Rust, beside the original crate and numfmt
+    calls      a call from C, over Rattle's archive, and from Rust, by a buffer or `write!`, beside the crate and numfmt
     lines      a line of byte_unit_lines, by Rattle and by cargo, beside an earlier build, the crate and numfmt
     command    a line of byte-unit, by Rattle and by cargo, beside numfmt
 
@@ -152,18 +152,19 @@ def cells(programs, rounds):
 
 
 def calls(_, given, work):
-    by_c = f"{work}/speed"
+    by_c, source = f"{work}/speed", "bindings/rust/checks/speed.rs"
     output(path("tools/make-libraries"), *["--after-ci"] * given.after_ci, work)
     output("cc", "-O2", "-I", work, path("bindings/c/checks/speed.c"), f"{work}/libbyte_unit.a", "-o", by_c)
-    columns = {"C": by_c, "Rust": builds.program("bindings/rust/checks/speed.rs", builds.copied("rust", work))}
+    ours = builds.program(source, builds.copied("rust", work))
+    columns = {"C": [by_c], "Rust": [ours, "buffer"], "Rust, `write!`": [ours, "formatter"]}
     if given.original:
-        columns["Original"] = builds.program("bindings/rust/checks/speed.rs", builds.original(given.original, work))
+        columns["Original"] = [builds.program(source, builds.original(given.original, work)), "formatter"]
     yield ["A call", *columns, "`numfmt`"]
     for name, word in CALLS:
-        line = word.replace(" ", "").removesuffix("B") if name == "parse" else word
-        write_lines(work, lambda rng: line, given.seed)
+        write_lines(work, lambda rng: word.replace(" ", "").removesuffix("B") if name == "parse" else word, given.seed)
+        none = {"parse": "Rust, `write!`", "explain": "Rust"}.get(name)  # no text, and no call with a buffer
         option = {"parse": "--from=auto", "unit": "--to=iec-i"}.get(name)
-        yield f"{name} {word}", [*(caller(program, name, word) for program in columns.values()),
+        yield f"{name} {word}", [*(head != none and caller(*words, name, word) for head, words in columns.items()),
                                  option and reader(work, NUMFMT, "--invalid=ignore", option)]  # fmt: skip
 
 
@@ -173,8 +174,7 @@ def lines(what, given, work):
     if what == "lines" and given.before:
         columns["Before"] = given.before
     if what == "lines" and given.original:
-        original = builds.original(given.original, work)
-        columns["Original"] = builds.program("bindings/rust/checks/lines.rs", original)
+        columns["Original"] = builds.program("bindings/rust/checks/lines.rs", builds.original(given.original, work))
     yield [f"A line of `{program}`", *columns, "`numfmt`"]
     for title, words, of_numfmt, line in ROWS[what]:
         write_lines(work, line, given.seed)

@@ -5,7 +5,7 @@ use std::io::{self, BufRead, BufWriter, Write};
 use std::str;
 
 use byte_unit::{
-    Align, Bit, Byte, Decimal, FormatSpec, ParseError, Sign, Unit, UnitParseError, UnitType, ValueParseError,
+    Align, Bit, Byte, Decimal, FormatSpec, Needed, ParseError, Sign, Unit, UnitParseError, UnitType, ValueParseError,
 };
 
 /// Returns the name of a unit's error and its fields, as the vectors have it.
@@ -84,6 +84,11 @@ fn type_of(name: &str) -> UnitType {
     }
 }
 
+/// Returns a text in quotation marks.
+fn quoted(text: Result<&[u8], Needed>) -> String {
+    format!("\"{}\"", str::from_utf8(text.unwrap()).unwrap())
+}
+
 /// Answers a call on a size of either type.
 macro_rules! answer_of_size {
     ($size:expr, $words:expr) => {{
@@ -92,15 +97,11 @@ macro_rules! answer_of_size {
         let mut out = vec![0; 1 << 18];
         let either = words[2] == "any";
         match (words[0], words[3]) {
-            ("text", "in") => format!(
-                "\"{}\"",
-                size.get_adjusted_unit(unit_of(words[4])).write_text(spec_of(words[5]), &mut out).unwrap()
-            ),
-            ("text", "by") => format!(
-                "\"{}\"",
-                size.get_appropriate_unit(type_of(words[4])).write_text(spec_of(words[5]), &mut out).unwrap()
-            ),
-            ("text", spec) => format!("\"{}\"", size.write_text(spec_of(spec), &mut out).unwrap()),
+            ("text", "in") => quoted(size.get_adjusted_unit(unit_of(words[4])).write_text(spec_of(words[5]), &mut out)),
+            ("text", "by") => {
+                quoted(size.get_appropriate_unit(type_of(words[4])).write_text(spec_of(words[5]), &mut out))
+            }
+            ("text", spec) => quoted(size.write_text(spec_of(spec), &mut out)),
             ("exact", _) => {
                 let (count, unit) = size.get_exact_unit(either);
                 format!("{count} {unit}")

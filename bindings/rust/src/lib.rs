@@ -35,7 +35,7 @@
 //! - `error_position` returns where a string is wrong.
 //! - `parse_many` and `parse_buffers` parse columns.
 //! - `approximate_text` rounds a size for people: `117.7 MiB`.
-//! - `write_text` writes to a buffer.
+//! - `write_text` writes to a buffer, without a formatter.
 //!
 //! # Without std
 //!

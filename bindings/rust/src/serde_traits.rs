@@ -4,7 +4,7 @@
 use core::convert::Infallible;
 use core::fmt::{self, Display, Formatter};
 use core::marker::PhantomData;
-use core::str::FromStr;
+use core::str::{self, FromStr};
 
 use serde::de::{DeserializeSeed, Error, IgnoredAny, MapAccess, Unexpected, Visitor};
 use serde::{Deserialize, Deserializer, Serialize, Serializer};
@@ -175,8 +175,9 @@ macro_rules! serde_of_size {
                 let (size, readable) = ($Size::from(*self), serializer.is_human_readable());
                 let sign = if readable { Sign::Unset } else { Sign::Minus };
                 let mut out = [0; TEXT_LEN];
-                match self.write_text(FormatSpec { sign, ..FormatSpec::ALTERNATE }, &mut out) {
-                    Ok(text) if size != $Size::MAX && text.parse() == Ok(size) => serializer.serialize_str(text),
+                let written = self.write_text(FormatSpec { sign, ..FormatSpec::ALTERNATE }, &mut out);
+                match written.map(str::from_utf8) {
+                    Ok(Ok(text)) if size != $Size::MAX && text.parse() == Ok(size) => serializer.serialize_str(text),
                     _ if readable => serializer.collect_str(&format_args!("{size:#}")),
                     _ => serializer.collect_str(&format_args!("{size:-#}")),
                 }

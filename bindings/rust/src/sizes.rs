@@ -86,7 +86,7 @@ macro_rules! of_size {
                 text::rounded(self.as_u128(), $kind, unit, precision)
             }
 
-            /// Writes the text of the size to the beginning of `out`, and returns it.
+            /// Writes the text of the size, which is ASCII, to the beginning of `out`, and returns it.
             ///
             /// # Errors
             ///
@@ -99,12 +99,13 @@ macro_rules! of_size {
             ///
             #[doc = concat!("let size = ", stringify!($Size), "::from_u64(1536);")]
             /// let mut out = [0; 40];
-            /// assert_eq!(size.write_text(FormatSpec::PLAIN, &mut out), Ok("1536"));
+            /// assert_eq!(size.write_text(FormatSpec::PLAIN, &mut out), Ok(b"1536".as_slice()));
             /// assert_eq!(size.write_text(FormatSpec::PLAIN, &mut out[..3]), Err(Needed { len: 4 }));
             /// ```
-            pub fn write_text(self, spec: FormatSpec, out: &mut [u8]) -> Result<&str, Needed> {
+            #[inline]
+            pub fn write_text(self, spec: FormatSpec, out: &mut [u8]) -> Result<&[u8], Needed> {
                 let len = crate::rendered::format::write_text(self.as_u128(), $kind, spec, out);
-                text::written(out, len)
+                out.get(..len).ok_or(Needed { len })
             }
         }
 
@@ -184,7 +185,7 @@ macro_rules! of_adjusted {
                 text::nearest_float(self.$get_size().as_u128(), $kind, self.get_unit())
             }
 
-            /// Writes the text of the size in the unit to the beginning of `out`, and returns it.
+            /// Writes the text of the size in the unit, which is ASCII, to the beginning of `out`, and returns it.
             ///
             /// # Errors
             ///
@@ -196,13 +197,14 @@ macro_rules! of_adjusted {
             #[doc = concat!("use byte_unit::{", stringify!($Size), ", FormatSpec, Needed, Unit};")]
             ///
             #[doc = concat!("let adjusted = ", stringify!($Size), "::KIBIBYTE.get_adjusted_unit(Unit::KB);")]
-            /// assert_eq!(adjusted.write_text(FormatSpec::PLAIN, &mut [0; 8]), Ok("1.024 KB"));
+            /// assert_eq!(adjusted.write_text(FormatSpec::PLAIN, &mut [0; 8]), Ok(b"1.024 KB".as_slice()));
             /// assert_eq!(adjusted.write_text(FormatSpec::PLAIN, &mut []), Err(Needed { len: 8 }));
             /// ```
-            pub fn write_text(self, spec: FormatSpec, out: &mut [u8]) -> Result<&str, Needed> {
+            #[inline]
+            pub fn write_text(self, spec: FormatSpec, out: &mut [u8]) -> Result<&[u8], Needed> {
                 let (size, unit) = (self.$get_size().as_u128(), self.get_unit());
                 let len = crate::rendered::format::write_adjusted(size, $kind, unit, spec, out);
-                text::written(out, len)
+                out.get(..len).ok_or(Needed { len })
             }
         }
 

@@ -5,14 +5,26 @@ use core::str;
 
 use crate::rendered::base::Kind;
 use crate::rendered::format::{write_adjusted, write_text};
-use crate::rendered::math::fmt_u128;
-use crate::{FormatSpec, Needed, Sign, Unit};
+use crate::{FormatSpec, Sign, Unit};
 
 /// The most digits after the point of a size in a unit, which are those of one bit in `RiB`.
 const MOST_PLACES: usize = 93;
 
-/// More than the length of each text without a width, with at most `MOST_PLACES` digits after the point.
-pub(crate) const TEXT_LEN: usize = 160;
+/// No text without a width is longer: with a prefix, 28 digits, a point, `MOST_PLACES` digits and four columns.
+/// rustc fills no more bytes than these without a call.
+pub(crate) const TEXT_LEN: usize = 128;
+
+/// A buffer of ASCII, aligned since core then tests sixteen bytes at once for UTF-8.
+#[repr(align(16))]
+struct Buffer<const N: usize>([u8; N]);
+
+impl<const N: usize> Buffer<N> {
+    /// Returns the text of a length that a call has written to the beginning.
+    fn text(&self, len: usize) -> Result<&str, fmt::Error> {
+        let tested = self.0.get(..len.next_multiple_of(16)).ok_or(fmt::Error)?;
+        str::from_utf8(tested).ok().and_then(|text| text.get(..len)).ok_or(fmt::Error)
+    }
+}
 
 /// Formats the digits of a size as those of an integer, or with `#` the size in the unit that represents it exactly
 /// within the precision.
@@ -20,56 +32,46 @@ pub(crate) fn format_size(size: u128, kind: Kind, f: &mut Formatter<'_>) -> fmt:
     if f.alternate() {
         // Above 28, each precision is as 28.
         let (spec, _) = spec_of(f, 28);
-        let mut out = [0; 40];
-        let len = write_text(size, kind, spec, &mut out);
-        return lay_out(text_in(&out, len)?, 0, f);
+        let mut out = Buffer([0; 48]);
+        let len = write_text(size, kind, spec, &mut out.0);
+        return lay_out(out.text(len)?, 0, f);
     }
-    if f.width().is_none() && !f.sign_plus() {
-        return fmt_u128(size, f);
+    match u64::try_from(size) {
+        Ok(short) => Display::fmt(&short, f),
+        Err(_) => Display::fmt(&size, f),
     }
-    Display::fmt(&size, f)
 }
 
 /// Formats a size in a unit, with `MOST_PLACES` digits after the point at most: with a greater precision zeros follow
 /// them, but not if there are fewer, as in some units and in the alternate form.
 pub(crate) fn format_adjusted(size: u128, kind: Kind, unit: Unit, f: &mut Formatter<'_>) -> fmt::Result {
     let (spec, left_out) = spec_of(f, MOST_PLACES);
-    let mut out = [0; TEXT_LEN];
-    let len = write_adjusted(size, kind, unit, spec, &mut out);
-    let text = text_in(&out, len)?;
+    let mut out = Buffer([0; TEXT_LEN]);
+    let len = write_adjusted(size, kind, unit, spec, &mut out.0);
+    let text = out.text(len)?;
     let all_shown = left_out > 0 && places_of(text) == MOST_PLACES;
     lay_out(text, if all_shown { left_out } else { 0 }, f)
 }
 
 /// Returns the 64-bit float that is nearest to a size in a unit.
 pub(crate) fn nearest_float(size: u128, kind: Kind, unit: Unit) -> f64 {
-    let mut out = [0; TEXT_LEN];
-    let len = write_adjusted(size, kind, unit, FormatSpec::PLAIN, &mut out);
-    number_of(text_in(&out, len).unwrap_or_default()).parse().unwrap_or_default()
+    let mut out = Buffer([0; TEXT_LEN]);
+    let len = write_adjusted(size, kind, unit, FormatSpec::PLAIN, &mut out.0);
+    number_of(out.text(len).unwrap_or_default()).parse().unwrap_or_default()
 }
 
 /// Returns the text of a size in a unit, rounded.
 #[cfg(feature = "std")]
 pub(crate) fn rounded(size: u128, kind: Kind, unit: Unit, precision: u16) -> std::string::String {
     let spec = FormatSpec { precision: Some(precision), ..FormatSpec::PLAIN };
-    let mut out = [0; TEXT_LEN];
-    let len = write_adjusted(size, kind, unit, spec, &mut out);
-    if let Ok(text) = text_in(&out, len) {
+    let mut out = Buffer([0; TEXT_LEN]);
+    let len = write_adjusted(size, kind, unit, spec, &mut out.0);
+    if let Ok(text) = out.text(len) {
         return text.into();
     }
     let mut long = std::vec![0; len];
     write_adjusted(size, kind, unit, spec, &mut long);
     std::string::String::from_utf8(long).unwrap_or_default()
-}
-
-/// Returns the text that a call wrote to the beginning of a caller's buffer, or the length that it needs.
-pub(crate) fn written(out: &[u8], len: usize) -> Result<&str, Needed> {
-    text_in(out, len).map_err(|_| Needed { len })
-}
-
-/// Returns the text of a length that a call wrote to the beginning of a buffer, if it fits there. It is ASCII.
-fn text_in(out: &[u8], len: usize) -> Result<&str, fmt::Error> {
-    str::from_utf8(out.get(..len).ok_or(fmt::Error)?).map_err(|_| fmt::Error)
 }
 
 /// Returns the digits and the point at the beginning of a text.
@@ -96,14 +98,16 @@ fn spec_of(f: &Formatter<'_>, most: usize) -> (FormatSpec, usize) {
     (spec, f.precision().unwrap_or(0).saturating_sub(most))
 }
 
-/// Writes a number with its unit, with zeros after the number, padded with spaces to the formatter's width: before the
-/// number if it is aligned right, else after it.
+/// Writes a number with its unit, with zeros after the number, padded with spaces to the formatter's width.
+#[inline]
 fn lay_out(text: &str, zeros: usize, f: &mut Formatter<'_>) -> fmt::Result {
+    if zeros == 0 && f.width().is_none() { f.write_str(text) } else { lay_out_wide(text, zeros, f) }
+}
+
+/// Writes as `lay_out`: the spaces are before the number if it is aligned right, else after it.
+fn lay_out_wide(text: &str, zeros: usize, f: &mut Formatter<'_>) -> fmt::Result {
     let columns = text.len().saturating_add(zeros);
     let pad = f.width().unwrap_or(0).saturating_sub(columns);
-    if pad == 0 && zeros == 0 {
-        return f.write_str(text);
-    }
     let number = number_of(text);
     let right = f.align() == Some(Alignment::Right);
     repeat(' ', if right { pad } else { 0 }, f)?;

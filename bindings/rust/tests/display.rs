@@ -54,7 +54,7 @@ macro_rules! compare {
         // Longer than each text: 200 columns, or 200 digits after the point and at most 31 before it.
         let mut out = [0; 400];
         let text = format!(concat!("{:", $flags, "width$.precision$}"), $value, width = width, precision = precision);
-        assert_eq!(Ok(text.as_str()), $value.write_text(spec, &mut out), "{:?}", spec);
+        assert_eq!(Ok(text.as_bytes()), $value.write_text(spec, &mut out), "{:?}", spec);
     })* };
 }
 
@@ -143,6 +143,6 @@ fn a_buffer_that_is_too_short_stays_as_it_was() {
         assert!(out.iter().all(|&byte| byte == b'?'));
     }
     let mut out = [b'?'; 9];
-    assert_eq!(size.write_text(FormatSpec::ALTERNATE, &mut out), Ok("1.5 KiB"));
+    assert_eq!(size.write_text(FormatSpec::ALTERNATE, &mut out), Ok(b"1.5 KiB".as_slice()));
     assert_eq!(&out[7..], b"??");
 }
