@@ -11,30 +11,28 @@ const POWERS_OF_TEN: [u64; 8] = [1, 10, 100, 1000, 10_000, 100_000, 1_000_000, 1
 /// `so_far` with these digits appended, wrapped to 64 bits.
 #[inline(always)]
 pub fn read_digits(bytes: &[u8], from: usize, so_far: u64) -> (usize, u64) {
-    let (mut at, mut value) = (from, so_far);
-    while let Some(eight) = bytes.get(at..).and_then(|rest| rest.first_chunk()) {
+    let mut value = so_far;
+    let Some(mut rest) = bytes.get(from..) else { return (from, value) };
+    while let Some((eight, after)) = rest.split_first_chunk() {
         // A digit is its value here, and any other byte is ten or more.
         let word = u64::from_le_bytes(*eight) ^ 0x3030_3030_3030_3030;
         // The upper bit of each byte that is ten or more: no sum of seven bits carries into the next byte.
         let others = (((word & 0x7f7f_7f7f_7f7f_7f7f) + 0x7676_7676_7676_7676) | word) & 0x8080_8080_8080_8080;
-        if others == 0 {
-            value = value.wrapping_mul(100_000_000).wrapping_add(number_of_eight(word));
-            at += 8;
-            continue;
-        }
-        let count = others.trailing_zeros() / 8;
-        if count > 0 {
-            // Leading zeros in place of the bytes after the digits.
-            let digits = number_of_eight(word << (64 - 8 * count));
+        if others != 0 {
+            let count = others.trailing_zeros() / 8;
+            // Leading zeros in place of the bytes after the digits. Two shifts, since a shift by 64 is not defined.
+            let digits = number_of_eight(word << (56 - 8 * count) << 8);
             value = value.wrapping_mul(POWERS_OF_TEN[count as usize]).wrapping_add(digits);
+            return (bytes.len() - rest.len() + count as usize, value);
         }
-        return (at + count as usize, value);
+        value = value.wrapping_mul(100_000_000).wrapping_add(number_of_eight(word));
+        rest = after;
     }
-    while let Some(digit) = bytes.get(at).map(|byte| byte.wrapping_sub(b'0')).filter(|digit| *digit < 10) {
-        value = value.wrapping_mul(10).wrapping_add(digit.into());
-        at += 1;
+    while let Some((digit, after)) = rest.split_first().filter(|(byte, _)| byte.is_ascii_digit()) {
+        value = value.wrapping_mul(10).wrapping_add(u64::from(digit - b'0'));
+        rest = after;
     }
-    (at, value)
+    (bytes.len() - rest.len(), value)
 }
 
 /// Returns the number of eight digits, of which the first is the lowest byte: first of pairs, then of both halves.

@@ -60,6 +60,8 @@ FORMATTER = [
 FORMS = [
     *FORMATTER,
     (r"#\[macro_export\]", "#[doc(hidden)]\n#[macro_export]", "the macro is none of the package's names"),
+    (r"bytes\[start \+ 1\] = PAIRS\[pair \+ 1\];\s*bytes\[start\] = PAIRS\[pair\];",
+     "bytes[start..end].copy_from_slice(&PAIRS[pair..pair + 2]);", "one store, and one test of its indexes"),
     (r"^( *)'\w+: (?=while\b|for\b|loop\b)", r"\1", "labels name loops for proofs alone"),
     (r"(pub fn (?:parse_str(?:_binary)?|error_position))\(s: &str((?:, \w+: bool)*\)[^{]*\{)",
      r"\1<S: AsRef<str>>(s: S\2 let s = s.as_ref();", "as in the original: any type of strings"),
@@ -99,6 +101,9 @@ COMMENT_FORMS = [
     (r" \(proved at every call\)", "", "proved of the calls in Rattle alone"),
     (r"(?:\n *///)? In (?:a contract|contracts) (?:[^\n.]|\.(?=\d))*\.(?=\n)", "", "there is no contract"),
     (r" In contracts (?:[^\n.]|\.(?=\d))*\.(?= )", "", "the same"),
+    # With its comments. rustc puts the error beside it in a result at its beginning, and would split a number there.
+    (r"(pub struct Decimal \{\n)((?:.*\n){2})((?:.*\n){2})((?:.*\n){2})(?=\})", r"#[repr(C)]\n\1\4\3\2",
+     "the number of places first: fewer instructions"),
 ]
 # Forms of examples in comments.
 EXAMPLE_FORMS = [

@@ -80,7 +80,10 @@ impl<const N: usize> Lanes<u8, N> {
     /// Returns eight lanes, or all if they are fewer, as a number, the first as the lowest byte.
     #[inline(always)]
     fn word_at(&self, at: usize) -> u64 {
-        u64::from_le_bytes(from_fn(|lane| if at + lane < N { self.0[at + lane] } else { 0 }))
+        match self.0[at..].first_chunk() {
+            Some(eight) => u64::from_le_bytes(*eight),
+            None => u64::from_le_bytes(from_fn(|lane| if lane < N { self.0[lane] } else { 0 })),
+        }
     }
 }
 
@@ -105,8 +108,7 @@ impl<const N: usize> BitOr for Lanes<u8, N> {
 #[inline(always)]
 pub fn last_16_digits(n: u64) -> u8x16 {
     let (high, low) = (eight_digits((n / 100_000_000) as u32), eight_digits((n % 100_000_000) as u32));
-    let [high, low] = [high.to_le_bytes(), low.to_le_bytes()];
-    Lanes(from_fn(|digit| if digit < 8 { high[digit] } else { low[digit - 8] }))
+    Lanes((u128::from(low) << 64 | u128::from(high)).to_le_bytes())
 }
 
 /// Returns the digits of a number below 10^8, with leading zeros, the first as the lowest byte: from two numbers of

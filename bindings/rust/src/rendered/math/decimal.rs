@@ -19,13 +19,14 @@ pub const WHOLE_LIMIT: u128 = 5_192_296_858_534_827_628_530_496_329_220_096;
 ///
 /// Equality, order and hash are those of the value.
 #[derive(Clone, Copy, Debug, Hash)]
+#[repr(C)]
 pub struct Decimal {
-    /// The part before the point.
-    whole: u128,
-    /// The digits after the point as a number, without trailing zeros.
-    digits: u128,
     /// The number of digits after the point.
     places: u32,
+    /// The digits after the point as a number, without trailing zeros.
+    digits: u128,
+    /// The part before the point.
+    whole: u128,
 }
 
 impl Decimal {

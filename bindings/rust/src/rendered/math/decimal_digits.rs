@@ -223,7 +223,6 @@ fn put_4_digits(n: u32, bytes: &mut [u8], end: usize) -> usize {
 fn put_2_digits(n: u32, bytes: &mut [u8], end: usize) -> usize {
     let start = end - 2;
     let pair = n as usize * 2;
-    bytes[start + 1] = PAIRS[pair + 1];
-    bytes[start] = PAIRS[pair];
+    bytes[start..end].copy_from_slice(&PAIRS[pair..pair + 2]);
     start
 }
