@@ -53,7 +53,7 @@ fn main() {
     match (words[1].as_str(), words[2].as_str()) {
         (_, "parse") => {
             for _ in 0..count {
-                let _ = black_box(Byte::parse_str(black_box(text), false));
+                black_box(Byte::parse_str(black_box(text), false).map_or(0, |size| size.as_u64()));
             }
         }
         (_, "explain") => written!("{}", Byte::parse_str(black_box(text), false).unwrap_err()),
