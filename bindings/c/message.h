@@ -8,7 +8,7 @@
 #include <string.h>
 
 enum {
-    SHOWN = 64, /* bytes of a text that a message repeats */
+    SHOWN = 80, /* bytes of a text that a message repeats */
     QUOTED_SIZE = 6 * SHOWN + 2, /* what `quote` writes: for a byte six at most, as `\u{1b}`, and two points */
     EXPLAINED_SIZE = BYTE_UNIT_BUFFER_SIZE + 40 /* what `explain` writes: a message, and the number of a character */
 };

@@ -23,7 +23,7 @@ INSERT INTO calls VALUES
     ($$'1 Ké'::bytesize$$, '22P02 invalid input syntax for type bytesize: "1 Ké": The character ''é'' is incorrect (''B'' or ''b'' or no character is expected) (character 4).'),
     ($$''::bytesize$$, '22P02 invalid input syntax for type bytesize: "": No value can be found (character 1).'),
     ($$'1000 RB'::bytesize$$, '22003 invalid input syntax for type bytesize: "1000 RB": The value 1000 exceeds the valid range.'),
-    ($$('x' || repeat('é', 32))::bytesize$$, '22P02 invalid input syntax for type bytesize: "xééééééééééééééééééééééééééééééé..": The character ''x'' is not a number (character 1).');
+    ($$('x' || repeat('é', 40))::bytesize$$, '22P02 invalid input syntax for type bytesize: "xééééééééééééééééééééééééééééééééééééééé..": The character ''x'' is not a number (character 1).');
 -- The functions, but for the calls that SQLite's extension answers, too.
 INSERT INTO calls VALUES
     ($$concat_ws('|', size_parse(NULL), size_try(NULL), size_explain(NULL), size_text(NULL), size_in(NULL, 'KiB'), size_pretty(NULL))$$, ''),

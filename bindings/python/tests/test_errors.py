@@ -28,9 +28,9 @@ MESSAGES = [
     ("1000 RB", "'1000 RB' is not a size: the value 1000 exceeds the valid range"),
     (b"\xff", "b'\\xff' is not a size: the text is not UTF-8"),
     ("\ud800", "'\\ud800' is not a size: the text is not UTF-8"),
-    ("1." + "0" * 62, f"'1.{'0' * 62}' is not a size: value number is too long (character 31)"),
-    ("1." + "0" * 63, f"'1.{'0' * 62}'.. is not a size: value number is too long (character 31)"),
-    (b"1." + b"0" * 63, f"b'1.{'0' * 62}'.. is not a size: value number is too long (character 31)"),
+    ("1." + "0" * 78, f"'1.{'0' * 78}' is not a size: value number is too long (character 31)"),
+    ("1." + "0" * 79, f"'1.{'0' * 78}'.. is not a size: value number is too long (character 31)"),
+    (b"1." + b"0" * 79, f"b'1.{'0' * 78}'.. is not a size: value number is too long (character 31)"),
 ]
 
 

@@ -16,7 +16,7 @@ import byte_unit
 from byte_unit import ByteUnitError, Column, SizeError
 
 HAS_NUMPY = importlib.util.find_spec("numpy") is not None
-LONG = "0" * 59 + "1 KiB"  # 64 characters, as many as a message repeats
+LONG = "0" * 75 + "1 KiB"  # 80 characters, as many as a message repeats
 # Texts, and the code and the size of each; sizes at the ends of the ranges of floats, int64 and 64 bits.
 TEXTS = ["1 KB", "", None, "1 x", b"2 KB", "\ud800", b"\xff", LONG, float("nan"), str(10**30 - 1), "1000 RB"]
 CODES = [0, 1, 7, 5, 0, 6, 6, 0, 7, 0, 4]
@@ -116,7 +116,7 @@ class Raised(unittest.TestCase):
         return caught.exception
 
     def test_row_text_and_reason(self) -> None:
-        rows = [(0, "1 x"), (2, ""), (1, b"\xff"), (1, "\ud800"), (1, "x" * 64), (1, "x" * 65), (0, b"x" * 99)]
+        rows = [(0, "1 x"), (2, ""), (1, b"\xff"), (1, "\ud800"), (1, "x" * 80), (1, "x" * 81), (0, b"x" * 99)]
         for row, wrong in [*rows, (70_000, "1000.5 RB")]:
             texts: list[Any] = ["1", None, "2", *["3"] * 70_000]
             texts[row] = wrong
@@ -136,7 +136,7 @@ class Raised(unittest.TestCase):
             data, offsets = b"##" + b"".join(many), array("q", accumulate(map(len, many), initial=2))
             error = self.caught(byte_unit.parse_buffers, data, offsets)
             self.assertEqual((error.row, error.text), (row, text))
-            self.assertTrue(str(error).startswith(f"texts[{row}]: {text[:64]!r}"))
+            self.assertTrue(str(error).startswith(f"texts[{row}]: {text[:80]!r}"))
             bits = ((1 << len(many)) - 1 ^ 1 << row).to_bytes(400, "little")
             error = self.caught(byte_unit.parse_buffers, data, offsets, validity=bits)
             self.assertEqual((error.row, error.text), (len(many) - 1, "later"))

@@ -75,10 +75,10 @@ SELECT size_in(1, ' '); -- error: ' ' is not a unit such as 'KiB' or 'MB'
 SELECT size_in(1, char(9, 133, 12288), 'bits'); -- error: '\t\u{85}\u{3000}' is not a unit such as 'KiB' or 'MB'
 SELECT size_parse('1' || char(10) || '2'); -- error: '1\n2' is not a size: the character '\n' is incorrect ('B', 'K', 'M', 'G', 'T', 'P', 'E', 'Z', 'Y' or 'R' or no character is expected) (character 2)
 SELECT size_parse(char(9, 13, 10, 27, 133, 160) || 'x'); -- error: '\t\r\n\u{1b}\u{85}\u{a0}x' is not a size: the character '\u{1b}' is not a number (character 4)
-SELECT size_parse(replace(hex(zeroblob(62)), '00', 'x') || char(159, 120)); -- error: 'xxxxxxxxxxxxxxxxxxxxxxxxxxxxxxxxxxxxxxxxxxxxxxxxxxxxxxxxxxxxxx\u{9f}..' is not a size: the character 'x' is not a number (character 1)
-SELECT size_parse(replace(hex(zeroblob(63)), '00', 'x') || char(159, 120)); -- error: 'xxxxxxxxxxxxxxxxxxxxxxxxxxxxxxxxxxxxxxxxxxxxxxxxxxxxxxxxxxxxxxx..' is not a size: the character 'x' is not a number (character 1)
-SELECT size_parse('x' || replace(hex(zeroblob(300)), '00', 'é')); -- error: 'xééééééééééééééééééééééééééééééé..' is not a size: the character 'x' is not a number (character 1)
-SELECT size_parse('x' || replace(hex(zeroblob(300)), '00', '😀')); -- error: 'x😀😀😀😀😀😀😀😀😀😀😀😀😀😀😀..' is not a size: the character 'x' is not a number (character 1)
-SELECT size_parse(replace(hex(zeroblob(33)), '00', '12')); -- error: '1212121212121212121212121212121212121212121212121212121212121212..' is not a size: value number is too long (character 35)
+SELECT size_parse(replace(hex(zeroblob(78)), '00', 'x') || char(159, 120)); -- error: 'xxxxxxxxxxxxxxxxxxxxxxxxxxxxxxxxxxxxxxxxxxxxxxxxxxxxxxxxxxxxxxxxxxxxxxxxxxxxxx\u{9f}..' is not a size: the character 'x' is not a number (character 1)
+SELECT size_parse(replace(hex(zeroblob(79)), '00', 'x') || char(159, 120)); -- error: 'xxxxxxxxxxxxxxxxxxxxxxxxxxxxxxxxxxxxxxxxxxxxxxxxxxxxxxxxxxxxxxxxxxxxxxxxxxxxxxx..' is not a size: the character 'x' is not a number (character 1)
+SELECT size_parse('x' || replace(hex(zeroblob(300)), '00', 'é')); -- error: 'xééééééééééééééééééééééééééééééééééééééé..' is not a size: the character 'x' is not a number (character 1)
+SELECT size_parse('x' || replace(hex(zeroblob(300)), '00', '😀')); -- error: 'x😀😀😀😀😀😀😀😀😀😀😀😀😀😀😀😀😀😀😀..' is not a size: the character 'x' is not a number (character 1)
+SELECT size_parse(replace(hex(zeroblob(41)), '00', '12')); -- error: '12121212121212121212121212121212121212121212121212121212121212121212121212121212..' is not a size: value number is too long (character 35)
 SELECT size_parse(CAST(x'31ff' AS TEXT)); -- error: '1\xff' is not a size: the text is not UTF-8
 SELECT size_parse(CAST(x'31c285ff' AS TEXT)); -- error: '1\xc2\x85\xff' is not a size: the text is not UTF-8

@@ -4,7 +4,7 @@ TYPE_CHECKING = False  # true for type checkers
 if TYPE_CHECKING:
     from decimal import Decimal
 
-_SHOWN = 64  # the characters, or bytes, of a text that a message repeats
+_SHOWN = 80  # the characters, or bytes, of a text that a message repeats
 
 
 def quoted(text: "str | bytes") -> str:
@@ -39,7 +39,7 @@ class SizeError(ByteUnitError):
     3 x
 
     The message has the text, the reason that `explain` returns, and the number of the first wrong character, from 1.
-    Of a long text it has the first 64 characters, or bytes.
+    Of a long text it has the first 80 characters, or bytes.
 
     `text` is the text. The names are those of the codes in byte_unit.h:
 
