@@ -8,8 +8,8 @@ from functools import partial
 from http.server import SimpleHTTPRequestHandler, ThreadingHTTPServer
 
 import pytest
+from byte_unit_dev import page
 from byte_unit_dev.fixtures import NODE, need, output, read
-from byte_unit_dev.page import page
 from byte_unit_dev.rows import check, rows
 
 NARROW_SPACE = "\u202f"  # what the page has between groups of three digits
@@ -28,10 +28,10 @@ def opened(browser, address):
 
 
 @pytest.fixture(scope="module")
-def place(javascript, tmp_path_factory):
+def place(tmp_path_factory):
     """The page, in a file."""
     made = tmp_path_factory.mktemp("page") / "how-a-size-is-read.html"
-    made.write_text(page((javascript / "byte_unit.wasm").read_bytes()), encoding="utf-8")
+    page.run(made)
     return made
 
 

@@ -3,17 +3,25 @@
 import re
 import sqlite3
 import sys
+import unicodedata
 from itertools import islice
 
 import pytest
-from byte_unit_dev.fixtures import (call, compiled, copied, environment, need, output, path, quoted_characters,
-                                    read)  # fmt: skip
+from byte_unit_dev.fixtures import call, compiled, copied, environment, need, output, path, read
 from byte_unit_dev.model.answers import position
 from byte_unit_dev.model.exact import SIZE_LIMIT, UNITS, Rejected, form, size_of, some_line, value_of
 
 WARNINGS = ["-Wall", "-Wextra", "-Wpedantic", "-Wconversion", "-Wshadow", "-Werror"]
 SANITIZED = ["-g", "-fsanitize=address,undefined", "-fno-sanitize-recover=all"]
 GREATEST = 2**63 - 1  # of an INTEGER
+
+
+def quoted_characters():
+    """Returns characters, and what the quoted texts of messages have for each: all control and format characters and
+    separators of lines and paragraphs, but for U+0000, with their escapes, and some others, as they are."""
+    escaped = [char for char in map(chr, range(1, 0x110000)) if unicodedata.category(char) in ("Cc", "Cf", "Zl", "Zp")]
+    short = {"\t": "\\t", "\n": "\\n", "\r": "\\r"}
+    return [(c, short.get(c, f"\\u{{{ord(c):x}}}")) for c in escaped] + [(c, c) for c in " é¬ß字😀"]
 
 
 def extension(compiler, library, folder, *flags):

@@ -12,8 +12,8 @@ from collections import namedtuple
 from dataclasses import replace
 from types import SimpleNamespace
 
-from byte_unit_dev.model.exact import (BASE, FORM_PLACES, SIZE_LIMIT, UNITS, WHITE_SPACE, Rejected, best_unit, largest,
-                                       size_of, unit_message, unit_of, value_of)
+from byte_unit_dev.model.exact import (BASE, FORM_PLACES, SIZE_LIMIT, UNITS, WHITE_SPACE, Rejected, bad_unit, best_unit,
+                                       largest, size_of, unit_of, value_of)
 from program import Result
 
 # The most bytes of a text that a message quotes, and Unicode's categories of the characters that it escapes; the
@@ -76,7 +76,7 @@ def form(text, options):
     """Returns the text of `--to`, which has to be a form or a unit."""
     unit, words = text.strip(WHITE_SPACE), (options.kind, options.ignore_case)
     if text not in FORMS and (not unit or not unit_of(unit, *words)):
-        raise Wrong("not a form or a unit" + (f": {unit_message(unit, *words)}" if unit else ""))
+        raise Wrong("not a form or a unit" + (f": {bad_unit(unit, *words).message}" if unit else ""))
     return text
 
 

@@ -8,7 +8,7 @@ import shutil
 from pathlib import Path
 
 from .common import Failure, copy_to, output, path, write
-from .needs import COMPARED, DEBIAN_PYTHON, DEBIAN_RUST, SERDE, is_there
+from .needs import COMPARED, DEBIAN_RUST, SERDE, is_there
 
 # What the original, the package and their programs need, with the crates as Debian installs them.
 NEEDS = ["cargo", *COMPARED, *SERDE]
@@ -43,14 +43,6 @@ def copied(binding, folder):
     if binding in ("sqlite", "postgresql"):
         copy_to(folder, "bindings/c/message.h")
     return str(shutil.copytree(path("bindings", binding), Path(folder).resolve() / "bindings" / binding, ignore=built))
-
-
-def wheel(package, library, folder, **variables):
-    """Builds the wheel of a copy of the binding for Python, with a library inside, in a folder. Returns its path."""
-    here = environment(BYTE_UNIT_LIBRARY_DIR=library, LDFLAGS="-s", **variables)
-    output(DEBIAN_PYTHON, "setup.py", "bdist_wheel", "-d", folder, cwd=package, env=here)
-    (made,) = Path(folder).glob("*.whl")
-    return made
 
 
 def original(given, work):

@@ -1,7 +1,6 @@
-"""What all commands share: the repository's files, calls of other programs and their time, signals, and reports."""
+"""What all commands share: the repository's files, calls of other programs, signals, and reports."""
 
 import os
-import resource
 import shutil
 import signal
 import subprocess
@@ -65,14 +64,6 @@ def output(*words, **more):
         said = f"{got.stdout or ''}{got.stderr or ''}"
         raise Failure(f"status {got.returncode} of {' '.join(map(str, words))}\n{said}")
     return got.stdout
-
-
-def spent(*words, **more):
-    """Runs a program that has to succeed, and returns the seconds of user time and of system time that it takes."""
-    before = resource.getrusage(resource.RUSAGE_CHILDREN)
-    output(*words, **more)
-    after = resource.getrusage(resource.RUSAGE_CHILDREN)
-    return after.ru_utime - before.ru_utime, after.ru_stime - before.ru_stime
 
 
 def files():

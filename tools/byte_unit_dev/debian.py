@@ -2,7 +2,9 @@
 
 import os
 
-from .common import Failure, call, output
+import pytest
+
+from .common import call, output
 
 # With mounts that nothing else sees, and processes that end with it.
 ALONE = ["unshare", "--mount", "--pid", "--fork", "--kill-child"]
@@ -16,11 +18,11 @@ CLEAN, AARCH64 = ["--variant=minbase"], ["--variant=extract", "--architectures=a
 
 
 def make(root, packages, how):
-    """Makes a Debian 12 with these packages, and what they need. Fails if that is impossible here."""
+    """Makes a Debian 12 with these packages, and what they need. Skips the test if that is impossible here."""
     found = dict.fromkeys(output("apt-get", "indextargets", "--format", SOURCE, "Created-By: Packages").splitlines())
     sources = [line for line in found if line.split()[2] in RELEASES]
     words = ["--quiet", "--dpkgopt=force-unsafe-io", '--aptopt=Acquire::Languages "none"', *how,
              *(f"--include={name}" for name in packages), RELEASES[0], root, *sources]  # fmt: skip
     made = call(*ALONE, "mmdebstrap", *words, env={**os.environ, **HERE, "DEBIAN_FRONTEND": "noninteractive"})
     if made.returncode:
-        raise Failure(f"a Debian 12 could not be made: {'; '.join(made.stdout.strip().splitlines()[-2:])}")
+        pytest.skip(f"a Debian 12 could not be made: {'; '.join(made.stdout.strip().splitlines()[-2:])}")

@@ -10,16 +10,15 @@ import re
 import shutil
 import subprocess
 import types
-import unicodedata
+from itertools import zip_longest
 from pathlib import Path
 
 import pytest
 
 from . import debian
-from .builds import CONFIG, copied, environment, programs, wheel
-from .common import ROOT, Failure, call, copy_to, output, path, read, write
+from .builds import CONFIG, copied, environment, programs
+from .common import ROOT, call, copy_to, output, path, read, write
 from .libraries import AARCH64
-from .model.answers import parse
 from .model.exact import form, output_for, size_of, some_line
 from .needs import CARGO_PROGRAMS, DEBIAN_PYTHON, PACKAGES, PYTHON_PACKAGE, SERDE, is_there
 
@@ -61,14 +60,6 @@ def ended(*words, **how):
     how = {"stdout": subprocess.PIPE, "stderr": subprocess.PIPE, "timeout": 600, **how}
     got = subprocess.run(words, check=False, **how)
     return got.returncode, got.stdout, got.stderr
-
-
-def quoted_characters():
-    """Returns characters, and what the quoted texts of messages have for each: all control and format characters and
-    separators of lines and paragraphs, but for U+0000, with their escapes, and some others, as they are."""
-    escaped = [char for char in map(chr, range(1, 0x110000)) if unicodedata.category(char) in ("Cc", "Cf", "Zl", "Zp")]
-    short = {"\t": "\\t", "\n": "\\n", "\r": "\\r"}
-    return [(c, short.get(c, f"\\u{{{ord(c):x}}}")) for c in escaped] + [(c, c) for c in " é¬ß字😀"]
 
 
 def redirected(how, *words, data=b"1 KB\n"):
@@ -177,10 +168,15 @@ def check_drawn(request, seed):
     return check
 
 
-def printed(command, lines):
+def printed(command, lines, end=b"\n"):
     """Returns the lines that a program prints for lines, and one more if it does not exit with status 0."""
-    status, written, _ = ended(*command, input=b"".join(line + b"\n" for line in lines), stderr=None)
+    status, written, _ = ended(*command, input=b"".join(line + end for line in lines), stderr=None)
     return written.decode().split("\n")[:-1] + [f"status {status}"] * (status != 0)
+
+
+def differing(given, wanted, got):
+    """Returns the first rows in which what a program printed is not what is wanted for what was given."""
+    return [row for row in zip_longest(given, wanted, got) if row[1] != row[2]][:5]
 
 
 @pytest.fixture(scope="session")
@@ -188,10 +184,8 @@ def check_lines(check_drawn):
     """Checks that a program prints, for drawn lines, what the exact model does."""
     def check(command, kind, **count):
         def wrong(lines):
-            got = printed([*command, kind], lines)
             wanted = [output_for(line, kind) for line in lines]
-            differing = [row for row in zip(lines, got, wanted) if row[1] != row[2]]
-            return differing[:5] or len(got) != len(wanted) and f"{len(got)} of {len(wanted)} lines: {got[-1:]}"
+            return differing(lines, wanted, printed([*command, kind], lines))
 
         check_drawn(some_line, wrong, **count)
 
@@ -212,19 +206,15 @@ def check_runner(check_drawn):
     def check(command, kind, bytes_=True):
         def rows(line):
             size = size_of(line, kind)
-            is_text = getattr(size, "name", "") != "not text"
-            answer = parse(kind, "cased", line.decode()) if is_text else "NotUtf8"
-            if is_text or bytes_:
+            answer = getattr(size, "answer", str(size))
+            if bytes_ or answer != "NotUtf8":
                 yield b'parse %s cased "%s' % (kind.encode(), line), answer
             if answer[0].isdigit():
                 yield f"text {kind} {answer} {{:#}}".encode(), f'"{form(size, kind)}"'
 
         def wrong(lines):
-            asked = [row for line in lines if b"\0" not in line for row in rows(line)]
-            status, written, _ = ended(*command, input=b"".join(record + b"\0" for record, _ in asked), stderr=None)
-            got = [*written.decode().split("\n")[:-1], *[f"status {status}"] * (status != 0)]
-            differing = [(*row, found) for row, found in zip(asked, got) if row[1] != found]
-            return differing[:5] or len(got) != len(asked) and got[-1:]
+            asked, wanted = zip(*(row for line in lines if b"\0" not in line for row in rows(line)))
+            return differing(asked, wanted, printed(command, asked, b"\0"))
 
         check_drawn(some_line, wrong)
 
@@ -287,13 +277,11 @@ def python_aarch64(aarch64, tmp_path_factory):
     folder = tmp_path_factory.mktemp("python-aarch64")
     root, minor = folder / "root", output(DEBIAN_PYTHON, "-c", "import sys; print(sys.version_info[1])").strip()
     python = f"python3.{minor}"
-    try:
-        debian.make(root, [f"lib{python}-dev", f"{python}-minimal"], debian.AARCH64)
-    except Failure as why:
-        pytest.skip(str(why))
-    how = {"CC": AARCH64_CC, "LDSHARED": f"{AARCH64_CC} -shared", "CFLAGS": f"-g0 -I{root}/usr/include",
-           "_PYTHON_HOST_PLATFORM": "linux-aarch64"}  # fmt: skip
-    made = wheel(copied("python", folder), aarch64.folder, folder / "wheel", **how)
+    debian.make(root, [f"lib{python}-dev", f"{python}-minimal"], debian.AARCH64)
+    here = environment(BYTE_UNIT_LIBRARY_DIR=aarch64.folder, _PYTHON_HOST_PLATFORM="linux-aarch64", CC=AARCH64_CC,
+                       LDSHARED=f"{AARCH64_CC} -shared", LDFLAGS="-s", CFLAGS=f"-g0 -I{root}/usr/include")  # fmt: skip
+    output(DEBIAN_PYTHON, "setup.py", "bdist_wheel", "-d", folder, cwd=copied("python", folder), env=here)
+    (made,) = folder.glob("*.whl")
     check_needs(made, folder / "package")
     words = ["env", f"PYTHONPATH={folder}/package", "qemu-aarch64", "-L", root, f"{root}/usr/bin/{python}"]
     return types.SimpleNamespace(words=words, wheel=made)

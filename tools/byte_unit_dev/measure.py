@@ -14,12 +14,13 @@ import datetime
 import os
 import random
 import re
+import resource
 import subprocess
 import tempfile
 from types import SimpleNamespace
 
 from . import builds
-from .common import Failure, call, output, path, read, spent
+from .common import Failure, call, output, path, read
 from .common import write as write_file
 from .render.pages import with_parts
 
@@ -128,7 +129,9 @@ def reader(folder, *words):
 
 def nanoseconds(words, lines):
     """Returns the user time of a program with this input."""
-    return spent(*ONE_PROCESSOR, *words, stdin=lines, stdout=subprocess.DEVNULL)[0] * 1e9
+    before = resource.getrusage(resource.RUSAGE_CHILDREN).ru_utime
+    output(*ONE_PROCESSOR, *words, stdin=lines, stdout=subprocess.DEVNULL)
+    return (resource.getrusage(resource.RUSAGE_CHILDREN).ru_utime - before) * 1e9
 
 
 def instructions(words, lines):

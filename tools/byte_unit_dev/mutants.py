@@ -32,7 +32,7 @@ from pathlib import Path
 from .common import Failure, path, read, report, shown, write
 from .render import bits
 from .replace import remove_folders
-from .source import EXAMPLES, files, public_names, source
+from .source import EXAMPLES, crates, files, public_names, source
 
 # What the names of the copies begin with.
 COPY = "by-turn."
@@ -64,8 +64,7 @@ def by_turns(crate):
 
 def with_mutants():
     """Returns the names of the crates that have mutants."""
-    found = [name for form in ("mutants.edits", "must-fail/*.edit") for name in glob.glob(path("crates/*", form))]
-    return sorted({os.path.relpath(name, path("crates")).split("/")[0] for name in found} | {bits.CRATE})
+    return sorted(crate for crate in crates() if in_every_run(crate) or by_turns(crate))
 
 
 def public_functions(crate):

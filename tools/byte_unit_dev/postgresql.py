@@ -2,7 +2,6 @@
 
 import contextlib
 import os
-import pwd
 import shutil
 import socket
 import tempfile
@@ -44,7 +43,7 @@ class Server:
     @staticmethod
     def user():
         """Returns the user that the server runs as: PostgreSQL does not run as root."""
-        return "nobody" if os.geteuid() == 0 else pwd.getpwuid(os.geteuid()).pw_name
+        return "nobody" if os.geteuid() == 0 else os.geteuid()
 
     def make(self, *words):
         """Calls make for the extension, with the server if it runs, and returns its output. A word such as PG_CONFIG,

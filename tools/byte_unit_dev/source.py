@@ -25,7 +25,7 @@ DEFINITION = re.compile(rf"{COMMENT}^(?:[a-z]+ )?pub (?!mod |use )(?:[a-z]+ )?([
 # The crates of examples and tests.
 EXAMPLES = re.compile(r"example_\w+|byte_unit_uses|byte_unit_vectors|byte_unit_tests")
 # A block of code in a page, with the comment before it that names its source.
-SHOWN = re.compile(r"(?ms)^((?:<!-- from ([^\s:]+)(?:: ([^\n]+))? -->\n)?```(\w+)\n)(.*?)^```$")
+SHOWN = re.compile(r"(?ms)^((?:<!-- from ([^\s:]+): ([^\n]+) -->\n)?```(\w+)\n)(.*?)^```$")
 # Parts of a file that are all its lines of a form.
 LINES = {"imports": r"^(?:ghost |pub )?use\b[^;]*;$", "attributes": r"^#!\[.*\]$"}
 
@@ -70,17 +70,18 @@ def library():
     return [name for name in crates() if name in [*crates()["byte_unit"], "byte_unit"]]
 
 
+def blanked(text, is_blank=bool):
+    """Returns a text with spaces for comments, strings and characters, or for those that are to be blank."""
+    return QUOTED.sub(lambda found: re.sub(r"[^\n]", " ", found[0]) if is_blank(found[0]) else found[0], text)
+
+
 class Source:
     """A file of Rattle, or of Rust. `plain` is its text with spaces for comments; `code` has them for strings, too, so
     that each bracket in it is one of the code."""
 
     def __init__(self, name):
-        def blank(found):
-            return re.sub(r"[^\n]", " ", found[0])
-
         self.name, self.text = name, read(name)
-        self.plain = QUOTED.sub(lambda found: blank(found) if found[0][0] == "/" else found[0], self.text)
-        self.code = QUOTED.sub(blank, self.text)
+        self.plain, self.code = blanked(self.text, lambda word: word[0] == "/"), blanked(self.text)
         self.imports = imports_of(self.text)
 
     def wrong(self, start, why):
@@ -96,10 +97,12 @@ class Source:
                 return found.end()
         raise self.wrong(start, "a bracket is not closed")
 
-    def above(self, start, mark):
-        """Returns the place of the first of the lines before `start` that all begin with `mark`, or one of several."""
+    def above(self, start, *marks):
+        """Returns the place of the first of the lines before that of `start` that all begin with one of the marks, or
+        were dropped: see `Rendered`."""
+        start = self.text.rfind("\n", 0, start) + 1
         for line in reversed(self.text[:start].splitlines(keepends=True)):
-            if not line.lstrip().startswith(mark):
+            if not line.lstrip().startswith((*marks, "\0")):
                 break
             start -= len(line)
         return start

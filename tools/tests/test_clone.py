@@ -5,9 +5,7 @@ import re
 import shutil
 import subprocess
 
-import pytest
 from byte_unit_dev import debian
-from byte_unit_dev.common import Failure
 from byte_unit_dev.fixtures import call, compiled, need, output, path, read
 
 ENTER = 'mount -t proc none "$0/proc"; mount --rbind /dev "$0/dev"; exec unshare --net chroot "$0" sh -c "$1"'
@@ -24,8 +22,6 @@ def test_clone(tmp_path):
         output("sh", "-c", 'git archive --prefix=clone/ HEAD | tar -x -C "$0"', root / "root", cwd=path())
         got = call(*debian.ALONE, "sh", "-euc", ENTER, root, script, env=debian.HERE, stdin=subprocess.DEVNULL)
         assert got.returncode == 0, got.stdout
-    except Failure as why:
-        pytest.skip(str(why))
     finally:
         shutil.rmtree(root, ignore_errors=True)  # a gigabyte
 

@@ -7,13 +7,9 @@ from decimal import ROUND_HALF_EVEN, ROUND_HALF_UP, Decimal
 from fractions import Fraction
 from math import ceil
 
-from .exact import (BASE, BITS, FRACTION_PLACES, LETTERS, SCALE, SIZE_LIMIT, UNITS, WHITE_SPACE, WHOLE_LIMIT, Rejected,
-                    best_unit, debug_char, read, size_of, unit_message, unit_of, value_of)  # fmt: skip
+from .exact import (BASE, BITS, FRACTION_PLACES, SCALE, SIZE_LIMIT, UNITS, WHITE_SPACE, WHOLE_LIMIT, Rejected,
+                    bad_unit, best_unit, read, size_of, unit_of, value_of)  # fmt: skip
 
-ERRORS = {"no value": "NoValue", "number too long": "NumberTooLong"}
-# The prefixes of constants, in the order of LETTERS.
-DECIMAL = ["KILO", "MEGA", "GIGA", "TERA", "PETA", "EXA", "ZETTA", "YOTTA", "RONNA"]
-BINARY = ["KIBI", "MEBI", "GIBI", "TEBI", "PEBI", "EXBI", "ZEBI", "YOBI", "ROBI"]
 # A format string of the Rust crate, and how each type of units has the letter `i`.
 SPEC = re.compile(r"\{(?::([<^>]?)([+-]?)(#?)(\d*)(?:\.(\d+))?)?\}")
 TYPES = {"binary": [True], "decimal": [False], "both": [True, False]}
@@ -32,38 +28,24 @@ def shown(number):
     return f"{Decimal(number).normalize():f}"
 
 
-def error_of(rejected):
-    """Returns an error with its fields, which are in its message: each character in double quotes."""
-    if rejected.name == "out of range":
-        return f"ExceededBounds {shown(rejected.message.split(' ')[2])}"
-    found = re.match(r'the character (".") is (?:incorrect \((.*) is expected\))?', rejected.message, re.S)
-    if not found:
-        return ERRORS[rejected.name]
-    if found[2] is None:
-        return f"NotNumber {found[1]}"
-    expected = "".join(re.findall('"(.)"', found[2]))
-    return f"Unit {found[1]} [{expected}]" + " end" * ("no character" in found[2])
-
-
-def size_in(kind, case, text, quote=quoted, binary=False):
+def size_in(kind, case, text, binary=False):
     """Returns the size that a text represents, or why it represents none."""
-    return size_of(text.encode(), kind, case == "uncased", quote, binary)
+    return size_of(text.encode(), kind, case == "uncased", binary)
 
 
 def parse(kind, case, text, binary=False):
-    size = size_in(kind, case, text, binary=binary)
-    return error_of(size) if isinstance(size, Rejected) else str(size)
+    size = size_in(kind, case, text, binary)
+    return getattr(size, "answer", str(size))
 
 
 def unit(case, prefer, text):
     text, kind, ignore_case = text.strip(WHITE_SPACE), prefer.removesuffix("s"), case == "uncased"
-    return unit_of(text, kind, ignore_case) or error_of(
-        Rejected("bad unit", unit_message(text, kind, ignore_case, quoted)))  # fmt: skip
+    return unit_of(text, kind, ignore_case) or bad_unit(text, kind, ignore_case).answer
 
 
 def number_and_unit(case, prefer, text):
-    found = read(text.strip(WHITE_SPACE), prefer.removesuffix("s"), case == "uncased", quoted)
-    return error_of(found) if isinstance(found, Rejected) else f"{shown(Decimal(found[0]).scaleb(-28))} {found[1]}"
+    found = read(text.strip(WHITE_SPACE), prefer.removesuffix("s"), case == "uncased")
+    return found.answer if isinstance(found, Rejected) else f"{shown(Decimal(found[0]).scaleb(-28))} {found[1]}"
 
 
 def position(what, text):
@@ -84,9 +66,7 @@ def digits(number, spec):
     """Returns a whole number as digits. If it is centred, the fewer spaces are on the left."""
     align, sign, _, width, _ = SPEC.fullmatch(spec).groups("")
     text = "+" * (sign == "+") + str(number)
-    spaces = max(int(width or 0) - len(text), 0)
-    left = {"<": 0, "^": spaces // 2}.get(align, spaces)
-    return quoted(" " * left + text + " " * (spaces - left))
+    return quoted(f"{text:{align or '>'}{int(width or 0)}}")
 
 
 def with_unit(number, name, spec):
@@ -160,10 +140,6 @@ def steps(kind, allowed, places, size):
     return str(len(number.partition(".")[2]) + (factors(int(size))[2] if int(size) else 0))
 
 
-def powers(size):
-    return "2^{} 5^{} {}".format(*factors(int(size)))
-
-
 def quotient(size, per, places):
     """Returns an exact quotient, or none, and the least number of places that were enough, or all of them."""
     places = min(int(places), FRACTION_PLACES)
@@ -186,8 +162,7 @@ def constant(kind, name):
     prefix, word = re.fullmatch("(.*?)(BIT|BYTE|MIN|MAX)", name).groups()
     if word in ("MIN", "MAX"):
         return str(SIZE_LIMIT - 1 if word == "MAX" else 0)
-    names = DECIMAL if prefix in DECIMAL else BINARY
-    letters = prefix and LETTERS[names.index(prefix)] + "i" * (names is BINARY)
+    letters = prefix[:1] + "i" * prefix.endswith("BI")  # as in KIBI
     return made(kind, 1, letters + {"BIT": "b", "BYTE": "B"}[word])
 
 
@@ -196,10 +171,6 @@ def properties(name):
     is_binary = "i" in name or name == "B"
     return "{} {} {} 2^{} 5^{}".format(BITS[name], "bytes" if name[-1] == "B" else "bits",
                                        "binary" if is_binary else "decimal", *factors(BITS[name]))  # fmt: skip
-
-
-def binary_unit(name):
-    return f"{name[0]}i{name[1]}" if len(name) == 2 else name
 
 
 def compute(_, size, operation, number):
@@ -250,15 +221,15 @@ def of_json(text, answer, *words):
 
 CALLS = {
     "parse": parse, "parse_binary": lambda *words: parse(*words, binary=True), "unit": unit, "read": number_and_unit,
-    "says": lambda *words: quoted(size_in(*words, quote=debug_char).message), "position": position, "text": text_of,
+    "says": lambda *words: quoted(size_in(*words).message), "position": position, "text": text_of,
     "plain": digits, "value": lambda kind, size, _, name: f"{int(size) * SCALE[kind]}/{BITS[name]}",
     "exact": lambda kind, allowed, size: recoverable(kind, allowed, 0, size), "recoverable": recoverable,
     "steps": steps, "largest": largest, "choose": choose, "make_in": made, "make_decimal": made, "decimal": decimal,
     "expansion": lambda *words: shown(expansion(*words)), "rounded": rounded, "layout": layout, "least": least,
-    "quotient": quotient, "powers": powers, "compute": compute, "as_u64": in_64_bits, "json": json_of,
-    "from_json": lambda kind, text: of_json(text, parse, kind, "cased"), "unit_json": quoted,
-    "unit_from_json": lambda text: of_json(text, unit, "cased", "bytes"), "binary_unit": binary_unit,
-    "properties": properties, "constant": constant,
+    "quotient": quotient, "powers": lambda size: "2^{} 5^{} {}".format(*factors(int(size))), "compute": compute,
+    "as_u64": in_64_bits, "json": json_of, "from_json": lambda kind, text: of_json(text, parse, kind, "cased"),
+    "unit_json": quoted, "unit_from_json": lambda text: of_json(text, unit, "cased", "bytes"), "properties": properties,
+    "binary_unit": lambda name: f"{name[0]}i{name[1]}" if len(name) == 2 else name, "constant": constant,
 }  # fmt: skip
 
 

@@ -38,8 +38,8 @@ PLACES = [1, 1, 2, 2, 3, 6, 8, 12, 14, 15, 19, 20, 27, 28, 29]
 BROKEN = [b"\xff", b"1\xff", b"1\xc3", b"1\xed\xa0\x80", b"1\xc0\x80", b"1\x00", b"1KB\r", b"\r", b"1\x1c", b"1\x85"]
 getcontext().prec = 500  # each quotient below is exact
 
-# Why a text is not a size: what byte_unit_lines prints, and the message of the library.
-Rejected = namedtuple("Rejected", "name message")
+# Why a text is not a size: what byte_unit_lines prints, the message of the library, and the answer of the test vectors.
+Rejected = namedtuple("Rejected", "name message answer")
 
 
 def debug_char(c):
@@ -61,8 +61,8 @@ def unit_of(text, kind, ignore_case=False):
     return letter.upper() + infix.lower() + ("B" if is_byte else "b")
 
 
-def unit_message(text, kind, ignore_case=False, quote=debug_char):
-    """Returns the message about the first character that cannot continue a unit, of a text that spells none."""
+def bad_unit(text, kind, ignore_case=False):
+    """Returns why a text spells no unit: its first character that cannot continue one."""
     letter, rest = re.match(f"([{LETTERS}{LETTERS.lower()}][Ii]?)?(.*)", text, re.S).groups()
     expected, or_none = (BASE[kind] if ignore_case else "Bb") if letter else "B" + LETTERS, True
     if rest[0] in "Bb":
@@ -70,44 +70,45 @@ def unit_message(text, kind, ignore_case=False, quote=debug_char):
         # A string that ends after `bi` is rejected at the `i`.
         expected = {"b": "i", "bi": "t" * (len(rest) > 2), "bit": "s", "bits": ""}[word]
         or_none, rest = word != "bi" or len(rest) == 2, rest[len(word) :] or "i"
-    *most, last = map(quote, expected) if expected else ["no character"]
-    words = ", ".join(most) + " or " * bool(most) + last + " or no character" * bool(expected and or_none)
-    return f"the character {quote(rest[0])} is incorrect ({words} is expected)"
+    *most, last = [*map(debug_char, expected)] or [""]
+    words = " or ".join(filter(None, [", ".join(most), last, "no character" * or_none]))
+    message = f"the character {debug_char(rest[0])} is incorrect ({words} is expected)"
+    return Rejected("bad unit", message, f'Unit "{rest[0]}" [{expected}]' + " end" * or_none)
 
 
-def read(text, kind, ignore_case=False, quote=debug_char):
+def read(text, kind, ignore_case=False):
     """Returns the number scaled by 10^28 and the unit, or why the text has none. It has no white space at its ends."""
     if not text:
-        return Rejected("no value", "no value can be found")
+        return Rejected("no value", "no value can be found", "NoValue")
     digits, point, fraction = NUMBER.match(text).groups("")
     # Of a longer whole part 40 digits are enough to be above its limit, which has 34.
     whole = int(digits.lstrip("0")[:40] or "0")
     if digits and (whole >= WHOLE_LIMIT or len(fraction) > FRACTION_PLACES):
-        return Rejected("number too long", "value number is too long")
+        return Rejected("number too long", "value number is too long", "NumberTooLong")
     if not digits or point == ".":
         wrong = text[len(digits) + bool(digits) :][:1] or "."
-        return Rejected("not a number", f"the character {quote(wrong)} is not a number")
+        return Rejected("not a number", f"the character {debug_char(wrong)} is not a number", f'NotNumber "{wrong}"')
     spelling = text[len(digits + point) :].lstrip(" ")
     unit = unit_of(spelling, kind, ignore_case)
-    if not unit:
-        return Rejected("bad unit", unit_message(spelling, kind, ignore_case, quote))
-    return whole * 10**FRACTION_PLACES + int(fraction.ljust(FRACTION_PLACES, "0")), unit
+    number = whole * 10**FRACTION_PLACES + int(fraction.ljust(FRACTION_PLACES, "0"))
+    return (number, unit) if unit else bad_unit(spelling, kind, ignore_case)
 
 
 @functools.lru_cache(maxsize=1 << 10)
-def size_of(data, kind, ignore_case=False, quote=debug_char, binary=False):
+def size_of(data, kind, ignore_case=False, binary=False):
     """Returns the size that bytes represent, or why they represent none. If `binary`, all prefixes are by 1024."""
     try:
-        found = read(data.decode().strip(WHITE_SPACE), kind, ignore_case, quote)
+        found = read(data.decode().strip(WHITE_SPACE), kind, ignore_case)
     except UnicodeDecodeError:
-        return Rejected("not text", "the text is not UTF-8")
+        return Rejected("not text", "the text is not UTF-8", "NotUtf8")
     if isinstance(found, Rejected):
         return found
     number, unit = found
     unit = f"{unit[0]}i{unit[1]}" if binary and len(unit) == 2 else unit
-    size = -(-number * BITS[unit] // (10**FRACTION_PLACES * SCALE[kind]))
-    shown = Decimal(number) / 10**FRACTION_PLACES
-    return size if size < SIZE_LIMIT else Rejected("out of range", f"the value {shown:f} exceeds the valid range")
+    size, shown = -(-number * BITS[unit] // (10**FRACTION_PLACES * SCALE[kind])), Decimal(number) / 10**FRACTION_PLACES
+    if size < SIZE_LIMIT:
+        return size
+    return Rejected("out of range", f"the value {shown:f} exceeds the valid range", f"ExceededBounds {shown:f}")
 
 
 def value_of(size, kind, unit):

@@ -88,15 +88,11 @@ def readme():
     if is_built(COMMAND_PROGRAM, README):
         said = call(path(COMMAND_PROGRAM), *re.findall("'(.*?)'", error.text)[:1], stderr=subprocess.STDOUT).stdout
         wrong += [f"{README}:{error.line}: the error is\n{said}"] * (said != error.text)
-    wrong += [f"{README}: {page} has no command {command!r}" for page, command in installs()
-              if command not in re.sub(r"CLONE/|(?<= )\.\.?/(?:byte-unit-in-rattle/)?", "", read(page))]
+    # The table of installations has each command with the path of the clone.
+    for where, command in re.findall(r"^\| \[.*?\]\((.*?)\) \| `(.*?)` \|", page, re.M):
+        there = re.sub(r"CLONE/|(?<= )\.\.?/(?:byte-unit-in-rattle/)?", "", read(where))
+        wrong += [f"{README}: {where} has no command {command!r}"] * (command.replace("CLONE/", "") not in there)
     return wrong, "the commands print what is below them, but for rt ci, which is not run"
-
-
-def installs():
-    """Yields the page and the command of each row of the table of installations, without the path of the clone."""
-    for page, command in re.findall(r"^\| \[.*?\]\((.*?)\) \| `(.*?)` \|", read(README), re.M):
-        yield page, re.sub(r"CLONE/|(?<= )\.\./", "", command)
 
 
 def guide():

@@ -44,7 +44,7 @@ def examples_of(source):
 def without_comment(source):
     """Yields a line for each public function without a doc comment."""
     for found in PUBLIC.finditer(source.code):
-        start = source.above(found.start(), ("#[", "// "))
+        start = source.above(found.start(), "#[", "// ")
         if source.above(start, "///") == start:
             line = line_at(source.text, found.start())
             yield f"{source.name}:{line}: the public function {found[1]} has no doc comment"

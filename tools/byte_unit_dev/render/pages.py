@@ -68,8 +68,8 @@ def whole(name, parts):
 def guide(page="docs/GUIDE.md"):
     """A comment in the line before a block, `<!-- from crates/NAME/src/FILE.rt: PART, PART -->`, names its source.
 
-    Each block of Rust has to have one. A file alone is the whole file. Parts have the imports that they need before
-    them, and first a comment with the files that they need beside them, so that they can be pasted. A part is one of
+    Each block of Rust has to have one. Before the parts are the imports that they need, and first a comment with the
+    files that they need beside them, so that they can be pasted. A part is one of
 
         fn cell, struct Log     an item by its kind and name, or an `impl` by its head as in `impl Model for Entry`, with
                                 its attributes and without its doc comment
@@ -84,9 +84,7 @@ def guide(page="docs/GUIDE.md"):
         try:
             if not file and language == "rust":
                 raise Failure("no comment names the source of this block")
-            if parts:
-                code = whole(file, re.split(", *", parts))
-            return f"{head}{read(file) if file and not parts else code}```"
+            return f"{head}{whole(file, re.split(', *', parts)) if file else code}```"
         except (Failure, OSError) as failure:
             line = 1 + text.count("\n", 0, block.start())
             raise Failure(f"{page}:{line}: {reason(failure)}") from None

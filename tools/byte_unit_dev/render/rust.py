@@ -5,8 +5,8 @@ import re
 from collections import namedtuple
 from concurrent.futures import ThreadPoolExecutor
 
-from ..common import Failure, call, files, path, read
-from ..source import QUOTED, Source, sources
+from ..common import Failure, files, output, path, read
+from ..source import Source, blanked, sources
 from .rust_rules import (
     ALONE, ATTRIBUTES, BY_HAND, CLAUSE, COMMENT_FORMS, CONST, CONST_FORMS, DERIVED, EXAMPLE_FORMS, FORMS, HIDDEN,
     INLINED, ITEMS_LEFT_OUT, LEFT_OUT, NAMES_LEFT_OUT, PRELUDE, PUBLIC, STD, TRAITS, UNKNOWN,
@@ -27,11 +27,6 @@ MODULE = "//! The proved sources of the library as Rust, without their contracts
 LAYERS_MODULE = HEAD("crates/") + MODULE + "".join(f"pub mod {layer};\n" for layer in LAYERS)
 
 
-def blanked(text):
-    """Returns a text with spaces for comments, strings and characters."""
-    return QUOTED.sub(lambda found: re.sub(r"[^\n]", " ", found[0]), text)
-
-
 class Rendered(Source):
     """A file while it is rendered. A line that is dropped leaves a mark, so that each place keeps its line."""
 
@@ -40,7 +35,6 @@ class Rendered(Source):
     def __init__(self, name, crate):
         # byte_unit_bit is rendered itself, and says so in its first line.
         self.name, self.text, self.crate = name, re.sub(r"\A// Rendered.*", "", read(name)), crate
-        # The text with spaces for comments, strings and characters.
         self.code = blanked(self.text)
 
     def put(self, start, end, new):
@@ -55,27 +49,10 @@ class Rendered(Source):
         rest = re.compile(r"[ \t]*\n").match(self.text, end)
         self.put(start, rest.end() if rest else end, "")
 
-    def above(self, start, marks):
-        """Returns the place of the first of the lines before `start` that all begin with one of the marks."""
-        start = self.text.rfind("\n", 0, start) + 1
-        for line in reversed(self.text[:start].splitlines(keepends=True)):
-            if not line.lstrip().startswith(marks) and line != self.MARK:
-                break
-            start -= len(line)
-        return start
-
     def mark(self, start, attribute):
         """Puts an attribute in the line of an item, unless it is in the lines before it."""
-        if attribute not in self.text[self.above(start, ("#[",)):start]:
+        if attribute not in self.text[self.above(start, "#["):start]:
             self.put(start, start, attribute + " ")
-
-    def end_of_item(self, start):
-        """Returns the place after an item: its `;`, or the brace of its body."""
-        code = self.code
-        found = re.compile(r"[;{]").search(code, start)
-        while found[0] == ";" and code.count("(", start, found.start()) > code.count(")", start, found.start()):
-            found = re.compile(r"[;{]").search(code, found.end())
-        return found.end() if found[0] == ";" else self.closing(found.start())
 
     def each(self, pattern, change):
         """Calls a function with each match in the code, the last first."""
@@ -84,7 +61,7 @@ class Rendered(Source):
 
     def drop_item(self, found):
         """Drops the item that a match begins, with its comments and attributes."""
-        self.drop(self.above(found.start(), ("//", "#[")), self.end_of_item(found.start()))
+        self.drop(self.above(found.start(), "//", "#["), self.end_of(found.start()))
 
     def rewrite(self, forms):
         """Rewrites forms: each is a pattern, what is in its place, and why."""
@@ -110,6 +87,26 @@ class Rendered(Source):
 
         self.each(r"^((?:pub(?:\(\w+\))? )?)use ([^;]+);", change)
 
+    def path_of(self, name, place):
+        """Returns a path as it is in the rendered file, or None if it is left out there. An unknown one fails."""
+        home, (head, _, rest) = HOMES[self.crate], name.partition("::")
+        if name in STD:
+            return STD[name] and STD[name].replace("byte_unit::", "crate::" if home.elsewhere else "byte_unit::")
+        if head == "crate":
+            return f"{home.here}::{rest}"
+        if head in HOMES:
+            return f"{HOMES[head].here if home.elsewhere else HOMES[head].elsewhere}::{rest}"
+        if head in ("super", "self", "core"):
+            return name
+        raise self.wrong(place, f"a path that no rule knows: {name}")
+
+    def paths(self, heads):
+        """Rewrites the paths that begin with one of these names, in code and in links of comments, but in no `use`."""
+        for found in reversed([*re.finditer(rf"(?<![\w$:])(?:{heads})::(?=\w)", self.text)]):
+            if "use " not in self.text[self.text.rfind("\n", 0, found.start()) + 1:found.start()]:
+                self.put(found.start(), found.end(), self.path_of(found[0] + "x", found.start())[:-1])
+        self.code = blanked(self.text)
+
     def known(self, unknown):
         """Checks that nothing is left in the code that no rule knows."""
         found = unknown.search(self.code)
@@ -134,12 +131,12 @@ def without_proofs(file):
         code, end = file.code, found.end()
         while code[end] != ";":
             end = file.closing(end) if code[end] in "([{" else end + 1
-        file.drop(file.above(found.start(), ("// ",)), end + 1)
+        file.drop(file.above(found.start(), "// "), end + 1)
 
     def clause(found):
         before = file.code[:found.start()]
         method = found[1] == "requires" and re.search(r"^ +pub (?:const )?fn [^;{}]*\Z", before, re.M)
-        file.drop(file.above(found.start(), ("// ",)), file.closing(found.end()))
+        file.drop(file.above(found.start(), "// "), file.closing(found.end()))
         if method:
             file.mark(method.start(), "#[doc(hidden)]")
 
@@ -173,24 +170,6 @@ def derived(file):
     file.each(r"#\[derive\(([^)]*)\)\](\s*(?:#\[.*\]\s*)*(?:pub(?:\(\w+\))? )?(?:struct|enum) (\w+))", change)
 
 
-def path_of(name, crate):
-    """Returns a path as it is in the rendered file of a crate, or None if it is left out there. An unknown one is a
-    failure."""
-    here = HOMES[crate].here
-    own = "crate::" if crate != "byte_unit_c" else "byte_unit::"
-    if name in STD:
-        return STD[name] and STD[name].replace("byte_unit::", own)
-    head, _, rest = name.partition("::")
-    if head == "crate":
-        return f"{here}::{rest}"
-    if head in HOMES:
-        home = HOMES[head]
-        return f"{home.here if own == 'crate::' else home.elsewhere}::{rest}"
-    if head in ("super", "self", "core"):
-        return name
-    raise Failure(f"a path that no rule knows: {name}")
-
-
 def imports(file):
     """Rewrites `use`, without names that nothing but proofs has used."""
     def is_used(name):
@@ -198,27 +177,10 @@ def imports(file):
         return name in TRAITS or len(re.findall(rf"\b{word}\b", file.code)) > (name != "*")
 
     def target(found, name, is_local):
-        try:
-            path = None if NAMES_LEFT_OUT.fullmatch(name) else name if is_local else path_of(name, file.crate)
-        except Failure as failure:
-            raise file.wrong(found.start(), failure) from None
+        path = None if NAMES_LEFT_OUT.fullmatch(name) else name if is_local else file.path_of(name, found.start())
         return path if path and (found[1] or is_used(path.rpartition("::")[2])) else None
 
     file.uses(target)
-
-
-def paths(file):
-    """Rewrites paths in code and in links of comments."""
-    def change(found):
-        if "use " in file.text[file.text.rfind("\n", 0, found.start()) + 1:found.start()]:
-            return
-        new = path_of(found[1] + "::x", file.crate)[:-1]
-        file.put(found.start(1), found.end(), new)
-
-    for found in reversed([*re.finditer(r"(?<![\w$:])(crate|byte_unit_\w+)::", file.text)]):
-        change(found)
-    file.code = blanked(file.text)
-    file.each(r"(?<![\w:])std::(fmt|str|cmp|error)::", lambda found: file.put(found.start(), found.start() + 3, "core"))
 
 
 def exports(file):
@@ -269,7 +231,7 @@ def functions(file):
             constant.remove(found[3])
         if found[3] in HIDDEN:
             file.mark(found.start(), "#[doc(hidden)]")
-        if file.crate in INLINED and "#[inline" not in file.text[file.above(found.start(), ("#[",)):found.start()]:
+        if file.crate in INLINED and "#[inline" not in file.text[file.above(found.start(), "#["):found.start()]:
             file.mark(found.start(), "#[inline]")
 
     file.each(r"^( *(?:#\[.*?\] *)*)((?:pub(?:\(\w+\))? )?)fn (\w+)", change)
@@ -300,8 +262,10 @@ def examples(file):
 def rendered(name, crate, exported):
     """Returns the text of a file in Rust, before rustfmt."""
     file = Rendered(name, crate)
-    for step in (without_proofs, without_items, derived, imports, paths):
+    for step in (without_proofs, without_items, derived, imports):
         step(file)
+    file.paths(r"crate|byte_unit_\w+")
+    file.each(r"(?<![\w:])std::(fmt|str|cmp|error)::", lambda found: file.put(found.start(), found.start() + 3, "core"))
     if exported:
         calls_of_exports(file, exported)
         exports(file)
@@ -313,35 +277,21 @@ def rendered(name, crate, exported):
 
 def formatted(text):
     """Returns a text as rustfmt has it."""
-    got = call("rustfmt", "--edition", "2024", "--config-path", path(CONFIG), input=text)
-    if got.returncode:
-        raise Failure(f"rustfmt: {got.stdout}")
-    return got.stdout
+    return output("rustfmt", "--edition", "2024", "--config-path", path(CONFIG), input=text)
 
 
-def target(name, crate):
-    """Returns the name of the rendered file."""
-    home, rest = HOMES[crate].folder, name.removeprefix(f"crates/{crate}/src/").removesuffix(".rt")
-    if rest == "lib":
-        return f"{home}/mod.rs" if crate == "byte_unit_c" else f"{home}.rs"
-    return f"{home}/{rest}.rs"
-
-
-def sources_of(crate):
-    """Returns the names of the files of a crate that are rendered."""
-    left_out = re.compile(r"/laws/|" + "|".join(f"{re.escape(name)}$" for name in LEFT_OUT))
-    return [file.name for file in sources(crate) if not left_out.search(file.name)]
+def targets_of(crate, folder, left_out):
+    """Returns what is made of each file of a crate that is rendered: the root beside a folder, and others in it."""
+    names = (file.name for file in sources(crate) if not file.name.endswith((*left_out,)) and "/laws/" not in file.name)
+    return {name: re.sub(r".*/src(?:/lib|/main|(/.*))\.rt", rf"{folder}\1.rs", name) for name in names}
 
 
 def exports_of(crate):
     """Returns the functions of a C API, by name: for each of its parameters `mut` or `const`, or none if it is no
     slice."""
-    kinds = {"&mut [": "mut", "&[": "const"}
-    found = {}
-    for file in sources(crate):
-        for name, given in re.findall(r"pub extern \"C\" fn (\w+)\(([^)]*)\)", file.text):
-            found[name] = [kinds.get(kind) for kind in re.findall(r"\w+: (&mut \[|&\[)?", given)]
-    return found
+    kinds, export = {"&mut [": "mut", "&[": "const"}, r'pub extern "C" fn (\w+)\(([^)]*)\)'
+    return {name: [kinds.get(kind) for kind in re.findall(r"\w+: (&mut \[|&\[)?", given)]
+            for file in sources(crate) for name, given in re.findall(export, file.text)}
 
 
 def files_of(texts, *folders):
@@ -355,7 +305,8 @@ def files_of(texts, *folders):
 def made():
     """Each file of the two folders."""
     texts = {MODULES: LAYERS_MODULE}
-    for crate in HOMES:
-        exported = exports_of(crate) if crate == "byte_unit_c" else {}
-        texts |= {target(name, crate): rendered(name, crate, exported) for name in sources_of(crate)}
+    for crate, home in HOMES.items():
+        exported, targets = exports_of(crate), targets_of(crate, home.folder, LEFT_OUT)
+        texts |= {place: rendered(name, crate, exported) for name, place in targets.items()}
+    texts[f"{FOLDERS[1]}mod.rs"] = texts.pop(f"{FOLDERS[1][:-1]}.rs")  # the root of the C library is in its folder
     yield from files_of(texts, *FOLDERS)

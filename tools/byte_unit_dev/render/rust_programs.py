@@ -7,7 +7,6 @@ names that Rattle's std and clap have, with their calls (`rattle` and `clap`), a
 import re
 
 from ..common import read
-from ..source import sources
 from . import rust, rust_rules
 
 FOLDER = "bindings/programs/src/rendered"
@@ -21,12 +20,11 @@ MODULE = rust.HEAD("crates/") + """//! The proved sources of the programs as Rus
 
 # Files that are not rendered, by the end of their names.
 LEFT_OUT = {
-    r"/laws": "its functions do nothing: the contracts, which are dropped, are the laws",
-    r"/tests|/tests/.*": "the tests run the programs",
-    r"/paced": "readers and writers in memory, for tests",
+    "/laws.rt": "its functions do nothing: the contracts, which are dropped, are the laws",
+    "/paced.rt": "readers and writers in memory, for tests",
 }
 # Items that are not rendered, with their comments and attributes.
-ITEMS_LEFT_OUT = r"(?:pub )?mod (?:laws|tests|paced);"
+ITEMS_LEFT_OUT = r"(?:pub )?mod (?:laws|tests|paced);|impl(?:<[^>]*>)? Model for"
 # Modules of Rattle's std with names or calls that Rust's has not, and names that every file of Rattle has.
 OWN, PRELUDE = r"(?:alloc|env|io)", ["HostRuntime", "String", "Vec", "eprint!", "eprintln!", "format!"]
 # Traits for calls that a type of `rattle` has by itself.
@@ -60,21 +58,20 @@ class Program(rust.Rendered):
 
     def __init__(self, name, crate, facade):
         super().__init__(name, crate)
-        self.module, self.facade = f"crate::rendered::{crate.removeprefix('byte_unit_')}", facade
+        self.facade = facade
 
     def path_of(self, name, place):
         """Returns a path as it is in the package."""
         head, _, rest = name.partition("::")
-        if head == "crate":
-            return f"{self.module}::{rest}"
+        module = (self.crate if head == "crate" else head).removeprefix("byte_unit_")
         if head == "byte_unit":
             if rest not in self.facade:
                 raise self.wrong(place, f"a name that no rule knows: {name}")
             return self.facade[rest]
         if head in rust.HOMES:
             return f"{rust.HOMES[head].elsewhere}::{rest}"
-        if head.removeprefix("byte_unit_") in MODULES:
-            return f"crate::rendered::{head.removeprefix('byte_unit_')}::{rest}"
+        if module in MODULES:
+            return f"crate::rendered::{module}::{rest}"
         if re.match(rf"std::{OWN}\b", name):
             return f"crate::rattle::{rest}"
         if head == "clap":
@@ -86,13 +83,10 @@ class Program(rust.Rendered):
 
 def without_items(file):
     """Drops the items of `ITEMS_LEFT_OUT`, calls of laws, and examples."""
-    def item(found):
-        file.drop(file.above(found.start(), ("//", "#[")), found.end())
-
-    file.each(rf"^ *{ITEMS_LEFT_OUT}", item)
+    file.each(rf"^ *(?:{ITEMS_LEFT_OUT})", file.drop_item)
     laws = re.findall(r"^use crate::laws::\{?([\w, ]+)\}?;", file.code, re.M)
     for law in re.findall(r"\w+", " ".join(laws)):
-        file.each(rf"^ *{law}\(\);", lambda found: file.drop(file.above(found.start(), ("// ",)), found.end()))
+        file.each(rf"^ *{law}\(\);", lambda found: file.drop(file.above(found.start(), "// "), found.end()))
     file.each(r"^use (?:crate|byte_unit)::laws\b[^;]*;", lambda found: file.drop(found.start(), found.end()))
     for found in reversed([*EXAMPLES.finditer(file.text)]):
         file.put(found.start(), found.end(), "")
@@ -102,7 +96,7 @@ def imports(file):
     """Rewrites `use`, and adds the names that every file of Rattle has."""
     def target(found, name, is_local):
         if name not in TRAITS_LEFT_OUT:
-            return f"{file.module}::{name}" if is_local else file.path_of(name, found.start())
+            return file.path_of(f"crate::{name}" if is_local else name, found.start())
 
     # Rustc has this function without the module from 1.87 on.
     needs_str = re.search(r"\bstr::from_utf8\b", file.code) and "use std::str;" not in file.code
@@ -115,39 +109,23 @@ def imports(file):
     file.put(place, place, " ".join(own) + "\n" * (not first))
 
 
-def paths(file):
-    """Rewrites paths in code and in links of comments."""
-    for found in reversed([*re.finditer(r"(?<![\w:])(crate|clap|byte_unit\w*)::(?!rendered|rattle|clap)(?=\w)", file.text)]):
-        if "use " not in file.text[file.text.rfind("\n", 0, found.start()) + 1:found.start()]:
-            file.put(found.start(), found.end(), file.path_of(found[0] + "x", found.start())[:-1])
-
-
 def rendered(name, crate, facade):
     """Returns the text of a file in Rust, before rustfmt."""
     file = Program(name, crate, facade)
     without_items(file)
     rust.without_proofs(file)
-    file.each(r"^impl(?:<[^>]*>)? Model for", file.drop_item)
     rust.derived(file)
     imports(file)
-    paths(file)
+    file.paths(r"crate|clap|byte_unit\w*")
     file.rewrite(FORMS)
     file.known(UNKNOWN)
     return file.finished(file.text.replace(" (proved at every call)", ""))
 
 
-def target(name):
-    """Returns the name of the rendered file."""
-    crate, _, rest = name.removeprefix("crates/byte_unit_").removesuffix(".rt").partition("/src/")
-    return f"{FOLDER}/{crate}.rs" if rest in ("lib", "main") else f"{FOLDER}/{crate}/{rest}.rs"
-
-
 def made():
     """Each file of the folder."""
-    facade, left_out = exported(), re.compile(f"(?:{'|'.join(LEFT_OUT)})\\.rt")
-    texts = {f"{FOLDER}/mod.rs": MODULE}
-    for crate in (f"byte_unit_{name}" for name in MODULES):
-        names = [file.name for file in sources(crate)]
-        texts |= {target(name): rendered(name, crate, facade) for name in names
-                  if not left_out.search(name.removeprefix(f"crates/{crate}/src"))}
+    facade, texts = exported(), {f"{FOLDER}/mod.rs": MODULE}
+    for module in MODULES:
+        targets = rust.targets_of(f"byte_unit_{module}", f"{FOLDER}/{module}", LEFT_OUT)
+        texts |= {place: rendered(name, f"byte_unit_{module}", facade) for name, place in targets.items()}
     yield from rust.files_of(texts, f"{FOLDER}/")

@@ -19,11 +19,6 @@ def prefixes():
     return {letter: units.split() for letter, units in rows}
 
 
-def in_lines(form):
-    """Returns the units in a form, those of a prefix in a line."""
-    return ",\n".join("    " + ", ".join(map(form, row)) for row in [["Bit", "B"], *prefixes().values()])
-
-
 def expected():
     """Returns the lists of expected characters, in the order of the variants."""
     body = source(SCAN).part("body fn Expected::characters").replace("&BEGINNING", str(["B", *prefixes()]))
@@ -31,17 +26,11 @@ def expected():
 
 
 def bindings():
-    codes = in_lines(lambda unit: f"BYTE_UNIT_{unit.upper()}")
+    rows = [["Bit", "B"], *prefixes().values()]
+    codes = ",\n".join("    " + ", ".join(f"BYTE_UNIT_{unit.upper()}" for unit in row) for row in rows)
     yield HEADER, with_parts(HEADER, (r"The codes of the units\. \*/\nenum \{\n", r"\n\};", codes))
     letters = "".join(prefixes())
     yield JAVASCRIPT, with_parts(JAVASCRIPT, (r'^const PREFIXES = \[\.\.\."', r'"\];', letters))
-
-
-def positions():
-    """Returns the position of the prefix of each byte's letter, or 0, 32 in a line."""
-    letters = "".join(prefixes())
-    places = [letters.find(chr(byte).upper()) + 1 for byte in range(256)]
-    return "\n".join(f"    {', '.join(map(str, places[at : at + 32]))}," for at in range(0, 256, 32))
 
 
 def row(characters):
@@ -62,6 +51,9 @@ def tables():
     lists = dict(zip_longest(names, expected(), fillvalue=[]))
     rows = "\n".join(map(row, lists.values()))
     rests = [(rf'Expected::{name} => (?:\{{\s+)?b"', '"', rest(lists[name], name != no_end)) for name in names]
-    yield TABLES, with_parts(TABLES, (r"LETTER_POWERS: \[u8; 256\] = \[\n", r"\n\];", positions()))
+    # The position of the prefix of each byte's letter, or 0, 32 in a line.
+    places = ["".join(prefixes()).find(chr(byte).upper()) + 1 for byte in range(256)]
+    powers = "\n".join(f"    {', '.join(map(str, places[at : at + 32]))}," for at in range(0, 256, 32))
+    yield TABLES, with_parts(TABLES, (r"LETTER_POWERS: \[u8; 256\] = \[\n", r"\n\];", powers))
     yield ERROR, with_parts(ERROR, (r"EXPECTED_BYTES: .*? = \[\n", r"\n\];", rows))
     yield MESSAGE, with_parts(MESSAGE, *rests)
