@@ -8,41 +8,14 @@ use crate::support::read_digits;
 /// The most digits whose value always fits a `u64`: 19.
 const SHORT_DIGITS: usize = 19;
 
-/// The most digits whose value always fits a `u128`: 38.
-const LONG_DIGITS: usize = 38;
-
 /// 10^19, by which the digits before the last 19 are multiplied.
 const NINETEEN_DIGITS: u128 = 10_000_000_000_000_000_000;
 
-/// Returns the value of the digits of a whole part, from the last 64 bits of it. If it reaches the limit, returns the
-/// index of the digit with which it does too, and for more than 38 digits a value that may be another above the limit.
+/// Returns the value of the digits of a whole part, from the last 64 bits of it. If it reaches the limit, returns that of
+/// the digits up to the one with which it does, and the index of this digit.
 #[inline(always)]
 pub fn whole_of(digits: &[u8], last_bits: u64) -> (u128, usize) {
-    if digits.len() <= SHORT_DIGITS {
-        (u128::from(last_bits), 0)
-    } else if digits.len() <= LONG_DIGITS {
-        let value = long_value(digits, last_bits);
-        (value, digits.len() - 1 - digits_past_limit(value))
-    } else {
-        longest_value(digits)
-    }
-}
-
-/// Returns how many digits follow the one with which a value of at most 38 digits reaches the limit of a whole part, or
-/// 0 if it does not.
-#[inline(always)]
-fn digits_past_limit(value: u128) -> usize {
-    if value < WHOLE_LIMIT * 10 {
-        0
-    } else if value < WHOLE_LIMIT * 100 {
-        1
-    } else if value < WHOLE_LIMIT * 1000 {
-        2
-    } else if value < WHOLE_LIMIT * 10_000 {
-        3
-    } else {
-        4
-    }
+    if digits.len() <= SHORT_DIGITS { (u128::from(last_bits), 0) } else { longest_value(digits) }
 }
 
 /// Slow path: returns the value of any number of digits, and 0. If it reaches the limit of a whole part, returns that
