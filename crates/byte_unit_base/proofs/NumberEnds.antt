@@ -1,8 +1,8 @@
 -- The parser reads the digits of a number at once. It gets to the state that the state machine has after them, or stops
 -- where the machine has an error.
-use Rattle.std.proofs.Common.{◌≡◌, ◌≢◌, ℕ, zero, suc, ◌+◌, ◌-◌, ◌*◌, ◌^◌, ◌<◌, ◌≤◌, true, inl, inr, List, []}
-use Rattle.std.proofs.Common.{◌∷◌, ◌++◌, None, Some, length, take, drop, get_or, refl, sym, ap, subst, ◌∙◌, arith}
-use Rattle.std.proofs.Common.{append_assoc, take-append-drop, take-add, chars, IsAscii, get_or-drop}
+use Rattle.std.proofs.Common.{◌≡◌, ◌≢◌, ℕ, zero, suc, ◌+◌, ◌-◌, ◌*◌, ◌^◌, ◌<◌, ◌≤◌, true, inl, inr, List, [], ◌∷◌, ◌++◌}
+use Rattle.std.proofs.Common.{None, Some, length, take, drop, get_or, refl, sym, ap, subst, ◌∙◌, arith, append_assoc}
+use Rattle.std.proofs.Common.{take-append-drop, take-add, chars, IsAscii, get_or-drop}
 use Rattle.std.specs.Char.{digit_value}
 use Rattle.std.specs.Float.Numeral.{digits_len}
 use Rattle.std.specs.Str.Parse.{AllDigits, digits_value}
@@ -23,14 +23,13 @@ use Rattle.byte_unit_base.specs.Fault.{fault_at, too_long}
 use Rattle.byte_unit_base.specs.Scan.{run}
 use Rattle.byte_unit_base.specs.SizeScan.{SizeScan, Beginning, Whole, Point, Fraction, is_digit, size_step, fixed_point}
 use Rattle.byte_unit_base.specs.SizeScan.{size_parser_state}
-use Rattle.byte_unit_base.specs.ParserEnds.{IsFirst, IsStopAt, IsStoppedBefore, EndsNumber, IsLeadingNumber}
-use Rattle.byte_unit_base.specs.ParserEnds.{IsLimitAt}
+use Rattle.byte_unit_base.specs.ParserEnds.{IsFirst, IsStopAt, IsStoppedBefore, EndsNumber, IsLeadingNumber, IsLimitAt}
 use Rattle.byte_unit_base.specs.declared.read.stop.NumberStop.TheVariants.{NoWhole, NoFraction, TooLong}
 use Rattle.byte_unit_base.specs.declared.read.stop.Reason.TheVariants.{InNumber}
 use Rattle.byte_unit_base.proofs.Scans.{run_through}
 use Rattle.byte_unit_base.proofs.SizeRuns.{run_whole, run_pointed, run_places, number_end}
-use Rattle.byte_unit_base.proofs.SizeRest.{first_char, IsNoDigit, wide_no_digit, no_digit_first, ends_whole, ends_fraction}
-use Rattle.byte_unit_base.proofs.SizeRest.{text_from, utf8_from}
+use Rattle.byte_unit_base.proofs.SizeRest.{first_char, IsNoDigit, wide_no_digit, no_digit_first, ends_whole}
+use Rattle.byte_unit_base.proofs.SizeRest.{ends_fraction, text_from, utf8_from}
 use Rattle.byte_unit_base.proofs.NumberBytes.{digits_of_run}
 
 -- what follows digits
@@ -59,14 +58,14 @@ digit_in ds i digits inside = let range = digit_at ds i digits inside in grind (
 no_whole : (flags : Flags) (text : List ℕ) → IsFirst IsNoDigit text
     → IsStoppedBefore flags Beginning (InNumber NoWhole) text
 unfolding size_step
-no_whole flags [] none = refl
+no_whole flags [] none = (tt, refl)
 no_whole flags (c ∷ cs) none = (rw none refl, refl)
 
 -- if no digit is after the point, the parser stops there
 no_fraction : (flags : Flags) (w : ℕ) (text : List ℕ) → IsFirst IsNoDigit text
     → IsStoppedBefore flags (Point w) (InNumber NoFraction) text
 unfolding size_step
-no_fraction flags w [] none = refl
+no_fraction flags w [] none = (tt, refl)
 no_fraction flags w (c ∷ cs) none = (rw none refl, refl)
 
 -- if a digit follows for which the state machine has no step, with the error of a number that is too long, the parser

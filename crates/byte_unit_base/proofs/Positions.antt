@@ -3,9 +3,9 @@
 --
 -- Here `found` is a number and its unit, `count` is a kind, and that the suffix spells it, and `stop` is a state of the
 -- unit, that the text leads to it and no unit ends there, and what the code keeps of it.
-use Rattle.std.proofs.Common.{◌≡◌, ℕ, ◌+◌, Bool, not, inl, inr, List, [], ◌∷◌, Option, Some, None, Ok, Err}
-use Rattle.std.proofs.Common.{length, take, drop, refl, sym, ap, ◌∙◌, arith, chars, IsUtf8, length-take-le, ◌≤◌, IsAscii}
-use Rattle.std.proofs.Common.{subst, take-append-drop}
+use Rattle.std.proofs.Common.{◌≡◌, ℕ, ◌+◌, Bool, not, inl, inr, List, [], ◌∷◌, Option, Some, None, Ok, Err, length}
+use Rattle.std.proofs.Common.{take, drop, refl, sym, ap, ◌∙◌, arith, chars, IsUtf8, length-take-le, ◌≤◌, IsAscii, subst}
+use Rattle.std.proofs.Common.{take-append-drop}
 use Rattle.std.proofs.lemmas.Str.{IsAscii-append, IsUtf8-from_ascii}
 use Rattle.byte_unit_base.specs.Shape.{Shape, shape}
 use Rattle.byte_unit_base.specs.Version.{current}
@@ -13,20 +13,20 @@ use Rattle.byte_unit_base.specs.Units.{shape_of}
 use Rattle.byte_unit_base.specs.Spelling.{Flags, SpellsCount, Spells}
 use Rattle.byte_unit_base.specs.SizeText.{trim_of}
 use Rattle.byte_unit_base.specs.ViablePrefix.{ParserState}
-use Rattle.byte_unit_base.specs.Fault.{Fault, fault_at, stops_at_bi, IsFaultAfter, IsFirstFault}
+use Rattle.byte_unit_base.specs.Fault.{Fault, fault_at, IsFaultAfter, IsFirstFault, IsSizeFault, IsUnitFault}
 use Rattle.byte_unit_base.specs.Scan.{Scan, run}
 use Rattle.byte_unit_base.specs.UnitScan.{UnitScan, unit_step, unit_parser_state, unit_of, start as unit_start}
 use Rattle.byte_unit_base.specs.UnitWord.{unit_stop}
-use Rattle.byte_unit_base.specs.SizeScan.{SizeScan, size_step, size_parser_state}
+use Rattle.byte_unit_base.specs.SizeScan.{size_parser_state}
 use Rattle.byte_unit_base.specs.Outcome.{IsStop, IsUnitOrStop}
 use Rattle.byte_unit_base.specs.Readings.{IsNumberReading, IsUnitReading}
-use Rattle.byte_unit_base.specs.ParserEnds.{IsVisibleNext, IsFirst, IsStopAt, IsStoppedBefore, IsUnitStop, next_char}
-use Rattle.byte_unit_base.specs.ParserEnds.{stop_fault, unit_stop_fault}
+use Rattle.byte_unit_base.specs.ParserEnds.{IsVisibleNext, IsFirst, IsStopAt, IsUnitStop, next_char, stop_fault}
+use Rattle.byte_unit_base.specs.ParserEnds.{unit_stop_fault}
 use Rattle.byte_unit_base.specs.ErrorPosition.{leading_white, IsErrorAt, IsSizePosition, IsUnitPosition}
 use Rattle.byte_unit_base.specs.declared.read.stop.Reason.{Reason}
 use Rattle.byte_unit_base.specs.declared.unit.Unit.{Unit as UnitName}
 use Rattle.byte_unit_base.specs.declared.unit.scan.UnitStop.{UnitStop}
-use Rattle.byte_unit_base.proofs.Scans.{IsScanOf, first_fault, one_answer, reads_fault}
+use Rattle.byte_unit_base.proofs.Scans.{IsScanOf, first_fault, one_answer}
 use Rattle.byte_unit_base.proofs.UnitReads.{unit_scan_is, unit_reading}
 use Rattle.byte_unit_base.proofs.UnitStops.{run_ascii, none_left, no_unit, kept_state}
 use Rattle.byte_unit_base.proofs.UnitRuns.{no_other_step}
@@ -87,6 +87,12 @@ no_unit_position flags bytes unit reading other fault first =
     let found = spells_any flags other (trim_of bytes) (shape_of unit) reading.found in
     (one_answer (unit_scan_is other) (trim_of bytes)).not_both found.0 fault found.1 first
 
+-- an error by the parser state is one under any flags, perhaps with other characters expected
+any_fault : (flags other : Flags) (place : ParserState) (rest : List ℕ) (fault : Fault)
+    → IsFaultAfter current flags place rest fault → (of : Fault) × IsFaultAfter current other place rest of
+any_fault flags other place [] fault h = (fault, h)
+any_fault flags other place (c ∷ cs) fault h = (fault_at current other place c, refl)
+
 -- `bytes` is a string, and `text` it without the white space at its ends; a state machine has a state after the text up
 -- to this place, and no step for what follows
 module _ {S Meaning : Type 0} {scan : Scan S Meaning} {Reached : S → List ℕ → Type 0}
@@ -113,25 +119,6 @@ module _ {S Meaning : Type 0} {scan : Scan S Meaning} {Reached : S → List ℕ 
 
 -- where the parser of a number and a unit is stopped
 
--- the state machine has no step
-cannot_step : (flags : Flags) (state : SizeScan) (reason : Reason) (rest : List ℕ)
-    → IsStoppedBefore flags state reason rest → IsFirst (λ c. size_step state c ≡ None) rest
-cannot_step flags state reason [] stopped = tt
-cannot_step flags state reason (c ∷ cs) stopped = stopped.0
-
--- its error is that of the reason
-fault_after : (flags : Flags) (state : SizeScan) (reason : Reason) (rest : List ℕ) → IsStoppedBefore flags state reason rest
-    → IsFaultAfter current flags (size_parser_state state) rest (stop_fault flags reason (next_char rest))
-fault_after flags state reason [] stopped = stopped
-fault_after flags state reason (c ∷ cs) stopped = stopped.1
-
--- it has an error under any flags
-any_fault : (flags other : Flags) (state : SizeScan) (reason : Reason) (rest : List ℕ)
-    → IsStoppedBefore flags state reason rest
-    → (fault : Fault) × IsFaultAfter current other (size_parser_state state) rest fault
-any_fault flags other state reason [] stopped = (_, stopped)
-any_fault flags other state reason (c ∷ cs) stopped = (fault_at current other (size_parser_state state) c, refl)
-
 -- where the parser stops in the trimmed string, it stops in the string
 pub stop_in_string : (flags : Flags) (bytes text : List ℕ) (place index : ℕ) (reason : Reason) (next : Option ℕ)
     → IsUtf8 bytes → chars text ≡ trim_of bytes → IsUtf8 text → IsStopAt flags text place reason
@@ -140,17 +127,16 @@ pub stop_in_string : (flags : Flags) (bytes text : List ℕ) (place index : ℕ)
 stop_in_string flags bytes text place index reason next utf8 trimmed utf8_text stop next_is index_is =
     let at = stop.stopped utf8_text in
     let rest = chars (drop place text) in
-    let cannot = cannot_step flags at.state reason rest at.before in
     record {
       utf8 = utf8;
       reading = λ error error_is.
           let first = fault_here (size_scan_is flags) bytes text trimmed place stop.within stop.ascii at.state at.run_is
-          cannot (stop_fault flags reason (next_char rest)) (fault_after flags at.state reason rest at.before) in
-          number_reading flags bytes (Err error)
-          (ap Err (error_is ∙ ap (stop_fault flags reason) next_is)
-          ∙ sym (reads_fault (size_scan_is flags) (trim_of bytes) (stop_fault flags reason (next_char rest)) first));
+          at.before.0 (stop_fault flags reason (next_char rest)) at.before.1 in
+          number_reading flags bytes (Err error) (subst (IsSizeFault current flags (trim_of bytes))
+          (sym (error_is ∙ ap (stop_fault flags reason) next_is)) first);
       position = λ other. error_here (size_scan_is other) bytes text trimmed place stop.within stop.ascii at.state
-          at.run_is cannot index index_is (any_fault flags other at.state reason rest at.before);
+          at.run_is at.before.0 index index_is (any_fault flags other (size_parser_state at.state) rest
+          (stop_fault flags reason (next_char rest)) at.before.1);
     }
 
 -- ASCII with visible ends is trimmed, so the parser stops in the string where it stops in the bytes
@@ -172,12 +158,6 @@ unit_fault_after flags scan [] ends = no_unit flags scan.multiple scan.word (end
 unit_fault_after flags scan (c ∷ cs) ends =
     ap (λ state. fault_at current flags state c) (sym (kept_state scan.multiple scan.word))
 
--- the state has an error under any flags
-any_unit_fault : (flags other : Flags) (scan : UnitScan) (rest : List ℕ) → (rest ≡ [] → unit_of flags scan ≡ None)
-    → (fault : Fault) × IsFaultAfter current other (unit_parser_state scan) rest fault
-any_unit_fault flags other scan [] ends = (stops_at_bi, no_unit flags scan.multiple scan.word (ends refl))
-any_unit_fault flags other scan (c ∷ cs) ends = (fault_at current other (unit_parser_state scan) c, refl)
-
 -- where the parser of a unit stops in the trimmed string, it stops in the string
 pub unit_stop_in_string : (flags : Flags) (bytes text : List ℕ) (place index : ℕ) (kept : UnitStop) (next : Option ℕ)
     → chars text ≡ trim_of bytes → IsUtf8 text → IsUnitStop flags text kept place
@@ -185,21 +165,20 @@ pub unit_stop_in_string : (flags : Flags) (bytes text : List ℕ) (place index :
     → IsUnitOrStop flags bytes (Err (kept, next, index))
 unit_stop_in_string flags bytes text place index kept next trimmed utf8 stop next_is index_is =
     let scan = stop.0 in
-    let leads = stop.1.0 in
+    let leads = stop.1 in
     let rest = chars (drop place text) in
     let ascii = run_ascii (take place text) unit_start scan leads.run_is in
     let cannot = first_char (λ c. unit_step scan c ≡ None)
     (λ c wide. no_other_step scan.multiple scan.word c (inr wide)) (drop place text)
     (utf8_from text place utf8 leads.within ascii) leads.next in
-    let ends = λ (none : rest ≡ []). stop.1.1 (none_left text place utf8 leads.within ascii none) in
+    let ends = λ (none : rest ≡ []). stop.2 (none_left text place utf8 leads.within ascii none) in
     let fault = unit_stop_fault flags (unit_stop scan) (next_char rest) in (
       (λ error error_is.
           let first = fault_here (unit_scan_is flags) bytes text trimmed place leads.within ascii scan leads.run_is cannot
           fault (unit_fault_after flags scan rest ends) in
-          let same = ap (λ kept. unit_stop_fault flags kept (next_char rest)) (sym stop.2) in
-          unit_reading flags bytes (Err error)
-          (ap Err (error_is ∙ (ap (unit_stop_fault flags kept) next_is ∙ same))
-          ∙ sym (reads_fault (unit_scan_is flags) (trim_of bytes) fault first))),
+          let same = ap (λ kept. unit_stop_fault flags kept (next_char rest)) (sym stop.3) in
+          unit_reading flags bytes (Err error) (subst (IsUnitFault current flags (trim_of bytes))
+          (sym (error_is ∙ (ap (unit_stop_fault flags kept) next_is ∙ same))) first)),
       (λ other. error_here (unit_scan_is other) bytes text trimmed place leads.within ascii scan leads.run_is cannot index
-          index_is (any_unit_fault flags other scan rest ends)),
+          index_is (any_fault flags other (unit_parser_state scan) rest fault (unit_fault_after flags scan rest ends))),
     )

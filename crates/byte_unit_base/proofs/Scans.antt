@@ -5,17 +5,22 @@
 -- and, if there is a third part, that the rest of the text leads on from there. What a field of `IsScanOf` gives, as
 -- `r` or `g`, is a state or a rest of the input, and then what is known of it.
 use Rattle.std.proofs.Common.{◌≡◌, ℕ, ◌⊎◌, inl, inr, List, [], ◌∷◌, ◌++◌, Option, Some, None, Result, Ok, Err}
-use Rattle.std.proofs.Common.{option_and_then, sym, refl, ap, subst, ◌∙◌, append-nil, ⊎_elim, append_assoc, ◌↔◌, IfOk}
-use Rattle.std.proofs.Common.{IfErr, IsOkAnd}
+use Rattle.std.proofs.Common.{option_and_then, sym, refl, ap, subst, ◌∙◌, append-nil, ⊎_elim, append_assoc, ◌↔◌}
 use Rattle.byte_unit_base.specs.Version.{current}
 use Rattle.byte_unit_base.specs.ViablePrefix.{ParserState}
 use Rattle.byte_unit_base.specs.Fault.{Fault, fault_at, fault_at_end, IsFaultAfter, IsFirstFault}
 use Rattle.byte_unit_base.specs.ParserEnds.{IsFirst}
 use Rattle.byte_unit_base.specs.ReaderLaws.{IsOneAnswer, CanBecome}
-use Rattle.byte_unit_base.specs.Scan.{Scan, run, read, map_result}
+use Rattle.byte_unit_base.specs.Scan.{Scan, run, read}
 use Rattle.byte_unit_base.proofs.Options.{none_or_some, some_passed}
 
 -- the state after a text
+
+-- from this state, there is a state after the text, and it has the property
+pub record RunsTo {S : Type 0} (step : S → ℕ → Option S) (Holds : S → Type 0) (s : S) (text : List ℕ) : Type 0 where
+  pub state : S
+  pub run_is : run step s text ≡ Some state
+  pub holds : Holds state
 
 -- the steps of any state machine
 module _ {S : Type 0} (step : S → ℕ → Option S) where
@@ -37,6 +42,17 @@ module _ {S : Type 0} (step : S → ℕ → Option S) where
       let next = some_passed (λ v. run step v (xs ++ ys)) u (step s c) e in
       let t = run_before next.0 u xs ys next.2 in
       (t.0, run_step s next.0 c xs next.1 ∙ t.1)
+
+  -- a text after a text
+  pub runs_then : {P Q : S → Type 0} {s : S} {xs ys : List ℕ} → RunsTo step P s xs → ((t : S) → P t → RunsTo step Q t ys)
+      → RunsTo step Q s (xs ++ ys)
+  runs_then {s = s} {xs = xs} {ys = ys} first second =
+      let next = second first.state first.holds in
+      record {
+        state = next.state;
+        run_is = run_through s first.state xs ys first.run_is ∙ next.run_is;
+        holds = next.holds;
+      }
 
   -- no further character is read: the rest is empty, or its first character has no step
   abbrev pub CannotStep : S → List ℕ → Type 0
@@ -88,10 +104,8 @@ NoLongerFront IsViable front rest =
     (farther : ParserState) (next others : List ℕ) → rest ≡ next ++ others → IsViable farther (front ++ next) → next ≡ []
 
 -- after the text the state machine has a state, which has this parser state
-pub record IsScanned {S Meaning : Type 0} (scan : Scan S Meaning) (place : ParserState) (text : List ℕ) : Type 0 where
-  pub state : S
-  pub run_is : run scan.step scan.start text ≡ Some state
-  pub place_is : scan.place state ≡ place
+abbrev pub IsScanned : {S Meaning : Type 0} → Scan S Meaning → ParserState → List ℕ → Type 0
+IsScanned scan place = RunsTo scan.step (λ s. scan.place s ≡ place) scan.start
 
 -- the state machine accepts exactly the inputs that have a meaning, and its states are exactly those after the viable
 -- prefixes. `Reached` is what is known of the text that led to a state. All the laws of the parsers rest on it
@@ -109,7 +123,7 @@ pub record IsScanOf {S Meaning : Type 0} (scan : Scan S Meaning) (Reached : S �
       → EndsIn (Means text) (fault_at_end (scan.place s)) (scan.at_end s)
   -- the result for an input that has a meaning is this meaning
   pub meaning_read : (text : List ℕ) (meaning : Meaning) → Means text meaning
-      → (s : S) × (run scan.step scan.start text ≡ Some s) × (scan.at_end s ≡ Ok meaning)
+      → RunsTo scan.step (λ s. scan.at_end s ≡ Ok meaning) scan.start text
   -- each state can be completed: with some rest, the input has a meaning
   pub goes_on : (s : S) → (rest : List ℕ) × (meaning : Meaning) × (read scan s rest ≡ Ok meaning)
 
@@ -187,7 +201,7 @@ module _ {S Meaning : Type 0} {scan : Scan S Meaning} {Reached : S → List ℕ 
   pub reads_meaning : (text : List ℕ) (meaning : Meaning) → Means text meaning → read scan scan.start text ≡ Ok meaning
   reads_meaning text meaning h =
       let r = is.meaning_read text meaning h in
-      ap (read scan scan.start) (sym (append-nil text)) ∙ (read_through scan scan.start r.0 text [] r.1 ∙ r.2)
+      ap (read scan scan.start) (sym (append-nil text)) ∙ (read_through scan scan.start r.state text [] r.run_is ∙ r.holds)
 
   -- after the longest viable prefix, the result for the rest is the error of its parser state
   fault_of_rest : (s : S) (front rest : List ℕ) (fault : Fault) → Reached s front → NoLongerFront IsViable front rest
@@ -207,7 +221,7 @@ module _ {S Meaning : Type 0} {scan : Scan S Meaning} {Reached : S → List ℕ 
   reads_fault text fault h =
       let r = is.front_read h.place h.front h.longest.is_front in
       let rest = fault_of_rest r.state h.front h.rest fault (reached h.front r.state r.run_is) h.longest.longest
-      (rw (← r.place_is) at h.fault_is) in
+      (rw (← r.holds) at h.fault_is) in
       ap (read scan scan.start) h.longest.text_is
       ∙ (read_through scan scan.start r.state h.front h.rest r.run_is ∙ rest)
 
@@ -237,27 +251,6 @@ module _ {S Meaning : Type 0} {scan : Scan S Meaning} {Reached : S → List ℕ 
         (g.0, g.1, subst (Answers (text ++ g.0)) e (reads_meaning_or_fault (text ++ g.0))),
     λ b.
         let r = is.meaning_read (text ++ b.0) b.1 b.2 in
-        let t = run_before scan.step scan.start r.0 text b.0 r.1 in
+        let t = run_before scan.step scan.start r.state text b.0 r.run_is in
         (scan.place t.0, is.front t.0 text (reached text t.0 t.1)),
   )
-
-  -- what the contract of a parser says
-  module _ {R E : Type 0} (meaning : R → Meaning) (fault : E → Fault) (text : List ℕ) where
-    -- what a parser returns, if it returns the result of the state machine, is a meaning of the input
-    pub read_found : (r : Result R E) → map_result meaning fault r ≡ read scan scan.start text
-        → IfOk r (λ value. Means text (meaning value))
-    read_found (Ok value) e = subst (Answers text) (sym e) (reads_meaning_or_fault text)
-    read_found (Err error) e = tt
-
-    -- the error that a parser returns, if it returns the result of the state machine, is that of the input
-    pub read_refused : (r : Result R E) → map_result meaning fault r ≡ read scan scan.start text
-        → IfErr r (λ error. IsFirstFault IsViable current scan.flags text (fault error))
-    read_refused (Ok value) e = tt
-    read_refused (Err error) e = subst (Answers text) (sym e) (reads_meaning_or_fault text)
-
-    -- if the input has a meaning, a parser that returns the result of the state machine returns it
-    pub read_meant : (r : Result R E) (m : Meaning) → map_result meaning fault r ≡ read scan scan.start text → Means text m
-        → IsOkAnd r (λ value. meaning value ≡ m)
-    read_meant (Ok value) m e h = let k : Ok (meaning value) ≡ Ok m = e ∙ reads_meaning text m h in cc
-    read_meant (Err error) m e h =
-        let k : Err (fault error) ≡ Ok m = e ∙ reads_meaning text m h in absurd (let z : ⊥ = cc in z)

@@ -4,8 +4,8 @@
 -- Of a spelling `h` of a suffix or an infix, `h.0` says which text it is. Of digits `h` and of visible characters `p`,
 -- the first part is that the first one is such, and the second that the rest are. In `prefix_visible`, `is` has the two
 -- bounds of the position of the letter, and that the letter is there.
-use Rattle.std.proofs.Common.{◌≡◌, ℕ, zero, suc, ◌-◌, ◌<◌, Bool, true, false, cond, nat_eq, inl, inr, List, [], ◌∷◌}
-use Rattle.std.proofs.Common.{◌++◌, length, replicate, refl, ap, sym, subst, ◌∙◌, arith, append-nil, length-append}
+use Rattle.std.proofs.Common.{◌≡◌, ℕ, zero, suc, ◌-◌, ◌<◌, Bool, true, false, nat_eq, inl, inr, List, [], ◌∷◌, ◌++◌}
+use Rattle.std.proofs.Common.{length, replicate, refl, ap, sym, subst, ◌∙◌, arith, append-nil, length-append}
 use Rattle.std.specs.List.{list_all}
 use Rattle.std.specs.Char.{is_ascii_graphic, to_ascii_lowercase}
 use Rattle.std.specs.Str.{IsAscii, chars, str_to_ascii_lowercase, skip_leading_whitespace, drop_trailing_whitespace}
@@ -27,7 +27,7 @@ use Rattle.byte_unit_base.proofs.Trim.{visible_not_white}
 -- visible characters
 
 -- the characters of the text are visible ones of ASCII
-abbrev pub IsVisible : List ℕ → Type 0
+abbrev IsVisible : List ℕ → Type 0
 IsVisible text = list_all is_ascii_graphic text ≡ true
 
 -- two texts of visible characters are one when put together
@@ -80,7 +80,7 @@ prefix_visible text power binary h =
     ap (list_all is_ascii_graphic) h.text_is ∙ and_from _ _ visible (binary_visible h.infix_part binary h.infix_is)
 
 -- a spelling is visible
-pub spelling_visible : (flags : Flags) (text : List ℕ) (unit : Shape) → Spells current flags text unit → IsVisible text
+spelling_visible : (flags : Flags) (text : List ℕ) (unit : Shape) → Spells current flags text unit → IsVisible text
 spelling_visible flags text unit (inl h) = count_visible flags text unit.bit h.count_is
 spelling_visible flags text unit (inr h) = ap (list_all is_ascii_graphic) h.text_is
     ∙ visible_append h.prefix_part h.count_part (prefix_visible h.prefix_part unit.power unit.binary h.prefix_is)
@@ -89,14 +89,14 @@ spelling_visible flags text unit (inr h) = ap (list_all is_ascii_graphic) h.text
 -- numbers and sizes
 
 -- a number is visible
-pub number_visible : (text : List ℕ) (number : ℕ) → IsNumberText current text number → IsVisible text
+number_visible : (text : List ℕ) (number : ℕ) → IsNumberText current text number → IsVisible text
 number_visible text number (inl h) = digits_visible text h.1.0.1
 number_visible text number (inr h) = ap (list_all is_ascii_graphic) h.text_is
     ∙ visible_append h.whole (46 ∷ h.fraction) (digits_visible h.whole h.whole_is.0.1)
     (digits_visible h.fraction h.fraction_is.0.1)
 
 -- a number is not empty
-pub number_some : (text : List ℕ) (number : ℕ) → IsNumberText current text number → 0 < length text
+number_some : (text : List ℕ) (number : ℕ) → IsNumberText current text number → 0 < length text
 number_some text number (inl h) = h.1.0.0
 number_some text number (inr h) =
     omega (arith, ap length h.text_is, length-append h.whole (46 ∷ h.fraction), h.whole_is.0.0)
@@ -120,22 +120,26 @@ drop_after [] rest h = refl
 drop_after (c ∷ cs) rest h =
     let p = and_parts _ _ h in rw (visible_not_white c p.0) (ap (λ kept. c ∷ kept) (drop_after cs rest p.1))
 
--- one space more before what is left is left too, or dropped if nothing is left
-one_more : (kept unit_part : List ℕ) (spaces : ℕ) → kept ≡ replicate spaces space ++ unit_part
-    → (left : ℕ) × (cond (nat_eq (length kept) 0) [] (space ∷ kept) ≡ replicate left space ++ unit_part)
-one_more [] unit_part spaces e = (spaces, e)
-one_more (c ∷ cs) unit_part spaces e =
-    let some : nat_eq (length (c ∷ cs)) 0 ≡ false = grind (arith, nat_tests) in
-    (suc spaces, ap (λ none. cond none [] (space ∷ c ∷ cs)) some ∙ ap (λ kept. space ∷ kept) e)
+-- spaces at the end are dropped
+gap_dropped : (spaces : ℕ) → drop_trailing_whitespace (replicate spaces space ++ []) ≡ []
+gap_dropped zero = refl
+gap_dropped (suc spaces) = rw (gap_dropped spaces) refl
+
+-- spaces before a visible character are left
+gap_left : (spaces c : ℕ) (cs : List ℕ) → IsVisible (c ∷ cs)
+    → drop_trailing_whitespace (replicate spaces space ++ c ∷ cs) ≡ replicate spaces space ++ c ∷ cs
+gap_left zero c cs h = subst (λ text. drop_trailing_whitespace text ≡ text) (append-nil (c ∷ cs)) (drop_after (c ∷ cs) [] h)
+gap_left (suc spaces) c cs h =
+    let count = length-append (replicate spaces space) (c ∷ cs) in
+    let some : nat_eq (length (replicate spaces space ++ c ∷ cs)) 0 ≡ false = grind (arith, nat_tests, count) in
+    rw (gap_left spaces c cs h, some) refl
 
 -- of spaces and a unit the unit is left, and the spaces unless it is empty
 gap_kept : (spaces : ℕ) (unit_part : List ℕ) → IsVisible unit_part
     → (left : ℕ) × (drop_trailing_whitespace (replicate spaces space ++ unit_part) ≡ replicate left space ++ unit_part)
-gap_kept zero unit_part h =
-    (0, subst (λ text. drop_trailing_whitespace text ≡ text) (append-nil unit_part) (drop_after unit_part [] h))
-gap_kept (suc spaces) unit_part h =
-    let rest = gap_kept spaces unit_part h in
-    one_more (drop_trailing_whitespace (replicate spaces space ++ unit_part)) unit_part rest.0 rest.1
+    × (0 < length unit_part → left ≡ spaces)
+gap_kept spaces [] h = (0, gap_dropped spaces, λ some. absurd (omega (arith, some)))
+gap_kept spaces (c ∷ cs) h = (spaces, gap_left spaces c cs h, λ some. refl)
 
 -- the bytes are a number and a unit
 module _ (flags : Flags) (bytes : List ℕ) (number : ℕ) (unit : Shape) (h : IsSizeText current flags bytes number unit)
@@ -154,21 +158,32 @@ module _ (flags : Flags) (bytes : List ℕ) (number : ℕ) (unit : Shape) (h : I
     pub size_of_chars : IsSizeText current flags (chars bytes) number unit
     size_of_chars = subst (λ text. IsSizeText current flags text number unit) (sym (chars-IsAscii bytes size_ascii)) h
 
+    -- what is left of the spaces and the unit when the bytes are trimmed
+    abbrev kept : (left : ℕ) × (drop_trailing_whitespace (replicate h.spaces space ++ h.unit_part)
+        ≡ replicate left space ++ h.unit_part) × (0 < length h.unit_part → left ≡ h.spaces)
+    kept = gap_kept h.spaces h.unit_part (spelling_visible flags h.unit_part unit h.unit_is)
+
+    -- the trimmed bytes are the number and what is left
+    trimmed_text : trim_of bytes ≡ h.number_part ++ (replicate kept.0 space ++ h.unit_part)
+    trimmed_text =
+        let digits = number_visible h.number_part number h.number_is in
+        let gap = replicate h.spaces space ++ h.unit_part in
+        ap (λ text. drop_trailing_whitespace (skip_leading_whitespace text)) (chars-IsAscii bytes size_ascii ∙ h.text_is)
+        ∙ (ap drop_trailing_whitespace (skip_kept h.number_part gap digits (number_some h.number_part number h.number_is))
+        ∙ (drop_after h.number_part gap digits ∙ ap (λ rest. h.number_part ++ rest) kept.1))
+
     -- the characters of the bytes, trimmed, are the same number and unit
     pub trimmed_size : IsSizeText current flags (trim_of bytes) number unit
-    trimmed_size =
-        let digits = number_visible h.number_part number h.number_is in
-        let some = number_some h.number_part number h.number_is in
-        let gap = replicate h.spaces space ++ h.unit_part in
-        let kept = gap_kept h.spaces h.unit_part (spelling_visible flags h.unit_part unit h.unit_is) in
-        record {
-          number_part = h.number_part;
-          spaces = kept.0;
-          unit_part = h.unit_part;
-          text_is = ap (λ text. drop_trailing_whitespace (skip_leading_whitespace text))
-              (chars-IsAscii bytes size_ascii ∙ h.text_is)
-              ∙ (ap drop_trailing_whitespace (skip_kept h.number_part gap digits some)
-              ∙ (drop_after h.number_part gap digits ∙ ap (λ rest. h.number_part ++ rest) kept.1));
-          number_is = h.number_is;
-          unit_is = h.unit_is;
-        }
+    trimmed_size = record {
+      number_part = h.number_part;
+      spaces = kept.0;
+      unit_part = h.unit_part;
+      text_is = trimmed_text;
+      number_is = h.number_is;
+      unit_is = h.unit_is;
+    }
+
+    -- if the unit is not empty, nothing is trimmed
+    pub kept_text : 0 < length h.unit_part → trim_of bytes ≡ bytes
+    kept_text some = trimmed_text
+        ∙ (ap (λ n. h.number_part ++ (replicate n space ++ h.unit_part)) (kept.2 some) ∙ sym h.text_is)

@@ -5,30 +5,31 @@
 -- it, and `r.1` that a unit has begun. Of the end of an input, `e.0` is the unit, `e.1` that it is spelled, and `e.2`
 -- an equation of the result.
 use Rattle.std.proofs.Common.{◌≡◌, ◌≢◌, ℕ, ◌<◌, ◌*◌, inl, inr, List, [], ◌∷◌, ◌++◌, Option, Some, None, Result, Ok, Err}
-use Rattle.std.proofs.Common.{IfErr, length, replicate, sym, refl, ap, ◌∙◌, arith, append-nil, IsOkAnd}
+use Rattle.std.proofs.Common.{length, replicate, sym, refl, ap, ◌∙◌, arith, append-nil}
+use Rattle.std.specs.Result.{result_map_both}
 use Rattle.byte_unit_math.specs.Bounds.{scale}
 use Rattle.byte_unit_base.specs.Shape.{Shape}
 use Rattle.byte_unit_base.specs.Version.{current}
 use Rattle.byte_unit_base.specs.Units.{shape_of}
+use Rattle.byte_unit_base.specs.Parsed.{parsed_number, number_and_unit_of_crate}
 use Rattle.byte_unit_base.specs.Spelling.{Flags, Spells}
 use Rattle.byte_unit_base.specs.Number.{IsNumberText}
 use Rattle.byte_unit_base.specs.SizeText.{trim_of, IsSizeText}
 use Rattle.byte_unit_base.specs.Readings.{IsNumberReading}
 use Rattle.byte_unit_base.specs.ViablePrefix.{ParserState, beginning, in_whole, IsViableUnitPrefix}
 use Rattle.byte_unit_base.specs.ViablePrefix.{IsNumberAndUnitPrefix, IsViableSizePrefix, after_bi}
-use Rattle.byte_unit_base.specs.Fault.{Fault, IsFaultAfter, fault_at_end, exceeded}
+use Rattle.byte_unit_base.specs.Fault.{Fault, IsFaultAfter, IsSizeFault, fault_at_end, exceeded}
 use Rattle.byte_unit_base.specs.Errors.{size_fault}
 use Rattle.byte_unit_base.specs.ReaderLaws.{Represents}
 use Rattle.byte_unit_base.specs.Scan.{read}
 use Rattle.byte_unit_base.specs.UnitScan.{unit_step, unit_of, unit_at_end, word_parser_state, scan_of}
 use Rattle.byte_unit_base.specs.UnitScan.{start as unit_start, UnitScan, Multiple, One, SuffixPart, Empty, Bi}
-use Rattle.byte_unit_base.specs.SizeScan.{size_step, size_scan, size_result, with_shape, size_at_end, size_parser_state}
-use Rattle.byte_unit_base.specs.SizeScan.{size_or_fault, fixed_point, SizeScan, Beginning, Whole, Point, Fraction, Gap}
-use Rattle.byte_unit_base.specs.SizeScan.{UnitAt}
+use Rattle.byte_unit_base.specs.SizeScan.{size_step, size_scan, size_at_end, size_parser_state, size_or_fault}
+use Rattle.byte_unit_base.specs.SizeScan.{fixed_point, SizeScan, Beginning, Whole, Point, Fraction, Gap, UnitAt}
 use Rattle.byte_unit_base.specs.declared.unit.Unit.{Unit as UnitName}
 use Rattle.byte_unit_base.specs.declared.errors.ParseError.{ParseError}
-use Rattle.byte_unit_base.proofs.Computed.{number_computed}
-use Rattle.byte_unit_base.proofs.Scans.{EndsIn, IsScanOf, read_found, read_meant, read_refused, reads_meaning}
+use Rattle.byte_unit_base.proofs.Computed.{unit_of_its_shape}
+use Rattle.byte_unit_base.proofs.Scans.{EndsIn, IsScanOf, IsAnswer, one_answer, reads_meaning, reads_fault}
 use Rattle.byte_unit_base.proofs.UnitReached.{Reached-start, Spells-reached}
 use Rattle.byte_unit_base.proofs.UnitReads.{unit_front, unit_ends}
 use Rattle.byte_unit_base.proofs.SizeSteps.{step_cases}
@@ -157,7 +158,7 @@ size_scan_is flags = record {
   front = size_front;
   front_read = size_front_runs flags;
   ends = size_ends flags;
-  meaning_read = λ text found h. let r = size_text_runs flags text found.0 found.1 h in (r.state, r.run, r.holds);
+  meaning_read = λ text found h. size_text_runs flags text found.0 found.1 h;
   goes_on = size_goes_on flags;
 }
 
@@ -168,36 +169,34 @@ no_bounds_after flags [] beginning fault n h = λ e. grind (arith, h, e)
 no_bounds_after flags (c ∷ cs) in_whole fault n h = λ e. grind (arith, h, e)
 no_bounds_after flags _ _ fault n h = λ e. grind (arith, h, e)
 
--- the state machine never gives the error of a size that is too large: the limit of a size is tested after it
-read_no_bounds : (flags : Flags) (text : List ℕ) (r : Result (ℕ × UnitName) ParseError)
-    → size_result r ≡ read (size_scan flags) Beginning text → IfErr r (λ error. (n : ℕ) → size_fault error ≢ exceeded n)
-read_no_bounds flags text (Ok x) e = tt
-read_no_bounds flags text (Err x) e = λ n.
-    let f = read_refused (size_scan_is flags) with_shape size_fault text (Err x) e in
-    no_bounds_after flags f.rest f.place (size_fault x) n f.fault_is
-
 -- what the contracts of the parsers say
 
--- a result that is this pair of a number and a unit has this number, and has this unit
-number_and_unit_meant : (r : Result (ℕ × UnitName) ParseError) (n : ℕ) (unit : Shape)
-    → IsOkAnd r (λ found. with_shape found ≡ (n, unit)) → IsOkAnd r (λ found. (found.0 ≡ n) × (shape_of found.1 ≡ unit))
-number_and_unit_meant (Ok found) n unit e = (ap (λ x. x.0) e, ap (λ x. x.1) e)
-number_and_unit_meant (Err error) n unit e = absurd e
+-- the number and unit that the code returns, with the unit as a `Shape`
+abbrev pub with_shape : ℕ × UnitName → ℕ × Shape
+with_shape found = (found.0, shape_of found.1)
 
--- a parser that returns the result of the state machine returns the number and unit of the input, or its error
+-- a parser that returns the number and unit of the input, or its error, is right, however it found them
 pub number_reading : (flags : Flags) (bytes : List ℕ) (r : Result (ℕ × UnitName) ParseError)
-    → size_result r ≡ read (size_scan flags) Beginning (trim_of bytes) → IsNumberReading flags bytes r
-number_reading flags bytes r e = record {
-  found = read_found (size_scan_is flags) with_shape size_fault (trim_of bytes) r e;
-  reads = λ n unit h. number_and_unit_meant r n unit
-      (read_meant (size_scan_is flags) with_shape size_fault (trim_of bytes) r (n, unit) e h);
-  fault = read_refused (size_scan_is flags) with_shape size_fault (trim_of bytes) r e;
-  no_bounds = read_no_bounds flags (trim_of bytes) r e;
-  computed = number_computed flags bytes r e;
+    → IsAnswer (Represents flags (trim_of bytes)) (IsSizeFault current flags (trim_of bytes))
+    (result_map_both with_shape size_fault r) → IsNumberReading flags bytes r
+unfolding parsed_number
+number_reading flags bytes (Ok found) h = record {
+  found = h;
+  reads = λ n unit k.
+      let same = (one_answer (size_scan_is flags) (trim_of bytes)).one_meaning (with_shape found) (n, unit) h k in
+      (ap (λ x. x.0) same, ap (λ x. x.1) same);
+  fault = tt;
+  no_bounds = tt;
+  computed = ap (λ unit. Ok (found.0, unit)) (sym (unit_of_its_shape found.1))
+      ∙ ap (result_map_both number_and_unit_of_crate (λ fault. fault))
+      (sym (reads_meaning (size_scan_is flags) (trim_of bytes) (with_shape found) h));
 }
-
--- a parser that returns the number and unit of the input is right, however it found them
-pub stated_reading : (flags : Flags) (bytes : List ℕ) (found : ℕ × UnitName)
-    → IsSizeText current flags (trim_of bytes) found.0 (shape_of found.1) → IsNumberReading flags bytes (Ok found)
-stated_reading flags bytes found h =
-    number_reading flags bytes (Ok found) (sym (reads_meaning (size_scan_is flags) (trim_of bytes) (with_shape found) h))
+number_reading flags bytes (Err error) h = record {
+  found = tt;
+  reads = λ n unit k.
+      (one_answer (size_scan_is flags) (trim_of bytes)).not_both (n, unit) (size_fault error) k h;
+  fault = h;
+  no_bounds = λ n. no_bounds_after flags h.rest h.place (size_fault error) n h.fault_is;
+  computed = ap (result_map_both number_and_unit_of_crate (λ fault. fault))
+      (sym (reads_fault (size_scan_is flags) (trim_of bytes) (size_fault error) h));
+}

@@ -4,7 +4,7 @@
 -- whole part `h`, `h.0` is its numeral, `h.1` its value and `h.2` the limit. Of a first step `t` of a run, the parts are
 -- the state after it, that the step leads there, and that the rest of the text leads on from there.
 use Rattle.std.proofs.Common.{◌≡◌, ◌≢◌, ℕ, zero, suc, ◌+◌, ◌*◌, ◌<◌, ◌≤◌, inl, inr, ⊎_elim, List, [], ◌∷◌, ◌++◌, Some}
-use Rattle.std.proofs.Common.{Ok, length, replicate, sym, refl, ap, ◌∙◌, arith, append-nil, option_map}
+use Rattle.std.proofs.Common.{Ok, length, replicate, sym, refl, ap, subst, ◌∙◌, arith, append-nil, option_map}
 use Rattle.std.specs.Char.{digit_value}
 use Rattle.std.specs.Str.Parse.{IsNumeral, AllDigits, digits_value, digits_value_after}
 use Rattle.std.proofs.lemmas.Bool.{cases_lt}
@@ -18,12 +18,12 @@ use Rattle.byte_unit_base.specs.SizeText.{space, IsSizeText}
 use Rattle.byte_unit_base.specs.ViablePrefix.{ParserState, beginning, in_whole, after_point, in_fraction, before_unit}
 use Rattle.byte_unit_base.specs.ViablePrefix.{IsNumberAndUnitPrefix, IsViableSizePrefix}
 use Rattle.byte_unit_base.specs.Scan.{run}
-use Rattle.byte_unit_base.specs.UnitScan.{unit_step, scan_of, unit_parser_state, unit_of, start as unit_start, UnitScan}
-use Rattle.byte_unit_base.specs.UnitScan.{One, Empty}
+use Rattle.byte_unit_base.specs.UnitScan.{unit_step, unit_parser_state, unit_of, start as unit_start, UnitScan, One}
+use Rattle.byte_unit_base.specs.UnitScan.{Empty}
 use Rattle.byte_unit_base.specs.SizeScan.{size_step, size_scan, size_at_end, size_parser_state, size_or_fault}
 use Rattle.byte_unit_base.specs.SizeScan.{fixed_point, SizeScan, Beginning, Whole, Point, Fraction, Gap, UnitAt}
 use Rattle.byte_unit_base.proofs.Options.{some_passed}
-use Rattle.byte_unit_base.proofs.Scans.{run_through, run_step, IsScanned}
+use Rattle.byte_unit_base.proofs.Scans.{run_through, run_step, runs_then, RunsTo, IsScanned}
 use Rattle.byte_unit_base.proofs.UnitRuns.{spelling_runs, unit_front_runs, no_other_step}
 
 -- digits
@@ -113,20 +113,14 @@ AtNumber n (Fraction w f j) = fixed_point w f j ≡ n
 AtNumber n (Gap m) = m ≡ n
 AtNumber n _ = ⊥
 
--- from the state `s`, the state after the text exists and has the property
-pub record RunsTo (Holds : SizeScan → Type 0) (s : SizeScan) (text : List ℕ) : Type 0 where
-  pub state : SizeScan
-  pub run : run size_step s text ≡ Some state
-  pub holds : Holds state
-
 -- after a whole part, a point and a fraction, the state is that of their number
 pub run_precise : (text : List ℕ) (n : ℕ) → IsPrecise current text n
-    → RunsTo (λ s. AtNumber n s × (size_parser_state s ≡ in_fraction)) Beginning text
+    → RunsTo size_step (λ s. AtNumber n s × (size_parser_state s ≡ in_fraction)) Beginning text
 run_precise text n h =
     let whole = run_whole h.whole h.value h.whole_is in
     record {
       state = Fraction h.value (digits_value 10 h.fraction) (length h.fraction);
-      run = ap (run size_step Beginning) h.text_is
+      run_is = ap (run size_step Beginning) h.text_is
           ∙ (run_through size_step Beginning (Whole h.value) h.whole (46 ∷ h.fraction) whole
           ∙ (run_step size_step (Whole h.value) (Point h.value) 46 h.fraction (step_point h.value)
           ∙ run_places h.fraction h.value h.fraction_is.0 h.fraction_is.1));
@@ -134,9 +128,9 @@ run_precise text n h =
     }
 
 -- a number leads to a state after that number
-run_number : (text : List ℕ) (n : ℕ) → IsNumberText current text n → RunsTo (AtNumber n) Beginning text
-run_number text n (inl h) = record { state = Whole h.0; run = run_whole text h.0 h.1; holds = sym h.2 }
-run_number text n (inr h) = let r = run_precise text n h in record { state = r.state; run = r.run; holds = r.holds.0 }
+run_number : (text : List ℕ) (n : ℕ) → IsNumberText current text n → RunsTo size_step (AtNumber n) Beginning text
+run_number text n (inl h) = record { state = Whole h.0; run_is = run_whole text h.0 h.1; holds = sym h.2 }
+run_number text n (inr h) = let r = run_precise text n h in record { state = r.state; run_is = r.run_is; holds = r.holds.0 }
 
 -- the first letter of a unit has at least the code of `A`, 65
 first_letter : (c : ℕ) (u : UnitScan) → unit_step unit_start c ≡ Some u → 65 ≤ c
@@ -174,9 +168,9 @@ run_some_spaces n (suc (suc k)) s some h =
     ∙ run_some_spaces n (suc k) (Gap n) (omega arith) refl
 
 -- any number of spaces after a number, even none, leads to a state after the number
-run_spaces : (n k : ℕ) (s : SizeScan) → AtNumber n s → RunsTo (AtNumber n) s (replicate k space)
-run_spaces n zero s h = record { state = s; run = refl; holds = h }
-run_spaces n (suc k) s h = record { state = Gap n; run = run_some_spaces n (suc k) s (omega arith) h; holds = refl }
+run_spaces : (n k : ℕ) (s : SizeScan) → AtNumber n s → RunsTo size_step (AtNumber n) s (replicate k space)
+run_spaces n zero s h = record { state = s; run_is = refl; holds = h }
+run_spaces n (suc k) s h = record { state = Gap n; run_is = run_some_spaces n (suc k) s (omega arith) h; holds = refl }
 
 -- within a unit, the letters of the unit are read as by the parser of a unit
 pub run_in_unit : (n : ℕ) (u : UnitScan) (cs : List ℕ) (s : UnitScan) → run unit_step s cs ≡ Some u
@@ -194,12 +188,12 @@ pub record EndsAs (n : ℕ) (u : UnitScan) (t : SizeScan) : Type 0 where
 
 -- a unit after a number, or none, leads to a state that has the result of this unit
 run_unit : (n : ℕ) (u : UnitScan) (s : SizeScan) (text : List ℕ) → AtNumber n s → run unit_step unit_start text ≡ Some u
-    → RunsTo (EndsAs n u) s text
+    → RunsTo size_step (EndsAs n u) s text
 run_unit n u s [] h k =
     let e : unit_start ≡ u = cc in
     record {
       state = s;
-      run = refl;
+      run_is = refl;
       holds = record {
         ends = λ flags. number_end flags n s h ∙ ap (λ x. size_or_fault n (unit_of flags x)) e;
         place = λ moved. absurd (moved (ap unit_parser_state (sym e)));
@@ -209,34 +203,25 @@ run_unit n u s (c ∷ cs) h k =
     let t = some_passed (λ v. run unit_step v cs) u (unit_step unit_start c) k in
     record {
       state = UnitAt n u;
-      run = run_step size_step s (UnitAt n t.0) c cs (step_unit n c s t.0 h t.1) ∙ run_in_unit n u cs t.0 t.2;
+      run_is = run_step size_step s (UnitAt n t.0) c cs (step_unit n c s t.0 h t.1) ∙ run_in_unit n u cs t.0 t.2;
       holds = record { ends = λ flags. refl; place = λ moved. refl };
     }
 
 -- a number, any number of spaces and a unit are read to the end
 run_numbered : (n k : ℕ) (u : UnitScan) (number unit text : List ℕ) → text ≡ number ++ (replicate k space ++ unit)
-    → IsNumberText current number n → run unit_step unit_start unit ≡ Some u → RunsTo (EndsAs n u) Beginning text
+    → IsNumberText current number n → run unit_step unit_start unit ≡ Some u → RunsTo size_step (EndsAs n u) Beginning text
 run_numbered n k u number unit text text_is number_is unit_is =
-    let a = run_number number n number_is in
-    let b = run_spaces n k a.state a.holds in
-    let c = run_unit n u b.state unit b.holds unit_is in
-    let spaces = replicate k space in
-    record {
-      state = c.state;
-      run = ap (run size_step Beginning) text_is
-          ∙ (run_through size_step Beginning a.state number (spaces ++ unit) a.run
-          ∙ (run_through size_step a.state b.state spaces unit b.run ∙ c.run));
-      holds = c.holds;
-    }
+    subst (RunsTo size_step (EndsAs n u) Beginning) (sym text_is)
+    (runs_then size_step (run_number number n number_is) (λ a at_number.
+    runs_then size_step (run_spaces n k a at_number) (λ b after. run_unit n u b unit after unit_is)))
 
 -- the state machine reads a number and its unit to the end, and gives them as the result
 pub size_text_runs : (flags : Flags) (text : List ℕ) (n : ℕ) (s : Shape) → IsSizeText current flags text n s
-    → RunsTo (λ t. size_at_end flags t ≡ Ok (n, s)) Beginning text
+    → RunsTo size_step (λ t. size_at_end flags t ≡ Ok (n, s)) Beginning text
 size_text_runs flags text n s h =
     let u = spelling_runs flags h.unit_part s h.unit_is in
-    let s = scan_of u.multiple u.word in
-    let r = run_numbered n h.spaces s h.number_part h.unit_part text h.text_is h.number_is u.run in
-    record { state = r.state; run = r.run; holds = r.holds.ends flags ∙ ap (size_or_fault n) u.unit }
+    let r = run_numbered n h.spaces u.state h.number_part h.unit_part text h.text_is h.number_is u.run_is in
+    record { state = r.state; run_is = r.run_is; holds = r.holds.ends flags ∙ ap (size_or_fault n) u.holds }
 
 -- a number and a viable prefix of a unit that has begun are read to a state with the parser state of the unit
 sized_front : (flags : Flags) (place : ParserState) (text : List ℕ) → place ≢ before_unit → IsNumberAndUnitPrefix current place text
@@ -244,18 +229,18 @@ sized_front : (flags : Flags) (place : ParserState) (text : List ℕ) → place 
 sized_front flags place text moved h =
     let u = unit_front_runs flags place h.unit_part h.unit_is in
     let r = run_numbered h.number h.spaces u.state h.number_part h.unit_part text h.text_is h.number_is u.run_is in
-    record { state = r.state; run_is = r.run; place_is = r.holds.place (λ e. moved (sym u.place_is ∙ e)) ∙ u.place_is }
+    record { state = r.state; run_is = r.run_is; holds = r.holds.place (λ e. moved (sym u.holds ∙ e)) ∙ u.holds }
 
 -- the state machine reads each viable prefix to its end, and has its parser state there
 pub size_front_runs : (flags : Flags) (place : ParserState) (text : List ℕ) → IsViableSizePrefix current place text
     → IsScanned (size_scan flags) place text
 size_front_runs flags beginning text h =
-    record { state = Beginning; run_is = ap (run size_step Beginning) h; place_is = refl }
-size_front_runs flags in_whole text h = record { state = Whole h.0; run_is = run_whole text h.0 h.1; place_is = refl }
+    record { state = Beginning; run_is = ap (run size_step Beginning) h; holds = refl }
+size_front_runs flags in_whole text h = record { state = Whole h.0; run_is = run_whole text h.0 h.1; holds = refl }
 size_front_runs flags after_point text h =
-    record { state = Point h.0; run_is = run_pointed text h.0 h.1; place_is = refl }
+    record { state = Point h.0; run_is = run_pointed text h.0 h.1; holds = refl }
 size_front_runs flags in_fraction text h =
-    let r = run_precise text h.0 h.1 in record { state = r.state; run_is = r.run; place_is = r.holds.1 }
+    let r = run_precise text h.0 h.1 in record { state = r.state; run_is = r.run_is; holds = r.holds.1 }
 size_front_runs flags before_unit text h =
     let f = h.0 in
     let a = run_number f.number_part f.number f.number_is in
@@ -265,8 +250,8 @@ size_front_runs flags before_unit text h =
     record {
       state = Gap f.number;
       run_is = ap (run size_step Beginning) e
-          ∙ (run_through size_step Beginning a.state f.number_part spaces a.run
+          ∙ (run_through size_step Beginning a.state f.number_part spaces a.run_is
           ∙ run_some_spaces f.number f.spaces a.state h.1 a.holds);
-      place_is = refl;
+      holds = refl;
     }
 size_front_runs flags place text h = sized_front flags place text (λ e. cc) h

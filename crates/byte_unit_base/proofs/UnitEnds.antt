@@ -21,29 +21,23 @@ use Rattle.byte_unit_base.specs.ParserEnds.{IsUnitStop}
 use Rattle.byte_unit_base.specs.declared.read.stop.Reason.TheVariants.{InUnit}
 use Rattle.byte_unit_base.specs.declared.unit.scan.UnitStop.{UnitStop}
 use Rattle.byte_unit_base.proofs.Options.{some_passed}
-use Rattle.byte_unit_base.proofs.Scans.{run_through, run_step}
+use Rattle.byte_unit_base.proofs.Scans.{run_through, run_step, RunsTo}
 use Rattle.byte_unit_base.proofs.SizeRuns.{run_in_unit}
 use Rattle.byte_unit_base.proofs.SizeAscii.{number_ascii}
 use Rattle.byte_unit_base.proofs.SizeRest.{first_char, ends_gap, text_from, utf8_from}
 use Rattle.byte_unit_base.proofs.UnitStops.{run_ascii, none_left, no_unit, kept_state}
 use Rattle.byte_unit_base.proofs.UnitRuns.{no_other_step}
 
--- the state after the spaces, in which the next character ends the number
-record AfterSpaces (n : ℕ) (s : SizeScan) (spaces : ℕ) (text : List ℕ) : Type 0 where
-  pub state : SizeScan
-  pub run_is : run size_step s (replicate spaces space) ≡ Some state
-  pub next : IsFirst (EndsNumber state n) text
-
 -- after a number, spaces lead to a state in which the next character ends the number
 after_spaces : (n spaces : ℕ) (s : SizeScan) (text : List ℕ) → IsFirst (EndsNumber s n) (replicate spaces space ++ text)
-    → AfterSpaces n s spaces text
-after_spaces n zero s text next = record { state = s; run_is = refl; next = next }
+    → RunsTo size_step (λ t. IsFirst (EndsNumber t n) text) s (replicate spaces space)
+after_spaces n zero s text next = record { state = s; run_is = refl; holds = next }
 after_spaces n (suc spaces) s text next =
     let r = after_spaces n spaces (Gap n) text (ends_gap n (replicate spaces space ++ text)) in
     record {
       state = r.state;
       run_is = run_step size_step s (Gap n) space (replicate spaces space) next.step_is ∙ r.run_is;
-      next = r.next;
+      holds = r.holds;
     }
 
 -- a character that ends the number, and is no space, has the step that it has at the start of a unit
@@ -66,29 +60,24 @@ at_first flags n s kept (c ∷ cs) before ends other next some = (
 in_unit : (flags : Flags) (n : ℕ) (u : UnitScan) (rest : List ℕ) → IsFirst (λ c. unit_step u c ≡ None) rest
     → (rest ≡ [] → unit_of flags u ≡ None) → IsStoppedBefore flags (UnitAt n u) (InUnit (unit_stop u)) rest
 unfolding size_step
-in_unit flags n u [] next ends = no_unit flags u.multiple u.word (ends refl)
+in_unit flags n u [] next ends = (tt, no_unit flags u.multiple u.word (ends refl))
 in_unit flags n u (c ∷ cs) next ends = (
   ap (option_map (UnitAt n)) next,
   ap (λ state. fault_at current flags state c) (sym (kept_state u.multiple u.word)),
 )
 
--- the state after the beginning of a unit, in which the parser stops
-record AfterUnit (flags : Flags) (kept : UnitStop) (s : SizeScan) (unit rest : List ℕ) : Type 0 where
-  pub state : SizeScan
-  pub run_is : run size_step s unit ≡ Some state
-  pub before : IsStoppedBefore flags state (InUnit kept) rest
-
 -- after a number, the beginning of a unit leads to a state in which the parser stops if that of the unit does
 after_unit : (flags : Flags) (n : ℕ) (s : SizeScan) (unit rest : List ℕ) (u : UnitScan)
     → IsFirst (EndsNumber s n) (unit ++ rest) → IsFirst IsNoSpace (unit ++ rest)
     → run unit_step unit_start unit ≡ Some u → IsFirst (λ c. unit_step u c ≡ None) rest
-    → (rest ≡ [] → unit_of flags u ≡ None) → AfterUnit flags (unit_stop u) s unit rest
+    → (rest ≡ [] → unit_of flags u ≡ None)
+    → RunsTo size_step (λ t. IsStoppedBefore flags t (InUnit (unit_stop u)) rest) s unit
 after_unit flags n s [] rest u number other run_is next ends =
     let same : unit_start ≡ u = cc in
     record {
       state = s;
       run_is = refl;
-      before = at_first flags n s (unit_stop u) rest (ap (λ x. stop_parser_state (unit_stop x)) (sym same)) number other
+      holds = at_first flags n s (unit_stop u) rest (ap (λ x. stop_parser_state (unit_stop x)) (sym same)) number other
           (subst (λ x. IsFirst (λ c. unit_step x c ≡ None) rest) (sym same) next)
           (λ none. let e = ap (unit_of flags) same ∙ ends none in let z : ⊥ = cc in z);
     }
@@ -99,7 +88,7 @@ after_unit flags n s (c ∷ cs) rest u number other run_is next ends =
       run_is = run_step size_step s (UnitAt n t.0) c cs
           (unit_first n c s number other ∙ ap (option_map (UnitAt n)) t.1)
           ∙ run_in_unit n u cs t.0 t.2;
-      before = in_unit flags n u rest next ends;
+      holds = in_unit flags n u rest next ends;
     }
 
 -- after a number and spaces, the parser stops where that of the unit does, with its error
@@ -110,7 +99,7 @@ pub stops_in_unit : (flags : Flags) (bytes rest : List ℕ) (n end spaces place 
 stops_in_unit flags bytes rest n end spaces place kept number rest_is within gap other stop =
     let unit = drop (end + spaces) bytes in
     let scan = stop.0 in
-    let leads = stop.1.0 in
+    let leads = stop.1 in
     let number_small = number_ascii (take end bytes) n number.number_is in
     let gap_small = All-replicate (λ c. c < 128) spaces space (omega arith) in
     let gap_ascii : IsAscii (take spaces rest) = subst IsAscii (sym gap) (IsAscii-from_all (replicate spaces space) gap_small) in
@@ -140,9 +129,9 @@ stops_in_unit flags bytes rest n end spaces place kept number rest_is within gap
           (λ c wide. no_other_step scan.multiple scan.word c (inr wide)) (drop place unit)
           (utf8_from unit place utf8_unit leads.within unit_ascii) leads.next in
           let b = after_unit flags n a.state (take place unit) after scan
-          (subst (IsFirst (EndsNumber a.state n)) unit_text a.next) (subst (IsFirst IsNoSpace) unit_text no_space)
+          (subst (IsFirst (EndsNumber a.state n)) unit_text a.holds) (subst (IsFirst IsNoSpace) unit_text no_space)
           leads.run_is no_letter
-          (λ none. stop.1.1 (none_left unit place utf8_unit leads.within unit_ascii none)) in
+          (λ none. stop.2 (none_left unit place utf8_unit leads.within unit_ascii none)) in
           let to_unit = run_through size_step Beginning number.state (take end bytes) (replicate spaces space) number.run_is
           ∙ a.run_is in
           record {
@@ -153,8 +142,8 @@ stops_in_unit flags bytes rest n end spaces place kept number rest_is within gap
                 ∙ (run_through size_step Beginning a.state (take end bytes ++ replicate spaces space) (take place unit)
                 to_unit ∙ b.run_is);
             before = subst (λ kept. IsStoppedBefore flags b.state (InUnit kept) (chars (drop (end + spaces + place) bytes)))
-                stop.2
+                stop.3
                 (subst (λ r. IsStoppedBefore flags b.state (InUnit (unit_stop scan)) (chars r))
-                (drop-drop place (end + spaces) bytes) b.before);
+                (drop-drop place (end + spaces) bytes) b.holds);
           };
     }

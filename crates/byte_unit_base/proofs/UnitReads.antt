@@ -1,26 +1,29 @@
 -- The parser of a unit: its state machine accepts exactly the spellings of units, so it returns the unit of an input,
 -- or its error.
-use Rattle.std.proofs.Common.{◌≡◌, ℕ, ◌⊎◌, inl, inr, List, [], ◌∷◌, ◌++◌, Result, Ok, ap, subst, sym, ◌∙◌, refl}
+use Rattle.std.proofs.Common.{◌≡◌, ℕ, ◌⊎◌, inl, inr, List, [], ◌∷◌, ◌++◌, Result, Ok, Err, ap, subst, sym, refl, ◌∙◌}
 use Rattle.std.proofs.Common.{append-nil, false, true}
 use Rattle.std.specs.Str.{str_to_ascii_lowercase}
+use Rattle.std.specs.Result.{result_map_both}
 use Rattle.byte_unit_base.specs.Shape.{Shape}
 use Rattle.byte_unit_base.specs.Version.{current}
 use Rattle.byte_unit_base.specs.Units.{shape_of}
+use Rattle.byte_unit_base.specs.UnitLists.{unit_of_shape}
+use Rattle.byte_unit_base.specs.Parsed.{parsed_unit}
 use Rattle.byte_unit_base.specs.Errors.{unit_fault}
 use Rattle.byte_unit_base.specs.Spelling.{Flags, Spells}
 use Rattle.byte_unit_base.specs.SizeText.{trim_of}
 use Rattle.byte_unit_base.specs.ViablePrefix.{ParserState, after_b, after_bi, after_bit, after_bits, IsWord, IsPrefix}
 use Rattle.byte_unit_base.specs.ViablePrefix.{IsViableWordPrefix, IsViableUnitPrefix}
-use Rattle.byte_unit_base.specs.Fault.{fault_at_end}
+use Rattle.byte_unit_base.specs.Fault.{IsUnitFault, fault_at_end}
 use Rattle.byte_unit_base.specs.Readings.{IsUnitReading}
 use Rattle.byte_unit_base.specs.Scan.{read}
-use Rattle.byte_unit_base.specs.UnitScan.{unit_step, unit_scan, unit_of, unit_at_end, unit_result, start, scan_of}
-use Rattle.byte_unit_base.specs.UnitScan.{word_parser_state, multiple_parser_state, IsMultipleText, SuffixPart, Empty}
-use Rattle.byte_unit_base.specs.UnitScan.{UpperB, LowerB, Bi, Bit, Bits, Multiple, One, Decimal, Binary}
+use Rattle.byte_unit_base.specs.UnitScan.{unit_step, unit_scan, unit_of, unit_at_end, scan_of, word_parser_state}
+use Rattle.byte_unit_base.specs.UnitScan.{multiple_parser_state, IsMultipleText, SuffixPart, Empty, UpperB, LowerB, Bi}
+use Rattle.byte_unit_base.specs.UnitScan.{Bit, Bits, Multiple, One, Decimal, Binary}
 use Rattle.byte_unit_base.specs.declared.unit.Unit.{Unit as UnitName}
 use Rattle.byte_unit_base.specs.declared.errors.UnitParseError.{UnitParseError}
-use Rattle.byte_unit_base.proofs.Scans.{EndsIn, IsScanOf, read_found, read_meant, read_refused}
-use Rattle.byte_unit_base.proofs.Computed.{unit_computed}
+use Rattle.byte_unit_base.proofs.Scans.{EndsIn, IsScanOf, IsAnswer, one_answer, reads_meaning, reads_fault}
+use Rattle.byte_unit_base.proofs.Computed.{unit_of_its_shape}
 use Rattle.byte_unit_base.proofs.UnitReached.{Reached, Reached-step, Reached-start, Spells-reached}
 use Rattle.byte_unit_base.proofs.UnitRuns.{spelling_runs, unit_front_runs}
 
@@ -83,17 +86,28 @@ unit_scan_is flags = record {
   front = λ s text r. unit_front s.multiple s.word text r;
   front_read = unit_front_runs flags;
   ends = λ s text r. unit_ends flags s.multiple s.word text r;
-  meaning_read = λ text unit h. let r = spelling_runs flags text unit h in
-      (scan_of r.multiple r.word, r.run, ap unit_at_end r.unit);
+  meaning_read = λ text unit h.
+      let r = spelling_runs flags text unit h in
+      record { state = r.state; run_is = r.run_is; holds = ap unit_at_end r.holds };
   goes_on = λ s. unit_goes_on flags s.multiple s.word;
 }
 
--- a parser that returns the result of the state machine returns the unit that the input spells, or its error
+-- a parser that returns the unit that the input spells, or its error, is right, however it found them
 pub unit_reading : (flags : Flags) (bytes : List ℕ) (r : Result UnitName UnitParseError)
-    → unit_result r ≡ read (unit_scan flags) start (trim_of bytes) → IsUnitReading flags bytes r
-unit_reading flags bytes r e = record {
-  found = read_found (unit_scan_is flags) shape_of unit_fault (trim_of bytes) r e;
-  reads = λ unit h. read_meant (unit_scan_is flags) shape_of unit_fault (trim_of bytes) r unit e h;
-  fault = read_refused (unit_scan_is flags) shape_of unit_fault (trim_of bytes) r e;
-  computed = unit_computed flags bytes r e;
+    → IsAnswer (Spells current flags (trim_of bytes)) (IsUnitFault current flags (trim_of bytes))
+    (result_map_both shape_of unit_fault r) → IsUnitReading flags bytes r
+unfolding parsed_unit
+unit_reading flags bytes (Ok name) h = record {
+  found = h;
+  reads = λ unit k. (one_answer (unit_scan_is flags) (trim_of bytes)).one_meaning (shape_of name) unit h k;
+  fault = tt;
+  computed = ap Ok (sym (unit_of_its_shape name)) ∙ ap (result_map_both unit_of_shape (λ fault. fault))
+      (sym (reads_meaning (unit_scan_is flags) (trim_of bytes) (shape_of name) h));
+}
+unit_reading flags bytes (Err error) h = record {
+  found = tt;
+  reads = λ unit k. (one_answer (unit_scan_is flags) (trim_of bytes)).not_both unit (unit_fault error) k h;
+  fault = h;
+  computed = ap (result_map_both unit_of_shape (λ fault. fault))
+      (sym (reads_fault (unit_scan_is flags) (trim_of bytes) (unit_fault error) h));
 }

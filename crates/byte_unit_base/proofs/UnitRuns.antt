@@ -17,7 +17,7 @@ use Rattle.byte_unit_base.specs.UnitScan.{unit_step, unit_of, unit_scan, scan_of
 use Rattle.byte_unit_base.specs.UnitScan.{start, multiple_shape, IsWordText, word_parser_state, multiple_parser_state}
 use Rattle.byte_unit_base.specs.UnitScan.{Empty, UpperB, LowerB, Bi, Bit, Bits, Multiple, One, Decimal, Binary}
 use Rattle.byte_unit_base.proofs.Lists.{from_lowercase}
-use Rattle.byte_unit_base.proofs.Scans.{run_through, run_step, IsScanned}
+use Rattle.byte_unit_base.proofs.Scans.{run_through, run_step, RunsTo, IsScanned}
 
 -- no character before the letters, and none past ASCII, continues a unit
 pub no_other_step : (m : Multiple) (w : SuffixPart) (c : ℕ) → (c < 65) ⊎ (128 ≤ c) → unit_step (scan_of m w) c ≡ None
@@ -117,35 +117,27 @@ run_prefix text power binary h =
     subst (λ x. RunsToPrefix x power binary) (sym h.text_is)
     (run_letter power h.letter h.infix_part binary (letter_prefix h.letter power h.letter_is) h.infix_is)
 
--- the state after the text is that of this unit
-pub record RunsToUnit (flags : Flags) (text : List ℕ) (s : Shape) : Type 0 where
-  pub multiple : Multiple
-  pub word : SuffixPart
-  pub run : run unit_step start text ≡ Some (scan_of multiple word)
-  pub unit : unit_of flags (scan_of multiple word) ≡ Some s
-
 -- the state machine reads a spelling to its end, and has its unit there
-pub spelling_runs : (flags : Flags) (text : List ℕ) (s : Shape) → Spells current flags text s → RunsToUnit flags text s
+pub spelling_runs : (flags : Flags) (text : List ℕ) (s : Shape) → Spells current flags text s
+    → RunsTo unit_step (λ t. unit_of flags t ≡ Some s) start text
 spelling_runs flags text s (inl h) =
     let c = count_word flags text s.bit h.count_is in
     let same : shape 0 (not s.bit) s.bit ≡ s =
     ap (λ k. shape k (not s.bit) s.bit) (sym h.power_is) ∙ ap (λ x. shape s.power x s.bit) (sym h.binary_is) in
     record {
-      multiple = One;
-      word = c.0;
-      run = run_suffix One c.0 text c.1;
-      unit = ap (option_map (multiple_shape One)) c.2 ∙ ap Some same;
+      state = scan_of One c.0;
+      run_is = run_suffix One c.0 text c.1;
+      holds = ap (option_map (multiple_shape One)) c.2 ∙ ap Some same;
     }
 spelling_runs flags text s (inr h) =
     let p = run_prefix h.prefix_part s.power s.binary h.prefix_is in
     let c = count_word flags h.count_part s.bit h.count_is in
     record {
-      multiple = p.multiple;
-      word = c.0;
-      run = ap (run unit_step start) h.text_is
+      state = scan_of p.multiple c.0;
+      run_is = ap (run unit_step start) h.text_is
           ∙ (run_through unit_step start (scan_of p.multiple Empty) h.prefix_part h.count_part p.run
           ∙ run_suffix p.multiple c.0 h.count_part c.1);
-      unit = ap (option_map (multiple_shape p.multiple)) c.2 ∙ ap Some (p.shape_is s.bit);
+      holds = ap (option_map (multiple_shape p.multiple)) c.2 ∙ ap Some (p.shape_is s.bit);
     }
 
 -- each beginning of `bits` is that of a state, which has its parser state
@@ -172,15 +164,15 @@ run_word_front flags place text h =
       state = scan_of front.0 word.0;
       run_is = ap (run unit_step start) h.text_is
           ∙ (run_through unit_step start (scan_of front.0 Empty) h.prefix_part h.word_part front.1 ∙ word.1);
-      place_is = word.2;
+      holds = word.2;
     }
 
 -- the state machine reads each viable prefix to its end, and has its parser state there
 pub unit_front_runs : (flags : Flags) (place : ParserState) (text : List ℕ) → IsViableUnitPrefix current place text
     → IsScanned (unit_scan flags) place text
 unit_front_runs flags before_unit text h =
-    record { state = start; run_is = ap (run unit_step start) h; place_is = refl }
+    record { state = start; run_is = ap (run unit_step start) h; holds = refl }
 unit_front_runs flags after_prefix text h =
     let p = run_prefix text h.0 h.1 h.2 in
-    record { state = scan_of p.multiple Empty; run_is = p.run; place_is = p.place_is }
+    record { state = scan_of p.multiple Empty; run_is = p.run; holds = p.place_is }
 unit_front_runs flags place text h = run_word_front flags place text h

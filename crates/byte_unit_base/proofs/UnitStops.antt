@@ -38,7 +38,7 @@ run_ascii (c ∷ cs) s t e =
 -- the text of a unit is ASCII, so its bytes are its characters
 pub spelled_chars : (flags : Flags) (bytes : List ℕ) (unit : Shape) → Spells current flags bytes unit
     → chars bytes ≡ bytes
-spelled_chars flags bytes unit h = chars-IsAscii bytes (run_ascii bytes start _ (spelling_runs flags bytes unit h).run)
+spelled_chars flags bytes unit h = chars-IsAscii bytes (run_ascii bytes start _ (spelling_runs flags bytes unit h).run_is)
 
 -- if the beginning of a unit is all that there is, it spells the unit of its state
 pub spelled : (flags : Flags) (bytes : List ℕ) (scan : UnitScan) (unit : Shape) (place : ℕ)

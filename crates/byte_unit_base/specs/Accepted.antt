@@ -49,14 +49,10 @@ pub record ExceedsAs
   pub is_read : IsReadAs meant version kind ignore_case text number size
   pub above : version.size_limit ≤ size
 
--- the size of the input is too large in a version, by the unit that is written
-abbrev pub ExceedsIn : Version → Kind → Bool → List ℕ → ℕ → Type 0
-ExceedsIn = ExceedsAs as_written
-
 -- The string is in the grammar of the current version, but its size, with this number as it is written, is 10^30 or
 -- more.
 abbrev pub Exceeds : Kind → Bool → List ℕ → ℕ → Type 0
-Exceeds = ExceedsIn current
+Exceeds = ExceedsAs as_written current
 
 -- without the white space at its ends, the input is not in the grammar, and this is its error: that of the first
 -- character which no valid input has there

@@ -4,7 +4,7 @@ use Rattle.std.specs.Prelude.{ℕ, Bool, true, false, List, Option, Result, if�
 use Rattle.byte_unit_base.specs.Shape.{Shape, shape}
 use Rattle.byte_unit_base.specs.Version.{current}
 use Rattle.byte_unit_base.specs.Fault.{Fault}
-use Rattle.byte_unit_base.specs.Accepted.{as_written, IsReadAs, IsAcceptedAs, IsRejectedAs}
+use Rattle.byte_unit_base.specs.Accepted.{as_written, IsAcceptedAs, IsRejectedAs}
 use Rattle.byte_unit_base.specs.SizeReading.{IsReadingAs, IsBytesReadingAs}
 use Rattle.byte_unit_base.specs.declared.errors.ParseError.{ParseError}
 use Rattle.byte_unit_base.specs.declared.kind.Kind.{Kind}
@@ -17,11 +17,6 @@ binary_of unit = if nat_lt 0 unit.power then shape unit.power true unit.bit else
 abbrev pub unit_meant : Bool → Shape → Shape
 unit_meant true = binary_of
 unit_meant false = as_written
-
--- without the white space at its ends, the input is `number` of some unit, and `n` is that number of the unit's binary
--- unit, rounded up to a whole number of bytes or bits
-abbrev pub IsBinaryRead : Kind → Bool → List ℕ → ℕ → ℕ → Type 0
-IsBinaryRead = IsReadAs binary_of current
 
 -- The string is accepted as the size n, if decimal prefixes mean binary ones.
 abbrev pub IsBinaryAccepted : Kind → Bool → List ℕ → ℕ → Type 0

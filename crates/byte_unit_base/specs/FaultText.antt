@@ -57,10 +57,8 @@ json_text (Parse e) = parse_text e
 -- the message of an error in the number, under the flags of a formatter, which change nothing. Nothing is said of a
 -- message that quotes a character, since std does not specify a quoted character under flags
 abbrev pub styled_value_text : ValueParseError → Option (List ℕ)
-styled_value_text (ExceededBounds n) = value_text (ExceededBounds n)
 styled_value_text (NotNumber c) = None
-styled_value_text NoValue = value_text NoValue
-styled_value_text NumberTooLong = value_text NumberTooLong
+styled_value_text e = value_text e
 
 -- the message of an error of a parser of sizes, under the flags of a formatter
 abbrev pub styled_parse_text : ParseError → Option (List ℕ)

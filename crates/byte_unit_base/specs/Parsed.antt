@@ -12,10 +12,9 @@ use Rattle.byte_unit_base.specs.Kinds.{flags_for, bits_in}
 use Rattle.byte_unit_base.specs.Accepted.{as_written}
 use Rattle.byte_unit_base.specs.Scan.{read}
 use Rattle.byte_unit_base.specs.UnitScan.{unit_scan, start}
-use Rattle.byte_unit_base.specs.SizeScan.{size_scan}
+use Rattle.byte_unit_base.specs.SizeScan.{size_scan, Beginning}
 use Rattle.byte_unit_base.specs.declared.kind.Kind.{Kind}
 use Rattle.byte_unit_base.specs.declared.unit.Unit.{Unit as UnitName}
-use Rattle.byte_unit_base.specs.SizeScan.{Beginning}
 
 -- the unit that the input spells, or its error
 unfoldable pub parsed_unit : Flags → List ℕ → Result Shape Fault

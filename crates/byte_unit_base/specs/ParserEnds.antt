@@ -1,7 +1,6 @@
 -- Private: where the parsers of a number, of a unit and of both end, and with which result. Contracts of this crate,
 -- and of private functions of byte_unit_c, cite this file.
-use Rattle.std.specs.Prelude.{◌≡◌, ◌≢◌, ⊤, ℕ, ◌+◌, ◌-◌, ◌<◌, ◌≤◌, true, List, [], ◌∷◌, ◌++◌, length}
-use Rattle.std.specs.Prelude.{take, replicate}
+use Rattle.std.specs.Prelude.{◌≡◌, ◌≢◌, ⊤, ℕ, ◌+◌, ◌-◌, ◌<◌, ◌≤◌, true, List, [], ◌∷◌, ◌++◌, length, take, replicate}
 use Rattle.std.specs.Prelude.{drop, slice_index, Option, Some, None, Result, Ok, Err}
 use Rattle.std.specs.Char.{is_ascii_graphic}
 use Rattle.std.specs.Str.{IsUtf8, IsAscii, chars}
@@ -12,13 +11,12 @@ use Rattle.byte_unit_base.specs.Units.{shape_of}
 use Rattle.byte_unit_base.specs.Spelling.{Flags, Spells}
 use Rattle.byte_unit_base.specs.Number.{point, IsNumberText}
 use Rattle.byte_unit_base.specs.SizeText.{space, IsSizeText}
-use Rattle.byte_unit_base.specs.Fault.{Fault, fault_at, fault_at_end, no_unit, not_number, no_value, too_long}
-use Rattle.byte_unit_base.specs.Fault.{stops_at_bi}
+use Rattle.byte_unit_base.specs.Fault.{Fault, IsFaultAfter, fault_at, no_unit, not_number, no_value, too_long, stops_at_bi}
 use Rattle.byte_unit_base.specs.Scan.{run}
 use Rattle.byte_unit_base.specs.UnitScan.{UnitScan, unit_of, unit_step, start}
 use Rattle.byte_unit_base.specs.UnitWord.{unit_stop, stop_parser_state}
-use Rattle.byte_unit_base.specs.SizeScan.{SizeScan, Beginning, size_step, size_at_end, size_or_fault}
-use Rattle.byte_unit_base.specs.SizeScan.{size_parser_state, after_number}
+use Rattle.byte_unit_base.specs.SizeScan.{SizeScan, Beginning, size_step, size_at_end, size_or_fault, size_parser_state}
+use Rattle.byte_unit_base.specs.SizeScan.{after_number}
 use Rattle.byte_unit_base.specs.declared.unit.Unit.{Unit as UnitName}
 use Rattle.byte_unit_base.specs.declared.read.stop.ByteStop.{ByteStop}
 use Rattle.byte_unit_base.specs.declared.read.stop.NumberStop.{NumberStop}
@@ -75,14 +73,12 @@ pub record IsLeadingUnit (bytes : List ℕ) (scan : UnitScan) (end : ℕ) : Type
   pub run_is : run unit_step start (take end bytes) ≡ Some scan
   pub next : IsFirst (λ c. unit_step scan c ≡ None) (drop end bytes)
 
--- the parser of a unit stops in these bytes, which spell none, in this state and at this place
-abbrev pub IsScanStop : Flags → List ℕ → UnitScan → ℕ → Type 0
-IsScanStop flags bytes scan place = IsLeadingUnit bytes scan place × (place ≡ length bytes → unit_of flags scan ≡ None)
-
 -- the parser of a unit stops in these bytes, which spell none, at this place; of its state is kept whether it has a
 -- prefix, and the letters of the suffix after it
 abbrev pub IsUnitStop : Flags → List ℕ → UnitStop → ℕ → Type 0
-IsUnitStop flags bytes stop place = (scan : UnitScan) × IsScanStop flags bytes scan place × (unit_stop scan ≡ stop)
+IsUnitStop flags bytes stop place =
+    (scan : UnitScan) × IsLeadingUnit bytes scan place × (place ≡ length bytes → unit_of flags scan ≡ None)
+    × (unit_stop scan ≡ stop)
 
 -- the unit that the bytes spell, or where the parser of a unit stops in them
 abbrev pub IsUnitEnd : Flags → List ℕ → Result UnitName (UnitStop × ℕ) → Type 0
@@ -110,10 +106,9 @@ stop_fault flags (InUnit stop) next = unit_stop_fault flags stop next
 -- in this state there is an error at what follows, the one of this reason: at the next character, for which the state
 -- machine of sizes has no step, or at the end
 abbrev pub IsStoppedBefore : Flags → SizeScan → Reason → List ℕ → Type 0
-IsStoppedBefore flags state reason [] = fault_at_end (size_parser_state state) ≡ Some (stop_fault flags reason None)
-IsStoppedBefore flags state reason (c ∷ rest) =
-    (size_step state c ≡ None)
-    × (stop_fault flags reason (Some c) ≡ fault_at current flags (size_parser_state state) c)
+IsStoppedBefore flags state reason rest =
+    IsFirst (λ c. size_step state c ≡ None) rest
+    × IsFaultAfter current flags (size_parser_state state) rest (stop_fault flags reason (next_char rest))
 
 -- the state machine of sizes has this state after the bytes before this place, and an error there
 pub record IsStopped (flags : Flags) (bytes : List ℕ) (place : ℕ) (reason : Reason) : Type 0 where

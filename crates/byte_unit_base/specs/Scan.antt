@@ -1,6 +1,6 @@
 -- A state machine by characters, so that a proof can compute what a literal is read as.
 -- It is proved that the state machines accept the inputs, and give the errors, of the other files (`ParsedLaws`).
-use Rattle.std.specs.Prelude.{ℕ, List, [], ◌∷◌, Option, Some, None, Result, Ok, Err, option_and_then}
+use Rattle.std.specs.Prelude.{ℕ, List, [], ◌∷◌, Option, Some, None, Result, Err, option_and_then}
 use Rattle.byte_unit_base.specs.Version.{current}
 use Rattle.byte_unit_base.specs.Spelling.{Flags}
 use Rattle.byte_unit_base.specs.ViablePrefix.{ParserState}
@@ -25,8 +25,3 @@ abbrev pub read : {State Meaning : Type 0} → Scan State Meaning → State → 
 read scan s [] = scan.at_end s
 read scan s (c ∷ cs) =
     elim (scan.step s c) [ Some t ↦ read scan t cs | None ↦ Err (fault_at current scan.flags (scan.place s) c) ]
-
--- a result of the code, as the specification has it: `meaning` translates its value, and `fault` its error
-abbrev pub map_result : {R E Meaning : Type 0} → (R → Meaning) → (E → Fault) → Result R E → Result Meaning Fault
-map_result meaning fault (Ok value) = Ok (meaning value)
-map_result meaning fault (Err error) = Err (fault error)

@@ -6,16 +6,12 @@ use Rattle.std.specs.Option.{option_map}
 use Rattle.std.specs.Char.{digit_value}
 use Rattle.byte_unit_math.specs.Bounds.{scale, places_of_decimal, whole_limit}
 use Rattle.byte_unit_base.specs.Shape.{Shape}
-use Rattle.byte_unit_base.specs.Units.{shape_of}
-use Rattle.byte_unit_base.specs.Errors.{size_fault}
 use Rattle.byte_unit_base.specs.Number.{point}
 use Rattle.byte_unit_base.specs.SizeText.{space}
-use Rattle.byte_unit_base.specs.declared.unit.Unit.{Unit as UnitName}
-use Rattle.byte_unit_base.specs.declared.errors.ParseError.{ParseError}
 use Rattle.byte_unit_base.specs.Spelling.{Flags}
 use Rattle.byte_unit_base.specs.ViablePrefix.{ParserState, beginning, in_whole, after_point, in_fraction, before_unit}
 use Rattle.byte_unit_base.specs.Fault.{Fault, not_number, no_value, stops_at_bi}
-use Rattle.byte_unit_base.specs.Scan.{Scan, map_result}
+use Rattle.byte_unit_base.specs.Scan.{Scan}
 use Rattle.byte_unit_base.specs.UnitScan.{UnitScan, unit_step, unit_of, unit_parser_state, start as unit_start}
 
 -- a state of the machine
@@ -91,11 +87,3 @@ size_scan flags = record {
   place = size_parser_state;
   at_end = size_at_end flags;
 }
-
--- the number and unit that the code returns, with the unit as a `Shape`
-abbrev pub with_shape : ℕ × UnitName → ℕ × Shape
-with_shape found = (found.0, shape_of found.1)
-
--- a result of the code, as the specification has it
-abbrev pub size_result : Result (ℕ × UnitName) ParseError → Result (ℕ × Shape) Fault
-size_result = map_result with_shape size_fault

@@ -3,10 +3,9 @@ use Rattle.std.specs.Prelude.{Bool, true, false, List, [], ◌∷◌, get_or}
 use Rattle.byte_unit_base.specs.Shape.{Shape}
 use Rattle.byte_unit_base.specs.declared.unit.Unit.{Unit as UnitName}
 use Rattle.byte_unit_base.specs.declared.unit.Unit.TheVariants.{Bit, B, Kbit, Kibit, KB, KiB, Mbit, Mibit, MB, MiB}
-use Rattle.byte_unit_base.specs.declared.unit.Unit.TheVariants.{Gbit, Gibit, GB, GiB, Tbit, Tibit, TB, TiB}
-use Rattle.byte_unit_base.specs.declared.unit.Unit.TheVariants.{Pbit, Pibit, PB, PiB, Ebit, Eibit, EB, EiB}
-use Rattle.byte_unit_base.specs.declared.unit.Unit.TheVariants.{Zbit, Zibit, ZB, ZiB, Ybit, Yibit, YB, YiB}
-use Rattle.byte_unit_base.specs.declared.unit.Unit.TheVariants.{Rbit, Ribit, RB, RiB}
+use Rattle.byte_unit_base.specs.declared.unit.Unit.TheVariants.{Gbit, Gibit, GB, GiB, Tbit, Tibit, TB, TiB, Pbit, Pibit}
+use Rattle.byte_unit_base.specs.declared.unit.Unit.TheVariants.{PB, PiB, Ebit, Eibit, EB, EiB, Zbit, Zibit, ZB, ZiB}
+use Rattle.byte_unit_base.specs.declared.unit.Unit.TheVariants.{Ybit, Yibit, YB, YiB, Rbit, Ribit, RB, RiB}
 
 -- the units, in the order of the variants, which is that of their codes in the C API
 abbrev pub units : List UnitName

@@ -7,13 +7,9 @@ use Rattle.byte_unit_base.specs.Fault.{Fault, stops_at_bi}
 use Rattle.std.specs.Option.{option_map}
 use Rattle.std.specs.Char.{to_ascii_uppercase, to_ascii_lowercase}
 use Rattle.byte_unit_base.specs.Shape.{Shape, shape}
-use Rattle.byte_unit_base.specs.Units.{shape_of}
-use Rattle.byte_unit_base.specs.Errors.{unit_fault}
 use Rattle.byte_unit_base.specs.Version.{current}
 use Rattle.byte_unit_base.specs.Spelling.{Flags, SpellsPrefix}
-use Rattle.byte_unit_base.specs.Scan.{Scan, map_result}
-use Rattle.byte_unit_base.specs.declared.unit.Unit.{Unit as UnitName}
-use Rattle.byte_unit_base.specs.declared.errors.UnitParseError.{UnitParseError}
+use Rattle.byte_unit_base.specs.Scan.{Scan}
 use Rattle.byte_unit_base.specs.ViablePrefix.{ParserState, before_unit, after_prefix, after_b, after_bi, after_bit, after_bits}
 
 -- the prefix read so far: none, or that of a position, from 1 for K, as a decimal or, with its `i`, as a binary prefix
@@ -153,7 +149,3 @@ unit_scan flags = record {
   place = unit_parser_state;
   at_end = λ s. unit_at_end (unit_of flags s);
 }
-
--- a result of the code, as the specification has it
-abbrev pub unit_result : Result UnitName UnitParseError → Result Shape Fault
-unit_result = map_result shape_of unit_fault

@@ -220,6 +220,7 @@ fn parse_text<const BINARY: bool>(
 /// assert!(rt; matches!(size::read_bytes(b"1 bi", flags), Err(ByteStop { place: 4, .. })));
 /// ```
 #[inline(always)]
+#[tactic(auto, using(crate::proofs::SizeOfText::bytes_number))]
 pub fn read_bytes(bytes: &[u8], flags: Flags) -> Result<(Unit, Decimal), ByteStop>
     ensures { IsOutcome flags bytes.now result }
 {

@@ -1,11 +1,11 @@
 -- The number and unit of the trimmed string, or the error of the rest of it, where the parser stops.
-use Rattle.std.proofs.Common.{ap, refl, subst, ◌∙◌, chars, IsUtf8}
+use Rattle.std.proofs.Common.{Ok, ap, refl, subst, ◌∙◌, chars, IsUtf8}
 use Rattle.byte_unit_base.specs.Spelling.{flags_of}
 use Rattle.byte_unit_base.specs.Units.{shape_of}
 use Rattle.byte_unit_base.specs.ParserEnds.{IsStopAt, next_char}
 use Rattle.byte_unit_base.proofs.Positions.{stop_in_string}
 use Rattle.byte_unit_base.proofs.SizeAscii.{size_of_chars}
-use Rattle.byte_unit_base.proofs.SizeReads.{stated_reading}
+use Rattle.byte_unit_base.proofs.SizeReads.{number_reading}
 use Rattle.byte_unit_base.proofs.SizeRest.{boundary_at}
 use Rattle.byte_unit_base.proofs.read.read_size.Goals as goal
 
@@ -22,7 +22,7 @@ returns-in-Ok c =
     let flags = flags_of c.args.ignore_case c.args.prefer_byte in
     let found = c.in-Ok.found in
     let text = rw c.as_bytes-bytes.ensures.value at c.in-Ok.ensures in
-    stated_reading flags c.args.s.now (found.1, found.0)
+    number_reading flags c.args.s.now (Ok (found.1, found.0))
     (rw c.trimmed-text.ensures at (size_of_chars flags c.trimmed-text.result.now found.1 (shape_of found.0) text))
 
 pub returns-in-Err : goal.returns-in-Err

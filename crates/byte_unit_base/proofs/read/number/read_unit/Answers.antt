@@ -35,6 +35,7 @@ returns c =
     let binary = not (eqb power 0) && (eqb next 105 || eqb next 73) in
     let upper = eqb (text / 2 ^ (8 * (c.from.result + c.from-2.result)) % 256) 66 in (
       _,
-      (leads, λ all. rw (at_bi all) refl),
+      leads,
+      λ all. rw (at_bi all) refl,
       λ i. record { has_prefix = prefix_kept power binary i; word = c.letters.ensures upper i },
     )

@@ -3,14 +3,12 @@ use Rattle.std.proofs.Common.{Ok, ap, sym, subst, ◌+◌, ◌∙◌, chars, IsU
 use Rattle.byte_unit_base.specs.Version.{current}
 use Rattle.byte_unit_base.specs.Spelling.{Spells}
 use Rattle.byte_unit_base.specs.Units.{shape_of}
-use Rattle.byte_unit_base.specs.Scan.{read}
-use Rattle.byte_unit_base.specs.UnitScan.{unit_scan, start}
+use Rattle.byte_unit_base.specs.UnitScan.{start}
 use Rattle.byte_unit_base.specs.ParserEnds.{IsUnitStop, next_char}
 use Rattle.byte_unit_base.proofs.Positions.{unit_stop_in_string}
-use Rattle.byte_unit_base.proofs.Scans.{reads_meaning}
 use Rattle.byte_unit_base.proofs.SizeRest.{boundary_at}
 use Rattle.byte_unit_base.proofs.Trim.{chars-trim}
-use Rattle.byte_unit_base.proofs.UnitReads.{unit_reading, unit_scan_is}
+use Rattle.byte_unit_base.proofs.UnitReads.{unit_reading}
 use Rattle.byte_unit_base.proofs.UnitStops.{run_ascii, spelled_chars}
 use Rattle.byte_unit_base.proofs.unit.parse.read_unit_text.Goals as goal
 
@@ -19,7 +17,7 @@ pub range_from-requires : goal.range_from-requires
 range_from-requires c =
     let stop = c.in-Err.stop in
     let stops = subst (λ text. IsUnitStop c.args.flags text stop.0 stop.1) c.as_bytes-bytes.ensures.value c.in-Err.ensures in
-    let leads = stops.1.0 in
+    let leads = stops.1 in
     let utf8 = subst IsUtf8 c.as_bytes-bytes.ensures.value c.as_bytes-bytes.ensures.utf8 in
     λ _. boundary_at c.trim-text.result.now stop.1 utf8 leads.within (run_ascii _ start stops.0 leads.run_is)
 
@@ -32,8 +30,7 @@ returns-in-Ok c =
     let spells = subst (λ text. Spells current flags text unit) c.as_bytes-bytes.ensures.value c.in-Ok.ensures in
     let trimmed = sym (spelled_chars flags text unit spells)
     ∙ (ap chars c.trim-text.ensures.trim ∙ chars-trim c.args.s.now c.utf8.s) in
-    unit_reading flags c.args.s.now (Ok c.in-Ok.found)
-    (sym (reads_meaning (unit_scan_is flags) text unit spells) ∙ ap (read (unit_scan flags) start) trimmed)
+    unit_reading flags c.args.s.now (Ok c.in-Ok.found) (subst (λ text. Spells current flags text unit) trimmed spells)
 
 -- the parser stops in the string where it stops in the trimmed string
 pub returns-in-Err : goal.returns-in-Err
