@@ -1,12 +1,12 @@
 -- The parts of a text, written or appended one after the other, are the text: runs of one byte, digits, names.
 use Rattle.std.proofs.Common.{◌≡◌, ℕ, List, ◌++◌, length, Result, arith, ap, refl, subst, ◌∙◌, ◌+◌, ◌-◌, ◌<◌, ◌≤◌, min}
-use Rattle.std.proofs.Common.{◌∷◌, take, replicate, sym, append_assoc, ◌/◌, [], drop, set, get_or, rules}
+use Rattle.std.proofs.Common.{◌∷◌, take, replicate, sym, append_assoc, rules}
 use Rattle.std.specs.String.{string_bytes}
 use Rattle.std.specs.declared.string.String.{String}
 use Rattle.std.proofs.lemmas.Result.{on_ok_weaker, on_err_weaker}
 use Rattle.byte_unit_format.specs.Room.{AppendsForm}
 use Rattle.std.proofs.lemmas.Grind.{common_steps}
-use Rattle.std.proofs.lemmas.List.{take-replicate, replicate-append-replicate, take_all, take-take, take-map}
+use Rattle.std.proofs.lemmas.List.{replicate-append-replicate, take_all, take-take, take-map}
 use Rattle.std.proofs.lemmas.List.{length-map, take_at}
 use Rattle.byte_unit_math.specs.Numeral.{fraction_text, glyphs}
 use Rattle.byte_unit_format.proofs.WrittenForms.{fraction_some, fraction_length, length_of_fraction_text}
@@ -47,17 +47,6 @@ pub appends_same : {Z E R : Type 0} {old new : String Z} {result : Result R E} {
     → AppendsForm (λ other. other ≡ text) old new result → AppendsForm (λ other. other ≡ form) old new result
 appends_same {old} {new} {result} {text} {form} same this =
     let Adds : List ℕ → Type 0 = λ text. AppendsForm (λ other. other ≡ text) old new result in subst Adds same this
-
--- After the next part of a run is added, at most 64 bytes, that many bytes fewer are left.
-pub run_more : (byte count left next : ℕ) (old : List ℕ) → left ≤ count → next ≡ min left 64
-    → (old ++ replicate (count - left) byte) ++ take next (replicate 64 byte)
-    ≡ old ++ replicate (count - (left - next)) byte
-run_more byte count left next old few next_is = rw (take-replicate next 64 byte (omega (arith, next_is)))
-    (grind (
-      arith,
-      append_assoc old (replicate (count - left) byte) (replicate next byte),
-      replicate-append-replicate (count - left) next byte,
-    ))
 
 -- A point, the digits that are written, and zeros are the text of the padded fraction.
 pub fraction_text_of_shown :
@@ -123,26 +112,5 @@ row_ascii row ready whole fraction =
     let front = IsAscii-append _ _ (run_ascii row.before 32 (omega arith)) number in
     IsAscii-append _ _ (IsAscii-append _ _ front (run_ascii row.after 32 (omega arith))) ready.2
 
--- A text that is written up to the end of an array is the array from the text's beginning: if it is ASCII, that is.
-pub piece_ascii :
-    (room start : ℕ) (text bytes behind : List ℕ) → start + length text ≡ room → drop start bytes ≡ text ++ behind
-    → IsAscii text → IsAscii (take (room - start) (drop start bytes))
-piece_ascii room start text bytes behind begins put ascii =
-    rw (put, take_at text behind (room - start) (omega (arith, begins))) ascii
-
--- The last, the middle and the first of at most three bytes, set in this order, are all of them.
-pub short_put : (bytes out : List ℕ) (start : ℕ) → 0 < length bytes → length bytes ≤ 3 → start + length bytes ≤ length out
-    → drop start (set (set (set out (start + (length bytes - 1)) (get_or bytes (length bytes - 1) 0))
-    (start + length bytes / 2) (get_or bytes (length bytes / 2) 0)) start (get_or bytes 0 0))
-    ≡ bytes ++ drop (start + length bytes) out
-short_put [] out start some few within = absurd (omega (arith, some))
-short_put (a ∷ []) out start some few within = grind (arith, common_steps)
-short_put (a ∷ b ∷ []) out start some few within = grind (arith, common_steps)
-short_put (a ∷ b ∷ c ∷ []) out start some few within = grind (arith, common_steps)
-short_put (a ∷ b ∷ c ∷ d ∷ more) out start some few within = absurd (omega (arith, few))
-
 -- what the calls that write the first digits of an expansion after a point use
 pub ruleset first_digits_put = (fraction_length, glyphs_within, common_steps)
-
--- what the calls that write the last digits of a number after a point use
-pub ruleset last_digits_put = (piece_ascii, length_of_fraction_text, length_last_digits)

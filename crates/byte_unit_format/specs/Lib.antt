@@ -7,7 +7,6 @@ pub mod Adjusted
 pub mod AdjustedString
 pub mod Rounding
 pub mod Room
-pub mod Pushed
 pub mod Written
 pub mod TextParts
 pub mod UnitFraction

@@ -1,5 +1,5 @@
 -- Private: the parts of a text in their order, which are passed to the writing code.
-use Rattle.std.specs.Prelude.{ℕ, ◌^◌, ◌<◌, ◌≤◌, List, ◌++◌, length, IsAscii}
+use Rattle.std.specs.Prelude.{ℕ, ◌^◌, ◌<◌, ◌≤◌, List, ◌++◌, IsAscii}
 use Rattle.std.specs.Fmt.{decimal}
 use Rattle.byte_unit_math.specs.Bounds.{places_of_number}
 use Rattle.byte_unit_math.specs.Digits.{last_digits}
@@ -34,7 +34,6 @@ number_text row = row.sign.now ++ decimal row.whole ++ fraction_of row.fraction
 abbrev pub parts_text : TextParts → List ℕ
 parts_text row = spaces row.before ++ number_text row ++ spaces row.after ++ row.name.now
 
--- The parts can be written: the fraction is within its bounds, and sign and name are ASCII and short.
+-- The parts can be written: the fraction is within its bounds, and sign and name are ASCII.
 abbrev pub IsReady : TextParts → Type 0
-IsReady row = FitsPlaces row.fraction × IsAscii row.sign.now × IsAscii row.name.now × (length row.name.now ≤ 3)
-    × (length row.sign.now ≤ 3)
+IsReady row = FitsPlaces row.fraction × IsAscii row.sign.now × IsAscii row.name.now

@@ -6,7 +6,6 @@
 
 mod adjusted;
 mod alternate;
-mod capacity;
 mod forms;
 pub mod laws;
 mod layout;

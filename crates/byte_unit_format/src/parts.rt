@@ -1,21 +1,18 @@
 //! The parts of a formatted text, and writing backwards into a buffer.
 
 ghost use Rattle.std.specs.Prelude.{◌≡◌, ◌+◌, ◌^◌, ◌≤◌, ◌++◌, length, take, drop, replicate, IsAscii};
+ghost use Rattle.std.specs.String.{string_bytes, string_capacity};
+ghost use Rattle.std.specs.Vec.{vec_len, vec_capacity};
 ghost use Rattle.byte_unit_math.specs.Numeral.{fraction_text};
 ghost use Rattle.byte_unit_math.specs.Padded.{pad_of};
 ghost use Rattle.byte_unit_math.specs.PutBefore.{IsPutBefore};
-ghost use Rattle.byte_unit_format.specs.Pushed.{IsPushed};
 ghost use Rattle.byte_unit_format.specs.Room.{spare_capacity, AppendsForm};
 ghost use Rattle.byte_unit_format.specs.TextParts.{fraction_of, places_in, FitsPlaces, IsReady, parts_text};
 ghost use Rattle.byte_unit_format.specs.Written.{WritesForm};
 
-use crate::capacity::{push_ascii, push_run, reserve};
-use byte_unit_math::{DecimalDigits, Expansion, glyphs_of, put_fraction, put_u128};
+use byte_unit_math::{Expansion, glyphs_of, put_fraction, put_u128};
+use core::mem::replace_with;
 use std::alloc::{AllocError, Allocator};
-
-/// The length of the buffer on the stack, in which texts that fit it are put together, and the digits of a
-/// `Fraction::Last` in any case: with the point they are at most 39 bytes.
-const BUFFER_LEN: usize = 96;
 
 /// The digits after the point, and their number.
 #[derive(Clone, Copy)]
@@ -39,7 +36,7 @@ pub(crate) struct TextParts<'a> {
     pub fraction: Fraction<'a>,
     /// Spaces after the number.
     pub after: usize,
-    /// The name of a unit, at most three bytes, or the empty string.
+    /// The name of a unit, or the empty string.
     pub name: &'static str,
     /// The length of the whole text, in bytes.
     pub len: usize,
@@ -66,40 +63,23 @@ impl TextParts<'_> {
         requires ready { IsReady self.now }
         ensures { AppendsForm (λ form. form ≡ parts_text self.now) text.old text.new result }
     {
-        reserve(text, self.len)?;
-        if self.len <= BUFFER_LEN {
-            self.push_whole(text);
-        } else {
-            self.push_parts(text);
-        }
+        text.try_reserve_exact(self.len)?;
+        replace_with(text, *self, with_parts);
         Ok(())
     }
 
-    /// Appends the parts by one copy from a buffer on the stack.
-    #[tactic(auto, using(crate::proofs::TextParts::piece_ascii))]
-    fn push_whole<A: Allocator>(&self, text: &mut String<A>)
-        requires bound { length (parts_text self.now) ≤ BUFFER_LEN }
+    /// Appends the parts to bytes, for which their capacity suffices.
+    fn push<A: Allocator>(&self, bytes: &mut Vec<u8, A>)
+        requires len { self.now.len ≡ length (parts_text self.now) }
         requires ready { IsReady self.now }
-        requires room { length (parts_text self.now) ≤ spare_capacity text.old }
-        ensures { IsPushed (parts_text self.now) text.old text.new }
+        requires room { vec_len bytes.old + self.now.len ≤ vec_capacity bytes.old }
+        ensures bytes { bytes.new.items ≡ bytes.old.items ++ parts_text self.now }
+        ensures capacity { vec_capacity bytes.old ≤ vec_capacity bytes.new }
+        ensures ascii { IsAscii (parts_text self.now) }
     {
-        let mut bytes = [0; BUFFER_LEN];
-        let start = self.put(&mut bytes, BUFFER_LEN);
-        push_ascii(text, &bytes[start..]);
-    }
-
-    /// Appends the parts one after another.
-    fn push_parts<A: Allocator>(&self, text: &mut String<A>)
-        requires ready { IsReady self.now }
-        requires room { length (parts_text self.now) ≤ spare_capacity text.old }
-        ensures { IsPushed (parts_text self.now) text.old text.new }
-    {
-        push_run(text, b' ', self.before);
-        text.push_str(self.sign).unwrap();
-        push_ascii(text, DecimalDigits::of(self.whole).as_slice());
-        self.fraction.push(text);
-        push_run(text, b' ', self.after);
-        text.push_str(self.name).unwrap();
+        let end = bytes.len();
+        bytes.resize(end + self.len, 0).unwrap();
+        self.put(&mut bytes[end..], self.len);
     }
 
     /// Writes the parts so that they end before the index `end`, and returns the index where they begin.
@@ -112,14 +92,14 @@ impl TextParts<'_> {
         ensures put { IsPutBefore (parts_text self.now) end out.old out.new result }
         ensures ascii { IsAscii (parts_text self.now) }
     {
-        let name = put_short(self.name.as_bytes(), out, end);
+        let name = put(self.name.as_bytes(), out, end);
         let behind = put_run(b' ', self.after, out, name);
         let point = match self.fraction {
             Fraction::Last(digits, places) => put_fraction(digits, places, out, behind),
             Fraction::First(e, places) => put_first(e, places, out, behind),
         };
         let digits = put_u128(self.whole, out, point);
-        let sign = put_short(self.sign.as_bytes(), out, digits);
+        let sign = put(self.sign.as_bytes(), out, digits);
         put_run(b' ', self.before, out, sign)
     }
 }
@@ -137,23 +117,6 @@ impl Fraction<'_> {
             Fraction::Last(_, places) | Fraction::First(_, places) => *places,
         };
         if places == 0 { 0 } else { 1 + places as usize }
-    }
-
-    /// Appends the point and the digits.
-    #[tactic(auto, using(crate::proofs::TextParts::last_digits_put))]
-    fn push<A: Allocator>(&self, text: &mut String<A>)
-        requires short { FitsPlaces self.now }
-        requires room { length (fraction_of self.now) ≤ spare_capacity text.old }
-        ensures { IsPushed (fraction_of self.now) text.old text.new }
-    {
-        match self {
-            Fraction::Last(digits, places) => {
-                let mut bytes = [0; BUFFER_LEN];
-                let start = put_fraction(*digits, *places, &mut bytes, BUFFER_LEN);
-                push_ascii(text, &bytes[start..]);
-            }
-            Fraction::First(e, places) => push_first(text, e, *places),
-        }
     }
 }
 
@@ -175,18 +138,18 @@ fn put_first(e: &Expansion, places: u32, out: &mut [u8], end: usize) -> usize
     put_run(b'.', 1, out, digits)
 }
 
-/// Appends the point and `places` digits of an expansion, or nothing if `places` is 0.
-#[tactic(auto, using(crate::proofs::WrittenForms::fraction_length))]
-fn push_first<A: Allocator>(text: &mut String<A>, e: &Expansion, places: u32)
-    requires room { length (fraction_text (pad_of places e.now).digits) ≤ spare_capacity text.old }
-    ensures { IsPushed (fraction_text (pad_of places e.now).digits) text.old text.new }
+/// Returns a string with the parts after it, for which its capacity suffices.
+fn with_parts<A: Allocator>(text: String<A>, parts: TextParts<'_>) -> (String<A>, ())
+    requires len { parts.len ≡ length (parts_text parts) }
+    requires ready { IsReady parts }
+    requires room { parts.len ≤ spare_capacity text }
+    ensures bytes { string_bytes result.0 ≡ string_bytes text ++ parts_text parts.entry }
+    ensures capacity { string_capacity text ≤ string_capacity result.0 }
 {
-    if places > 0 {
-        let shown = places.min(e.places()) as usize;
-        push_run(text, b'.', 1);
-        push_ascii(text, &glyphs_of(e)[..shown]);
-        push_run(text, b'0', places as usize - shown);
-    }
+    let mut bytes = text.into_bytes();
+    parts.push(&mut bytes);
+    // UTF-8 with ASCII after it is UTF-8.
+    (unsafe { String::from_utf8_unchecked(bytes) }, ())
 }
 
 /// Writes bytes so that they end before the index `end`, and returns the index where they begin.
@@ -212,25 +175,5 @@ fn put_run(byte: u8, count: usize, out: &mut [u8], end: usize) -> usize
 {
     let start = end - count;
     out[start..end].fill(byte);
-    start
-}
-
-/// Writes at most three bytes as `put`, without a loop: the last, the middle and the first byte are all.
-#[inline(always)]
-#[tactic(auto, using(crate::proofs::TextParts::short_put))]
-fn put_short(bytes: &[u8], out: &mut [u8], end: usize) -> usize
-    requires bound { length bytes.now ≤ 3 }
-    requires room { length bytes.now ≤ end }
-    requires end_bound { end ≤ length out.old }
-    ensures { IsPutBefore bytes.now end out.old out.new result }
-{
-    let len = bytes.len();
-    if len == 0 {
-        return end;
-    }
-    let start = end - len;
-    out[start + (len - 1)] = bytes[len - 1];
-    out[start + len / 2] = bytes[len / 2];
-    out[start] = bytes[0];
     start
 }

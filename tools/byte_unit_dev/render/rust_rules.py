@@ -9,7 +9,6 @@ import re
 LEFT_OUT = {
     "/laws.rt": "its functions do nothing: the contracts, which are dropped, are the laws",
     "/json.rt": "the package has serde in place of a type of JSON values",
-    "/capacity.rt": "allocators are not stable, and no call of the package allocates",
     "/text.rt": "by hand in the original's form, over the functions of `format`",
     "/approximate.rt": "the same",
 }
@@ -17,9 +16,10 @@ LEFT_OUT = {
 ITEMS_LEFT_OUT = {
     r"impl(?:<[^>]*>)? Model for \w+": "what a value is in a contract",
     r"impl Clone for \w+": "Rattle's `clone` may fail; the type is `Copy`, and `Clone` is derived",
-    r"(?:pub )?mod (?:laws|json|text|approximate|capacity);": "see `LEFT_OUT`",
+    r"(?:pub )?mod (?:laws|json|text|approximate);": "see `LEFT_OUT`",
     r"pub enum JsonSizeError|impl (?:\w+::)?\w+ for JsonSizeError": "see `LEFT_OUT` of `/json.rt`",
-    r"(?:pub(?:\(\w+\))? )?fn \w+(?:<A: Allocator>|\(self, alloc: Global)": "see `LEFT_OUT` of `/capacity.rt`",
+    r"(?:pub(?:\(\w+\))? )?fn \w+(?:<A: Allocator>|\(self, alloc: Global)":
+        "allocators are not stable, and no call of the package allocates",
     r"impl fmt::Display for (?:Unit|Decimal|Byte|Bit|AdjustedByte|AdjustedBit)\b":
         "by hand: the original's obeys the flags of the formatter",
     r"fn last_16_digits\(": "by hand, in `support::lanes`: of divisions of lanes rustc makes many instructions",
@@ -28,7 +28,7 @@ ITEMS_LEFT_OUT = {
     r"(?<=    )pub fn (?:text_len|write_text)\(self": "see `LEFT_OUT` of `/text.rt`",
 }  # fmt: skip
 # Paths of names that are left out with their items.
-NAMES_LEFT_OUT = re.compile(r".*::(?:append_\w+|JsonSizeError)|crate::capacity::.*")
+NAMES_LEFT_OUT = re.compile(r".*::(?:append_\w+|JsonSizeError)")
 # Attributes, by their first word: whether they are kept. `inline` is added, see `INLINED`.
 ATTRIBUTES = {"tactic": False, "inline": True, "cold": True, "repr": True, "unsafe": True, "derive": True,
               "macro_export": True}  # fmt: skip

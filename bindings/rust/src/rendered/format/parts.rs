@@ -26,7 +26,7 @@ pub(crate) struct TextParts<'a> {
     pub fraction: Fraction<'a>,
     /// Spaces after the number.
     pub after: usize,
-    /// The name of a unit, at most three bytes, or the empty string.
+    /// The name of a unit, or the empty string.
     pub name: &'static str,
     /// The length of the whole text, in bytes.
     pub len: usize,
@@ -45,14 +45,14 @@ impl TextParts<'_> {
     /// Writes the parts so that they end before the index `end`, and returns the index where they begin.
     #[inline(always)]
     fn put(&self, out: &mut [u8], end: usize) -> usize {
-        let name = put_short(self.name.as_bytes(), out, end);
+        let name = put(self.name.as_bytes(), out, end);
         let behind = put_run(b' ', self.after, out, name);
         let point = match self.fraction {
             Fraction::Last(digits, places) => put_fraction(digits, places, out, behind),
             Fraction::First(e, places) => put_first(e, places, out, behind),
         };
         let digits = put_u128(self.whole, out, point);
-        let sign = put_short(self.sign.as_bytes(), out, digits);
+        let sign = put(self.sign.as_bytes(), out, digits);
         put_run(b' ', self.before, out, sign)
     }
 }
@@ -92,19 +92,5 @@ pub(crate) fn put(bytes: &[u8], out: &mut [u8], end: usize) -> usize {
 fn put_run(byte: u8, count: usize, out: &mut [u8], end: usize) -> usize {
     let start = end - count;
     out[start..end].fill(byte);
-    start
-}
-
-/// Writes at most three bytes as `put`, without a loop: the last, the middle and the first byte are all.
-#[inline(always)]
-fn put_short(bytes: &[u8], out: &mut [u8], end: usize) -> usize {
-    let len = bytes.len();
-    if len == 0 {
-        return end;
-    }
-    let start = end - len;
-    out[start + (len - 1)] = bytes[len - 1];
-    out[start + len / 2] = bytes[len / 2];
-    out[start] = bytes[0];
     start
 }

@@ -1,6 +1,0 @@
--- ASCII is UTF-8.
-use Rattle.std.proofs.lemmas.Str.{IsUtf8-from_ascii}
-use Rattle.byte_unit_format.proofs.capacity.push_ascii.Goals as goal
-
-pub from_utf8_unchecked-requires : goal.from_utf8_unchecked-requires
-from_utf8_unchecked-requires g c = IsUtf8-from_ascii c.args.ascii.now c.requires.ascii
