@@ -4,12 +4,12 @@
 -- number. That a fraction `fits` is that it has digits, that they are below its power of ten, and that they are at most
 -- 38.
 use Rattle.std.proofs.Common.{set, ◌≡◌, ℕ, zero, suc, ◌+◌, ◌*◌, ◌^◌, ◌/◌, ◌%◌, ◌<◌, ◌-◌, ◌≤◌, ⊎_elim, List, [], ◌∷◌}
-use Rattle.std.proofs.Common.{◌++◌, length, drop, arith, ap, sym, refl, ◌∙◌, length-append, append_assoc, append-nil}
+use Rattle.std.proofs.Common.{◌++◌, length, take, drop, arith, ap, sym, refl, ◌∙◌, length-append, append_assoc, append-nil}
 use Rattle.std.proofs.Common.{get_or, subst, Bool, true, ◌&&◌, leb, decimal, IsAscii, div-le_self, le-div_iff_mul-le}
 use Rattle.std.proofs.Math.Nat.{pow-succ', mod-mod, div-div-eq-div-mul, pow-le-pow_right}
 use Rattle.std.proofs.lemmas.Bool.{cases_lt, and_parts, leb-true}
 use Rattle.std.proofs.lemmas.Fmt.{decimal_digit, decimal_step_wide, length-decimal-le_wide, IsAscii-decimal_wide}
-use Rattle.std.proofs.lemmas.List.{drop-set, drop-drop, length-set, length-map}
+use Rattle.std.proofs.lemmas.List.{drop-set, drop-drop, length-set, length-map, take_at}
 use Rattle.std.proofs.lemmas.Nat.{div_below, div-mul-add, mod-mul-add, leading_top}
 use Rattle.std.proofs.lemmas.Str.{IsUtf8-from_ascii, IsAscii-drop, IsAscii-take}
 use Rattle.std.proofs.lemmas.Str.Ascii.{IsAscii-cons}
@@ -175,14 +175,28 @@ fraction_ascii places digits fits ascii =
     subst IsAscii (sym (fraction_text_glyphs places digits fits.0))
     (IsAscii-cons 46 (glyphs (last_digits places digits)) (omega arith) glyphs_ascii)
 
--- A number has at most 39 digits.
-pub ruleset decimal_few = (decimal_length_le_39, append-nil)
-
 -- The digits of a number are ASCII.
 pub ruleset decimal_ascii = (IsAscii-decimal_wide)
 
 -- ASCII is UTF-8, and so is what it begins with.
 pub ruleset ascii_texts = (IsUtf8-from_ascii, IsAscii-take)
+
+-- A text that is written up to the end of an array is the array from the text's beginning.
+pub written_piece :
+    (room start : ℕ) (text bytes behind : List ℕ) → start + length text ≡ room → drop start bytes ≡ text ++ behind
+    → take (room - start) (drop start bytes) ≡ text
+written_piece room start text bytes behind begins put =
+    rw put (take_at text behind (room - start) (omega (arith, begins)))
+
+-- If the text is ASCII, so is that piece.
+pub piece_ascii :
+    (room start : ℕ) (text bytes behind : List ℕ) → start + length text ≡ room → drop start bytes ≡ text ++ behind
+    → IsAscii text → IsAscii (take (room - start) (drop start bytes))
+piece_ascii room start text bytes behind begins put ascii =
+    subst IsAscii (sym (written_piece room start text bytes behind begins put)) ascii
+
+-- The digits of a number fit 39 bytes, and are UTF-8.
+pub ruleset number_written = (decimal_length_le_39, written_piece, piece_ascii, IsUtf8-from_ascii)
 
 -- What the proof of a fraction's text uses.
 pub ruleset fractions_written = (pow10_fits, length_of_one_and_digits, one_becomes_point, fraction_ascii)

@@ -10,7 +10,6 @@ ghost use Rattle.byte_unit_math.specs.PutBefore.{FitBefore, IsPutBefore};
 use crate::dividing::split_last_16_digits;
 use crate::lanes::put_16_digits;
 use crate::tens::power_of_ten;
-use std::marker::Model;
 use std::{fmt, str};
 
 /// The most decimal digits of a `u128`.
@@ -23,78 +22,6 @@ static PAIRS: [u8; 200] = *b"\
     4041424344454647484950515253545556575859\
     6061626364656667686970717273747576777879\
     8081828384858687888990919293949596979899";
-
-/// The decimal digits of a number, as ASCII. In contracts it is the list of these bytes.
-///
-/// # Examples
-/// ```rust
-/// assert_eq!(rt; DecimalDigits::of(1536).as_slice(), b"1536".as_slice());
-/// assert_eq!(rt; DecimalDigits::of(0).as_slice(), b"0".as_slice());
-/// ```
-#[derive(Drop)]
-pub struct DecimalDigits {
-    /// The digits are at the end.
-    bytes: [u8; NUMBER_DIGITS],
-    /// The index of the first digit.
-    start: usize,
-}
-
-impl Model for DecimalDigits {
-    ghost use Rattle.std.specs.Prelude.{ℕ, List, drop, ◌≤◌, ◌≡◌, length};
-    ghost use Rattle.byte_unit_math.specs.declared.decimal_digits.TheConstants.{NUMBER_DIGITS};
-
-    ghost Value = { List ℕ };
-
-    ghost view = { λ d. drop d.start d.bytes };
-
-    ghost invariant = { λ d. (d.start ≤ NUMBER_DIGITS) × (length d.bytes ≡ NUMBER_DIGITS) };
-}
-
-impl DecimalDigits {
-    /// Creates the digits of a number.
-    ///
-    /// # Examples
-    /// ```rust
-    /// assert_eq!(rt; DecimalDigits::of(1536).as_slice(), b"1536".as_slice());
-    /// ```
-    #[tactic(auto, using(crate::proofs::WrittenDigits::decimal_few))]
-    pub fn of(n: u128) -> DecimalDigits
-        ensures digits { result ≡ decimal n }
-        ensures ascii { IsAscii result }
-        ensures bound { length result ≤ NUMBER_DIGITS }
-    {
-        let mut bytes = [b'0'; NUMBER_DIGITS];
-        let start = put_u128(n, &mut bytes, NUMBER_DIGITS);
-        DecimalDigits { bytes, start }
-    }
-
-    /// Returns the number of digits, 1 to 39.
-    ///
-    /// # Examples
-    /// ```rust
-    /// assert_eq!(rt; DecimalDigits::of(1536).len(), 4);
-    /// assert_eq!(rt; DecimalDigits::of(u128::MAX).len(), 39);
-    /// ```
-    #[inline]
-    pub fn len(&self) -> usize
-        ensures { result ≡ length self.now }
-    {
-        NUMBER_DIGITS - self.start
-    }
-
-    /// Returns the digits as ASCII bytes, the most significant first.
-    ///
-    /// # Examples
-    /// ```rust
-    /// assert_eq!(rt; DecimalDigits::of(1000).as_slice(), b"1000".as_slice());
-    /// ```
-    #[inline]
-    pub fn as_slice(&self) -> &[u8]
-        ensures { result.now ≡ self.now }
-    {
-        &self.bytes[self.start..]
-    }
-}
 
 /// Writes the digits of a number to a formatter, and ignores its flags.
 ///
@@ -113,13 +40,14 @@ impl DecimalDigits {
 /// }
 /// assert_eq!(rt; format!(in alloc; "{}", Number(1536))?.as_str(), "1536");
 /// ```
-#[tactic(auto, using(crate::proofs::WrittenDigits::ascii_texts))]
+#[tactic(auto, using(crate::proofs::WrittenDigits::number_written))]
 pub fn fmt_u128<W: fmt::Write>(n: u128, f: &mut fmt::Formatter<W>) -> fmt::Result
     ensures plain { DisplaysOnOk W.write_str_gives f.old result (Some (decimal n)) f.new }
     ensures styled { DisplaysStyledOnOk W.write_str_gives f.old result (Some (decimal n)) f.new }
 {
-    let digits = DecimalDigits::of(n);
-    f.write_str(str::from_utf8(digits.as_slice()).unwrap())
+    let mut bytes = [b'0'; NUMBER_DIGITS];
+    let start = put_u128(n, &mut bytes, NUMBER_DIGITS);
+    f.write_str(str::from_utf8(&bytes[start..]).unwrap())
 }
 
 /// Returns the number of decimal digits of a number, 1 to 39.
@@ -243,7 +171,7 @@ fn put_u128_wide(n: u128, bytes: &mut [u8], end: usize) -> usize
 /// Writes the digits of a number of 64 bits as `put_u128`.
 #[inline(always)]
 #[tactic(auto, using(crate::proofs::WrittenDigits::groups_written))]
-pub(crate) fn put_u64(n: u64, bytes: &mut [u8], end: usize) -> usize
+fn put_u64(n: u64, bytes: &mut [u8], end: usize) -> usize
     requires room { length (decimal n) ≤ end }
     requires end_bound { end ≤ length bytes.old }
     ensures { IsPutBefore (decimal n) end bytes.old bytes.new result }

@@ -93,17 +93,21 @@ pub(crate) fn div_rem_by_inverse(
     }
 }
 
-/// Returns the quotient and the remainder by a constant of at most 2^24: a long division in base 2^40, each step of
-/// which LLVM compiles to multiplications.
+/// Returns the quotient and the remainder by a constant of at most 2^24, which LLVM compiles to multiplications: in 64
+/// bits if the dividend fits, and else by a long division in base 2^40.
 #[inline(always)]
 #[tactic(auto, using(crate::proofs::Estimates::long_division))]
-pub(crate) fn div_rem_u24(dividend: u128, divisor: u64) -> (u128, u64)
+pub(crate) fn div_rem_u24(dividend: u128, divisor: u64) -> (u128, u128)
     requires positive { 1 ≤ divisor }
     requires divisor_bound { divisor ≤ 2 ^ 24 }
     requires bound { dividend < 2 ^ 120 }
     ensures quotient { result.0 ≡ dividend / divisor }
     ensures rest { result.1 ≡ dividend % divisor }
 {
+    if dividend < 1 << 64 {
+        let short = dividend as u64;
+        return (u128::from(short / divisor), u128::from(short % divisor));
+    }
     // The dividend is three digits in base 2^40; each remainder is put before the next digit.
     let high = (dividend >> 80) as u64;
     let middle = high % divisor * BASE + ((dividend >> 40) % u128::from(BASE)) as u64;
@@ -111,7 +115,7 @@ pub(crate) fn div_rem_u24(dividend: u128, divisor: u64) -> (u128, u64)
     let leading = u128::from(high / divisor) * u128::from(BASE) + u128::from(middle / divisor);
     (
         leading * u128::from(BASE) + u128::from(low / divisor),
-        low % divisor,
+        u128::from(low % divisor),
     )
 }
 
@@ -129,11 +133,8 @@ pub fn div_rem_thousand(n: u128) -> (u128, u64)
     ensures quotient { result.0 ≡ n / 1000 }
     ensures rest { result.1 ≡ n % 1000 }
 {
-    if n < 1 << 64 {
-        let n = n as u64;
-        return (u128::from(n / 1000), n % 1000);
-    }
-    div_rem_u24(n, 1000)
+    let (thousands, rest) = div_rem_u24(n, 1000);
+    (thousands, rest as u64)
 }
 
 /// Splits a number into its last 16 digits and those before them. Numbers below 2^100 take no division.

@@ -6,7 +6,7 @@ ghost use Rattle.byte_unit_math.specs.Digits.{last_digits};
 ghost use Rattle.byte_unit_math.specs.Numeral.{glyphs, padded_digits};
 ghost use Rattle.byte_unit_math.specs.PutBefore.{FitBefore, IsPutBefore};
 
-use crate::decimal_digits::{decimal_len, put_u64};
+use crate::decimal_digits::decimal_len;
 use crate::dividing::{TEN_POW_16, TEN_POW_16_INVERSE, div_rem_by_inverse};
 use std::simd::prelude::*;
 
@@ -32,13 +32,6 @@ pub fn put_padded_digits(n: u128, digits: &mut [u8; PADDED_DIGITS]) -> usize
     ensures len { result ≡ length (decimal n) }
     ensures bound { result ≤ 30 }
 {
-    // Four digits are faster one after another.
-    if n < 10_000 {
-        *digits = [b'0'; PADDED_DIGITS];
-        let len = decimal_len(n);
-        put_u64(n as u64, digits, len);
-        return len;
-    }
     let (all, count) = digits_with_zeros(n);
     let len = decimal_len(n);
     let start = count - len;

@@ -3,9 +3,7 @@
 #![tactic(auto)]
 
 pub use crate::decimal::{DECIMAL_PLACES, Decimal, WHOLE_LIMIT};
-pub use crate::decimal_digits::{
-    DecimalDigits, NUMBER_DIGITS, decimal_len, fmt_u128, put_fraction, put_u128,
-};
+pub use crate::decimal_digits::{NUMBER_DIGITS, decimal_len, fmt_u128, put_fraction, put_u128};
 pub use crate::dividing::{div_rem, div_rem_thousand, rounded_quotient};
 pub use crate::expansion::{EXPANSION_PLACES, Expansion, Ties, glyphs_of};
 pub use crate::factors::{Factors, factors_of, two_five};

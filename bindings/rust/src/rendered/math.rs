@@ -4,9 +4,7 @@
 //! expansions.
 
 pub use crate::rendered::math::decimal::{DECIMAL_PLACES, Decimal, WHOLE_LIMIT};
-pub use crate::rendered::math::decimal_digits::{
-    DecimalDigits, NUMBER_DIGITS, decimal_len, fmt_u128, put_fraction, put_u128,
-};
+pub use crate::rendered::math::decimal_digits::{NUMBER_DIGITS, decimal_len, fmt_u128, put_fraction, put_u128};
 pub use crate::rendered::math::dividing::{div_rem, div_rem_thousand, rounded_quotient};
 pub use crate::rendered::math::expansion::{EXPANSION_PLACES, Expansion, Ties, glyphs_of};
 pub use crate::rendered::math::factors::{Factors, factors_of, two_five};

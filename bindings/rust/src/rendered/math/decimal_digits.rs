@@ -18,61 +18,6 @@ static PAIRS: [u8; 200] = *b"\
     6061626364656667686970717273747576777879\
     8081828384858687888990919293949596979899";
 
-/// The decimal digits of a number, as ASCII.
-///
-/// # Examples
-/// ```
-/// # use byte_unit::rendered::{base::{size::parse_line, *}, bit::*, byte::*, choice::*, format::*, math::*};
-/// assert_eq!(DecimalDigits::of(1536).as_slice(), b"1536".as_slice());
-/// assert_eq!(DecimalDigits::of(0).as_slice(), b"0".as_slice());
-/// ```
-pub struct DecimalDigits {
-    /// The digits are at the end.
-    bytes: [u8; NUMBER_DIGITS],
-    /// The index of the first digit.
-    start: usize,
-}
-
-impl DecimalDigits {
-    /// Creates the digits of a number.
-    ///
-    /// # Examples
-    /// ```
-    /// # use byte_unit::rendered::{base::{size::parse_line, *}, bit::*, byte::*, choice::*, format::*, math::*};
-    /// assert_eq!(DecimalDigits::of(1536).as_slice(), b"1536".as_slice());
-    /// ```
-    pub fn of(n: u128) -> DecimalDigits {
-        let mut bytes = [b'0'; NUMBER_DIGITS];
-        let start = put_u128(n, &mut bytes, NUMBER_DIGITS);
-        DecimalDigits { bytes, start }
-    }
-
-    /// Returns the number of digits, 1 to 39.
-    ///
-    /// # Examples
-    /// ```
-    /// # use byte_unit::rendered::{base::{size::parse_line, *}, bit::*, byte::*, choice::*, format::*, math::*};
-    /// assert_eq!(DecimalDigits::of(1536).len(), 4);
-    /// assert_eq!(DecimalDigits::of(u128::MAX).len(), 39);
-    /// ```
-    #[inline]
-    pub fn len(&self) -> usize {
-        NUMBER_DIGITS - self.start
-    }
-
-    /// Returns the digits as ASCII bytes, the most significant first.
-    ///
-    /// # Examples
-    /// ```
-    /// # use byte_unit::rendered::{base::{size::parse_line, *}, bit::*, byte::*, choice::*, format::*, math::*};
-    /// assert_eq!(DecimalDigits::of(1000).as_slice(), b"1000".as_slice());
-    /// ```
-    #[inline]
-    pub fn as_slice(&self) -> &[u8] {
-        &self.bytes[self.start..]
-    }
-}
-
 /// Writes the digits of a number to a formatter, and ignores its flags.
 ///
 /// # Errors
@@ -92,8 +37,9 @@ impl DecimalDigits {
 /// assert_eq!(format!("{}", Number(1536)).as_str(), "1536");
 /// ```
 pub fn fmt_u128(n: u128, f: &mut fmt::Formatter<'_>) -> fmt::Result {
-    let digits = DecimalDigits::of(n);
-    f.write_str(str::from_utf8(digits.as_slice()).unwrap())
+    let mut bytes = [b'0'; NUMBER_DIGITS];
+    let start = put_u128(n, &mut bytes, NUMBER_DIGITS);
+    f.write_str(str::from_utf8(&bytes[start..]).unwrap())
 }
 
 /// Returns the number of decimal digits of a number, 1 to 39.
@@ -190,7 +136,7 @@ fn put_u128_wide(n: u128, bytes: &mut [u8], end: usize) -> usize {
 
 /// Writes the digits of a number of 64 bits as `put_u128`.
 #[inline(always)]
-pub(crate) fn put_u64(n: u64, bytes: &mut [u8], end: usize) -> usize {
+fn put_u64(n: u64, bytes: &mut [u8], end: usize) -> usize {
     // Four digits at a time from the end; of the first one to four, two if they are more than two, and then two or one.
     let mut start = end;
     let mut rest = n;

@@ -59,16 +59,20 @@ pub(crate) fn div_rem_by_inverse(dividend: u128, divisor: u64, inverse: u64, cut
     if rest < divisor { (estimate, rest) } else { (estimate + 1, rest - divisor) }
 }
 
-/// Returns the quotient and the remainder by a constant of at most 2^24: a long division in base 2^40, each step of
-/// which LLVM compiles to multiplications.
+/// Returns the quotient and the remainder by a constant of at most 2^24, which LLVM compiles to multiplications: in 64
+/// bits if the dividend fits, and else by a long division in base 2^40.
 #[inline(always)]
-pub(crate) fn div_rem_u24(dividend: u128, divisor: u64) -> (u128, u64) {
+pub(crate) fn div_rem_u24(dividend: u128, divisor: u64) -> (u128, u128) {
+    if dividend < 1 << 64 {
+        let short = dividend as u64;
+        return (u128::from(short / divisor), u128::from(short % divisor));
+    }
     // The dividend is three digits in base 2^40; each remainder is put before the next digit.
     let high = (dividend >> 80) as u64;
     let middle = high % divisor * BASE + ((dividend >> 40) % u128::from(BASE)) as u64;
     let low = middle % divisor * BASE + (dividend % u128::from(BASE)) as u64;
     let leading = u128::from(high / divisor) * u128::from(BASE) + u128::from(middle / divisor);
-    (leading * u128::from(BASE) + u128::from(low / divisor), low % divisor)
+    (leading * u128::from(BASE) + u128::from(low / divisor), u128::from(low % divisor))
 }
 
 /// Returns the quotient and the remainder by 1000.
@@ -82,11 +86,8 @@ pub(crate) fn div_rem_u24(dividend: u128, divisor: u64) -> (u128, u64) {
 /// ```
 #[inline(always)]
 pub fn div_rem_thousand(n: u128) -> (u128, u64) {
-    if n < 1 << 64 {
-        let n = n as u64;
-        return (u128::from(n / 1000), n % 1000);
-    }
-    div_rem_u24(n, 1000)
+    let (thousands, rest) = div_rem_u24(n, 1000);
+    (thousands, rest as u64)
 }
 
 /// Splits a number into its last 16 digits and those before them. Numbers below 2^100 take no division.

@@ -2,7 +2,7 @@
 
 //! The decimal digits of a number, sixteen at a time.
 
-use crate::rendered::math::decimal_digits::{decimal_len, put_u64};
+use crate::rendered::math::decimal_digits::decimal_len;
 use crate::rendered::math::dividing::{TEN_POW_16, TEN_POW_16_INVERSE, div_rem_by_inverse};
 use crate::support::lanes::*;
 
@@ -23,13 +23,6 @@ pub const PADDED_DIGITS: usize = 32;
 /// ```
 #[inline(always)]
 pub fn put_padded_digits(n: u128, digits: &mut [u8; PADDED_DIGITS]) -> usize {
-    // Four digits are faster one after another.
-    if n < 10_000 {
-        *digits = [b'0'; PADDED_DIGITS];
-        let len = decimal_len(n);
-        put_u64(n as u64, digits, len);
-        return len;
-    }
     let (all, count) = digits_with_zeros(n);
     let len = decimal_len(n);
     let start = count - len;

@@ -6,9 +6,6 @@ use crate::rendered::math::dividing::{div_rem, div_rem_digit, div_rem_u24};
 use crate::rendered::math::tens::{POWERS_OF_FIVE, power_of_five, power_of_ten, power_of_two};
 use crate::rendered::math::{DECIMAL_PLACES, Decimal, Factors, Steps};
 
-/// The limit of numbers of 64 bits, which are divided faster.
-const TWO_POW_64: u128 = 1 << 64;
-
 /// Returns `size / unit` if it is exact within `places` digits after the point, and `None` otherwise. More than 28
 /// places count as 28.
 ///
@@ -96,25 +93,12 @@ pub fn factored_quotient(number: Factors, twos: u32, fives: u32, places: u32, st
     let count = (number.left << (number.twos + places - twos)) * power;
     let (whole, digits) = match places {
         0 => (count, 0),
-        // LLVM compiles a division by a constant to multiplications.
-        1 => div_rem_small(count, 10),
-        2 => div_rem_small(count, 100),
-        3 => div_rem_small(count, 1000),
+        1 => div_rem_u24(count, 10),
+        2 => div_rem_u24(count, 100),
+        3 => div_rem_u24(count, 1000),
         _ => div_rem(count, power_of_ten(places)),
     };
     let quotient = Decimal::from_digits(whole, digits, places);
     steps.advance_by(quotient.places());
     quotient
-}
-
-/// Splits a fixed-point value into its integer and fractional parts; `divisor`, its scale, is a constant: 10, 100 or
-/// 1000.
-#[inline(always)]
-fn div_rem_small(count: u128, divisor: u64) -> (u128, u128) {
-    if count < TWO_POW_64 {
-        let count = count as u64;
-        return (u128::from(count / divisor), u128::from(count % divisor));
-    }
-    let (whole, digits) = div_rem_u24(count, divisor);
-    (whole, u128::from(digits))
 }

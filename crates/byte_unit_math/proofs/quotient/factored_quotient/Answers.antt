@@ -47,17 +47,19 @@ overflow_shl-count c = omega (arith, (few (goal.at.overflow_shl-count c).Start).
 pub overflow_mul-count : goal.overflow_mul-count
 overflow_mul-count c = omega (arith, (few (goal.at.overflow_mul-count c).Start).small)
 
--- The multiple is below 2^112, as the division needs it, in the branch of one place.
-pub div_rem_small-requires-clause-bound : goal.div_rem_small-requires-clause-bound
-div_rem_small-requires-clause-bound c = (few (goal.at.div_rem_small-requires-clause-bound c).Start).small
+-- The multiple is below 2^120, as the division needs it, in the branch of one place.
+pub div_rem_u24-requires-clause-bound : goal.div_rem_u24-requires-clause-bound
+div_rem_u24-requires-clause-bound c = omega (arith, (few (goal.at.div_rem_u24-requires-clause-bound c).Start).small)
 
--- The multiple is below 2^112 in the branch of two places.
-pub div_rem_small-requires-in-2-clause-bound : goal.div_rem_small-requires-in-2-clause-bound
-div_rem_small-requires-in-2-clause-bound c = (few (goal.at.div_rem_small-requires-in-2-clause-bound c).Start).small
+-- The multiple is below 2^120 in the branch of two places.
+pub div_rem_u24-requires-in-2-clause-bound : goal.div_rem_u24-requires-in-2-clause-bound
+div_rem_u24-requires-in-2-clause-bound c =
+    omega (arith, (few (goal.at.div_rem_u24-requires-in-2-clause-bound c).Start).small)
 
--- The multiple is below 2^112 in the branch of three places.
-pub div_rem_small-requires-in-3-clause-bound : goal.div_rem_small-requires-in-3-clause-bound
-div_rem_small-requires-in-3-clause-bound c = (few (goal.at.div_rem_small-requires-in-3-clause-bound c).Start).small
+-- The multiple is below 2^120 in the branch of three places.
+pub div_rem_u24-requires-in-3-clause-bound : goal.div_rem_u24-requires-in-3-clause-bound
+div_rem_u24-requires-in-3-clause-bound c =
+    omega (arith, (few (goal.at.div_rem_u24-requires-in-3-clause-bound c).Start).small)
 
 -- The power of ten is not zero.
 pub div_rem-requires : goal.div_rem-requires
