@@ -3,7 +3,7 @@ use Rattle.std.specs.Prelude.{◌≡◌, ℕ, zero, suc, ◌+◌, ◌-◌, ◌^�
 use Rattle.std.specs.Prelude.{nat_lt, nat_le, IfSome, if◌then◌else◌, MatchBool, List, [], ◌∷◌, ◌++◌, Option, Some, None}
 use Rattle.std.specs.Prelude.{length, take, slice_index, codes}
 use Rattle.std.specs.Char.{is_control, encode_utf8}
-use Rattle.std.specs.Fmt.{decimal, digits, digit_glyph}
+use Rattle.std.specs.Fmt.{decimal, digits}
 use Rattle.std.specs.List.{flat_map, list_any}
 use Rattle.std.specs.Str.{IsUtf8, is_utf8, chars}
 use Rattle.byte_unit.specs.Errors.{size_fault}
@@ -49,18 +49,12 @@ is_format c = list_any (λ run. nat_le run.0 c && nat_le c run.1) format_runs
 abbrev pub escape_char : ℕ → List ℕ
 escape_char c = if is_control c || is_format c then codes "\\u{" ++ digits 16 false c ++ codes "}" else encode_utf8 c
 
--- whether a byte is a printable ASCII character
-abbrev pub is_printable : ℕ → Bool
-is_printable byte = nat_le 32 byte && nat_lt byte 127
-
--- `\x` and a byte as two hexadecimal digits
-abbrev pub hex_of_byte : ℕ → List ℕ
-hex_of_byte byte = codes "\\x" ++ digit_glyph false (byte / 16) ∷ digit_glyph false (byte % 16) ∷ []
-
--- a byte of a text that is not UTF-8, in a message: a printable ASCII character as it is, and else as `\x` with its two
--- hexadecimal digits
+-- a byte of a text that is not UTF-8, in a message: a printable ASCII character, from the space (32) to `~` (126), as it
+-- is, and else as `\x` with its two hexadecimal digits
 abbrev pub escape_byte : ℕ → List ℕ
-escape_byte byte = if is_printable byte then byte ∷ [] else hex_of_byte byte
+escape_byte byte =
+    if nat_le 32 byte && nat_lt byte 127 then byte ∷ []
+    else codes "\\x" ++ digits 16 false (byte / 16) ++ digits 16 false (byte % 16)
 
 -- bytes in a message: a UTF-8 text by its characters, others byte by byte
 abbrev pub escape : List ℕ → List ℕ

@@ -1,12 +1,11 @@
 //! Quotes a field in a message, and escapes control and format characters.
 
-ghost use Rattle.std.specs.Prelude.{◌≡◌, ◌++◌, ◌<◌, ◌≤◌, ◌||◌, false, nat_lt, nat_le, length, IsTrue, OnOk};
-ghost use Rattle.std.specs.Fmt.{digit_glyph};
+ghost use Rattle.std.specs.Prelude.{◌≡◌, ◌++◌, ◌≤◌, ◌||◌, nat_lt, nat_le, length, OnOk};
 ghost use Rattle.std.specs.List.{flat_map};
 ghost use Rattle.std.specs.Str.{chars};
 ghost use Rattle.std.specs.String.{string_bytes};
-ghost use Rattle.byte_unit_command.specs.Messages.{escape, escape_byte, escape_char, hex_of_byte, is_format, quote};
-ghost use Rattle.byte_unit_command.specs.Messages.{is_printable as is_printable_ascii, quoted_len as len_of_quote};
+ghost use Rattle.byte_unit_command.specs.Messages.{escape, escape_byte, escape_char, is_format, quote};
+ghost use Rattle.byte_unit_command.specs.Messages.{quoted_len as len_of_quote};
 
 use std::alloc::{AllocError, Allocator};
 use std::fmt::Write;
@@ -159,7 +158,7 @@ fn add_escaped_bytes<A: Allocator>(bytes: &[u8], line: &mut String<A>) -> Result
     Ok(())
 }
 
-/// Appends a byte, escaped if it is not a printable ASCII character.
+/// Appends a byte, escaped if it is not a printable ASCII character: one from the space (0x20) to `~` (0x7E).
 ///
 /// # Errors
 ///
@@ -167,43 +166,10 @@ fn add_escaped_bytes<A: Allocator>(bytes: &[u8], line: &mut String<A>) -> Result
 fn add_escaped_byte<A: Allocator>(byte: u8, line: &mut String<A>) -> Result<(), AllocError>
     ensures { OnOk result (string_bytes line.new ≡ string_bytes line.old ++ escape_byte byte) }
 {
-    if is_printable(byte) {
+    if 0x20 <= byte && byte < 0x7F {
         line.push(byte as char)
     } else {
-        add_hex(byte, line)
-    }
-}
-
-/// Returns `true` if the byte is a printable ASCII character: from the space (0x20) to `~` (0x7E).
-fn is_printable(byte: u8) -> bool
-    ensures value { result ≡ is_printable_ascii byte }
-    ensures ascii { IsTrue result → byte < 128 }
-{
-    0x20 <= byte && byte < 0x7F
-}
-
-/// Appends `\x` and a byte as two hexadecimal digits.
-///
-/// # Errors
-///
-/// Returns `AllocError` if allocation fails.
-fn add_hex<A: Allocator>(byte: u8, line: &mut String<A>) -> Result<(), AllocError>
-    ensures { OnOk result (string_bytes line.new ≡ string_bytes line.old ++ hex_of_byte byte) }
-{
-    line.push_str("\\x")?;
-    line.push(hex_digit(byte / 16))?;
-    line.push(hex_digit(byte % 16))
-}
-
-/// Returns a hexadecimal digit as a character.
-fn hex_digit(digit: u8) -> char
-    requires { digit < 16 }
-    ensures value { result ≡ digit_glyph false digit }
-    ensures ascii { result < 128 }
-{
-    if digit < 10 {
-        (b'0' + digit) as char
-    } else {
-        (b'a' + (digit - 10)) as char
+        let (high, low) = (byte / 16, byte % 16);
+        write!(line, "\\x{high:x}{low:x}")
     }
 }
