@@ -1,6 +1,6 @@
 -- The fields of a record, and which of them are converted.
 use Rattle.std.specs.Prelude.{ℕ, ◌-◌, ◌≤◌, ◌⊎◌, ◌↔◌, ⊤, Bool, true, false, not, ◌&&◌, ◌||◌, cond, nat_lt, List, [], ◌∷◌}
-use Rattle.std.specs.Prelude.{zero, suc, ◌==◌, length, take, Option, None, Some, MatchOption}
+use Rattle.std.specs.Prelude.{◌==◌, length, take, Option, None, Some, MatchOption}
 use Rattle.std.specs.List.{onto_first, slice_split}
 use Rattle.byte_unit_command.specs.declared.options.FieldRange.{FieldRange}
 use Rattle.byte_unit_command.specs.declared.options.Options.{Options}
@@ -69,8 +69,7 @@ columns_of number field = cond (nat_lt 1 number) (length field - 1) (cond (begin
 -- the least number of columns of a size that replaces a field: that of the options; without one, and between blanks,
 -- the columns of the field
 abbrev pub width_by : Bool → ℕ → ℕ → List ℕ → ℕ
-width_by true zero number field = columns_of number field
-width_by true (suc width) number field = suc width
+width_by true width number field = cond (width == 0) (columns_of number field) width
 width_by false width number field = width
 
 -- the least number of columns of a size in place of this field, by the options
