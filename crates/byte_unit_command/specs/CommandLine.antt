@@ -18,53 +18,29 @@ flag name = record (new_rule name) { long = Some name; action = Some SetTrue }
 abbrev pub value : List ℕ → Rule
 value name = record (new_rule name) { long = Some name; value_names = 1 }
 
--- the options with a letter or a rule of their own; `is_free` is false for one that excludes or needs another, and
--- `is_simple` for one whose value is read in its own way
+-- an option with this letter
+abbrev pub lettered : ℕ → Rule → Rule
+lettered letter rule = record rule { short = Some letter }
 
--- `-i`
-abbrev pub ignore_case : Rule
-ignore_case = record (flag (codes "ignore-case")) { short = Some 105; is_free = false }
+-- an option that excludes another
+abbrev pub not_free : Rule → Rule
+not_free rule = record rule { is_free = false }
 
--- `-H`
-abbrev pub human_readable : Rule
-human_readable = record (flag (codes "human-readable")) { short = Some 72 }
+-- an option whose value is read in its own way: it may begin with a hyphen, or needs `=`
+abbrev pub not_simple : Rule → Rule
+not_simple rule = record rule { is_simple = false }
 
 -- `-p`, a number up to 65535
 abbrev pub precision : Rule
-precision = record (value (codes "precision")) { short = Some 112; parser = Some (Signed (pos 0) (pos 65535)) }
-
--- `-d`
-abbrev pub delimiter : Rule
-delimiter = record (value (codes "delimiter")) { short = Some 100 }
-
--- `--blanks`, which excludes `-d`, so it is not free
-abbrev pub blanks : Rule
-blanks = record (flag (codes "blanks")) { is_free = false }
-
--- `--field`, whose value may begin with a hyphen, so it is not simple
-abbrev pub fields : Rule
-fields = record (value (codes "field")) { is_simple = false }
-
--- `--suffix`, whose value may begin with a hyphen
-abbrev pub suffix : Rule
-suffix = record (value (codes "suffix")) { is_simple = false }
+precision = record (lettered 112 (value (codes "precision"))) { parser = Some (Signed (pos 0) (pos 65535)) }
 
 -- `--header`, whose value, a number below 2^64, may be missing: then it is 1
 abbrev pub header : Rule
-header = record (value (codes "header")) {
+header = record (not_simple (value (codes "header"))) {
   range = Some (record { start_inclusive = 0; end_inclusive = 1 });
   missing = codes "1" ∷ [];
   parser = Some (Unsigned 0 18446744073709551615);
-  is_simple = false;
 }
-
--- `--padding`, whose value may begin with a hyphen
-abbrev pub padding : Rule
-padding = record (value (codes "padding")) { is_simple = false }
-
--- `-z`
-abbrev pub zero_terminated : Rule
-zero_terminated = record (flag (codes "zero-terminated")) { short = Some 122 }
 
 -- the operands: any number of them
 abbrev pub operands : Rule
@@ -72,17 +48,20 @@ operands = record (new_rule (codes "SIZE")) {
   range = Some (record { start_inclusive = 0; end_inclusive = 18446744073709551615 });
 }
 
--- the options that say how a size is read and formatted
+-- the options that say how a size is read and formatted; the letters are `i` (105) and `H` (72)
 abbrev pub size_rules : List Rule
 size_rules =
-    flag (codes "bits") ∷ ignore_case ∷ value (codes "from") ∷ value (codes "to") ∷ flag (codes "no-unit")
-    ∷ suffix ∷ precision ∷ human_readable ∷ []
+    flag (codes "bits") ∷ not_free (lettered 105 (flag (codes "ignore-case"))) ∷ value (codes "from")
+    ∷ value (codes "to") ∷ flag (codes "no-unit") ∷ not_simple (value (codes "suffix")) ∷ precision
+    ∷ lettered 72 (flag (codes "human-readable")) ∷ []
 
--- those that say what is converted, and what a run does with what it finds; and the operands
+-- those that say what is converted, and what a run does with what it finds; and the operands. The letters are `d` (100)
+-- and `z` (122)
 abbrev pub record_rules : List Rule
 record_rules =
-    delimiter ∷ blanks ∷ fields ∷ header ∷ padding ∷ value (codes "invalid") ∷ flag (codes "total")
-    ∷ value (codes "max") ∷ value (codes "min") ∷ zero_terminated ∷ operands ∷ []
+    lettered 100 (value (codes "delimiter")) ∷ not_free (flag (codes "blanks")) ∷ not_simple (value (codes "field"))
+    ∷ header ∷ not_simple (value (codes "padding")) ∷ value (codes "invalid") ∷ flag (codes "total")
+    ∷ value (codes "max") ∷ value (codes "min") ∷ lettered 122 (flag (codes "zero-terminated")) ∷ operands ∷ []
 
 -- a command with these arguments more
 abbrev pub with_rules : App → List Rule → App

@@ -1,13 +1,13 @@
 -- The command with its version, and then one argument after the other.
-use Rattle.std.proofs.Common.{◌≡◌, ◌∙◌, ap, ap₂, subst, true, codes, ℕ, max, Some}
+use Rattle.std.proofs.Common.{◌≡◌, ◌∙◌, ap, ap₂, subst, true, codes, ℕ, max, Some, refl, [], ◌∷◌}
 use Rattle.std.proofs.lemmas.Result.{IfOk-weaker}
-use Rattle.clap.specs.Words.{App, app_of, new_app}
+use Rattle.clap.specs.Words.{App, Rule, app_of, new_app}
 use Rattle.clap.specs.Simple.{app_of_fields}
 use Rattle.clap.specs.declared.builder.range.ValueRange.{ValueRange}
 use Rattle.clap.specs.declared.builder.value_parser.ValueParser.{ValueParser}
 use Rattle.byte_unit_command.specs.CommandLine.{IsArg, size_rules, value, with_rules, without_rules}
-use Rattle.byte_unit_command.proofs.Rules.{excluding, with_equals, with_help, with_hyphen, with_letter, with_missing}
-use Rattle.byte_unit_command.proofs.Rules.{with_abbreviations, with_one, with_parser, with_range}
+use Rattle.byte_unit_command.proofs.Rules.{changed, excluding, with_abbreviations, with_equals, with_hyphen}
+use Rattle.byte_unit_command.proofs.Rules.{with_letter, with_one, with_parser, with_range}
 use Rattle.byte_unit_command.proofs.arguments.command.Goals as goal
 
 -- a range with both ends
@@ -57,8 +57,8 @@ returns c =
     let one = subst (λ range. IsArg (record (value (codes "header")) { range = Some range }) c.num_args.result)
     (ap₂ between c.new-2.ensures.start c.new-2.ensures.end)
     (with_range _ _ _ (between c.new-2.result.start c.new-2.result.end) c.value-7.ensures c.num_args.ensures) in
-    let missing = with_missing _ _ _ _ (with_equals _ _ _ one c.require_equals.ensures)
-    c.default_missing_value.ensures in
+    let missing = changed (λ (rule : Rule). record rule { missing = codes "1" ∷ [] }) _ _ _ _ refl refl
+    (with_equals _ _ _ one c.require_equals.ensures) c.default_missing_value.ensures in
     let large = c.value_parser-4.ensures.given in
     let records = with_parser _ _ _ _ missing c.value_parser-4.ensures.others
     (large.1 ∙ ap (λ (parser : ValueParser). Some parser) (large.2 ∙ c.value_parser-3.ensures)) in
@@ -73,5 +73,5 @@ returns c =
     let ended = with_one _ _ _ _ _ min zero_terminated c.in_ok-arg-18.ensures in
     let any = with_range _ _ _ _
     (record { rule_is = c.new-3.ensures.rule; not_global = c.new-3.ensures.optional.1 }) c.num_args-2.ensures in
-    let operands = with_help _ _ _ _ any c.help.ensures in
+    let operands = changed (λ (rule : Rule). rule) _ _ _ _ refl refl any c.help.ensures in
     IfOk-weaker c.arg-19.result _ _ (λ command adds. with_one _ command _ _ _ ended operands adds) c.arg-19.ensures
