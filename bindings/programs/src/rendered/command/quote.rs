@@ -131,32 +131,16 @@ fn add_escaped_bytes<A: Allocator>(bytes: &[u8], line: &mut String<A>) -> Result
     Ok(())
 }
 
-/// Appends a byte, escaped if it is not a printable ASCII character.
+/// Appends a byte, escaped if it is not a printable ASCII character: one from the space (0x20) to `~` (0x7E).
 ///
 /// # Errors
 ///
 /// Returns `AllocError` if allocation fails.
 fn add_escaped_byte<A: Allocator>(byte: u8, line: &mut String<A>) -> Result<(), AllocError> {
-    if is_printable(byte) { line.push(byte as char) } else { add_hex(byte, line) }
-}
-
-/// Returns `true` if the byte is a printable ASCII character: from the space (0x20) to `~` (0x7E).
-fn is_printable(byte: u8) -> bool {
-    0x20 <= byte && byte < 0x7F
-}
-
-/// Appends `\x` and a byte as two hexadecimal digits.
-///
-/// # Errors
-///
-/// Returns `AllocError` if allocation fails.
-fn add_hex<A: Allocator>(byte: u8, line: &mut String<A>) -> Result<(), AllocError> {
-    line.push_str("\\x")?;
-    line.push(hex_digit(byte / 16))?;
-    line.push(hex_digit(byte % 16))
-}
-
-/// Returns a hexadecimal digit as a character.
-fn hex_digit(digit: u8) -> char {
-    if digit < 10 { (b'0' + digit) as char } else { (b'a' + (digit - 10)) as char }
+    if 0x20 <= byte && byte < 0x7F {
+        line.push(byte as char)
+    } else {
+        let (high, low) = (byte / 16, byte % 16);
+        write!(line, "\\x{high:x}{low:x}")
+    }
 }
