@@ -1,9 +1,10 @@
 -- Lemmas: the loop over the fields of a record.
 use Rattle.std.proofs.Common.{◌≡◌, ◌≤◌, ◌<◌, ℕ, ◌+◌, List, [], ◌∷◌, ◌++◌, length, Some, Bool, refl, sym, ap, subst, ◌∙◌}
-use Rattle.std.proofs.Common.{arith, append_assoc, append-nil, inl, inr, true, false, cond, eqb, not, ◌&&◌, take, drop}
-use Rattle.std.proofs.Common.{length-drop, eqb-true}
-use Rattle.std.specs.List.{onto_first}
-use Rattle.byte_unit_command.specs.Field.{Found, IsField, other, size, rejected}
+use Rattle.std.proofs.Common.{arith, append_assoc, append-nil, inl, inr, true, false, cond, not, ◌&&◌, take, drop, Option}
+use Rattle.std.proofs.Common.{length-drop}
+use Rattle.std.proofs.lemmas.List.Splits.{join_with_byte-slice_split}
+use Rattle.std.specs.List.{join_with_byte, onto_first}
+use Rattle.byte_unit_command.specs.Field.{Found, IsField, other}
 use Rattle.byte_unit_command.specs.Fields.{IsChosenField, at_blanks, begins_blank, between_of, blank_fields}
 use Rattle.byte_unit_command.specs.Fields.{bytes_between, fields_by, fields_of, is_blank}
 use Rattle.byte_unit_command.specs.Messages.{AreFieldMessages, AreMessagesOfFields, AreMessagesToRejected}
@@ -19,20 +20,6 @@ use Rattle.byte_unit_stream.proofs.ChunkRecords.{split_by_IsSplit, IsSplit}
 use Rattle.byte_unit_command.proofs.Converting.{after-more, after-then}
 use Rattle.byte_unit_command.proofs.Tallies.{Passes-append}
 
--- with a delimiter, and not between blanks
-module _ (options : Options) where
-  -- the fields are the subslices between the delimiters
-  pub fields_of-split : (bytes : List ℕ) (delimiter : ℕ) → options.delimiter ≡ Some delimiter
-      → at_blanks options ≡ false → fields_of options bytes ≡ split_by delimiter bytes
-  fields_of-split bytes delimiter is none =
-      ap (λ blanks. fields_by blanks options.delimiter bytes) none ∙ ap (λ mark. fields_by false mark bytes) is
-
-  -- between two fields is the delimiter
-  pub between_of-split : (delimiter : ℕ) → options.delimiter ≡ Some delimiter → at_blanks options ≡ false
-      → between_of options ≡ delimiter ∷ []
-  between_of-split delimiter is none =
-      ap (λ blanks. bytes_between blanks options.delimiter) none ∙ ap (bytes_between false) is
-
 -- if a field and the fields after it are converted, all are, with the bytes of `between_of` between it and them
 AreFields-cons : (options : Options) (number : ℕ) (field : List ℕ) (others : List (List ℕ)) (own rest : List ℕ)
     (own_found rest_found : List Found) → IsSplit others → IsField options number field own own_found
@@ -47,59 +34,43 @@ AreFields-cons options number field others own rest own_found rest_found (next, 
     subst (λ fields. AreFields options number (field ∷ fields) whole found) (sym others_are)
     (own, rest, own_found, rest_found, is_field, are, refl, refl)
 
--- a field that is not chosen is copied with one more byte before it
-IsField-byte : (options : Options) (number byte : ℕ) (field text : List ℕ) (found : List Found)
-    → ¬ IsChosenField options.fields.now number
-    → IsField options number field text found → IsField options number (byte ∷ field) (byte ∷ text) found
-IsField-byte options number byte field text found not_chosen (other _ text_is found_is) =
-    other not_chosen (ap (λ bytes. byte ∷ bytes) text_is) found_is
-IsField-byte options number byte field text found not_chosen (size n chosen is_size is_formatted found_is) =
-    absurd (not_chosen chosen)
-IsField-byte options number byte field text found not_chosen (rejected chosen none text_is found_is) =
-    absurd (not_chosen chosen)
+-- fields with the bytes between two fields between them
+abbrev joined : List ℕ → List (List ℕ) → List ℕ
+joined between [] = []
+joined between (field ∷ []) = field
+joined between (field ∷ next ∷ others) = field ++ between ++ joined between (next ∷ others)
 
--- one more byte before the first of these fields, which is not chosen, is copied with it
-AreFields-byte : (options : Options) (number byte : ℕ) (fields : List (List ℕ)) (text : List ℕ) (found : List Found)
-    → ¬ IsChosenField options.fields.now number → AreFields options number fields text found
-    → AreFields options number (onto_first byte fields) (byte ∷ text) found
-AreFields-byte options number byte [] text found not_chosen (text_is, found_is) =
-    other not_chosen (ap (λ bytes. byte ∷ bytes) text_is) found_is
-AreFields-byte options number byte (field ∷ []) text found not_chosen is_field =
-    IsField-byte options number byte field text found not_chosen is_field
-AreFields-byte options number byte (field ∷ next ∷ others) text found not_chosen
-    (own, rest, own_found, rest_found, is_field, are_fields, text_is, found_is) = (
-      byte ∷ own,
-      rest,
-      own_found,
-      rest_found,
-      IsField-byte options number byte field own own_found not_chosen is_field,
-      are_fields,
-      ap (λ bytes. byte ∷ bytes) text_is,
-      found_is,
-    )
+-- fields none of which is chosen are copied, with the bytes between them
+AreFields-joined : (options : Options) (fields : List (List ℕ)) (number : ℕ)
+    → ((later : ℕ) → number ≤ later → ¬ IsChosenField options.fields.now later)
+    → AreFields options number fields (joined (between_of options) fields) []
+AreFields-joined options [] number past = (refl, refl)
+AreFields-joined options (field ∷ []) number past = other (past number (omega arith)) refl refl
+AreFields-joined options (field ∷ next ∷ others) number past = (
+  field,
+  joined (between_of options) (next ∷ others),
+  [],
+  [],
+  other (past number (omega arith)) refl refl,
+  AreFields-joined options (next ∷ others) (number + 1) (λ later high. past later (omega (arith, high))),
+  refl,
+  refl,
+)
 
--- fields none of which is chosen are copied, with the delimiters between them
-AreFields-copied : (options : Options) (delimiter : ℕ) → between_of options ≡ delimiter ∷ []
-    → (bytes : List ℕ) (number : ℕ) → ((later : ℕ) → number ≤ later → ¬ IsChosenField options.fields.now later)
-    → AreFields options number (split_by delimiter bytes) bytes []
-AreFields-copied options delimiter between [] number past = other (past number (omega arith)) refl refl
-AreFields-copied options delimiter between (byte ∷ bytes) number past =
-    let not_chosen = past number (omega arith) in
-    let next = AreFields-copied options delimiter between bytes (number + 1)
-    (λ later high. past later (omega (arith, high))) in
-    let Copies : Bool → Type 0 = λ ends. eqb byte delimiter ≡ ends
-    → AreFields options number (cond ends ([] ∷ split_by delimiter bytes) (onto_first byte (split_by delimiter bytes)))
-    (byte ∷ bytes) [] in
-    let on_end : Copies true = λ ends.
-    let same : between_of options ≡ byte ∷ [] =
-    between ∙ ap (λ mark. mark ∷ []) (sym (eqb-true byte delimiter ends)) in
-    subst (λ mark. AreFields options number ([] ∷ split_by delimiter bytes) (mark ++ bytes) []) same
-    (AreFields-cons options number [] (split_by delimiter bytes) [] bytes [] [] (split_by_IsSplit delimiter bytes)
-    (other not_chosen refl refl) next) in
-    let on_other : Copies false = λ ends.
-    AreFields-byte options number byte (split_by delimiter bytes) bytes [] not_chosen
-    (AreFields-copied options delimiter between bytes number past) in
-    elim (eqb byte delimiter) as Copies [ true ↦ on_end | false ↦ on_other ] refl
+-- the fields between delimiters, joined by the delimiter
+joined-split : (delimiter : ℕ) (fields : List (List ℕ)) → joined (delimiter ∷ []) fields
+    ≡ join_with_byte delimiter fields
+joined-split delimiter [] = refl
+joined-split delimiter (field ∷ []) = refl
+joined-split delimiter (field ∷ next ∷ others) =
+    append_assoc field (delimiter ∷ []) (joined (delimiter ∷ []) (next ∷ others))
+    ∙ ap (λ rest. field ++ delimiter ∷ rest) (joined-split delimiter (next ∷ others))
+
+-- one more byte before the first field
+joined-byte : (byte : ℕ) (fields : List (List ℕ)) → joined [] (onto_first byte fields) ≡ byte ∷ joined [] fields
+joined-byte byte [] = refl
+joined-byte byte (field ∷ []) = refl
+joined-byte byte (field ∷ next ∷ others) = refl
 
 -- there is a first field between blanks, so the list is not empty
 blank_fields_IsSplit : (bytes : List ℕ) → IsSplit (blank_fields bytes)
@@ -112,26 +83,18 @@ blank_fields_IsSplit (byte ∷ bytes) =
       | false ↦ (byte ∷ split.0, split.1, ap (onto_first byte) split.2)
     ]
 
--- fields between blanks none of which is chosen are copied
-AreFields-copied_blanks : (options : Options) → between_of options ≡ [] → (bytes : List ℕ) (number : ℕ)
-    → ((later : ℕ) → number ≤ later → ¬ IsChosenField options.fields.now later)
-    → AreFields options number (blank_fields bytes) bytes []
-AreFields-copied_blanks options between [] number past = other (past number (omega arith)) refl refl
-AreFields-copied_blanks options between (byte ∷ bytes) number past =
-    let not_chosen = past number (omega arith) in
-    let next = AreFields-copied_blanks options between bytes (number + 1)
-    (λ later high. past later (omega (arith, high))) in
-    elim (not (is_blank byte) && begins_blank bytes) as (λ ends. AreFields options number
-    (cond ends ((byte ∷ []) ∷ blank_fields bytes) (onto_first byte (blank_fields bytes))) (byte ∷ bytes) []) [
-      | true ↦
-          subst (λ mark. AreFields options number ((byte ∷ []) ∷ blank_fields bytes) (byte ∷ (mark ++ bytes)) [])
-          between
-          (AreFields-cons options number (byte ∷ []) (blank_fields bytes) (byte ∷ []) bytes [] []
-          (blank_fields_IsSplit bytes) (other not_chosen refl refl) next)
-      | false ↦
-          AreFields-byte options number byte (blank_fields bytes) bytes [] not_chosen
-          (AreFields-copied_blanks options between bytes number past)
-    ]
+-- the fields between blanks, joined
+joined-blanks : (bytes : List ℕ) → joined [] (blank_fields bytes) ≡ bytes
+joined-blanks [] = refl
+joined-blanks (byte ∷ bytes) =
+    let split = blank_fields_IsSplit bytes in
+    let Whole : List (List ℕ) → Type 0 = λ fields. joined [] fields ≡ byte ∷ joined [] (blank_fields bytes) in
+    let alone : Whole ((byte ∷ []) ∷ blank_fields bytes) =
+    subst (λ fields. joined [] ((byte ∷ []) ∷ fields) ≡ byte ∷ joined [] fields) (sym split.2) refl in
+    let both : Whole (blank_fields (byte ∷ bytes)) =
+    elim (not (is_blank byte) && begins_blank bytes) as (λ ends. Whole (cond ends ((byte ∷ []) ∷ blank_fields bytes)
+    (onto_first byte (blank_fields bytes)))) [ true ↦ alone | false ↦ joined-byte byte (blank_fields bytes) ] in
+    both ∙ ap (λ rest. byte ∷ rest) (joined-blanks bytes)
 
 -- between delimiters and between blanks
 module _ (options : Options) (delimiter : ℕ) (is : options.delimiter ≡ Some delimiter) where
@@ -148,14 +111,17 @@ module _ (options : Options) (delimiter : ℕ) (is : options.delimiter ≡ Some 
       → ((later : ℕ) → number ≤ later → ¬ IsChosenField options.fields.now later)
       → AreFields options number (fields_of options bytes) bytes []
   fields_copied bytes number past =
-      let Copies : Bool → Type 0 = λ blanks. between_of options ≡ bytes_between blanks (Some delimiter)
-      → AreFields options number (fields_by blanks (Some delimiter) bytes) bytes [] in
-      let either : Copies (at_blanks options) = elim (at_blanks options) as Copies [
-        | true ↦ λ between. AreFields-copied_blanks options between bytes number past
-        | false ↦ λ between. AreFields-copied options delimiter between bytes number past
+      let Whole : Bool → Option ℕ → Type 0 =
+      λ blanks mark. joined (bytes_between blanks mark) (fields_by blanks mark bytes) ≡ bytes in
+      let either : Whole (at_blanks options) (Some delimiter) =
+      elim (at_blanks options) as (λ blanks. Whole blanks (Some delimiter)) [
+        | true ↦ joined-blanks bytes
+        | false ↦
+            joined-split delimiter (split_by delimiter bytes) ∙ join_with_byte-slice_split delimiter bytes
       ] in
-      subst (λ mark. AreFields options number (fields_by (at_blanks options) mark bytes) bytes []) (sym is)
-      (either (ap (bytes_between (at_blanks options)) is))
+      subst (λ text. AreFields options number (fields_of options bytes) text [])
+      (subst (Whole (at_blanks options)) (sym is) either)
+      (AreFields-joined options (fields_of options bytes) number past)
 
 -- fields none of which is chosen have no messages
 AreMessagesOfFields-none : (options : Options) (word : List ℕ) (place : ℕ) (fields : List (List ℕ)) (number : ℕ)
