@@ -16,11 +16,12 @@ use Rattle.byte_unit.specs.declared.Sign.TheVariants.{Unset, Plus}
 use Rattle.byte_unit_format.proofs.ReadBack.{accepted_as, digits_accepted, form_is_size}
 use Rattle.byte_unit_format.proofs.WrittenForms.{recovered_unit_unique}
 use Rattle.byte_unit_command.specs.Field.{ignores_case, without_suffix}
-use Rattle.byte_unit_command.specs.Laws.{IsLossless, TextsAreSizesOrNot, FormattedSizesAreRead, ExactTwiceIsOnce}
+use Rattle.byte_unit_command.specs.Laws.{IsLossless, FormattedSizesAreRead, ExactTwiceIsOnce}
 use Rattle.byte_unit_command.specs.Prefixes.{IsAcceptedBy}
 use Rattle.byte_unit_command.specs.Formatted.{IsExactText, IsFormText, exact_spec, padded}
 use Rattle.byte_unit_command.specs.declared.options.Form.{Form}
 use Rattle.byte_unit_command.specs.declared.options.Form.TheVariants.{Exact, Plain, InUnit, NumberOf, Largest}
+use Rattle.byte_unit_command.proofs.Readings.{sizes_or_not}
 use Rattle.byte_unit_command.proofs.Suffixes.{without_it}
 use Rattle.byte_unit_command.proofs.Texts.{padded-none}
 
@@ -121,8 +122,8 @@ one_exact one_form true kind precision size text other (unit, recovered, is_text
     is_other)
 
 -- converting a text in the form `exact`, without a width, once more gives the same text
-pub exact_again : FormattedSizesAreRead → TextsAreSizesOrNot → SizeHasOneForm → ExactTwiceIsOnce
-exact_again formatted_read texts one_form =
+pub exact_again : FormattedSizesAreRead → SizeHasOneForm → ExactTwiceIsOnce
+exact_again formatted_read one_form =
     λ options size text below exact no_width formatted again text_again read (form_again, is_again, again_is).
     let kind = options.kind in
     let binary = options.binary in
@@ -130,7 +131,7 @@ exact_again formatted_read texts one_form =
     let ignore_case = ignores_case kind options.ignore_case in
     let lossless : IsLossless options.form = subst IsLossless (sym exact) tt in
     let accepted = formatted_read options options size text below lossless no_width refl refl (λ yes. yes) formatted in
-    let answer = texts binary kind ignore_case (without_suffix options.suffix.now text) in
+    let answer = sizes_or_not binary kind ignore_case (without_suffix options.suffix.now text) in
     let same : again ≡ size = answer.one_meaning again size read accepted in
     let form = formatted.0 in
     let is_form : IsExactText binary kind precision size form =

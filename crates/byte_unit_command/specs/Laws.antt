@@ -1,10 +1,8 @@
 -- Laws of the texts of sizes: what is formatted can be read again.
-use Rattle.std.specs.Prelude.{◌≡◌, ℕ, ◌<◌, ⊤, Bool, true, List}
+use Rattle.std.specs.Prelude.{◌≡◌, ℕ, ◌<◌, ⊤, true, List}
 use Rattle.byte_unit.specs.Bounds.{size_limit}
-use Rattle.byte_unit.specs.ReaderLaws.{IsOneAnswer}
-use Rattle.byte_unit.specs.declared.Kind.{Kind}
 use Rattle.byte_unit_command.specs.Field.{ignores_case, without_suffix}
-use Rattle.byte_unit_command.specs.Prefixes.{IsAcceptedBy, IsRejectedBy}
+use Rattle.byte_unit_command.specs.Prefixes.{IsAcceptedBy}
 use Rattle.byte_unit_command.specs.Formatted.{IsFormatted}
 use Rattle.byte_unit_command.specs.declared.options.Form.{Form}
 use Rattle.byte_unit_command.specs.declared.options.Form.TheVariants.{Exact, Plain, InUnit, NumberOf, Largest}
@@ -23,13 +21,6 @@ abbrev pub IsReadAs : Options → List ℕ → ℕ → Type 0
 IsReadAs options text size =
     IsAcceptedBy options.binary options.kind (ignores_case options.kind options.ignore_case)
     (without_suffix options.suffix.now text) size
-
--- law: each input is accepted as exactly one size, or rejected with exactly one error, and not both, whatever prefixes
--- mean
-abbrev pub TextsAreSizesOrNot : Type 0
-TextsAreSizesOrNot =
-    (binary : Bool) (kind : Kind) (ignore_case : Bool) (text : List ℕ)
-    → IsOneAnswer ℕ (IsAcceptedBy binary kind ignore_case text) (IsRejectedBy binary kind ignore_case text)
 
 -- law: a size formatted in the exact form or as digits, without padding, is parsed as that size by a run with
 -- any options of the same kind and suffix, unless decimal prefixes mean binary ones in that run alone. So nothing is

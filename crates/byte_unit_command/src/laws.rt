@@ -1,13 +1,8 @@
 //! Laws of the texts of sizes. The contract of each function is the law; its body calls the laws that it follows from.
 
-ghost use Rattle.byte_unit_command.specs.Laws.{TextsAreSizesOrNot, FormattedSizesAreRead, ExactTwiceIsOnce};
+ghost use Rattle.byte_unit_command.specs.Laws.{FormattedSizesAreRead, ExactTwiceIsOnce};
 
 use byte_unit::laws;
-
-/// States that each text is a size or not, and has one size or one error, whether `K` is 1000 or 1024.
-pub(crate) fn texts_are_sizes_or_not()
-    ensures { TextsAreSizesOrNot }
-{}
 
 /// States that a size formatted in the exact form or as digits, unpadded, is parsed as the same size, unless only the
 /// call that parses it has `--from=iec`.
@@ -23,6 +18,5 @@ pub fn exact_twice_is_once()
     ensures { ExactTwiceIsOnce }
 {
     formatted_sizes_are_read();
-    texts_are_sizes_or_not();
     laws::size_has_one_form();
 }

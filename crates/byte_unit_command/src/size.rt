@@ -1,6 +1,7 @@
 //! Reads one size of either kind.
 
-ghost use Rattle.std.specs.Prelude.{◌≡◌, ◌<◌, ◌≤◌, false, IfSome, IfNone};
+ghost use Rattle.std.specs.Prelude.{◌≡◌, ◌<◌, ◌≤◌, false, IfSome, IfNone, IfOk};
+ghost use Rattle.byte_unit.specs.Bounds.{size_limit};
 ghost use Rattle.byte_unit_command.specs.Field.{IsSize, IsNoSize, IsSizeBy, IsNoSizeBy, ignores_case};
 ghost use Rattle.byte_unit_command.specs.Field.{before_space, without_suffix};
 ghost use Rattle.byte_unit_command.specs.Prefixes.{IsBytesReadingBy};
@@ -11,9 +12,10 @@ use byte_unit_base::size;
 
 /// Parses a field, without the suffix of the options, as a size of their kind. Returns `None` if it is not UTF-8.
 pub(crate) fn parse(options: &Options, field: &[u8]) -> Option<Result<u128, ParseError>>
-    ensures { IsBytesReadingBy options.now.binary options.now.kind
+    ensures reading { IsBytesReadingBy options.now.binary options.now.kind
         (ignores_case options.now.kind options.now.ignore_case)
         (without_suffix options.now.suffix.now field.now) result }
+    ensures bound { IfSome result (λ answer. IfOk answer (λ size. size < size_limit)) }
 {
     let text = without_suffix(options.suffix, field);
     let ignore_case = ignores_case(options.kind, options.ignore_case);
@@ -114,15 +116,9 @@ fn special_size(options: &Options, field: &[u8]) -> u128
     ensures some { result < NO_SIZE → IsSize options.now field.now result }
     ensures none { NO_SIZE ≤ result → IsNoSize options.now field.now }
 {
-    let text = without_suffix(options.suffix, field);
-    if options.binary {
-        let ignore_case = ignores_case(options.kind, options.ignore_case);
-        match size::parse_bytes::<true>(text, ignore_case, options.kind) {
-            Some(Ok(size)) => size,
-            Some(Err(_)) => NO_SIZE,
-            None => NO_SIZE,
-        }
-    } else {
-        plain_size(options, text)
+    match parse(options, field) {
+        Some(Ok(size)) => size,
+        Some(Err(_)) => NO_SIZE,
+        None => NO_SIZE,
     }
 }

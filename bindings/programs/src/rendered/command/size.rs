@@ -88,15 +88,9 @@ fn plain_size(options: &Options, text: &[u8]) -> u128 {
 /// Returns the size that a field represents, without the suffix of the options, or `NO_SIZE`.
 #[inline(never)]
 fn special_size(options: &Options, field: &[u8]) -> u128 {
-    let text = without_suffix(options.suffix, field);
-    if options.binary {
-        let ignore_case = ignores_case(options.kind, options.ignore_case);
-        match size::parse_bytes::<true>(text, ignore_case, options.kind) {
-            Some(Ok(size)) => size,
-            Some(Err(_)) => NO_SIZE,
-            None => NO_SIZE,
-        }
-    } else {
-        plain_size(options, text)
+    match parse(options, field) {
+        Some(Ok(size)) => size,
+        Some(Err(_)) => NO_SIZE,
+        None => NO_SIZE,
     }
 }

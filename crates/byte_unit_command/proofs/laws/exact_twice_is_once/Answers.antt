@@ -4,5 +4,4 @@ use Rattle.byte_unit_command.proofs.laws.exact_twice_is_once.Goals as goal
 
 -- converting a text in the form `exact`, without a width, once more gives the same text
 pub returns : goal.returns
-returns c = exact_again c.formatted_sizes_are_read.ensures c.texts_are_sizes_or_not.ensures
-    c.size_has_one_form.ensures
+returns c = exact_again c.formatted_sizes_are_read.ensures c.size_has_one_form.ensures

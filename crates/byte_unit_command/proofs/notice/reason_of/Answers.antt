@@ -1,7 +1,7 @@
 -- A field that the parser accepts is a size.
 use Rattle.std.proofs.Common.{inl, inr}
 use Rattle.byte_unit_command.specs.Field.{ignores_case, without_suffix}
-use Rattle.byte_unit_command.proofs.Readings.{reading-of, found-of, sizes_or_not}
+use Rattle.byte_unit_command.proofs.Readings.{reading-of, sizes_or_not}
 use Rattle.byte_unit_command.proofs.notice.reason_of.Goals as goal
 
 -- this case never happens: a rejected field is not accepted
@@ -12,9 +12,9 @@ returns-in-Some-Ok c =
     let ignore_case = ignores_case kind c.args.options.now.ignore_case in
     let field = without_suffix c.args.options.now.suffix.now c.args.field.now in
     -- a pair: the text is UTF-8, and parsing it gives the size
-    let read = reading-of binary kind ignore_case field c.in-Some-Ok.is c.in-Some-Ok.field-0-is c.parse.ensures in
+    let read = reading-of binary kind ignore_case field c.in-Some-Ok.is c.in-Some-Ok.field-0-is c.parse.ensures.reading in
     let law = sizes_or_not binary kind ignore_case field in
     elim c.requires [
       | inl no_text ↦ absurd (no_text read.0)
-      | inr rejected ↦ absurd (law.not_both _ rejected.1.0 (found-of binary _ _ _ _ read.1) rejected.1.1)
+      | inr rejected ↦ absurd (law.not_both _ rejected.1.0 read.1.found rejected.1.1)
     ]
