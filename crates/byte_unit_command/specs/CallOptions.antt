@@ -4,7 +4,7 @@ use Rattle.std.specs.Prelude.{MatchOption, unwrap_or, is_some, codes}
 use Rattle.std.specs.Borrow.{Bor}
 use Rattle.byte_unit.specs.declared.UnitType.TheVariants.{Binary}
 use Rattle.byte_unit_command.specs.Meaning.{IsFrom, IsOutputForm, MeansNothing}
-use Rattle.byte_unit_command.specs.Meaning.{IsForm, IsNoForm, IsDelimiter, IsPadding, IsNoPadding}
+use Rattle.byte_unit_command.specs.Meaning.{IsForm, IsNoForm, IsDelimiter, IsPadding}
 use Rattle.byte_unit_command.specs.Meaning.{IsMode, IsLimit, IsNoLimit}
 use Rattle.byte_unit_command.specs.Values.{text_of}
 use Rattle.byte_unit_command.specs.declared.options.FieldRange.{FieldRange}
@@ -15,7 +15,7 @@ use Rattle.byte_unit_command.specs.declared.options.Options.{Options}
 use Rattle.byte_unit_command.specs.declared.values.Values.{Values}
 use Rattle.byte_unit_command.specs.declared.wrong.ValueError.{ValueError}
 use Rattle.byte_unit_command.specs.declared.wrong.ValueError.TheVariants.{Delimiter, From, Mode, NoUnit, Precision}
-use Rattle.byte_unit_command.specs.declared.wrong.ValueError.TheVariants.{NoDelimiter}
+use Rattle.byte_unit_command.specs.declared.wrong.ValueError.TheVariants.{NoDelimiter, Padding}
 use Rattle.byte_unit_command.specs.declared.wrong.Wrong.{Wrong}
 
 -- the form without `--to`: `-H` means `--to=iec -p 1`, but for what `--to` and `-p` say
@@ -47,7 +47,7 @@ pub record AreOptions (values : Values) (ranges : List FieldRange) (options : Op
   pub form : (given : Form) × IsFormOf values given × IsOutputForm values.no_unit given options.form
   pub suffix : options.suffix.now ≡ unwrap_or (text_of values.suffix) []
   pub precision : options.precision ≡ precision_of values.human_readable values.precision
-  pub padding : IsPadding (text_of values.padding) options.width options.align_left
+  pub padding : IsPadding (text_of values.padding) (options.width, options.align_left)
   pub delimiter : IsSeparator values options.delimiter
   pub blanks : options.blanks ≡ values.blanks
   pub fields : options.fields.now ≡ ranges
@@ -94,13 +94,10 @@ AreFieldsSeparated values =
     (is_some values.field ≡ false) ⊎ ((is_some values.delimiter ≡ true) ⊎ (values.blanks ≡ true))
 
 -- `--field` without that
-pub record IsWrongField (values : Values) (wrong : Wrong) : Type 0 where
-  pub given : is_some values.field ≡ true
-  pub no_delimiter : is_some values.delimiter ≡ false
-  pub no_blanks : values.blanks ≡ false
-  pub option : wrong.option.now ≡ codes "--field"
-  pub value : text_of values.field ≡ text_of wrong.value
-  pub reason : wrong.reason ≡ NoDelimiter
+abbrev pub IsWrongField : Values → Wrong → Type 0
+IsWrongField values wrong =
+    ¬ AreFieldsSeparated values
+    × IsWrongOf (codes "--field") values.field (λ text reason. reason ≡ NoDelimiter) wrong
 
 -- `--delimiter` is not one byte; or it is right, and nothing separates the fields that `--field` names
 abbrev pub IsWrongSeparator : Values → Wrong → Type 0
@@ -108,51 +105,23 @@ IsWrongSeparator values wrong =
     IsWrongOf (codes "--delimiter") values.delimiter (MeansNothing IsDelimiter Delimiter) wrong
     ⊎ (delimiter : Option ℕ) × IsDelimiter (text_of values.delimiter) delimiter × IsWrongField values wrong
 
--- all options are right that are looked at before `--delimiter`
-abbrev pub FormIsRight : Values → Type 0
-FormIsRight values =
-    (given : Form) × IsFormOf values given × IsWithinExact given values.precision
-    × ((form : Form) × IsOutputForm values.no_unit given form)
-
--- all options are right that are looked at before `--padding`
-abbrev pub FieldsAreRight : Values → Type 0
-FieldsAreRight values =
-    FormIsRight values × ((delimiter : Option ℕ) × IsDelimiter (text_of values.delimiter) delimiter)
-    × AreFieldsSeparated values
-
--- all options are right that are looked at before `--invalid`
-abbrev pub PaddingIsRight : Values → Type 0
-PaddingIsRight values =
-    FieldsAreRight values × ((width : ℕ) × (align_left : Bool) × IsPadding (text_of values.padding) width align_left)
-
--- all options are right that are looked at before `--max` and `--min`
-abbrev pub ModeIsRight : Values → Type 0
-ModeIsRight values = PaddingIsRight values × ((invalid : Invalid) × IsMode (text_of values.invalid) invalid)
+-- an option is wrong; or it is right, and with what it means this holds of the later ones
+abbrev pub OrLater : {M : Type 0} → Type 0 → (M → Type 0) → (M → Type 0) → Type 0
+OrLater {M} is_wrong IsRight Later = is_wrong ⊎ (meaning : M) × IsRight meaning × Later meaning
 
 -- this is the first option that is wrong, in this order
-pub data IsFirstWrong (values : Values) (wrong : Wrong) : Type 0 where
-  wrong_from : IsWrongOf (codes "--from") values.from (MeansNothing IsFrom From) wrong → IsFirstWrong values wrong
-  wrong_to : (binary : Bool) → IsFrom (text_of values.from) binary
-      → IsWrongOf (codes "--to") values.to (IsNoForm values.kind values.ignore_case) wrong
-      → IsFirstWrong values wrong
-  wrong_precision : (binary : Bool) → IsFrom (text_of values.from) binary → (form : Form) → IsFormOf values form
-      → IsWrongPrecision form values.precision wrong → IsFirstWrong values wrong
-  wrong_no_unit : (binary : Bool) → IsFrom (text_of values.from) binary → (given : Form) → IsFormOf values given
-      → IsWithinExact given values.precision → IsWrongNoUnit values.no_unit given wrong → IsFirstWrong values wrong
-  wrong_delimiter : (binary : Bool) → IsFrom (text_of values.from) binary → FormIsRight values
-      → IsWrongOf (codes "--delimiter") values.delimiter (MeansNothing IsDelimiter Delimiter) wrong
-      → IsFirstWrong values wrong
-  wrong_field : (binary : Bool) → IsFrom (text_of values.from) binary → FormIsRight values
-      → (delimiter : Option ℕ) → IsDelimiter (text_of values.delimiter) delimiter
-      → IsWrongField values wrong → IsFirstWrong values wrong
-  wrong_padding : (binary : Bool) → IsFrom (text_of values.from) binary → FieldsAreRight values
-      → IsWrongOf (codes "--padding") values.padding IsNoPadding wrong → IsFirstWrong values wrong
-  wrong_invalid : (binary : Bool) → IsFrom (text_of values.from) binary → PaddingIsRight values
-      → IsWrongOf (codes "--invalid") values.invalid (MeansNothing IsMode Mode) wrong → IsFirstWrong values wrong
-  wrong_max : (binary : Bool) → IsFrom (text_of values.from) binary → ModeIsRight values
-      → IsWrongOf (codes "--max") values.max (IsNoLimit binary values.kind values.ignore_case) wrong
-      → IsFirstWrong values wrong
-  wrong_min : (binary : Bool) → IsFrom (text_of values.from) binary → ModeIsRight values
-      → (max : Option ℕ) → IsLimit binary values.kind values.ignore_case (text_of values.max) max
-      → IsWrongOf (codes "--min") values.min (IsNoLimit binary values.kind values.ignore_case) wrong
-      → IsFirstWrong values wrong
+abbrev pub IsFirstWrong : Values → Wrong → Type 0
+IsFirstWrong values wrong =
+    OrLater (IsWrongOf (codes "--from") values.from (MeansNothing IsFrom From) wrong) (IsFrom (text_of values.from))
+    (λ binary. OrLater (IsWrongForm values wrong)
+    (λ given. IsFormOf values given × IsWithinExact given values.precision)
+    (λ given. OrLater (IsWrongNoUnit values.no_unit given wrong) (IsOutputForm values.no_unit given)
+    (λ _. OrLater (IsWrongSeparator values wrong)
+    (λ (mark : Option ℕ). IsSeparator values mark × AreFieldsSeparated values)
+    (λ _. OrLater (IsWrongOf (codes "--padding") values.padding (MeansNothing IsPadding Padding) wrong)
+    (IsPadding (text_of values.padding))
+    (λ _. OrLater (IsWrongOf (codes "--invalid") values.invalid (MeansNothing IsMode Mode) wrong)
+    (IsMode (text_of values.invalid))
+    (λ _. OrLater (IsWrongOf (codes "--max") values.max (IsNoLimit binary values.kind values.ignore_case) wrong)
+    (IsLimit binary values.kind values.ignore_case (text_of values.max))
+    (λ _. IsWrongOf (codes "--min") values.min (IsNoLimit binary values.kind values.ignore_case) wrong)))))))

@@ -21,7 +21,7 @@ use Rattle.byte_unit_command.specs.declared.options.Invalid.{Invalid}
 use Rattle.byte_unit_command.specs.declared.options.Invalid.TheVariants.{Abort, Fail, Warn, Ignore}
 use Rattle.byte_unit_command.specs.declared.wrong.ValueError.{ValueError}
 use Rattle.byte_unit_command.specs.declared.wrong.ValueError.TheVariants.{Unit as UnitFault, Blank}
-use Rattle.byte_unit_command.specs.declared.wrong.ValueError.TheVariants.{Padding, Size}
+use Rattle.byte_unit_command.specs.declared.wrong.ValueError.TheVariants.{Size}
 
 -- the text has no meaning as a value of the option, and `only` is the error
 abbrev pub MeansNothing : {V : Type 0} → (Option (List ℕ) → V → Type 0) → ValueError → List ℕ → ValueError → Type 0
@@ -82,17 +82,12 @@ IsDelimiter (Some text) delimiter =
 abbrev pub IsWidth : List ℕ → ℕ → Type 0
 IsWidth text width = IsPositive text width × (width < 2 ^ 16)
 
--- `--padding`: a width, after a hyphen (45) if sizes are aligned to the left
-abbrev pub IsPadding : Option (List ℕ) → ℕ → Bool → Type 0
-IsPadding None width align_left = (width ≡ 0) × (align_left ≡ false)
-IsPadding (Some text) width align_left =
-    IsWidth text width × (align_left ≡ false)
-    ⊎ (digits : List ℕ) × (text ≡ 45 ∷ digits) × IsWidth digits width × (align_left ≡ true)
-
--- the text is no value of `--padding`, for this reason
-abbrev pub IsNoPadding : List ℕ → ValueError → Type 0
-IsNoPadding text reason =
-    ((width : ℕ) (align_left : Bool) → ¬ IsPadding (Some text) width align_left) × (reason ≡ Padding)
+-- `--padding`: a width, and whether sizes are aligned to the left, which a hyphen (45) before it says
+abbrev pub IsPadding : Option (List ℕ) → ℕ × Bool → Type 0
+IsPadding None padding = (padding.0 ≡ 0) × (padding.1 ≡ false)
+IsPadding (Some text) padding =
+    IsWidth text padding.0 × (padding.1 ≡ false)
+    ⊎ (digits : List ℕ) × (text ≡ 45 ∷ digits) × IsWidth digits padding.0 × (padding.1 ≡ true)
 
 -- the value of `--invalid` is the word for this mode; without the option the mode is `abort`
 abbrev pub IsMode : Option (List ℕ) → Invalid → Type 0

@@ -1,6 +1,6 @@
 //! What the values of the options of a call mean.
 
-ghost use Rattle.std.specs.Prelude.{ℕ, Bool, MatchOption, MatchResult, IfOk, IfErr, codes};
+ghost use Rattle.std.specs.Prelude.{◌≡◌, ℕ, Bool, Some, MatchOption, MatchResult, IfOk, IfErr, codes};
 ghost use Rattle.byte_unit_command.specs.CallOptions.{AreOptions, IsFirstWrong, IsWrongOf};
 ghost use Rattle.byte_unit_command.specs.CallOptions.{IsFormOf, IsWithinExact, IsWrongForm};
 ghost use Rattle.byte_unit_command.specs.CallOptions.{IsWrongNoUnit, AreFieldsSeparated};
@@ -8,7 +8,7 @@ ghost use Rattle.byte_unit_command.specs.CallOptions.{IsSeparator, IsWrongSepara
 ghost use Rattle.byte_unit_command.specs.Field.{ignores_case};
 ghost use Rattle.byte_unit_command.specs.Meaning.{IsFrom, IsOutputForm};
 ghost use Rattle.byte_unit_command.specs.Meaning.{IsUnitName, IsNoUnitName};
-ghost use Rattle.byte_unit_command.specs.Meaning.{IsPadding, IsNoPadding, IsWidth};
+ghost use Rattle.byte_unit_command.specs.Meaning.{IsPadding, IsWidth};
 ghost use Rattle.byte_unit_command.specs.Meaning.{IsMode, MeansNothing, IsLimit, IsNoLimit};
 ghost use Rattle.byte_unit_command.specs.Prefixes.{IsReadingBy};
 ghost use Rattle.byte_unit_command.specs.Values.{text_of};
@@ -74,6 +74,18 @@ pub fn options_of<'a>(
     })
 }
 
+/// Returns what is wrong with this value of an option.
+fn wrong<'a>(option: &'static str, value: &'a str, reason: ValueError) -> Wrong<'a>
+    ensures { result
+        ≡ record { option = option.entry; value = Some value.entry; reason = reason } }
+{
+    Wrong {
+        option,
+        value: Some(value),
+        reason,
+    }
+}
+
 /// Returns whether a decimal prefix in a size means the binary one.
 ///
 /// # Errors
@@ -93,11 +105,7 @@ fn from_of(value: Option<&str>) -> Result<bool, Wrong<'_>>
         "auto" => Ok(false),
         "si" => Ok(false),
         "iec-i" => Ok(false),
-        _ => Err(Wrong {
-            option: "--from",
-            value: Some(value),
-            reason: ValueError::From,
-        }),
+        _ => Err(wrong("--from", value, ValueError::From)),
     }
 }
 
@@ -133,11 +141,7 @@ fn form_of<'a>(values: &Values<'a>) -> Result<Form, Wrong<'a>>
         "auto" => Ok(Form::Largest(UnitType::Both)),
         _ => match unit_of(value, values.kind, values.ignore_case) {
             Ok(unit) => Ok(Form::InUnit(unit)),
-            Err(reason) => Err(Wrong {
-                option: "--to",
-                value: Some(value),
-                reason,
-            }),
+            Err(reason) => Err(wrong("--to", value, reason)),
         },
     }
 }
@@ -203,13 +207,7 @@ fn separator_of<'a>(values: &Values<'a>) -> Result<Option<u8>, Wrong<'a>>
             [] => None,
             [byte] => Some(*byte),
             b"\\t" => Some(b'\t'),
-            _ => {
-                return Err(Wrong {
-                    option: "--delimiter",
-                    value: Some(value),
-                    reason: ValueError::Delimiter,
-                });
-            }
+            _ => return Err(wrong("--delimiter", value, ValueError::Delimiter)),
         },
     };
     if values.blanks {
@@ -231,8 +229,9 @@ fn separator_of<'a>(values: &Values<'a>) -> Result<Option<u8>, Wrong<'a>>
 ///
 /// Returns an error if the value is not a number from 1 to 65535, or its negative.
 fn padding_of(value: Option<&str>) -> Result<(u16, bool), Wrong<'_>>
-    ensures ok { IfOk result (λ padding. IsPadding (text_of value.entry) padding.0 padding.1) }
-    ensures err { IfErr result (IsWrongOf (codes "--padding") value.entry IsNoPadding) }
+    ensures ok { IfOk result (IsPadding (text_of value.entry)) }
+    ensures err { IfErr result
+        (IsWrongOf (codes "--padding") value.entry (MeansNothing IsPadding ValueError.Padding)) }
 {
     let Some(value) = value else {
         // No width.
@@ -240,19 +239,14 @@ fn padding_of(value: Option<&str>) -> Result<(u16, bool), Wrong<'_>>
     };
     match signed_width_of(value) {
         Some(padding) => Ok(padding),
-        None => Err(Wrong {
-            option: "--padding",
-            value: Some(value),
-            reason: ValueError::Padding,
-        }),
+        None => Err(wrong("--padding", value, ValueError::Padding)),
     }
 }
 
 /// Parses a width, and whether a hyphen before it aligns sizes to the left. Returns `None` if the text is neither.
 fn signed_width_of(text: &str) -> Option<(u16, bool)>
-    ensures { MatchOption result
-        ((width : ℕ) (align_left : Bool) → ¬ IsPadding (Some text.now) width align_left)
-        (λ padding. IsPadding (Some text.now) padding.0 padding.1) }
+    ensures { MatchOption result ((padding : ℕ × Bool) → ¬ IsPadding (Some text.now) padding)
+        (IsPadding (Some text.now)) }
 {
     match text.strip_prefix('-') {
         Some(digits) => Some((width_of(digits)?, true)),
@@ -286,11 +280,7 @@ fn invalid_of(value: Option<&str>) -> Result<Invalid, Wrong<'_>>
         "fail" => Ok(Invalid::Fail),
         "warn" => Ok(Invalid::Warn),
         "ignore" => Ok(Invalid::Ignore),
-        _ => Err(Wrong {
-            option: "--invalid",
-            value: Some(value),
-            reason: ValueError::Mode,
-        }),
+        _ => Err(wrong("--invalid", value, ValueError::Mode)),
     }
 }
 
@@ -315,11 +305,7 @@ fn limit_of<'a>(
     };
     match parse_size(value, binary, kind, ignore_case) {
         Ok(size) => Ok(Some(size)),
-        Err(error) => Err(Wrong {
-            option,
-            value: Some(value),
-            reason: ValueError::Size(error),
-        }),
+        Err(error) => Err(wrong(option, value, ValueError::Size(error))),
     }
 }
 

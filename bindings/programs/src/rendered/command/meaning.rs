@@ -63,6 +63,11 @@ pub fn options_of<'a>(values: &Values<'a>, fields: &'a [FieldRange]) -> Result<O
     })
 }
 
+/// Returns what is wrong with this value of an option.
+fn wrong<'a>(option: &'static str, value: &'a str, reason: ValueError) -> Wrong<'a> {
+    Wrong { option, value: Some(value), reason }
+}
+
 /// Returns whether a decimal prefix in a size means the binary one.
 ///
 /// # Errors
@@ -78,7 +83,7 @@ fn from_of(value: Option<&str>) -> Result<bool, Wrong<'_>> {
         "auto" => Ok(false),
         "si" => Ok(false),
         "iec-i" => Ok(false),
-        _ => Err(Wrong { option: "--from", value: Some(value), reason: ValueError::From }),
+        _ => Err(wrong("--from", value, ValueError::From)),
     }
 }
 
@@ -104,7 +109,7 @@ fn form_of<'a>(values: &Values<'a>) -> Result<Form, Wrong<'a>> {
         "auto" => Ok(Form::Largest(UnitType::Both)),
         _ => match unit_of(value, values.kind, values.ignore_case) {
             Ok(unit) => Ok(Form::InUnit(unit)),
-            Err(reason) => Err(Wrong { option: "--to", value: Some(value), reason }),
+            Err(reason) => Err(wrong("--to", value, reason)),
         },
     }
 }
@@ -158,9 +163,7 @@ fn separator_of<'a>(values: &Values<'a>) -> Result<Option<u8>, Wrong<'a>> {
             [] => None,
             [byte] => Some(*byte),
             b"\\t" => Some(b'\t'),
-            _ => {
-                return Err(Wrong { option: "--delimiter", value: Some(value), reason: ValueError::Delimiter });
-            }
+            _ => return Err(wrong("--delimiter", value, ValueError::Delimiter)),
         },
     };
     if values.blanks {
@@ -184,7 +187,7 @@ fn padding_of(value: Option<&str>) -> Result<(u16, bool), Wrong<'_>> {
     };
     match signed_width_of(value) {
         Some(padding) => Ok(padding),
-        None => Err(Wrong { option: "--padding", value: Some(value), reason: ValueError::Padding }),
+        None => Err(wrong("--padding", value, ValueError::Padding)),
     }
 }
 
@@ -216,7 +219,7 @@ fn invalid_of(value: Option<&str>) -> Result<Invalid, Wrong<'_>> {
         "fail" => Ok(Invalid::Fail),
         "warn" => Ok(Invalid::Warn),
         "ignore" => Ok(Invalid::Ignore),
-        _ => Err(Wrong { option: "--invalid", value: Some(value), reason: ValueError::Mode }),
+        _ => Err(wrong("--invalid", value, ValueError::Mode)),
     }
 }
 
@@ -237,7 +240,7 @@ fn limit_of<'a>(
     };
     match parse_size(value, binary, kind, ignore_case) {
         Ok(size) => Ok(Some(size)),
-        Err(error) => Err(Wrong { option, value: Some(value), reason: ValueError::Size(error) }),
+        Err(error) => Err(wrong(option, value, ValueError::Size(error))),
     }
 }
 
