@@ -64,26 +64,14 @@ pub(crate) fn add_in_width<A: Allocator>(
             text.truncate(text.len() - (AT_ONCE - len));
             Ok(())
         }
-        [_, ..] => add_suffixed(&digits[..len], options.suffix, text),
+        [_, ..] => add_padded(
+            width,
+            options.align_left,
+            options.suffix,
+            &digits[..len],
+            text,
+        ),
     }
-}
-
-/// Appends `bytes` and the suffix.
-///
-/// # Errors
-///
-/// Returns `AllocError` if allocation fails.
-#[inline(never)]
-fn add_suffixed<A: Allocator>(
-    bytes: &[u8],
-    suffix: &[u8],
-    text: &mut Vec<u8, A>,
-) -> Result<(), AllocError>
-    ensures ok { OnOk result (text.new.items ≡ text.old.items ++ (bytes.now ++ suffix.now)) }
-    ensures kept { IsBeginningOf text.old.items text.new.items }
-{
-    text.extend_from_slice(bytes)?;
-    text.extend_from_slice(suffix)
 }
 
 /// Appends `bytes` and the suffix, with the spaces that these lack of a width.
@@ -162,7 +150,10 @@ fn write_as<const BITS: bool>(options: &Options, size: u128, out: &mut [u8]) -> 
     let kind = kind_of(BITS);
     // The precision is read where it counts: digits take fewer instructions then.
     match options.form {
-        Form::Exact if options.binary => write_binary(size, kind, options.precision, out),
+        Form::Exact if options.binary => {
+            let spec = binary_spec(size, kind, options.precision);
+            write_text(size, kind, spec, out)
+        }
         Form::Exact => write_text(size, kind, exact_spec(options.precision), out),
         Form::Plain => write_text(size, kind, FormatSpec::PLAIN, out),
         Form::InUnit(unit) => {
@@ -184,23 +175,11 @@ fn write_as<const BITS: bool>(options: &Options, size: u128, out: &mut [u8]) -> 
     }
 }
 
-/// Writes a size in the exact form where a decimal prefix means the binary one, and returns its length: as digits,
-/// unless its unit has a binary prefix.
-///
-/// Preconditions (proved at every call): `size` is less than 10^30, and `out` has capacity for any text.
-#[inline(never)]
-fn write_binary(size: u128, kind: Kind, precision: Option<u16>, out: &mut [u8]) -> usize
-    requires bound { size < size_limit }
-    requires capacity { text_limit ≤ length out.old }
-    ensures written { BeginsWithForm (IsFormText true kind Form.Exact precision size) out.new result }
-    ensures bound { result < text_limit }
-{
-    write_text(size, kind, binary_spec(size, kind, precision), out)
-}
-
-/// Returns how a size is formatted in the exact form where a decimal prefix means the binary one.
+/// Returns how a size is formatted in the exact form where a decimal prefix means the binary one: as digits, unless its
+/// unit has a binary prefix.
 ///
 /// Precondition (proved at every call): `size` is less than 10^30.
+#[inline(never)]
 fn binary_spec(size: u128, kind: Kind, precision: Option<u16>) -> FormatSpec
     requires { size < size_limit }
     ensures text { (text : List ℕ) → IsText kind size result text

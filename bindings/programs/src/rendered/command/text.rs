@@ -44,19 +44,8 @@ pub(crate) fn add_in_width<A: Allocator>(
             text.truncate(text.len() - (AT_ONCE - len));
             Ok(())
         }
-        [_, ..] => add_suffixed(&digits[..len], options.suffix, text),
+        [_, ..] => add_padded(width, options.align_left, options.suffix, &digits[..len], text),
     }
-}
-
-/// Appends `bytes` and the suffix.
-///
-/// # Errors
-///
-/// Returns `AllocError` if allocation fails.
-#[inline(never)]
-fn add_suffixed<A: Allocator>(bytes: &[u8], suffix: &[u8], text: &mut Vec<u8, A>) -> Result<(), AllocError> {
-    text.extend_from_slice(bytes)?;
-    text.extend_from_slice(suffix)
 }
 
 /// Appends `bytes` and the suffix, with the spaces that these lack of a width.
@@ -113,7 +102,10 @@ fn write_as<const BITS: bool>(options: &Options, size: u128, out: &mut [u8]) -> 
     let kind = kind_of(BITS);
     // The precision is read where it counts: digits take fewer instructions then.
     match options.form {
-        Form::Exact if options.binary => write_binary(size, kind, options.precision, out),
+        Form::Exact if options.binary => {
+            let spec = binary_spec(size, kind, options.precision);
+            write_text(size, kind, spec, out)
+        }
         Form::Exact => write_text(size, kind, exact_spec(options.precision), out),
         Form::Plain => write_text(size, kind, FormatSpec::PLAIN, out),
         Form::InUnit(unit) => {
@@ -129,18 +121,11 @@ fn write_as<const BITS: bool>(options: &Options, size: u128, out: &mut [u8]) -> 
     }
 }
 
-/// Writes a size in the exact form where a decimal prefix means the binary one, and returns its length: as digits,
-/// unless its unit has a binary prefix.
-///
-/// Preconditions: `size` is less than 10^30, and `out` has capacity for any text.
-#[inline(never)]
-fn write_binary(size: u128, kind: Kind, precision: Option<u16>, out: &mut [u8]) -> usize {
-    write_text(size, kind, binary_spec(size, kind, precision), out)
-}
-
-/// Returns how a size is formatted in the exact form where a decimal prefix means the binary one.
+/// Returns how a size is formatted in the exact form where a decimal prefix means the binary one: as digits, unless its
+/// unit has a binary prefix.
 ///
 /// Precondition: `size` is less than 10^30.
+#[inline(never)]
 fn binary_spec(size: u128, kind: Kind, precision: Option<u16>) -> FormatSpec {
     let places = places_of(precision);
     let (_, unit) = recoverable_unit(size, kind, false, places, &mut Steps::new());

@@ -5,35 +5,35 @@ use Rattle.std.proofs.Common.{◌≡◌, ◌≤◌, ℕ, List, [], ◌++◌, len
 use Rattle.std.proofs.Common.{append-nil, is_ok, refl}
 use Rattle.std.proofs.lemmas.List.{length-take-le, nil_from_length}
 use Rattle.std.proofs.lemmas.Result.{on_ok_weaker}
-use Rattle.byte_unit_command.specs.Formatted.{padded}
+use Rattle.byte_unit_command.specs.Formatted.{BeginsWithForm, IsFormText, IsFormatted, padded}
+use Rattle.byte_unit_command.specs.declared.options.Options.{Options}
 use Rattle.byte_unit_command.proofs.Texts.{first_bytes, padded-none}
 use Rattle.byte_unit_stream.proofs.Beginnings.{IsBeginningOf-if}
 use Rattle.byte_unit_command.proofs.text.add_in_width.Goals as goal
 
+-- what `add_padded` has appended is the formatted size
+with_padding : (options : Options) (width size len : ℕ) (bytes old new : List ℕ)
+    → BeginsWithForm (IsFormText options.binary options.kind options.form options.precision size) bytes len
+    → new ≡ old ++ padded width options.align_left (take len bytes ++ options.suffix.now)
+    → (formatted : List ℕ) × IsFormatted (record options { width = width }) size formatted × (new ≡ old ++ formatted)
+with_padding options width size len bytes old new written added =
+    let formatted : List ℕ → List ℕ = λ text. padded width options.align_left (text ++ options.suffix.now) in (
+      formatted written.form,
+      (written.form, written.is_form, refl),
+      added ∙ ap (λ text. old ++ formatted text) written.begins,
+    )
+
 -- with a width, the padded text is appended
 pub returns-then-width-gt0-clause-ok : goal.returns-then-width-gt0-clause-ok
 returns-then-width-gt0-clause-ok g c =
-    let options = c.args.options.now in
-    let written = c.write_size-len.ensures.written in
-    let formatted : List ℕ → List ℕ = λ text. padded c.args.width options.align_left (text ++ options.suffix.now) in
-    on_ok_weaker c.add_padded.result (λ added. (
-      formatted written.form,
-      (written.form, written.is_form, refl),
-      added ∙ ap (λ text. c.args.text.now.items ++ formatted text) written.begins,
-    )) c.add_padded.ensures.ok
+    on_ok_weaker c.add_padded.result (with_padding c.args.options.now c.args.width _ _ _ _ _
+    c.write_size-len.ensures.written) c.add_padded.ensures.ok
 
--- with a suffix and no width, the text is appended with its suffix
+-- with a suffix and no width, too
 pub returns-in-len1-up-clause-ok : goal.returns-in-len1-up-clause-ok
 returns-in-len1-up-clause-ok g c =
-    let options = c.args.options.now in
-    let written = c.write_size-len.ensures.written in
-    let formatted = written.form ++ options.suffix.now in
-    let none : c.args.width ≡ 0 = omega (arith, c.if-width-gt0.false) in
-    on_ok_weaker c.add_suffixed.result (λ added. (
-      formatted,
-      (written.form, written.is_form, sym (padded-none c.args.width options.align_left formatted none)),
-      added ∙ ap (λ text. c.args.text.now.items ++ (text ++ options.suffix.now)) written.begins,
-    )) c.add_suffixed.ensures.ok
+    on_ok_weaker c.add_padded-in-len1-up.result (with_padding c.args.options.now c.args.width _ _ _ _ _
+    c.write_size-len.ensures.written) c.add_padded-in-len1-up.ensures.ok
 
 -- a text of more than 64 bytes is appended as it is: what was there is kept
 pub returns-then-len-gt-AT_ONCE-clause-kept : goal.returns-then-len-gt-AT_ONCE-clause-kept
