@@ -12,24 +12,20 @@ use Rattle.byte_unit_command.specs.Field.{IsSize, IsNoSize, ignores_case, withou
 use Rattle.byte_unit_command.specs.Fields.{IsChosenField, fields_of}
 use Rattle.byte_unit_command.specs.Prefixes.{IsRejectedBy}
 use Rattle.byte_unit_command.specs.Sums.{is_above, is_below}
-use Rattle.byte_unit_command.specs.WrongCharacter.{ArePlaceWords}
+use Rattle.byte_unit_command.specs.WrongCharacter.{ArePlaceWords, begins_character}
 use Rattle.byte_unit_command.specs.declared.notice.FieldError.{FieldError}
 use Rattle.byte_unit_command.specs.declared.notice.FieldError.TheVariants.{NotUtf8, Rejected, Above, Below}
 use Rattle.byte_unit_command.specs.declared.options.Invalid.{Invalid}
 use Rattle.byte_unit_command.specs.declared.options.Invalid.TheVariants.{Abort, Fail, Warn, Ignore}
 use Rattle.byte_unit_command.specs.declared.options.Options.{Options}
 
--- whether a UTF-8 text that is cut before its byte with this index is cut between two characters
-abbrev pub is_boundary : List ℕ → ℕ → Bool
-is_boundary bytes index = nat_lt (slice_index bytes index) 128 || nat_le 192 (slice_index bytes index)
-
 -- the number of bytes of a field that a message quotes: all of at most 80 bytes; of more, the most of the first 80 that
 -- end between two characters of a UTF-8 text, which has such a place in any four bytes; and 80 if there is none
 abbrev pub quoted_len : List ℕ → ℕ
 quoted_len field =
-    if nat_le (length field) 80 then length field else (if is_boundary field 80 then 80
-    else (if is_boundary field 79 then 79 else (if is_boundary field 78 then 78
-    else (if is_boundary field 77 then 77 else 80))))
+    if nat_le (length field) 80 then length field else (if begins_character (slice_index field 80) then 80
+    else (if begins_character (slice_index field 79) then 79 else (if begins_character (slice_index field 78) then 78
+    else (if begins_character (slice_index field 77) then 77 else 80))))
 
 -- the first and the last of each run of format characters (category `Cf` of Unicode 16), and of the separators of lines
 -- and paragraphs: what shows nothing, or changes how the text beside it is shown

@@ -1,5 +1,5 @@
 -- The number of the first wrong character of a text. A text is given by its UTF-8 bytes.
-use Rattle.std.specs.Prelude.{◌≡◌, ℕ, ◌+◌, ◌⊎◌, Bool, true, false, ◌||◌, nat_lt, nat_le, if◌then◌else◌, MatchBool}
+use Rattle.std.specs.Prelude.{◌≡◌, ℕ, ◌+◌, ◌⊎◌, Bool, true, false, ◌||◌, nat_lt, nat_le, if◌then◌else◌}
 use Rattle.std.specs.Prelude.{List, [], ◌++◌, length, take, Option, None, Some, codes}
 use Rattle.std.specs.Fmt.{decimal}
 use Rattle.std.specs.List.{count_by}
@@ -12,12 +12,6 @@ use Rattle.byte_unit.specs.declared.ValueParseError.TheVariants.{NotNumber}
 -- whether a byte begins a character
 abbrev pub begins_character : ℕ → Bool
 begins_character byte = nat_lt byte 128 || nat_le 192 byte
-
--- whether the message of an error names a character
-abbrev pub names_character : ParseError → Bool
-names_character (Value (NotNumber c)) = true
-names_character (Value _) = false
-names_character (UnitFault error) = true
 
 -- the number of the character at this position, counted from 1; none if only white space follows, or nothing
 abbrev pub character_at : List ℕ → Option ℕ → Option ℕ
@@ -36,8 +30,12 @@ abbrev pub character_words : Option ℕ → List ℕ
 character_words None = []
 character_words (Some number) = codes " (character " ++ (decimal number ++ codes ")")
 
--- what a message says of the place in the text, if it names a character
+-- the words for the place of the first wrong character of a text
+abbrev pub IsPlaceTold : List ℕ → List ℕ → Type 0
+IsPlaceTold text words = (number : Option ℕ) × IsWrongCharacter text number × (words ≡ character_words number)
+
+-- what a message says of the place in the text: it names that if it names a character
 abbrev pub ArePlaceWords : ParseError → List ℕ → List ℕ → Type 0
-ArePlaceWords error text words =
-    MatchBool (names_character error) ((number : Option ℕ) × IsWrongCharacter text number
-    × (words ≡ character_words number)) (words ≡ [])
+ArePlaceWords (Value (NotNumber c)) text words = IsPlaceTold text words
+ArePlaceWords (Value _) text words = words ≡ []
+ArePlaceWords (UnitFault error) text words = IsPlaceTold text words

@@ -16,8 +16,8 @@ use crate::error::RunError;
 use crate::options::{Invalid, Options};
 use crate::quote::add_quoted;
 use crate::size::{parse, without_suffix};
-use crate::wrong_character::{names_character, wrong_character};
-use byte_unit::ParseError;
+use crate::wrong_character::wrong_character;
+use byte_unit::{ParseError, ValueParseError};
 use byte_unit_stream::{Writing, write_whole};
 use std::alloc::{AllocError, Allocator};
 use std::fmt::Write as WriteText;
@@ -30,15 +30,6 @@ pub(crate) struct Place {
     pub word: &'static str,
     /// The number of the record, counted from 1.
     pub number: u64,
-}
-
-/// A field of a record.
-#[derive(Debug, Clone, Copy)]
-struct Field<'a> {
-    /// Its number, counted from 1.
-    number: u64,
-    /// Its bytes, as they are in the record.
-    bytes: &'a [u8],
 }
 
 /// Messages that are not written yet.
@@ -123,11 +114,7 @@ pub(crate) fn add_reject_notice<A: Allocator>(
         return Ok(());
     }
     let reason = reason_of(options, field);
-    let field = Field {
-        number,
-        bytes: field,
-    };
-    add_message(options, place, field, &reason, notices)
+    add_message(options, place, number, field, &reason, notices)
 }
 
 /// Returns `true` if there are messages about rejected fields.
@@ -178,12 +165,24 @@ pub(crate) fn add_limit_notice<A: Allocator>(
 {
     let above = options.max.is_some_and(|most| most < size);
     let below = options.min.is_some_and(|least| size < least);
-    let field = Field {
+    add_message_if(
+        above,
+        options,
+        place,
         number,
-        bytes: field,
-    };
-    add_message_if(above, options, place, field, &FieldError::Above, notices)?;
-    add_message_if(below, options, place, field, &FieldError::Below, notices)
+        field,
+        &FieldError::Above,
+        notices,
+    )?;
+    add_message_if(
+        below,
+        options,
+        place,
+        number,
+        field,
+        &FieldError::Below,
+        notices,
+    )
 }
 
 /// Appends a message if it is to be told.
@@ -195,18 +194,19 @@ fn add_message_if<A: Allocator>(
     told: bool,
     options: &Options,
     place: &Place,
-    field: Field,
+    number: u64,
+    field: &[u8],
     reason: &FieldError,
     notices: &mut Notices<A>,
 ) -> Result<(), AllocError>
     ensures ok { OnOk result ((text : List ℕ)
         × IsMessageIf told options.now place.now.word.now place.now.number
-        field.entry.number field.entry.bytes.now
-        reason.now text × (messages_of notices.new ≡ messages_of notices.old ++ text)) }
+        number field.now reason.now text
+        × (messages_of notices.new ≡ messages_of notices.old ++ text)) }
     ensures kept { IsBeginningOf (messages_of notices.old) (messages_of notices.new) }
 {
     if told {
-        add_message(options, place, field, reason, notices)
+        add_message(options, place, number, field, reason, notices)
     } else {
         Ok(())
     }
@@ -220,24 +220,25 @@ fn add_message_if<A: Allocator>(
 fn add_message<A: Allocator>(
     options: &Options,
     place: &Place,
-    field: Field,
+    number: u64,
+    field: &[u8],
     reason: &FieldError,
     notices: &mut Notices<A>,
 ) -> Result<(), AllocError>
     ensures ok { OnOk result ((text : List ℕ)
         × IsMessage options.now place.now.word.now place.now.number
-        field.entry.number field.entry.bytes.now reason.now text
+        number field.now reason.now text
         × (messages_of notices.new ≡ messages_of notices.old ++ text)) }
     ensures kept { IsBeginningOf (messages_of notices.old) (messages_of notices.new) }
 {
     notices.line.clear();
-    add_place(options, place, field.number, &mut notices.line)?;
-    add_quoted(field.bytes, &mut notices.line)?;
+    add_place(options, place, number, &mut notices.line)?;
+    add_quoted(field, &mut notices.line)?;
     notices.line.push_str(": ")?;
     add_words(reason, &mut notices.words, &mut notices.line)?;
     add_character(
         reason,
-        without_suffix(options.suffix, field.bytes),
+        without_suffix(options.suffix, field),
         &mut notices.line,
     )?;
     notices.line.push_str("\n")?;
@@ -309,13 +310,11 @@ fn add_character<A: Allocator>(
         × (string_bytes line.new ≡ string_bytes line.old ++ words)) }
 {
     match reason {
-        FieldError::Rejected(error) => {
-            if names_character(error) {
-                add_number(wrong_character(text), line)
-            } else {
-                Ok(())
-            }
+        FieldError::Rejected(ParseError::Unit(_)) => add_number(wrong_character(text), line),
+        FieldError::Rejected(ParseError::Value(ValueParseError::NotNumber(_))) => {
+            add_number(wrong_character(text), line)
         }
+        FieldError::Rejected(ParseError::Value(_)) => Ok(()),
         FieldError::NotUtf8 | FieldError::Above | FieldError::Below => Ok(()),
     }
 }

@@ -1,11 +1,12 @@
 //! Quotes a field in a message, and escapes control and format characters.
 
-ghost use Rattle.std.specs.Prelude.{◌≡◌, ◌++◌, ◌≤◌, ◌||◌, nat_lt, nat_le, length, OnOk};
+ghost use Rattle.std.specs.Prelude.{◌≡◌, ◌++◌, ◌≤◌, length, OnOk};
 ghost use Rattle.std.specs.List.{flat_map};
 ghost use Rattle.std.specs.Str.{chars};
 ghost use Rattle.std.specs.String.{string_bytes};
 ghost use Rattle.byte_unit_command.specs.Messages.{escape, escape_byte, escape_char, is_format, quote};
 ghost use Rattle.byte_unit_command.specs.Messages.{quoted_len as len_of_quote};
+ghost use Rattle.byte_unit_command.specs.WrongCharacter.{begins_character};
 
 use std::alloc::{AllocError, Allocator};
 use std::fmt::Write;
@@ -82,7 +83,7 @@ fn quoted_len(field: &[u8]) -> usize
 
 /// Returns `true` if a character of a UTF-8 text can begin with this byte. The bytes 0x80 to 0xBF continue one.
 pub(crate) fn is_boundary(byte: u8) -> bool
-    ensures { result ≡ (nat_lt byte 128 || nat_le 192 byte) }
+    ensures { result ≡ begins_character byte }
 {
     byte < 0x80 || 0xC0 <= byte
 }

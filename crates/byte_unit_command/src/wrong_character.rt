@@ -4,23 +4,10 @@ ghost use Rattle.std.specs.Prelude.{◌≡◌, ◌≤◌, ℕ, Option, length};
 ghost use Rattle.std.specs.List.{count_by};
 ghost use Rattle.byte_unit.specs.ErrorPosition.{IsSizePosition};
 ghost use Rattle.byte_unit_command.specs.WrongCharacter.{IsWrongCharacter, begins_character, character_at};
-ghost use Rattle.byte_unit_command.specs.WrongCharacter.{names_character as has_character_named};
 
 use crate::quote::is_boundary;
-use byte_unit::{ParseError, ValueParseError};
 use byte_unit_base::size;
 use std::str;
-
-/// Returns `true` if the message of an error names a character.
-pub(crate) fn names_character(error: &ParseError) -> bool
-    ensures { result ≡ has_character_named error.now }
-{
-    match error {
-        ParseError::Value(ValueParseError::NotNumber(_)) => true,
-        ParseError::Value(_) => false,
-        ParseError::Unit(_) => true,
-    }
-}
 
 /// Returns the number of the first wrong character of a text that is no size, counted from 1. Returns `None` if the
 /// text ends too early or is not UTF-8.

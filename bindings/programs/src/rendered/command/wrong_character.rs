@@ -4,17 +4,7 @@
 
 use crate::rendered::command::quote::is_boundary;
 use byte_unit::rendered::base::size;
-use byte_unit::rendered::base::{ParseError, ValueParseError};
 use std::str;
-
-/// Returns `true` if the message of an error names a character.
-pub(crate) fn names_character(error: &ParseError) -> bool {
-    match error {
-        ParseError::Value(ValueParseError::NotNumber(_)) => true,
-        ParseError::Value(_) => false,
-        ParseError::Unit(_) => true,
-    }
-}
 
 /// Returns the number of the first wrong character of a text that is no size, counted from 1. Returns `None` if the
 /// text ends too early or is not UTF-8.

@@ -11,6 +11,6 @@ returns-then-told-clause-ok g c =
     on_ok_weaker c.add_message.result (λ added. (
       added.0,
       subst (λ (told : Bool). IsMessageIf told c.args.options.now c.args.place.now.word.now c.args.place.now.number
-          c.args.field.number c.args.field.bytes.now c.args.reason.now added.0) (sym c.if-told.true) added.1,
+          c.args.number c.args.field.now c.args.reason.now added.0) (sym c.if-told.true) added.1,
       added.2,
     )) c.add_message.ensures.ok
