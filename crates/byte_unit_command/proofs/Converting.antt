@@ -1,25 +1,29 @@
--- Lemmas: what is appended for a field, a record, and records one after another.
-use Rattle.std.proofs.Common.{◌≡◌, ℕ, suc, ◌-◌, Bool, true, false, List, [], ◌∷◌, ◌++◌, length, Some, None, refl}
-use Rattle.std.proofs.Common.{sym, ap, subst, ◌∙◌, arith, append_assoc, append-nil, inl, length-append}
+-- Lemmas: what is appended for a field and for a record.
+use Rattle.std.proofs.Common.{◌≡◌, ◌≢◌, ◌⊎◌, ℕ, suc, ◌-◌, Bool, true, false, List, [], ◌∷◌, ◌++◌, Some, None, Err}
+use Rattle.std.proofs.Common.{refl, sym, ap, subst, ◌∙◌, arith, append_assoc, append-nil, inl, inr}
 use Rattle.std.proofs.lemmas.Bool.{or_parts}
+use Rattle.byte_unit_command.specs.CallEnds.{AddsField, AddsFields, Aborts, IsRejectedField, State, after, at_next}
+use Rattle.byte_unit_command.specs.CallEnds.{AbortsNext, messages_of, progress}
+use Rattle.byte_unit_command.specs.Converted.{converting}
 use Rattle.byte_unit_command.specs.Field.{Found, IsPlaced, IsSize, IsNoSize, other, size, rejected}
 use Rattle.byte_unit_command.specs.Fields.{IsChosenField, fields_by, fields_of, splits_at_blanks}
 use Rattle.byte_unit_command.specs.Messages.{AreFieldMessages, AreLimitMessages, AreMessagesOfFields}
-use Rattle.byte_unit_command.specs.Messages.{AreMessagesToRejected, AreRecordMessages, AreMessages, IsMessageIf}
-use Rattle.byte_unit_command.specs.Messages.{next_place, last_place, other as other_told, size as size_told}
-use Rattle.byte_unit_command.specs.RunOutput.{Passes}
-use Rattle.byte_unit_command.specs.Output.{AreFields, IsRecord, AreRecords, HasRejectedField}
-use Rattle.byte_unit_command.specs.RunState.{AddsField, AddsFields, AddsRecords, Aborts, IsRejectedField, State}
-use Rattle.byte_unit_command.specs.RunState.{after, at_next, messages_of, tally_after, tally_with}
-use Rattle.byte_unit_command.specs.Sums.{has_rejected, is_above, is_below, is_beyond}
+use Rattle.byte_unit_command.specs.Messages.{AreMessagesToRejected, AreRecordMessages, IsMessageIf}
+use Rattle.byte_unit_command.specs.Messages.{next_place, other as other_told, size as size_told}
+use Rattle.byte_unit_command.specs.Output.{AreFields, IsRecord, HasRejectedField, Passes}
+use Rattle.byte_unit_command.specs.Sums.{has_rejected, is_above, is_below, is_beyond, tally_after, tally_with}
 use Rattle.byte_unit_command.specs.declared.converter.Converter.{Converter}
+use Rattle.byte_unit_command.specs.declared.error.Reason.{Reason}
+use Rattle.byte_unit_command.specs.declared.error.Reason.TheVariants.{Rejected, Total}
 use Rattle.byte_unit_command.specs.declared.notice.FieldError.{FieldError}
 use Rattle.byte_unit_command.specs.declared.notice.FieldError.TheVariants.{Above, Below}
 use Rattle.byte_unit_command.specs.declared.options.Options.{Options}
 use Rattle.byte_unit_command.specs.declared.options.Invalid.TheVariants.{Abort}
 use Rattle.byte_unit_command.specs.declared.tally.Tally.{Tally}
-use Rattle.byte_unit_command.proofs.Tallies.{tally_after-append, tally_after-then, Passes-append}
+use Rattle.byte_unit_command.proofs.Tallies.{tally_after-append}
 use Rattle.byte_unit_stream.specs.Beginnings.{IsBeginningOf}
+use Rattle.byte_unit_stream.specs.Steps.{Adds, IsStep}
+use Rattle.byte_unit_stream.specs.declared.run.RunError.TheVariants.{Memory, Ended}
 use Rattle.byte_unit_stream.proofs.Beginnings.{IsBeginningOf-same}
 
 -- a size that is beyond no limit has no message
@@ -170,190 +174,81 @@ module _ (options : Options) (bytes : List ℕ) (old : State) where
 -- one record is converted: a header record or another one
 module _ (options : Options) (bytes : List ℕ) (old new : State) where
   -- a record is converted if its text with its end byte was appended, and the messages about it
-  AddsRecords-one : (own messages : List ℕ) (found : List Found) → IsRecord options old.header bytes own found
+  Adds-one : (own messages : List ℕ) (found : List Found) → IsRecord options old.header bytes own found
       → AreRecordMessages options old.word (next_place old.place) old.header bytes messages → Passes options found
-      → new.header ≡ old.header - 1 → new.word ≡ old.word → new.place ≡ next_place old.place
-      → new.out ≡ old.out ++ own ++ options.output_end ∷ [] → new.messages ≡ old.messages ++ messages
-      → new.tally ≡ tally_after options old.tally found → AddsRecords options (bytes ∷ []) old new
-  AddsRecords-one own messages found is_record are_messages passes header_is word_is place_is out_is messages_are
-      tally_is = record {
-        text = own ++ options.output_end ∷ [];
-        messages = messages;
-        found = found;
-        are_records = (
-          own,
-          [],
-          found,
-          [],
-          is_record,
-          (refl, refl),
-          sym (append-nil (own ++ options.output_end ∷ [])),
-          sym (append-nil found),
-        );
-        are_messages = (messages, [], are_messages, refl, sym (append-nil messages));
-        passes = passes;
-        header_is = header_is;
-        word_is = word_is;
-        place_is = place_is;
-        out_is = out_is ∙ append_assoc old.out own (options.output_end ∷ []);
-        messages_are = messages_are;
-        tally_is = tally_is;
-      }
+      → new ≡ after options (record (at_next old) { header = old.header - 1 }) (own ++ options.output_end ∷ []) messages
+      found → Adds converting bytes (progress options old) (progress options new)
+  Adds-one own messages found is_record are_messages passes new_is = record {
+    out = own ++ options.output_end ∷ [];
+    messages = messages;
+    step = record {
+      text = own;
+      found = found;
+      is_record = is_record;
+      passes = passes;
+      are_messages = are_messages;
+      out_is = refl;
+      new_is = ap (λ (state : State). (progress options state).state) new_is;
+    };
+    out_is = ap (λ (state : State). state.out) new_is;
+    messages_are = ap (λ (state : State). state.messages) new_is;
+  }
 
   -- a header record is converted if it was copied with its end byte, and one header record less is left
-  pub AddsRecords-header : (left : ℕ) → old.header ≡ suc left
-      → new ≡ record (at_next old) { header = left; out = old.out ++ bytes ++ options.output_end ∷ [] }
-      → AddsRecords options (bytes ∷ []) old new
-  AddsRecords-header left some new_is =
-      let header : new.header ≡ left = ap (λ state. state.header) new_is in
-      AddsRecords-one bytes [] [] (subst (λ header. IsRecord options header bytes bytes []) (sym some) (refl, refl))
+  pub Adds-header : (left : ℕ) → old.header ≡ suc left
+      → new ≡ record (at_next old) { header = old.header - 1; out = old.out ++ bytes ++ options.output_end ∷ [] }
+      → Adds converting bytes (progress options old) (progress options new)
+  Adds-header left some new_is =
+      let With : List ℕ → List ℕ → State = λ out messages. record (at_next old)
+      { header = old.header - 1; out = out; messages = messages } in
+      Adds-one bytes [] [] (subst (λ header. IsRecord options header bytes bytes []) (sym some) (refl, refl))
       (subst (λ header. AreRecordMessages options old.word (next_place old.place) header bytes []) (sym some) refl)
-      (λ mode. refl) (omega (arith, some, header)) (ap (λ state. state.word) new_is) (ap (λ state. state.place) new_is)
-      (ap (λ state. state.out) new_is) (ap (λ state. state.messages) new_is ∙ sym (append-nil old.messages))
-      (ap (λ state. state.tally) new_is)
+      (λ mode. refl)
+      (new_is ∙ ap (λ out. With out old.messages) (append_assoc old.out bytes (options.output_end ∷ []))
+      ∙ ap (With (old.out ++ (bytes ++ options.output_end ∷ []))) (sym (append-nil old.messages)))
 
   -- a record that is no header record is converted if its fields were added, and then its end byte
-  pub AddsRecords-fields : (between : State) → old.header ≡ 0 → AddsFields options bytes (at_next old) between
-      → new ≡ record between { out = between.out ++ options.output_end ∷ [] } → AddsRecords options (bytes ∷ []) old new
-  AddsRecords-fields between none adds new_is =
+  pub Adds-fields : (between : State) → old.header ≡ 0 → AddsFields options bytes (at_next old) between
+      → new ≡ record between { out = between.out ++ options.output_end ∷ [] }
+      → Adds converting bytes (progress options old) (progress options new)
+  Adds-fields between none adds new_is =
       let all = new_is
       ∙ after-more options (at_next old) between adds.text adds.messages (options.output_end ∷ []) adds.found
       adds.new_is in
-      let header : new.header ≡ old.header = ap (λ state. state.header) all in
-      AddsRecords-one adds.text adds.messages adds.found
+      let header : old.header ≡ old.header - 1 = omega (arith, none) in
+      Adds-one adds.text adds.messages adds.found
       (subst (λ header. IsRecord options header bytes adds.text adds.found) (sym none) adds.are_fields)
       (subst (λ header. AreRecordMessages options old.word (next_place old.place) header bytes adds.messages)
       (sym none) adds.are_messages)
-      adds.passes (omega (arith, none, header)) (ap (λ state. state.word) all) (ap (λ state. state.place) all)
-      (ap (λ state. state.out) all ∙ sym (append_assoc old.out adds.text (options.output_end ∷ [])))
-      (ap (λ state. state.messages) all) (ap (λ state. state.tally) all)
+      adds.passes
+      (all ∙ ap (λ header. after options (record (at_next old) { header = header })
+      (adds.text ++ options.output_end ∷ []) adds.messages adds.found) header)
 
--- the texts of two lists of records, one after the other, are those of the lists joined
-AreRecords-append : (options : Options) (header : ℕ) (before records : List (List ℕ)) (front back : List ℕ)
-    (front_found back_found : List Found) → AreRecords options header before front front_found
-    → AreRecords options (header - length before) records back back_found
-    → AreRecords options header (before ++ records) (front ++ back) (front_found ++ back_found)
-AreRecords-append options header [] records front back front_found back_found (none, nothing) are =
-    let same : header - 0 ≡ header = omega arith in
-    let at = subst (λ header. AreRecords options header records back back_found) same are in
-    subst (λ text. AreRecords options header records (text ++ back) (front_found ++ back_found)) (sym none)
-    (subst (λ found. AreRecords options header records back (found ++ back_found)) (sym nothing) at)
-AreRecords-append options header (bytes ∷ before) records front back front_found back_found
-    (own, rest, own_found, rest_found, is_record, are_records, front_is, found_is) are =
-    let same : header - length (bytes ∷ before) ≡ header - 1 - length before = omega arith in
-    let at = subst (λ header. AreRecords options header records back back_found) same are in (
-      own,
-      rest ++ back,
-      own_found,
-      rest_found ++ back_found,
-      is_record,
-      AreRecords-append options (header - 1) before records rest back rest_found back_found are_records at,
-      ap (λ text. text ++ back) front_is ∙ append_assoc (own ++ options.output_end ∷ []) rest back,
-      ap (λ found. found ++ back_found) found_is ∙ append_assoc own_found rest_found back_found,
+-- to end a run for a reason of its own is not to fail for want of memory
+ended_is_no_memory : (reason : Reason) → Ended reason ≢ Memory
+ended_is_no_memory reason same = cc
+
+-- the two reasons are different
+total_is_no_rejection : Ended Total ≢ Ended Rejected
+total_is_no_rejection same = cc
+
+-- a record with a field that is rejected in the mode `abort` ends the run, and appends nothing but messages
+pub IsStep-ended : (options : Options) (bytes : List ℕ) (old new : State) (reason : Reason)
+    → (Ended reason ≡ Memory) ⊎ (Ended reason ≡ Ended Rejected)
+    → (reason ≡ Rejected → AbortsNext options bytes old new.messages) → new.out ≡ old.out
+    → IsStep converting bytes (progress options old) (progress options new) (Err (Ended reason))
+IsStep-ended options bytes old new reason (inl memory) aborts same = absurd (ended_is_no_memory reason memory)
+IsStep-ended options bytes old new Rejected (inr _) aborts same =
+    let at = aborts refl in (
+      at.1.messages,
+      record {
+        reason_is = refl;
+        mode = at.1.mode;
+        no_header = at.0;
+        has_rejected = at.1.has_rejected;
+        are_messages = at.1.to_rejected;
+      },
+      same,
+      at.1.messages_are,
     )
-
--- the messages about two lists of records, one after the other, are those about the lists joined
-AreMessages-append : (options : Options) (word : List ℕ) (place header : ℕ) (before records : List (List ℕ))
-    (front back : List ℕ) → AreMessages options word place header before front
-    → AreMessages options word (last_place place before) (header - length before) records back
-    → AreMessages options word place header (before ++ records) (front ++ back)
-AreMessages-append options word place header [] records front back none are =
-    let same : header - 0 ≡ header = omega arith in
-    let at = subst (λ header. AreMessages options word place header records back) same are in
-    subst (λ text. AreMessages options word place header records (text ++ back)) (sym none) at
-AreMessages-append options word place header (bytes ∷ before) records front back
-    (own, rest, of_record, are_messages, front_is) are =
-    let same : header - length (bytes ∷ before) ≡ header - 1 - length before = omega arith in
-    let at = subst (λ header. AreMessages options word (last_place (next_place place) before) header records back)
-    same are in (
-      own,
-      rest ++ back,
-      of_record,
-      AreMessages-append options word (next_place place) (header - 1) before records rest back are_messages at,
-      ap (λ text. text ++ back) front_is ∙ append_assoc own rest back,
-    )
-
--- the number of the last record of two joined lists is counted on from the last of the first list
-last_place-append : (place : ℕ) (before records : List (List ℕ))
-    → last_place place (before ++ records) ≡ last_place (last_place place before) records
-last_place-append place [] records = refl
-last_place-append place (bytes ∷ before) records = last_place-append (next_place place) before records
-
--- converting records and then others converts both lists, one after the other
-pub AddsRecords-append : (options : Options) (before records : List (List ℕ)) (old between new : State)
-    → AddsRecords options before old between → AddsRecords options records between new
-    → AddsRecords options (before ++ records) old new
-AddsRecords-append options before records old between new first second =
-    let at = subst (λ header. AreRecords options header records second.text second.found) first.header_is
-    second.are_records in
-    let told_by = subst (λ word. AreMessages options word between.place between.header records second.messages)
-    first.word_is second.are_messages in
-    let told_at = subst (λ place. AreMessages options old.word place between.header records second.messages)
-    first.place_is told_by in
-    let told = subst (λ header. AreMessages options old.word (last_place old.place before) header records
-    second.messages) first.header_is told_at in
-    record {
-      text = first.text ++ second.text;
-      messages = first.messages ++ second.messages;
-      found = first.found ++ second.found;
-      are_records = AreRecords-append options old.header before records first.text second.text first.found
-          second.found first.are_records at;
-      are_messages =
-          AreMessages-append options old.word old.place old.header before records first.messages second.messages
-          first.are_messages told;
-      passes = Passes-append options first.found second.found first.passes second.passes;
-      header_is =
-          let long = length-append {A = List ℕ} before records in
-          omega (arith, first.header_is, second.header_is, long);
-      word_is = second.word_is ∙ first.word_is;
-      place_is =
-          second.place_is ∙ ap (λ place. last_place place records) first.place_is
-          ∙ sym (last_place-append old.place before records);
-      out_is =
-          second.out_is ∙ ap (λ out. out ++ second.text) first.out_is ∙ append_assoc old.out first.text second.text;
-      messages_are =
-          second.messages_are ∙ ap (λ messages. messages ++ second.messages) first.messages_are
-          ∙ append_assoc old.messages first.messages second.messages;
-      tally_is = tally_after-then options old.tally between.tally new.tally first.found second.found first.tally_is
-          second.tally_is;
-    }
-
--- converting no records leaves the state as it is: no text, no messages and nothing found
-pub AddsRecords-none : (options : Options) (state : State) → AddsRecords options [] state state
-AddsRecords-none options state = record {
-  text = [];
-  messages = [];
-  found = [];
-  are_records = (refl, refl);
-  are_messages = refl;
-  passes = λ mode. refl;
-  header_is = omega arith;
-  word_is = refl;
-  place_is = refl;
-  out_is = sym (append-nil state.out);
-  messages_are = sym (append-nil state.messages);
-  tally_is = refl;
-}
-
--- a state, after other bytes and other messages
-abbrev pub behind : List ℕ → List ℕ → State → State
-behind front told state = record state { out = front ++ state.out; messages = told ++ state.messages }
-
--- records add the same, whatever bytes and messages wait before them
-pub AddsRecords-after : (options : Options) (records : List (List ℕ)) (front told : List ℕ) (old new : State)
-    → AddsRecords options records old new → AddsRecords options records (behind front told old) (behind front told new)
-AddsRecords-after options records front told old new adds = record {
-  text = adds.text;
-  messages = adds.messages;
-  found = adds.found;
-  are_records = adds.are_records;
-  are_messages = adds.are_messages;
-  passes = adds.passes;
-  header_is = adds.header_is;
-  word_is = adds.word_is;
-  place_is = adds.place_is;
-  out_is = ap (λ out. front ++ out) adds.out_is ∙ sym (append_assoc front old.out adds.text);
-  messages_are = ap (λ messages. told ++ messages) adds.messages_are
-      ∙ sym (append_assoc told old.messages adds.messages);
-  tally_is = adds.tally_is;
-}
+IsStep-ended options bytes old new Total (inr error) aborts same = absurd (total_is_no_rejection error)

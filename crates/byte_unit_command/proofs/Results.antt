@@ -7,13 +7,8 @@ pub error-passed : {T E : Type 0} (result : Result T E) (error target : E) → I
 error-passed {T} {E} result error target passed is =
     sym (subst (λ (result : Result T E). IsErrAnd result (λ other. other ≡ error)) is passed)
 
--- what holds of an error holds of the result by which `?` passes it on
-pub Err-passed : {T E : Type 0} (P : Result T E → Type 0) (result : Result T E) (error : E)
-    → IsErrAnd result (λ other. other ≡ error) → P (Err error) → P result
-Err-passed P (Ok _) error passed holds = absurd passed
-Err-passed P (Err other) error passed holds = subst (λ error. P (Err error)) (sym passed) holds
-
 -- a fact of the error that `?` passes on
 pub IfErr-passed : {T E : Type 0} (P : E → Type 0) (result : Result T E) (error : E)
     → IsErrAnd result (λ other. other ≡ error) → P error → IfErr result P
-IfErr-passed P = Err-passed (λ result. IfErr result P)
+IfErr-passed P (Ok _) error passed holds = absurd passed
+IfErr-passed P (Err other) error passed holds = subst P (sym passed) holds

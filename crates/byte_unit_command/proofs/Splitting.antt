@@ -9,9 +9,9 @@ use Rattle.byte_unit_command.specs.Fields.{IsChosenField, at_blanks, begins_blan
 use Rattle.byte_unit_command.specs.Fields.{bytes_between, fields_by, fields_of, is_blank}
 use Rattle.byte_unit_command.specs.Messages.{AreFieldMessages, AreMessagesOfFields, AreMessagesToRejected}
 use Rattle.byte_unit_command.specs.Messages.{other as other_told}
-use Rattle.byte_unit_command.specs.RunOutput.{Passes}
+use Rattle.byte_unit_command.specs.Output.{Passes}
 use Rattle.byte_unit_command.specs.Output.{AreFields, HasRejectedField}
-use Rattle.byte_unit_command.specs.RunState.{AddsField, AddsFields, Aborts, IsRejectedField, State, after}
+use Rattle.byte_unit_command.specs.CallEnds.{AddsField, AddsFields, Aborts, IsRejectedField, State, after}
 use Rattle.byte_unit_stream.specs.Records.{split_by}
 use Rattle.byte_unit_command.specs.Sums.{has_rejected}
 use Rattle.byte_unit_command.specs.declared.options.Options.{Options}

@@ -4,9 +4,8 @@ pub mod Fields
 pub mod Field
 pub mod Laws
 pub mod Messages
-pub mod RunOutput
 pub mod Output
-pub mod RunState
+pub mod Converted
 pub mod CallEnds
 pub mod Run
 pub mod Formatted
@@ -19,6 +18,5 @@ pub mod Meaning
 pub mod CallOptions
 pub mod Operands
 pub mod CommandLine
-pub mod Told
 pub mod WrongText
 pub mod WrongCharacter

@@ -162,15 +162,3 @@ AreRecordMessages options word place (suc _) bytes text = text ≡ []
 -- the number of the record after the one with this number; a number of 2^64 or more is told as 2^64 - 1
 abbrev pub next_place : ℕ → ℕ
 next_place place = min (place + 1) (2 ^ 64 - 1)
-
--- the number of the last of these records, if this is the number of the record before them
-abbrev pub last_place : ℕ → List (List ℕ) → ℕ
-last_place place [] = place
-last_place place (bytes ∷ others) = last_place (next_place place) others
-
--- the messages about these records, if this is the number of the record before them
-abbrev pub AreMessages : Options → List ℕ → ℕ → ℕ → List (List ℕ) → List ℕ → Type 0
-AreMessages options word place header [] text = text ≡ []
-AreMessages options word place header (bytes ∷ others) text =
-    (own rest : List ℕ) × AreRecordMessages options word (next_place place) header bytes own
-    × AreMessages options word (next_place place) (header - 1) others rest × (text ≡ own ++ rest)

@@ -1,21 +1,22 @@
 //! Converts records field by field, and finds the fields to convert.
 
-ghost use Rattle.std.specs.Prelude.{◌≡◌, ◌≤◌, ◌∷◌, ℕ, [], Some, length};
-ghost use Rattle.std.specs.Prelude.{OnOk, OnErr, IsErrOf, IsTrue, IsFalse};
-ghost use Rattle.byte_unit.specs.Forms.{text_limit};
+ghost use Rattle.std.specs.Prelude.{◌≡◌, ◌≤◌, ◌∷◌, ℕ, [], Some, OnOk, IsErrOf, IsTrue, IsFalse};
 ghost use Rattle.byte_unit_command.specs.Field.{IsNoSize};
 ghost use Rattle.byte_unit_command.specs.Fields.{AreRangesFrom, GoesTo, InRange, IsChosenField, IsInOrder, at_blanks};
-ghost use Rattle.byte_unit_command.specs.RunState.{AddsRecords, IsEarlyError, messages_of, state_of};
 ghost use Rattle.byte_unit_command.specs.CallEnds.{AbortsNext, FieldIsAdded, FieldIsRejected, FieldsAreAdded};
-ghost use Rattle.byte_unit_command.specs.CallEnds.{FieldsAreRejected, KeepsMessages, KeepsText};
+ghost use Rattle.byte_unit_command.specs.CallEnds.{FieldsAreRejected, IsEarlyError, KeepsMessages, KeepsText};
+ghost use Rattle.byte_unit_command.specs.CallEnds.{messages_of, progress, state_of};
+ghost use Rattle.byte_unit_command.specs.Converted.{converting};
+ghost use Rattle.byte_unit_stream.specs.Steps.{Adds};
+ghost use Rattle.byte_unit_stream.specs.declared.run.RunError.{RunError};
 
 use crate::blanks::{between, end_of_first, gap_of, width_of};
-use crate::error::{RunError, RunResult};
+use crate::error::{Reason, RunError, RunResult};
 use crate::notice::{Notices, Place, add_limit_notice, add_reject_notice};
 use crate::options::{FieldRange, Invalid, Options};
 use crate::size::accepted;
 use crate::tally::Tally;
-use crate::text::add_in_width;
+use crate::text::{DIGITS, add_in_width};
 use std::alloc::Allocator;
 
 /// Converts records. Keeps how far the run has come, and what is not written yet.
@@ -36,53 +37,25 @@ pub(crate) struct Converter<A: Allocator> {
 impl<A: Allocator> Converter<A> {
     /// Appends what is written for a record, with its end byte, and counts what is found in it.
     ///
-    /// Precondition (proved at every call): `digits` has capacity for the text of any size.
-    ///
     /// # Errors
     ///
-    /// - `Rejected` if a field is not a size, in the mode `abort`.
+    /// - `Ended` for `Rejected` if a field is not a size, in the mode `abort`.
     /// - `Memory` if allocation fails.
     ///
-    /// Then nothing is appended, and no message but the ones up to that on the rejected field.
+    /// Then a part of it may have been appended, and the messages up to that on the rejected field.
     ///
     /// `#[inline(always)]`, as on what it calls for each record and each field: the calls would take more instructions.
     /// What is rare, and the loop over fields, is `#[inline(never)]`, so that it costs a record of one field nothing.
     #[inline(always)]
-    pub(crate) fn add_record(
+    pub(crate) fn append_record(
         &mut self,
         options: &Options,
         bytes: &[u8],
-        digits: &mut [u8],
+        digits: &mut [u8; DIGITS],
     ) -> RunResult
-        requires { text_limit ≤ length digits.old }
-        ensures ok { OnOk result
-            (AddsRecords options.now (bytes.now ∷ []) (state_of self.old) (state_of self.new)) }
-        ensures err { OnErr result (self.new.waiting.items ≡ self.old.waiting.items) }
-        ensures memory { IsErrOf result RunError.Memory
-            → messages_of self.new.notices ≡ messages_of self.old.notices }
-        ensures rejected { IsErrOf result RunError.Rejected → AbortsNext
-            options.now bytes.now (state_of self.old) (messages_of self.new.notices) }
-        ensures early { IsEarlyError result }
-    {
-        let len = self.waiting.len();
-        let messages = self.notices.messages.len();
-        match self.append_record(options, bytes, digits) {
-            Ok(()) => Ok(()),
-            Err(error) => {
-                self.waiting.truncate(len);
-                self.notices.undo(messages, error);
-                Err(error)
-            }
-        }
-    }
-
-    /// Does what [`add_record`](Converter::add_record) does, but leaves what was appended before an error.
-    #[inline(always)]
-    fn append_record(&mut self, options: &Options, bytes: &[u8], digits: &mut [u8]) -> RunResult
-        requires { text_limit ≤ length digits.old }
-        ensures ok { OnOk result
-            (AddsRecords options.now (bytes.now ∷ []) (state_of self.old) (state_of self.new)) }
-        ensures rejected { IsErrOf result RunError.Rejected → AbortsNext
+        ensures ok { OnOk result (Adds converting bytes.now
+            (progress options.now (state_of self.old)) (progress options.now (state_of self.new))) }
+        ensures rejected { IsErrOf result (RunError.Ended Reason.Rejected) → AbortsNext
             options.now bytes.now (state_of self.old) (messages_of self.new.notices) }
         ensures early { IsEarlyError result }
         ensures kept_messages { KeepsMessages self.old self.new }
@@ -101,15 +74,17 @@ impl<A: Allocator> Converter<A> {
 
     /// Appends what is written for the fields of a record, which is no header record, and counts what is found in them.
     ///
-    /// Precondition (proved at every call): `digits` has capacity for the text of any size.
-    ///
     /// # Errors
     ///
-    /// - `Rejected` if a field is not a size, in the mode `abort`.
+    /// - `Ended` for `Rejected` if a field is not a size, in the mode `abort`.
     /// - `Memory` if allocation fails.
     #[inline(always)]
-    fn add_fields(&mut self, options: &Options, bytes: &[u8], digits: &mut [u8]) -> RunResult
-        requires { text_limit ≤ length digits.old }
+    fn add_fields(
+        &mut self,
+        options: &Options,
+        bytes: &[u8],
+        digits: &mut [u8; DIGITS],
+    ) -> RunResult
         ensures ok { FieldsAreAdded options.now bytes.now self.old self.new result }
         ensures rejected { FieldsAreRejected options.now bytes.now self.old self.new result }
         ensures early { IsEarlyError result }
@@ -132,19 +107,18 @@ impl<A: Allocator> Converter<A> {
     /// Does what [`add_fields`](Converter::add_fields) does, with the fields between delimiters or blanks. After the
     /// last chosen field, copies the rest at once.
     ///
-    /// Preconditions (proved at every call): `delimiter` is that of the options, `BLANKS` says whether fields are
-    /// between blanks, and `digits` has capacity for the text of any size.
+    /// Preconditions (proved at every call): `delimiter` is that of the options, and `BLANKS` says whether fields are
+    /// between blanks.
     #[inline(never)]
     fn add_split<const BLANKS: bool>(
         &mut self,
         options: &Options,
         delimiter: u8,
         bytes: &[u8],
-        digits: &mut [u8],
+        digits: &mut [u8; DIGITS],
     ) -> RunResult
         requires delimiter { options.now.delimiter ≡ Some delimiter }
         requires blanks { at_blanks options.now ≡ BLANKS }
-        requires capacity { text_limit ≤ length digits.old }
         ensures ok { FieldsAreAdded options.now bytes.now self.old self.new result }
         ensures rejected { FieldsAreRejected options.now bytes.now self.old self.new result }
         ensures early { IsEarlyError result }
@@ -178,12 +152,12 @@ impl<A: Allocator> Converter<A> {
 
     /// Appends what is written for the field with this number, and counts what is found in it.
     ///
-    /// Preconditions (proved at every call): `chosen` says whether the field is chosen, `BLANKS` whether fields are
-    /// between blanks, and `digits` has capacity for the text of any size.
+    /// Preconditions (proved at every call): `chosen` says whether the field is chosen, and `BLANKS` whether fields are
+    /// between blanks.
     ///
     /// # Errors
     ///
-    /// - `Rejected` if the field is not a size, in the mode `abort`.
+    /// - `Ended` for `Rejected` if the field is not a size, in the mode `abort`.
     /// - `Memory` if allocation fails.
     #[inline(always)]
     fn add_field<const BLANKS: bool>(
@@ -192,9 +166,8 @@ impl<A: Allocator> Converter<A> {
         number: u64,
         field: &[u8],
         chosen: bool,
-        digits: &mut [u8],
+        digits: &mut [u8; DIGITS],
     ) -> RunResult
-        requires capacity { text_limit ≤ length digits.old }
         requires blanks { at_blanks options.now ≡ BLANKS }
         requires yes { IsTrue chosen → IsChosenField options.now.fields.now number }
         requires no { IsFalse chosen → ¬ IsChosenField options.now.fields.now number }
@@ -242,7 +215,7 @@ impl<A: Allocator> Converter<A> {
     {
         add_reject_notice(options, &self.place, number, field, &mut self.notices)?;
         if options.invalid == Invalid::Abort {
-            return Err(RunError::Rejected);
+            return Err(RunError::Ended(Reason::Rejected));
         }
         self.tally.rejected = true;
         self.waiting.extend_from_slice(field)?;

@@ -3,7 +3,7 @@
 ghost use Rattle.std.specs.Prelude.{◌≡◌, option_map};
 ghost use Rattle.byte_unit_command.specs.Ending.{status_of, message_of};
 
-use crate::error::RunError;
+use crate::error::{Reason, RunError};
 use crate::options::Invalid;
 use crate::tally::Tally;
 
@@ -23,7 +23,7 @@ pub fn status(invalid: Invalid, ended: Result<Tally, RunError>) -> u8
             }
         }
         Err(error) => match error {
-            RunError::Rejected | RunError::Total => 2,
+            RunError::Ended(_) => 2,
             RunError::Memory | RunError::Read | RunError::Write => 1,
         },
     }
@@ -37,7 +37,7 @@ pub fn message(error: RunError) -> Option<&'static str>
         RunError::Memory => Some("out of memory"),
         RunError::Read => Some("read failed"),
         RunError::Write => Some("write failed"),
-        RunError::Rejected => None,
-        RunError::Total => Some("the total is 10^30 or more"),
+        RunError::Ended(Reason::Rejected) => None,
+        RunError::Ended(Reason::Total) => Some("the total is 10^30 or more"),
     }
 }

@@ -1,34 +1,18 @@
 //! Why a run ended early.
 
-ghost use Rattle.std.specs.Prelude.{◌≡◌};
+use byte_unit_stream::run;
 
-use std::alloc::AllocError;
-
-/// The reason why a run ended before the end of its input, or without its total.
+/// The reason of its own for which a run ended before the end of its input, or without its total.
 #[derive(Debug, Clone, Copy, PartialEq, Eq)]
-pub enum RunError {
-    /// Allocation failed.
-    Memory,
-    /// A read failed.
-    Read,
-    /// A write failed.
-    Write,
+pub enum Reason {
     /// A field was rejected in the mode `abort`.
     Rejected,
     /// The total of the sizes is 10^30 or more.
     Total,
 }
 
+/// The reason why a run ended before the end of its input, or without its total.
+pub type RunError = run::RunError<Reason>;
+
 /// The result of a step of a run.
 pub(crate) type RunResult = Result<(), RunError>;
-
-/// Converts a failed allocation to `Memory`.
-impl From<AllocError> for RunError {
-    ghost use Rattle.byte_unit_command.specs.declared.error.RunError.TheVariants.{Memory};
-
-    ghost from_gives = { λ _ error. error ≡ Memory };
-
-    fn from(_: AllocError) -> RunError {
-        RunError::Memory
-    }
-}

@@ -7,7 +7,6 @@ mod converter;
 pub mod ending;
 pub mod error;
 pub mod field_list;
-mod finish;
 pub mod laws;
 pub mod meaning;
 mod notice;

@@ -1,6 +1,6 @@
 //! Messages about fields, for standard error.
 
-ghost use Rattle.std.specs.Prelude.{◌≡◌, ◌++◌, [], take, List, ℕ, OnOk, true};
+ghost use Rattle.std.specs.Prelude.{◌≡◌, ◌++◌, List, ℕ, OnOk, true};
 ghost use Rattle.std.specs.String.{string_bytes};
 ghost use Rattle.byte_unit_command.specs.Field.{IsNoSize};
 ghost use Rattle.byte_unit_command.specs.Fields.{IsChosenField};
@@ -8,20 +8,16 @@ ghost use Rattle.byte_unit_command.specs.Messages.{AreFieldMessages, AreLimitMes
 ghost use Rattle.byte_unit_command.specs.Messages.{IsMessage, IsMessageIf, IsFieldError, AreCharacterWords};
 ghost use Rattle.byte_unit_command.specs.WrongCharacter.{character_words};
 ghost use Rattle.byte_unit_command.specs.Messages.{place_text, tells_rejected as has_rejected_told};
-ghost use Rattle.byte_unit_command.specs.RunState.{messages_of, Tells};
+ghost use Rattle.byte_unit_command.specs.CallEnds.{messages_of};
 ghost use Rattle.byte_unit_stream.specs.Beginnings.{IsBeginningOf};
-ghost use Rattle.byte_unit_stream.specs.Streams.{HasWritten, writing_failed};
 
-use crate::error::RunError;
 use crate::options::{Invalid, Options};
 use crate::quote::add_quoted;
 use crate::size::{parse, without_suffix};
 use crate::wrong_character::wrong_character;
 use byte_unit::{ParseError, ValueParseError};
-use byte_unit_stream::{Writing, write_whole};
 use std::alloc::{AllocError, Allocator};
-use std::fmt::Write as WriteText;
-use std::io::Write;
+use std::fmt::Write;
 
 /// The place of a record in the input.
 #[derive(Debug, Clone, Copy)]
@@ -41,37 +37,6 @@ pub(crate) struct Notices<A: Allocator> {
     pub line: String<A>,
     /// A buffer for the message of a parse error.
     pub words: String<A>,
-}
-
-impl<A: Allocator> Notices<A> {
-    /// Forgets all messages but those in the first `len` bytes, if a call ended early, out of memory.
-    pub(crate) fn undo(&mut self, len: usize, error: RunError)
-        ensures memory { error ≡ RunError.Memory
-            → messages_of self.new ≡ take len (messages_of self.old) }
-        ensures other { ¬ (error ≡ RunError.Memory) → messages_of self.new ≡ messages_of self.old }
-    {
-        match error {
-            RunError::Memory => self.messages.truncate(len),
-            RunError::Read | RunError::Write | RunError::Rejected | RunError::Total => (),
-        }
-    }
-
-    /// Writes the messages to `errors`, unless a write to it has failed before, and forgets them. `errors` records a
-    /// failure.
-    pub(crate) fn tell<E: Write>(&mut self, errors: &mut Writing<E>)
-        ensures told { (told : List ℕ) × HasWritten E.contents errors.old errors.new told
-            × Tells (writing_failed errors.old) (writing_failed errors.new)
-            (messages_of self.old) told }
-        ensures none { messages_of self.new ≡ [] }
-    {
-        if self.messages.is_empty() {
-            return;
-        }
-        if !errors.failed() {
-            let _ = write_whole(errors, &self.messages, RunError::Write);
-        }
-        self.messages.clear();
-    }
 }
 
 /// Why a field is named in a message.

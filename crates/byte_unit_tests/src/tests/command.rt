@@ -119,16 +119,10 @@ const ROWS: &[Row] = &rows! {
 
 #[test]
 fn runs_in_the_same_buffers(rt: HostRuntime) {
-    let mut buffers = Buffers::new(rt.alloc());
+    let mut buffers = Buffers::new(rt.alloc(), &PLAIN);
     for (number, (options, paces, input, wanted, output, messages)) in ROWS.iter().enumerate() {
         let mut streams = streams_of(&rt, input, *paces);
-        let end = run_with_buffers(
-            &mut buffers,
-            options,
-            &mut [0u8; 80],
-            &mut [0u8; 65_600],
-            &mut streams,
-        );
+        let end = run_with_buffers(&mut buffers, options, &mut [0u8; 80], &mut streams);
         let (written, told) = output_of(streams);
         let counted = match end {
             Ok(

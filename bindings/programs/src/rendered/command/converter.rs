@@ -5,12 +5,12 @@
 use crate::rattle::Vec;
 use crate::rattle::alloc::Allocator;
 use crate::rendered::command::blanks::{between, end_of_first, gap_of, width_of};
-use crate::rendered::command::error::{RunError, RunResult};
+use crate::rendered::command::error::{Reason, RunError, RunResult};
 use crate::rendered::command::notice::{Notices, Place, add_limit_notice, add_reject_notice};
 use crate::rendered::command::options::{FieldRange, Invalid, Options};
 use crate::rendered::command::size::accepted;
 use crate::rendered::command::tally::Tally;
-use crate::rendered::command::text::add_in_width;
+use crate::rendered::command::text::{DIGITS, add_in_width};
 
 /// Converts records. Keeps how far the run has come, and what is not written yet.
 pub(crate) struct Converter<A: Allocator> {
@@ -29,34 +29,17 @@ pub(crate) struct Converter<A: Allocator> {
 impl<A: Allocator> Converter<A> {
     /// Appends what is written for a record, with its end byte, and counts what is found in it.
     ///
-    /// Precondition: `digits` has capacity for the text of any size.
-    ///
     /// # Errors
     ///
-    /// - `Rejected` if a field is not a size, in the mode `abort`.
+    /// - `Ended` for `Rejected` if a field is not a size, in the mode `abort`.
     /// - `Memory` if allocation fails.
     ///
-    /// Then nothing is appended, and no message but the ones up to that on the rejected field.
+    /// Then a part of it may have been appended, and the messages up to that on the rejected field.
     ///
     /// `#[inline(always)]`, as on what it calls for each record and each field: the calls would take more instructions.
     /// What is rare, and the loop over fields, is `#[inline(never)]`, so that it costs a record of one field nothing.
     #[inline(always)]
-    pub(crate) fn add_record(&mut self, options: &Options, bytes: &[u8], digits: &mut [u8]) -> RunResult {
-        let len = self.waiting.len();
-        let messages = self.notices.messages.len();
-        match self.append_record(options, bytes, digits) {
-            Ok(()) => Ok(()),
-            Err(error) => {
-                self.waiting.truncate(len);
-                self.notices.undo(messages, error);
-                Err(error)
-            }
-        }
-    }
-
-    /// Does what [`add_record`](Converter::add_record) does, but leaves what was appended before an error.
-    #[inline(always)]
-    fn append_record(&mut self, options: &Options, bytes: &[u8], digits: &mut [u8]) -> RunResult {
+    pub(crate) fn append_record(&mut self, options: &Options, bytes: &[u8], digits: &mut [u8; DIGITS]) -> RunResult {
         self.place.number = self.place.number.saturating_add(1);
         if self.header > 0 {
             self.header -= 1;
@@ -70,14 +53,12 @@ impl<A: Allocator> Converter<A> {
 
     /// Appends what is written for the fields of a record, which is no header record, and counts what is found in them.
     ///
-    /// Precondition: `digits` has capacity for the text of any size.
-    ///
     /// # Errors
     ///
-    /// - `Rejected` if a field is not a size, in the mode `abort`.
+    /// - `Ended` for `Rejected` if a field is not a size, in the mode `abort`.
     /// - `Memory` if allocation fails.
     #[inline(always)]
-    fn add_fields(&mut self, options: &Options, bytes: &[u8], digits: &mut [u8]) -> RunResult {
+    fn add_fields(&mut self, options: &Options, bytes: &[u8], digits: &mut [u8; DIGITS]) -> RunResult {
         match options.delimiter {
             None => {
                 // The whole record is field 1.
@@ -92,15 +73,15 @@ impl<A: Allocator> Converter<A> {
     /// Does what [`add_fields`](Converter::add_fields) does, with the fields between delimiters or blanks. After the
     /// last chosen field, copies the rest at once.
     ///
-    /// Preconditions: `delimiter` is that of the options, `BLANKS` says whether fields are
-    /// between blanks, and `digits` has capacity for the text of any size.
+    /// Preconditions: `delimiter` is that of the options, and `BLANKS` says whether fields are
+    /// between blanks.
     #[inline(never)]
     fn add_split<const BLANKS: bool>(
         &mut self,
         options: &Options,
         delimiter: u8,
         bytes: &[u8],
-        digits: &mut [u8],
+        digits: &mut [u8; DIGITS],
     ) -> RunResult {
         // For the proof: there are fewer fields than a `u64` counts.
         let _len = bytes.len();
@@ -129,12 +110,12 @@ impl<A: Allocator> Converter<A> {
 
     /// Appends what is written for the field with this number, and counts what is found in it.
     ///
-    /// Preconditions: `chosen` says whether the field is chosen, `BLANKS` whether fields are
-    /// between blanks, and `digits` has capacity for the text of any size.
+    /// Preconditions: `chosen` says whether the field is chosen, and `BLANKS` whether fields are
+    /// between blanks.
     ///
     /// # Errors
     ///
-    /// - `Rejected` if the field is not a size, in the mode `abort`.
+    /// - `Ended` for `Rejected` if the field is not a size, in the mode `abort`.
     /// - `Memory` if allocation fails.
     #[inline(always)]
     fn add_field<const BLANKS: bool>(
@@ -143,7 +124,7 @@ impl<A: Allocator> Converter<A> {
         number: u64,
         field: &[u8],
         chosen: bool,
-        digits: &mut [u8],
+        digits: &mut [u8; DIGITS],
     ) -> RunResult {
         if !chosen {
             self.waiting.extend_from_slice(field)?;
@@ -175,7 +156,7 @@ impl<A: Allocator> Converter<A> {
     fn add_rejected(&mut self, options: &Options, number: u64, field: &[u8]) -> RunResult {
         add_reject_notice(options, &self.place, number, field, &mut self.notices)?;
         if options.invalid == Invalid::Abort {
-            return Err(RunError::Rejected);
+            return Err(RunError::Ended(Reason::Rejected));
         }
         self.tally.rejected = true;
         self.waiting.extend_from_slice(field)?;

@@ -2,7 +2,7 @@
 
 //! The exit status, and the message of a run that ended early.
 
-use crate::rendered::command::error::RunError;
+use crate::rendered::command::error::{Reason, RunError};
 use crate::rendered::command::options::Invalid;
 use crate::rendered::command::tally::Tally;
 
@@ -20,7 +20,7 @@ pub fn status(invalid: Invalid, ended: Result<Tally, RunError>) -> u8 {
             }
         }
         Err(error) => match error {
-            RunError::Rejected | RunError::Total => 2,
+            RunError::Ended(_) => 2,
             RunError::Memory | RunError::Read | RunError::Write => 1,
         },
     }
@@ -32,7 +32,7 @@ pub fn message(error: RunError) -> Option<&'static str> {
         RunError::Memory => Some("out of memory"),
         RunError::Read => Some("read failed"),
         RunError::Write => Some("write failed"),
-        RunError::Rejected => None,
-        RunError::Total => Some("the total is 10^30 or more"),
+        RunError::Ended(Reason::Rejected) => None,
+        RunError::Ended(Reason::Total) => Some("the total is 10^30 or more"),
     }
 }

@@ -2,29 +2,19 @@
 
 //! Why a run ended early.
 
-use crate::rattle::alloc::AllocError;
+use crate::rendered::stream::run;
 
-/// The reason why a run ended before the end of its input, or without its total.
+/// The reason of its own for which a run ended before the end of its input, or without its total.
 #[derive(Debug, Clone, Copy, PartialEq, Eq)]
-pub enum RunError {
-    /// Allocation failed.
-    Memory,
-    /// A read failed.
-    Read,
-    /// A write failed.
-    Write,
+pub enum Reason {
     /// A field was rejected in the mode `abort`.
     Rejected,
     /// The total of the sizes is 10^30 or more.
     Total,
 }
 
+/// The reason why a run ended before the end of its input, or without its total.
+pub type RunError = run::RunError<Reason>;
+
 /// The result of a step of a run.
 pub(crate) type RunResult = Result<(), RunError>;
-
-/// Converts a failed allocation to `Memory`.
-impl From<AllocError> for RunError {
-    fn from(_: AllocError) -> RunError {
-        RunError::Memory
-    }
-}

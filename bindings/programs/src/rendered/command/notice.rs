@@ -3,15 +3,12 @@
 //! Messages about fields, for standard error.
 
 use crate::rattle::alloc::{AllocError, Allocator};
-use crate::rattle::io::Write;
 use crate::rattle::{String, Vec};
-use crate::rendered::command::error::RunError;
 use crate::rendered::command::options::{Invalid, Options};
 use crate::rendered::command::quote::add_quoted;
 use crate::rendered::command::size::{parse, without_suffix};
-use crate::rendered::command::wrong_character::wrong_character;
-use crate::rendered::stream::{Writing, write_whole};
-use byte_unit::rendered::base::{ParseError, ValueParseError};
+use crate::rendered::command::wrong_character::{names_character, wrong_character};
+use byte_unit::rendered::base::ParseError;
 
 /// The place of a record in the input.
 #[derive(Debug, Clone, Copy)]
@@ -22,6 +19,15 @@ pub(crate) struct Place {
     pub number: u64,
 }
 
+/// A field of a record.
+#[derive(Debug, Clone, Copy)]
+struct Field<'a> {
+    /// Its number, counted from 1.
+    number: u64,
+    /// Its bytes, as they are in the record.
+    bytes: &'a [u8],
+}
+
 /// Messages that are not written yet.
 pub(crate) struct Notices<A: Allocator> {
     /// The messages, each whole.
@@ -30,28 +36,6 @@ pub(crate) struct Notices<A: Allocator> {
     pub line: String<A>,
     /// A buffer for the message of a parse error.
     pub words: String<A>,
-}
-
-impl<A: Allocator> Notices<A> {
-    /// Forgets all messages but those in the first `len` bytes, if a call ended early, out of memory.
-    pub(crate) fn undo(&mut self, len: usize, error: RunError) {
-        match error {
-            RunError::Memory => self.messages.truncate(len),
-            RunError::Read | RunError::Write | RunError::Rejected | RunError::Total => (),
-        }
-    }
-
-    /// Writes the messages to `errors`, unless a write to it has failed before, and forgets them. `errors` records a
-    /// failure.
-    pub(crate) fn tell<E: Write>(&mut self, errors: &mut Writing<E>) {
-        if self.messages.is_empty() {
-            return;
-        }
-        if !errors.failed() {
-            let _ = write_whole(errors, &self.messages, RunError::Write);
-        }
-        self.messages.clear();
-    }
 }
 
 /// Why a field is named in a message.
@@ -86,7 +70,8 @@ pub(crate) fn add_reject_notice<A: Allocator>(
         return Ok(());
     }
     let reason = reason_of(options, field);
-    add_message(options, place, number, field, &reason, notices)
+    let field = Field { number, bytes: field };
+    add_message(options, place, field, &reason, notices)
 }
 
 /// Returns `true` if there are messages about rejected fields.
@@ -126,8 +111,9 @@ pub(crate) fn add_limit_notice<A: Allocator>(
 ) -> Result<(), AllocError> {
     let above = options.max.is_some_and(|most| most < size);
     let below = options.min.is_some_and(|least| size < least);
-    add_message_if(above, options, place, number, field, &FieldError::Above, notices)?;
-    add_message_if(below, options, place, number, field, &FieldError::Below, notices)
+    let field = Field { number, bytes: field };
+    add_message_if(above, options, place, field, &FieldError::Above, notices)?;
+    add_message_if(below, options, place, field, &FieldError::Below, notices)
 }
 
 /// Appends a message if it is to be told.
@@ -139,12 +125,11 @@ fn add_message_if<A: Allocator>(
     told: bool,
     options: &Options,
     place: &Place,
-    number: u64,
-    field: &[u8],
+    field: Field,
     reason: &FieldError,
     notices: &mut Notices<A>,
 ) -> Result<(), AllocError> {
-    if told { add_message(options, place, number, field, reason, notices) } else { Ok(()) }
+    if told { add_message(options, place, field, reason, notices) } else { Ok(()) }
 }
 
 /// Appends a message.
@@ -155,17 +140,16 @@ fn add_message_if<A: Allocator>(
 fn add_message<A: Allocator>(
     options: &Options,
     place: &Place,
-    number: u64,
-    field: &[u8],
+    field: Field,
     reason: &FieldError,
     notices: &mut Notices<A>,
 ) -> Result<(), AllocError> {
     notices.line.clear();
-    add_place(options, place, number, &mut notices.line)?;
-    add_quoted(field, &mut notices.line)?;
+    add_place(options, place, field.number, &mut notices.line)?;
+    add_quoted(field.bytes, &mut notices.line)?;
     notices.line.push_str(": ")?;
     add_words(reason, &mut notices.words, &mut notices.line)?;
-    add_character(reason, without_suffix(options.suffix, field), &mut notices.line)?;
+    add_character(reason, without_suffix(options.suffix, field.bytes), &mut notices.line)?;
     notices.line.push_str("\n")?;
     notices.messages.extend_from_slice(notices.line.as_bytes())
 }
@@ -218,11 +202,13 @@ fn add_words<A: Allocator>(reason: &FieldError, words: &mut String<A>, line: &mu
 #[inline(always)]
 fn add_character<A: Allocator>(reason: &FieldError, text: &[u8], line: &mut String<A>) -> Result<(), AllocError> {
     match reason {
-        FieldError::Rejected(ParseError::Unit(_)) => add_number(wrong_character(text), line),
-        FieldError::Rejected(ParseError::Value(ValueParseError::NotNumber(_))) => {
-            add_number(wrong_character(text), line)
+        FieldError::Rejected(error) => {
+            if names_character(error) {
+                add_number(wrong_character(text), line)
+            } else {
+                Ok(())
+            }
         }
-        FieldError::Rejected(ParseError::Value(_)) => Ok(()),
         FieldError::NotUtf8 | FieldError::Above | FieldError::Below => Ok(()),
     }
 }

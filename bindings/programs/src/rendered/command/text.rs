@@ -14,6 +14,10 @@ use byte_unit::rendered::math::Steps;
 /// The most bytes of a text that are copied in one piece of a constant length. Most texts are shorter.
 const AT_ONCE: usize = 64;
 
+/// The length of a buffer that has capacity for the text of any size: 65,535 digits after the point, the greatest
+/// precision, and less than 65 bytes more.
+pub(crate) const DIGITS: usize = 65600;
+
 /// Appends the text of a size in at least `width` columns to `text`. `digits` is a buffer for it.
 ///
 /// The only call that writes a size, so that the ways to write it are inlined here.

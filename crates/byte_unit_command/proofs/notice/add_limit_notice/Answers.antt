@@ -1,7 +1,7 @@
 -- The message about the maximum, and then that about the minimum.
 use Rattle.std.proofs.Common.{◌≡◌, ◌++◌, refl, ap, subst, ◌∙◌, append_assoc, rules}
 use Rattle.byte_unit_command.specs.Messages.{IsMessageIf}
-use Rattle.byte_unit_command.specs.RunState.{messages_of}
+use Rattle.byte_unit_command.specs.CallEnds.{messages_of}
 use Rattle.byte_unit_command.specs.Sums.{is_above, is_below}
 use Rattle.byte_unit_command.specs.declared.notice.FieldError.TheVariants.{Above, Below}
 use Rattle.std.proofs.lemmas.Result.{on_ok_weaker}

@@ -1,6 +1,6 @@
 -- The whole message is appended, or nothing.
 use Rattle.std.proofs.Common.{is_ok}
-use Rattle.byte_unit_command.specs.RunState.{messages_of}
+use Rattle.byte_unit_command.specs.CallEnds.{messages_of}
 use Rattle.byte_unit_stream.proofs.Beginnings.{IsBeginningOf-if}
 use Rattle.byte_unit_command.proofs.notice.add_message.Goals as goal
 

@@ -5,7 +5,7 @@ use Rattle.byte_unit_command.specs.CallEnds.{KeepsMessages, KeepsText}
 use Rattle.byte_unit_command.specs.Field.{IsPlaced}
 use Rattle.byte_unit_command.specs.Fields.{at_blanks, gap_by, gap_of, width_by, width_of}
 use Rattle.byte_unit_command.specs.Messages.{AreLimitMessages}
-use Rattle.byte_unit_command.specs.RunState.{State, messages_of, state_of}
+use Rattle.byte_unit_command.specs.CallEnds.{State, messages_of, state_of}
 use Rattle.byte_unit_command.specs.Formatted.{IsFormatted}
 use Rattle.byte_unit_command.proofs.Converting.{AddsField-other, AddsField-size, AreLimitMessages-none, after-is}
 use Rattle.byte_unit_command.proofs.Converting.{kept_messages-same}

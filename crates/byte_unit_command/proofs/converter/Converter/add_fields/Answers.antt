@@ -1,5 +1,5 @@
 -- Without a delimiter, the record is one field.
-use Rattle.byte_unit_command.specs.RunState.{messages_of, state_of}
+use Rattle.byte_unit_command.specs.CallEnds.{messages_of, state_of}
 use Rattle.byte_unit_command.proofs.Converting.{AddsFields-whole, Aborts-whole}
 use Rattle.std.proofs.lemmas.Result.{on_ok_weaker}
 use Rattle.byte_unit_command.proofs.converter.Converter.add_fields.Goals as goal

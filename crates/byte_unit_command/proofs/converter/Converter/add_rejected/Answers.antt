@@ -1,6 +1,6 @@
 -- A field that is not a size adds a copy of itself, and a message about it.
 use Rattle.std.proofs.Common.{◌≡◌, refl, rules, is_ok}
-use Rattle.byte_unit_command.specs.RunState.{messages_of, state_of}
+use Rattle.byte_unit_command.specs.CallEnds.{messages_of, state_of}
 use Rattle.byte_unit_command.specs.declared.options.Invalid.TheVariants.{Abort}
 use Rattle.byte_unit_command.proofs.Converting.{AddsField-rejected}
 use Rattle.byte_unit_stream.proofs.Beginnings.{IsBeginningOf-if}

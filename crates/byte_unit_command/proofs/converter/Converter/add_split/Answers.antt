@@ -5,9 +5,11 @@ use Rattle.std.proofs.Common.{◌⊎◌, ◌≡◌, ◌≤◌, ◌+◌, ◌∙�
 use Rattle.std.proofs.Common.{subst, Err, arith, eqb-true}
 use Rattle.std.proofs.lemmas.List.{nil_from_length, take_rest}
 use Rattle.byte_unit_command.specs.Fields.{IsChosenField, between_of, fields_of}
-use Rattle.byte_unit_command.specs.RunState.{AddsFields, State, messages_of, state_of}
-use Rattle.byte_unit_command.specs.declared.error.RunError.{RunError}
-use Rattle.byte_unit_command.specs.declared.error.RunError.TheVariants.{Memory, Rejected}
+use Rattle.byte_unit_command.specs.CallEnds.{AddsFields, State, messages_of, state_of}
+use Rattle.byte_unit_command.specs.declared.error.Reason.{Reason}
+use Rattle.byte_unit_command.specs.declared.error.Reason.TheVariants.{Rejected}
+use Rattle.byte_unit_stream.specs.declared.run.RunError.{RunError}
+use Rattle.byte_unit_stream.specs.declared.run.RunError.TheVariants.{Memory, Ended}
 use Rattle.std.proofs.lemmas.Result.{on_ok_weaker}
 use Rattle.byte_unit_command.proofs.Results.{IfErr-passed, error-passed}
 use Rattle.byte_unit_command.proofs.Splitting.{IsSplitting, IsSplitting-at, IsSplitting-start, Aborts-first}
@@ -18,7 +20,7 @@ use Rattle.byte_unit_command.proofs.converter.Converter.add_split.Goals as goal
 pub returns-in_err-add_field-clause-rejected : goal.returns-in_err-add_field-clause-rejected
 returns-in_err-add_field-clause-rejected g c = λ is.
     let error = c.in_err-add_field.field-0.0 in
-    let same = error-passed c.from_residual.result error Rejected c.from_residual.ensures.1 is in
+    let same = error-passed c.from_residual.result error (Ended Rejected) c.from_residual.ensures.1 is in
     let options = c.args.options.now in
     let rest = c.loop-n.rest.now in
     let place = c.in-Some.n in
@@ -104,5 +106,5 @@ returns-clause-rejected g c = λ is.
 -- a field before the last could not be added: the error is passed on
 pub returns-in_err-add_field-clause-early : goal.returns-in_err-add_field-clause-early
 returns-in_err-add_field-clause-early g c =
-    IfErr-passed (λ (error : RunError). (error ≡ Memory) ⊎ (error ≡ Rejected)) _ _ c.from_residual.ensures.1
+    IfErr-passed (λ (error : RunError Reason). (error ≡ Memory) ⊎ (error ≡ Ended Rejected)) _ _ c.from_residual.ensures.1
     c.in_err-add_field.ensures.early

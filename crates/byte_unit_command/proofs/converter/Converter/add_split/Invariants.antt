@@ -2,7 +2,7 @@
 -- shorter.
 use Rattle.std.proofs.Common.{ℕ, ◌≤◌, ◌↔◌, length, IsTrue}
 use Rattle.byte_unit_command.specs.Fields.{GoesTo, IsChosenField, IsInOrder}
-use Rattle.byte_unit_command.specs.RunState.{state_of}
+use Rattle.byte_unit_command.specs.CallEnds.{state_of}
 use Rattle.byte_unit_command.proofs.Splitting.{IsSplitting}
 use Rattle.byte_unit_command.proofs.converter.Converter.add_split.Given as goal
 

@@ -1,7 +1,7 @@
 -- A header record is copied, and the fields of any other are added; the end byte follows.
 use Rattle.std.proofs.Common.{◌≡◌, ◌-◌, ◌++◌, ◌∷◌, [], List, ℕ, suc, ap, subst, ◌∙◌, arith}
-use Rattle.byte_unit_command.specs.RunState.{AddsFields, State, messages_of, state_of}
-use Rattle.byte_unit_command.proofs.Converting.{AddsRecords-header, AddsRecords-fields, kept_messages-same}
+use Rattle.byte_unit_command.specs.CallEnds.{AddsFields, State, messages_of, state_of}
+use Rattle.byte_unit_command.proofs.Converting.{Adds-header, Adds-fields, kept_messages-same}
 use Rattle.byte_unit_stream.proofs.Beginnings.{IsBeginningOf-self}
 use Rattle.byte_unit_command.proofs.converter.Converter.append_record.Goals.{then-self-gt0+in_ok-extend_from_slice}
 use Rattle.byte_unit_command.proofs.converter.Converter.append_record.Goals.{else-self-gt0+in_ok-add_fields}
@@ -26,14 +26,14 @@ returns-clause-ok g c =
           { header = old.header - 1; place = place; out = out } in
           let copied : between ≡ Copied c.saturating_add-self.result (old.out ++ bytes) =
           ap state_of w.self-is ∙ ap (Copied c.saturating_add-self.result) w.in_ok-extend_from_slice.ensures.items in
-          AddsRecords-header options bytes old new (old.header - 1) some
+          Adds-header options bytes old new (old.header - 1) some
           (ended ∙ ap (λ (state : State). record state { out = state.out ++ mark }) copied
           ∙ ap (λ place. Copied place (old.out ++ bytes ++ mark)) c.saturating_add-self.ensures)
       | else-self-gt0+in_ok-add_fields w ↦
           let none : old.header ≡ 0 = omega (arith, w.if-self-gt0.false) in
           let own = subst (λ (place : ℕ). AddsFields options bytes (record old { place = place })
           (state_of w.add_fields.new.self)) c.saturating_add-self.ensures w.in_ok-add_fields.ensures.ok in
-          AddsRecords-fields options bytes old new (state_of w.add_fields.new.self) none own
+          Adds-fields options bytes old new (state_of w.add_fields.new.self) none own
           (ended ∙ ap (λ (state : State). record state { out = state.out ++ mark }) (ap state_of w.self-is))
     ]
 
