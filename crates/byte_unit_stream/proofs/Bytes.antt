@@ -1,11 +1,9 @@
 -- Lemmas: bytes that are read and written in several calls.
-use Rattle.std.proofs.Common.{Option, Result, OnOk, OnErr, IfErr, ◌≡◌, ℕ, ◌-◌, List, [], ◌++◌, length, take, drop}
+use Rattle.std.proofs.Common.{Option, ◌≡◌, ℕ, ◌-◌, List, [], ◌++◌, length, take, drop}
 use Rattle.std.proofs.Common.{sym, ap, subst, ◌∙◌, append_assoc, append-nil, take-append-drop}
-use Rattle.std.specs.Prelude.{⊤}
 use Rattle.std.proofs.lemmas.List.{take_rest}
 use Rattle.std.specs.Io.KnownBytes.{Appends, Consumes}
 use Rattle.std.proofs.KnownBytes.{Appends-trans, Consumes-trans}
-use Rattle.byte_unit_stream.specs.Beginnings.{IsBeginningOf}
 
 -- a part of the bytes was written, and `rest` is what follows it
 abbrev pub IsWrittenTo : Option (List ℕ) → Option (List ℕ) → List ℕ → List ℕ → Type 0
@@ -29,11 +27,3 @@ pub Consumes-at_end : (left between rest : Option (List ℕ)) (read piece : List
 Consumes-at_end left between rest read piece gave came none =
     let same = ap (λ bytes. read ++ bytes) none ∙ append-nil read in
     subst (Consumes left rest) same (Consumes-trans left between rest read piece gave came)
-
--- the effect of a call that writes these bytes: it appends them, or it fails with this error and appends a beginning
--- of them
-pub record IsWrittenBy {E : Type 0} (held holds : Option (List ℕ)) (bytes : List ℕ) (error : E) (result : Result ⊤ E)
-    : Type 0 where
-  pub whole : OnOk result (Appends held holds bytes)
-  pub part : OnErr result ((written : List ℕ) × Appends held holds written × IsBeginningOf written bytes)
-  pub is_error : IfErr result (λ found. found ≡ error)

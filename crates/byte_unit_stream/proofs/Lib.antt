@@ -2,7 +2,6 @@ pub mod Bytes
 pub mod Ends
 pub mod ChunkRecords
 pub mod Beginnings
-pub mod Feeding
 pub mod Steps
 pub mod Runs
 pub mod Courses

@@ -10,9 +10,9 @@ use Rattle.byte_unit_stream.specs.Steps.{AreConverted, AreSteps, IsAll, IsFirst,
 use Rattle.byte_unit_stream.specs.Steps.{start_at}
 use Rattle.byte_unit_stream.specs.declared.run.RunError.{RunError}
 use Rattle.byte_unit_stream.specs.declared.run.RunError.TheVariants.{Memory, Read, Write, Ended}
-use Rattle.byte_unit_stream.proofs.Beginnings.{IsBeginningOf-after, IsBeginningOf-self}
+use Rattle.byte_unit_stream.proofs.Beginnings.{IsBeginningOf-after}
 use Rattle.byte_unit_stream.proofs.ChunkRecords.{finished_records-piece, begun_record-piece, records_of-begun}
-use Rattle.byte_unit_stream.proofs.Steps.{AreSteps-append, AreSteps-behind, IsFirst-converted, behind}
+use Rattle.byte_unit_stream.proofs.Steps.{AreConverted-failed, AreConverted-then, IsFirst-converted, behind}
 
 -- between two reads: the finished records of what was read are converted, and the rest is the unfinished record
 pub record IsServed {S E : Type 0} (relation : Relation S E) (end : ℕ) (start : S) (read written messages part : List ℕ)
@@ -40,67 +40,23 @@ module _ {S E : Type 0} {relation : Relation S E} {end : ℕ} {start state : S} 
   abbrev between : Progress S
   between = record { state = state; out = written; messages = messages }
 
-  -- steps from then on follow those before
-  steps-then : (records : List (List ℕ)) (new : Progress S) → AreSteps relation records (start_at state) new
-      → AreSteps relation (finished ++ records) (start_at start) (behind written messages new)
-  steps-then records new steps =
-      let From : List ℕ → List ℕ → Type 0 = λ out told. AreSteps relation records
-      (record { state = state; out = out; messages = told }) (behind written messages new) in
-      let at : From (written ++ []) (messages ++ []) =
-      AreSteps-behind relation written messages records (start_at state) new steps in
-      AreSteps-append relation finished records (start_at start) between (behind written messages new) served.steps
-      (subst (λ out. From out messages) (append-nil written) (subst (From (written ++ [])) (append-nil messages) at))
-
   -- what is written and told is that of the finished records
   pub IsAll-now : IsAll relation finished (start_at start) written messages
   IsAll-now = record { new = between; steps = served.steps; out_is = refl; messages_are = refl }
 
-  -- so it is that of some first ones of them
-  IsFirst-now : IsFirst relation finished (start_at start) written messages
-  IsFirst-now = record { first = finished; is_beginning = IsBeginningOf-self finished; all = IsAll-now }
-
-  -- records after the finished ones, and the list of both
-  module _ (records all : List (List ℕ)) (same : finished ++ records ≡ all) where
-    -- all of both are converted
-    AreSteps-then : (new : Progress S) → AreSteps relation records (start_at state) new
-        → AreSteps relation all (start_at start) (behind written messages new)
-    AreSteps-then new steps =
-        subst (λ all. AreSteps relation all (start_at start) (behind written messages new)) same
-        (steps-then records new steps)
-
-    -- the finished ones and the first of the others are converted
-    IsFirst-then : (out told : List ℕ) → IsFirst relation records (start_at state) out told
-        → IsFirst relation all (start_at start) (written ++ out) (messages ++ told)
-    IsFirst-then out told at = record {
-      first = finished ++ at.first;
-      is_beginning = subst (IsBeginningOf (finished ++ at.first)) same
-          (IsBeginningOf-after finished at.first records at.is_beginning);
-      all = record {
-        new = behind written messages at.all.new;
-        steps = steps-then at.first at.all.new at.all.steps;
-        out_is = ap (λ out. written ++ out) at.all.out_is;
-        messages_are = ap (λ told. messages ++ told) at.all.messages_are;
-      };
-    }
-
-    -- the finished ones are converted, and the others before one that ends the run
-    IsStopped-then : (reason : E) (out told : List ℕ) → IsStopped relation records (start_at state) reason out told
-        → IsStopped relation all (start_at start) reason (written ++ out) (messages ++ told)
-    IsStopped-then reason out told at = record {
-      before = finished ++ at.before;
-      bytes = at.bytes;
-      after = at.after;
-      new = behind written messages at.new;
-      own = at.own;
-      records_are =
-          sym same ∙ ap (λ more. finished ++ more) at.records_are
-          ∙ sym (append_assoc finished at.before (at.bytes ∷ at.after));
-      steps = steps-then at.before at.new at.steps;
-      ends = at.ends;
-      out_is = ap (λ out. written ++ out) at.out_is;
-      messages_are = ap (λ told. messages ++ told) at.messages_are
-          ∙ sym (append_assoc messages at.new.messages at.own);
-    }
+  -- what a call leaves that converts records after the finished ones, as what converts all of both
+  AreConverted-all : (records all : List (List ℕ)) → finished ++ records ≡ all → (new : Progress S)
+      (result : Result ⊤ (RunError E)) → AreConverted relation records (start_at state) new result
+      → AreConverted relation all (start_at start) (behind written messages new) result
+  AreConverted-all records all same new result at =
+      let before : AreSteps relation finished (start_at start) (record {
+        state = state;
+        out = written ++ [];
+        messages =
+            messages ++ [];
+      }) = rw (append-nil written, append-nil messages) served.steps in
+      subst (λ all. AreConverted relation all (start_at start) (behind written messages new) result) same
+      (AreConverted-then relation written messages finished records (start_at start) (start_at state) new result before at)
 
   -- the records that end in the next piece follow
   module _ (piece : List ℕ) where
@@ -122,7 +78,7 @@ module _ {S E : Type 0} {relation : Relation S E} {end : ℕ} {start state : S} 
         → IsServed relation end start (read ++ piece) (written ++ new.out) (messages ++ new.messages) next_part
         new.state
     IsServed-piece new next_part steps part_is = record {
-      steps = AreSteps-then ended after same-after new steps;
+      steps = AreConverted-all ended after same-after new (Ok tt) steps;
       begun = part_is ∙ begun_record-piece end read served.begun piece;
     }
 
@@ -131,9 +87,9 @@ module _ {S E : Type 0} {relation : Relation S E} {end : ℕ} {start state : S} 
         → AreConverted relation ended (start_at state) new (Err error)
         → IsLeft relation end start (read ++ piece) complete (Err error) last (written ++ new.out)
         (messages ++ new.messages)
-    IsLeft-piece complete last new Memory at = inl (IsFirst-then ended after same-after new.out new.messages at)
+    IsLeft-piece complete last new Memory at = inl (AreConverted-all ended after same-after new (Err Memory) at)
     IsLeft-piece complete last new (Ended reason) at =
-        inl (IsStopped-then ended after same-after reason new.out new.messages at)
+        inl (AreConverted-all ended after same-after new (Err (Ended reason)) at)
     IsLeft-piece complete last new Read at = absurd at
     IsLeft-piece complete last new Write at = absurd at
 
@@ -142,23 +98,11 @@ module _ {S E : Type 0} {relation : Relation S E} {end : ℕ} {start state : S} 
         → AreConverted relation ended (start_at state) new result → (more : List ℕ) → IsBeginningOf more new.out
         → IsLeft relation end start (read ++ piece) complete (Err Write) last (written ++ more) messages
     IsLeft-unwritten complete last new result at more begins =
-        let first = IsFirst-converted relation ended (start_at state) new result at in
-        let none = IsFirst-then ended after same-after [] [] (record {
-          first = [];
-          is_beginning = (ended, refl);
-          all = record { new = start_at state; steps = refl; out_is = refl; messages_are = refl };
-        }) in
+        let first = IsFirst-converted relation after (start_at start) (behind written messages new) result
+        (AreConverted-all ended after same-after new result at) in
         inl (
-          (
-            written ++ new.out,
-            messages ++ first.0,
-            IsFirst-then ended after same-after new.out first.0 first.1,
-            IsBeginningOf-after written more new.out begins,
-          ),
-          (
-            written ++ [],
-            subst (IsFirst relation after (start_at start) (written ++ [])) (append-nil messages) none,
-          ),
+          (written ++ new.out, first.0, first.1, IsBeginningOf-after written more new.out begins),
+          (written, record { first = finished; is_beginning = (ended, sym same-after); all = IsAll-now }),
         )
 
   -- the input was read to its end, and the last record follows, if it is not empty
@@ -167,27 +111,31 @@ module _ {S E : Type 0} {relation : Relation S E} {end : ℕ} {start state : S} 
     same-all : finished ++ nonempty_record part ≡ records_of end read
     same-all = records_of-begun end read served.begun
 
+    -- if the last record is converted, all are
+    all-steps : (new : Progress S) → AreSteps relation (nonempty_record part) (start_at state) new
+        → AreSteps relation (records_of end read) (start_at start) (behind written messages new)
+    all-steps new steps = AreConverted-all (nonempty_record part) (records_of end read) same-all new (Ok tt) steps
+
     -- what is told if the last record could not be converted is right for a run that ends with its error
     pub IsLeft-last : (last : S) (new : Progress S) (error : RunError E)
         → IsStep relation part (start_at state) new (Err error) → nonempty_record part ≡ part ∷ []
         → IsLeft relation end start read complete (Err error) last written (messages ++ new.messages)
-    IsLeft-last last new Memory (_, none) is =
-        inl (subst (IsFirst relation finished (start_at start) written)
-        (sym (appended-nothing messages new.messages none)) IsFirst-now)
-    IsLeft-last last new (Ended reason) (own, ends, _, messages_are) is = inr (
-      at_end,
-      inl (record {
-        before = finished;
-        bytes = part;
-        after = [];
+    IsLeft-last last new Memory (_, none) is = inl (record {
+      first = finished;
+      is_beginning = ([], sym (append-nil finished));
+      all = record {
         new = between;
-        own = own;
-        records_are = sym same-all ∙ ap (λ last. finished ++ last) is;
         steps = served.steps;
-        ends = ends;
         out_is = refl;
-        messages_are = ap (λ told. messages ++ told) messages_are;
-      }),
+        messages_are = appended-nothing messages new.messages none;
+      };
+    })
+    IsLeft-last last new (Ended reason) at is = inr (
+      at_end,
+      inl (subst (λ out. IsStopped relation (records_of end read) (start_at start) reason out (messages ++ new.messages))
+          (appended-nothing written new.out at.2) (AreConverted-all (part ∷ []) (records_of end read)
+          (ap (λ last. finished ++ last) (sym is) ∙ same-all) new (Err (Ended reason))
+          (AreConverted-failed relation part [] (start_at state) new (Ended reason) at))),
     )
     IsLeft-last last new Read at is = absurd at
     IsLeft-last last new Write at is = absurd at
@@ -200,7 +148,7 @@ module _ {S E : Type 0} {relation : Relation S E} {end : ℕ} {start state : S} 
       at_end,
       behind written messages new,
       out,
-      AreSteps-then (nonempty_record part) (records_of end read) same-all new steps,
+      all-steps new steps,
       closes,
       ap (λ more. written ++ more) more_is ∙ sym (append_assoc written new.out out),
       refl,
@@ -217,7 +165,7 @@ module _ {S E : Type 0} {relation : Relation S E} {end : ℕ} {start state : S} 
         written ++ new.out,
         record {
           new = behind written messages new;
-          steps = AreSteps-then (nonempty_record part) (records_of end read) same-all new steps;
+          steps = all-steps new steps;
           out_is = refl;
           messages_are = refl;
         },
@@ -227,7 +175,7 @@ module _ {S E : Type 0} {relation : Relation S E} {end : ℕ} {start state : S} 
       at_end,
       inr (
         behind written messages new,
-        AreSteps-then (nonempty_record part) (records_of end read) same-all new steps,
+        all-steps new steps,
         fails,
         ap (λ more. written ++ more) more_is,
         refl,
@@ -237,7 +185,7 @@ module _ {S E : Type 0} {relation : Relation S E} {end : ℕ} {start state : S} 
       at_end,
       behind written messages new,
       out,
-      AreSteps-then (nonempty_record part) (records_of end read) same-all new steps,
+      all-steps new steps,
       either,
       subst (IsBeginningOf (written ++ more)) (sym (append_assoc written new.out out))
           (IsBeginningOf-after written more (new.out ++ out) begins),
