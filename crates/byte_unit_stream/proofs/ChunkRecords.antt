@@ -1,8 +1,8 @@
 -- Lemmas: the records of bytes that come in chunks are those of the whole input.
-use Rattle.std.proofs.Common.{◌≡◌, ◌≢◌, ◌+◌, ◌<◌, ℕ, List, [], ◌∷◌, ◌++◌, length, take, drop, get_or, true, false, cond}
-use Rattle.std.proofs.Common.{eqb, arith, refl, sym, ap, ◌∙◌, append_assoc, append-nil, take-append-drop, ◌==◌}
-use Rattle.std.proofs.lemmas.List.{nil_from_length, take_more}
-use Rattle.std.proofs.lemmas.Bool.{eq-eqb, ne_eqb, eqb-true, eqb-false}
+use Rattle.std.proofs.Common.{◌≡◌, ◌≢◌, ℕ, List, [], ◌∷◌, ◌++◌, length, true, false, cond}
+use Rattle.std.proofs.Common.{eqb, arith, refl, sym, ap, ◌∙◌, append_assoc, append-nil, ◌==◌}
+use Rattle.std.proofs.lemmas.List.{nil_from_length}
+use Rattle.std.proofs.lemmas.Bool.{eqb-true, eqb-false}
 use Rattle.std.proofs.lemmas.Bool.Decides.{nat_tests}
 use Rattle.std.specs.List.{onto_first}
 use Rattle.byte_unit_stream.specs.Records.{split_by, but_last, but_empty_last, records_of, finished_records}
@@ -41,7 +41,7 @@ module _ (end : ℕ) where
       grind (arith, nat_tests, ended_records-append [] front back, ended_records-append (part ++ byte ∷ []) front back)
 
   -- the unfinished record after two chunks is the one after the second, begun by the one after the first
-  begun_record-append : (part front back : List ℕ)
+  pub begun_record-append : (part front back : List ℕ)
       → begun_record end part (front ++ back) ≡ begun_record end (begun_record end part front) back
   begun_record-append part [] back = refl
   begun_record-append part (byte ∷ front) back =
@@ -102,57 +102,6 @@ module _ (end : ℕ) where
     -- the finished records, then the unfinished one if it is not empty, are all records of what was read
     pub records_of-begun : finished_records end read ++ nonempty_record part ≡ records_of end read
     records_of-begun = rw (begun, finished_records-ended_records read, records_of-ended_records read) refl
-
-  -- one byte more, that at `place`: an end byte finishes the record that was begun, and any other byte extends it
-  module _ (part bytes : List ℕ) (place : ℕ) (fits : place < length bytes) where
-    -- the records that end before the next place: those that end before this one, and the unfinished one if the byte
-    -- ends it
-    ended_records-more : ended_records end part (take (place + 1) bytes)
-        ≡ ended_records end part (take place bytes)
-        ++ cond (eqb (get_or bytes place 0) end) (begun_record end part (take place bytes) ∷ []) []
-    ended_records-more =
-        ap (ended_records end part) (take_more bytes place 0 fits)
-        ∙ ended_records-append part (take place bytes) (get_or bytes place 0 ∷ [])
-
-    -- the unfinished record before the next place: empty after an end byte, and else longer by the byte
-    begun_record-more : begun_record end part (take (place + 1) bytes)
-        ≡ cond (eqb (get_or bytes place 0) end) [] (begun_record end part (take place bytes) ++ get_or bytes place 0 ∷ [])
-    begun_record-more =
-        ap (begun_record end part) (take_more bytes place 0 fits)
-        ∙ begun_record-append part (take place bytes) (get_or bytes place 0 ∷ [])
-
-    -- an end byte ends the unfinished record, so one more record ends
-    pub ended_records-take-end_byte : get_or bytes place 0 ≡ end → ended_records end part (take (place + 1) bytes)
-        ≡ ended_records end part (take place bytes) ++ begun_record end part (take place bytes) ∷ []
-    ended_records-take-end_byte is_end = rw (eq-eqb _ _ is_end) at ended_records-more
-
-    -- after an end byte no record has begun
-    pub begun_record-take-end_byte : get_or bytes place 0 ≡ end → begun_record end part (take (place + 1) bytes) ≡ []
-    begun_record-take-end_byte is_end = rw (eq-eqb _ _ is_end) at begun_record-more
-
-    -- no record ends at another byte
-    pub ended_records-take-other_byte : get_or bytes place 0 ≢ end
-        → ended_records end part (take (place + 1) bytes) ≡ ended_records end part (take place bytes)
-    ended_records-take-other_byte is_other = (rw (ne_eqb _ _ is_other) at ended_records-more) ∙ append-nil _
-
-    -- another byte is added to the unfinished record
-    pub begun_record-take-other_byte : get_or bytes place 0 ≢ end
-        → begun_record end part (take (place + 1) bytes)
-        ≡ begun_record end part (take place bytes) ++ get_or bytes place 0 ∷ []
-    begun_record-take-other_byte is_other = rw (ne_eqb _ _ is_other) at begun_record-more
-
-  -- the records that end before a place come first, then those that end after it
-  pub ended_records-take-drop : (part bytes : List ℕ) (place : ℕ)
-      → ended_records end part bytes ≡ ended_records end part (take place bytes)
-      ++ ended_records end (begun_record end part (take place bytes)) (drop place bytes)
-  ended_records-take-drop part bytes place =
-      ap (ended_records end part) (sym (take-append-drop place bytes)) ∙ ended_records-append part (take place bytes) (drop place bytes)
-
-  -- the unfinished record after some bytes is the one after those from a place on, begun by the one before the place
-  pub begun_record-take-drop : (part bytes : List ℕ) (place : ℕ)
-      → begun_record end part bytes ≡ begun_record end (begun_record end part (take place bytes)) (drop place bytes)
-  begun_record-take-drop part bytes place =
-      ap (begun_record end part) (sym (take-append-drop place bytes)) ∙ begun_record-append part (take place bytes) (drop place bytes)
 
 -- a part whose length is tested to be 0 is empty
 pub empty_from_length : (part : List ℕ) (count : ℕ) → count ≡ length part → true ≡ (count == 0) → part ≡ []

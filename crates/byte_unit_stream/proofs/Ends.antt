@@ -1,23 +1,25 @@
 -- Lemmas: where the first record of some bytes ends, found byte by byte or in blocks. Fields end in the same way, at a
 -- delimiter.
 use Rattle.std.proofs.Common.{◌≡◌, ◌≢◌, ◌+◌, ◌<◌, ◌≤◌, ℕ, zero, suc, List, [], ◌∷◌, ◌++◌, take, drop, get_or, length}
-use Rattle.std.proofs.Common.{arith, false, eqb, refl, sym, subst, append_assoc, false-eqb}
+use Rattle.std.proofs.Common.{arith, false, eqb, refl, sym, ap, subst, ◌∙◌, append_assoc, false-eqb, take-append-drop}
+use Rattle.std.proofs.Math.Seq.{drop-cons}
+use Rattle.std.proofs.lemmas.Bool.{eq-eqb, ne_eqb}
 use Rattle.std.proofs.lemmas.List.{take_more}
 use Rattle.byte_unit_stream.specs.Chunks.{ended_records, begun_record, IsUnbroken}
 use Rattle.byte_unit_stream.specs.Records.{split_by}
-use Rattle.byte_unit_stream.proofs.ChunkRecords.{ended_records-take-end_byte, begun_record-take-end_byte}
-use Rattle.byte_unit_stream.proofs.ChunkRecords.{ended_records-take-other_byte, begun_record-take-other_byte}
-use Rattle.byte_unit_stream.proofs.ChunkRecords.{ended_records-take-drop, begun_record-take-drop}
-use Rattle.byte_unit_stream.proofs.ChunkRecords.{split_by-ended_records}
+use Rattle.byte_unit_stream.proofs.ChunkRecords.{ended_records-append, begun_record-append, split_by-ended_records}
 
 -- if no record ends before a place, and the byte there is no end byte, no record ends before the next place
 pub IsUnbroken-other_byte : (end : ℕ) (bytes : List ℕ) (place : ℕ) → place < length bytes → IsUnbroken end (take place bytes)
     → get_or bytes place 0 ≢ end → IsUnbroken end (take (place + 1) bytes)
-IsUnbroken-other_byte end bytes place fits unbroken is_other part = (
-  rw (ended_records-take-other_byte end part bytes place fits is_other) (unbroken part).0,
-  rw (begun_record-take-other_byte end part bytes place fits is_other, (unbroken part).1, take_more bytes place 0 fits)
-      (append_assoc part (take place bytes) (get_or bytes place 0 ∷ [])),
-)
+IsUnbroken-other_byte end bytes place fits unbroken is_other part =
+    let front = take place bytes in
+    let byte = get_or bytes place 0 ∷ [] in
+    let more = take_more bytes place 0 fits in
+    let none = ne_eqb (get_or bytes place 0) end is_other in (
+      rw (more, ended_records-append end part front byte, (unbroken part).0, (unbroken part).1, none) refl,
+      rw (more, begun_record-append end part front byte, (unbroken part).1, none) (append_assoc part front byte),
+    )
 
 -- if no record ends before a place, and none of the next bytes is an end byte, no record ends before the place after
 -- them
@@ -36,17 +38,24 @@ EndsAt end bytes place = (place < length bytes) × (get_or bytes place 0 ≡ end
 
 -- the records of bytes in which the first record ends at this place
 module _ (end : ℕ) (part bytes : List ℕ) (place : ℕ) (ends : EndsAt end bytes place) where
+  -- the end byte is between the bytes before the place and those after it
+  parts : bytes ≡ take place bytes ++ end ∷ drop (place + 1) bytes
+  parts =
+      let next : suc place ≡ place + 1 = omega arith in
+      sym (take-append-drop place bytes) ∙ ap (λ rest. take place bytes ++ rest) (drop-cons bytes place 0 ends.0
+      ∙ ap (λ byte. byte ∷ drop (suc place) bytes) ends.1 ∙ ap (λ from. end ∷ drop from bytes) next)
+
   -- the record that ends at this place is the first one, and the records of the bytes after it follow
   pub ended_records-EndsAt : ended_records end part bytes ≡ (part ++ take place bytes) ∷ ended_records end [] (drop (place + 1) bytes)
   ended_records-EndsAt =
-      let records = ended_records-take-end_byte end part bytes place ends.0 ends.1 in
-      let begun = begun_record-take-end_byte end part bytes place ends.0 ends.1 in
-      rw (ended_records-take-drop end part bytes (place + 1), records, begun, (ends.2 part).0, (ends.2 part).1) refl
+      ap (ended_records end part) parts ∙ ended_records-append end part (take place bytes) (end ∷ drop (place + 1) bytes)
+      ∙ rw ((ends.2 part).0, (ends.2 part).1, eq-eqb end end refl) refl
 
   -- the unfinished record is that of the bytes after this place
   pub begun_record-EndsAt : begun_record end part bytes ≡ begun_record end [] (drop (place + 1) bytes)
   begun_record-EndsAt =
-      rw (begun_record-take-drop end part bytes (place + 1), begun_record-take-end_byte end part bytes place ends.0 ends.1) refl
+      ap (begun_record end part) parts ∙ begun_record-append end part (take place bytes) (end ∷ drop (place + 1) bytes)
+      ∙ rw (eq-eqb end end refl) refl
 
 -- the subslices of bytes in which none ends: the bytes themselves
 pub split_by-IsUnbroken : (end : ℕ) (bytes : List ℕ) → IsUnbroken end bytes → split_by end bytes ≡ bytes ∷ []

@@ -9,22 +9,17 @@ use Rattle.byte_unit_stream.specs.declared.run.RunError.{RunError}
 use Rattle.byte_unit_stream.specs.declared.run.RunError.TheVariants.{Memory, Read, Write, Ended}
 use Rattle.byte_unit_stream.specs.declared.writer.Writing.{Writing}
 
--- from one state of standard error to another one, this was told of these messages: nothing if a write had failed
--- before; a beginning if a write fails; and else all of them
-pub record Tells (failed_before failed : Bool) (messages told : List ℕ) : Type 0 where
-  pub stays : IsTrue failed_before → (told ≡ []) × IsTrue failed
-  pub begins : IsBeginningOf told messages
-  pub all : failed ≡ false → told ≡ messages
-
--- from one state of standard error to another one, something was told of these messages
-abbrev pub HasTold : {E : Type 0} → (E → Option (List ℕ)) → Writing E → Writing E → List ℕ → Type 0
-HasTold tells old new messages =
-    (told : List ℕ) × HasWritten tells old new told × Tells (writing_failed old) (writing_failed new) messages told
-
 -- of these messages, what was told: all of them, or a beginning if a write to standard error failed
 pub record IsTold (failed : Bool) (messages told : List ℕ) : Type 0 where
   pub begins : IsBeginningOf told messages
   pub all : failed ≡ false → told ≡ messages
+
+-- from one state of standard error to another one, something was told of these messages: nothing if a write had failed
+-- before
+abbrev pub HasTold : {E : Type 0} → (E → Option (List ℕ)) → Writing E → Writing E → List ℕ → Type 0
+HasTold tells old new messages =
+    (told : List ℕ) × HasWritten tells old new told × IsTold (writing_failed new) messages told
+    × (IsTrue (writing_failed old) → (told ≡ []) × IsTrue (writing_failed new))
 
 -- from the old streams to the new ones, exactly these bytes were read and written, and this was told of these messages.
 -- `remaining`, `contents` and `tells` are those of the reader, the writer and standard error

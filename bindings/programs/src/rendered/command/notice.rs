@@ -7,8 +7,8 @@ use crate::rattle::{String, Vec};
 use crate::rendered::command::options::{Invalid, Options};
 use crate::rendered::command::quote::add_quoted;
 use crate::rendered::command::size::{parse, without_suffix};
-use crate::rendered::command::wrong_character::{names_character, wrong_character};
-use byte_unit::rendered::base::ParseError;
+use crate::rendered::command::wrong_character::wrong_character;
+use byte_unit::rendered::base::{ParseError, ValueParseError};
 
 /// The place of a record in the input.
 #[derive(Debug, Clone, Copy)]
@@ -17,15 +17,6 @@ pub(crate) struct Place {
     pub word: &'static str,
     /// The number of the record, counted from 1.
     pub number: u64,
-}
-
-/// A field of a record.
-#[derive(Debug, Clone, Copy)]
-struct Field<'a> {
-    /// Its number, counted from 1.
-    number: u64,
-    /// Its bytes, as they are in the record.
-    bytes: &'a [u8],
 }
 
 /// Messages that are not written yet.
@@ -70,8 +61,7 @@ pub(crate) fn add_reject_notice<A: Allocator>(
         return Ok(());
     }
     let reason = reason_of(options, field);
-    let field = Field { number, bytes: field };
-    add_message(options, place, field, &reason, notices)
+    add_message(options, place, number, field, &reason, notices)
 }
 
 /// Returns `true` if there are messages about rejected fields.
@@ -111,9 +101,8 @@ pub(crate) fn add_limit_notice<A: Allocator>(
 ) -> Result<(), AllocError> {
     let above = options.max.is_some_and(|most| most < size);
     let below = options.min.is_some_and(|least| size < least);
-    let field = Field { number, bytes: field };
-    add_message_if(above, options, place, field, &FieldError::Above, notices)?;
-    add_message_if(below, options, place, field, &FieldError::Below, notices)
+    add_message_if(above, options, place, number, field, &FieldError::Above, notices)?;
+    add_message_if(below, options, place, number, field, &FieldError::Below, notices)
 }
 
 /// Appends a message if it is to be told.
@@ -125,11 +114,12 @@ fn add_message_if<A: Allocator>(
     told: bool,
     options: &Options,
     place: &Place,
-    field: Field,
+    number: u64,
+    field: &[u8],
     reason: &FieldError,
     notices: &mut Notices<A>,
 ) -> Result<(), AllocError> {
-    if told { add_message(options, place, field, reason, notices) } else { Ok(()) }
+    if told { add_message(options, place, number, field, reason, notices) } else { Ok(()) }
 }
 
 /// Appends a message.
@@ -140,16 +130,17 @@ fn add_message_if<A: Allocator>(
 fn add_message<A: Allocator>(
     options: &Options,
     place: &Place,
-    field: Field,
+    number: u64,
+    field: &[u8],
     reason: &FieldError,
     notices: &mut Notices<A>,
 ) -> Result<(), AllocError> {
     notices.line.clear();
-    add_place(options, place, field.number, &mut notices.line)?;
-    add_quoted(field.bytes, &mut notices.line)?;
+    add_place(options, place, number, &mut notices.line)?;
+    add_quoted(field, &mut notices.line)?;
     notices.line.push_str(": ")?;
     add_words(reason, &mut notices.words, &mut notices.line)?;
-    add_character(reason, without_suffix(options.suffix, field.bytes), &mut notices.line)?;
+    add_character(reason, without_suffix(options.suffix, field), &mut notices.line)?;
     notices.line.push_str("\n")?;
     notices.messages.extend_from_slice(notices.line.as_bytes())
 }
@@ -202,13 +193,11 @@ fn add_words<A: Allocator>(reason: &FieldError, words: &mut String<A>, line: &mu
 #[inline(always)]
 fn add_character<A: Allocator>(reason: &FieldError, text: &[u8], line: &mut String<A>) -> Result<(), AllocError> {
     match reason {
-        FieldError::Rejected(error) => {
-            if names_character(error) {
-                add_number(wrong_character(text), line)
-            } else {
-                Ok(())
-            }
+        FieldError::Rejected(ParseError::Unit(_)) => add_number(wrong_character(text), line),
+        FieldError::Rejected(ParseError::Value(ValueParseError::NotNumber(_))) => {
+            add_number(wrong_character(text), line)
         }
+        FieldError::Rejected(ParseError::Value(_)) => Ok(()),
         FieldError::NotUtf8 | FieldError::Above | FieldError::Below => Ok(()),
     }
 }

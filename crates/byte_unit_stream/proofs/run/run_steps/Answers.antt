@@ -5,8 +5,7 @@ use Rattle.byte_unit_stream.specs.Chunks.{ended_records, nonempty_record}
 use Rattle.byte_unit_stream.specs.Runs.{HasTold}
 use Rattle.byte_unit_stream.specs.Steps.{AreConverted, AreSteps, IsStep}
 use Rattle.byte_unit_stream.specs.Streams.{HasReadAll, HasWritten}
-use Rattle.byte_unit_stream.proofs.Courses.{Course-idle, Course-read, Course-start, Course-told, Course-wrote}
-use Rattle.byte_unit_stream.proofs.Courses.{HasRead-end, HasRead-failed}
+use Rattle.byte_unit_stream.proofs.Courses.{Course-end, Course-failed, Course-read, Course-start, Course-told, Course-wrote}
 use Rattle.byte_unit_stream.proofs.Runs.{IsAll-now, IsLeft-end, IsLeft-last, IsLeft-piece, IsLeft-unwritten}
 use Rattle.byte_unit_stream.proofs.Runs.{IsServed, IsServed-piece, IsServed-start}
 use Rattle.byte_unit_stream.proofs.Steps.{start_at-state}
@@ -29,7 +28,7 @@ reads-init g c =
 pub returns-in-None-clause-run : goal.returns-in-None-clause-run
 returns-in-None-clause-run g c =
     let so_far = c.reads.invariant.0 in (
-      Course-idle so_far.course c.read.new.self (HasRead-failed so_far.course c.read.new.self c.in-None.ensures.none),
+      Course-failed so_far.course c.read.new.self c.in-None.ensures.none,
       IsAll-now so_far.served,
     )
 
@@ -57,9 +56,8 @@ reads-preserved g c =
     let new = g.S.Steps.at c.feed-fed.new.steps in
     let steps = subst (λ old. AreSteps g.S.Steps.relation (ended_records c.args.end c.reads.part.items piece) old new)
     so_far.none_waits c.in-Ok-fed.ensures.converted in
-    let wrote = subst (HasWritten g.W.Write.contents c.reads.writer c.write_whole.new.writer) c.waiting.ensures
-    c.in-Ok.ensures.ok in
-    let told = subst (HasTold g.E.Write.contents c.reads.errors c.tell.new.errors) c.untold.ensures c.tell.ensures in
+    let wrote = rw c.waiting.ensures at c.in-Ok.ensures.ok in
+    let told = rw c.untold.ensures at c.tell.ensures in
     let course = Course-told (Course-wrote (Course-read so_far.course c.read.new.self piece c.in-Some.ensures.came)
     c.write_whole.new.writer new.out wrote) c.tell.new.errors new.messages told in
     let served = IsServed-piece so_far.served piece new c.feed-fed.new.part.items steps c.in-Ok-fed.ensures.part in
@@ -82,9 +80,8 @@ returns-in-Err-fed-clause-run g c =
     let error = c.in-Err-fed.error in
     let fed = subst (λ old. AreConverted g.S.Steps.relation (ended_records c.args.end c.reads.part.items piece) old new
     (Err error)) so_far.none_waits c.in-Err-fed.ensures.converted in
-    let wrote = subst (HasWritten g.W.Write.contents c.reads.writer c.write_whole.new.writer) c.waiting.ensures
-    c.in-Ok.ensures.ok in
-    let told = subst (HasTold g.E.Write.contents c.reads.errors c.tell.new.errors) c.untold.ensures c.tell.ensures in (
+    let wrote = rw c.waiting.ensures at c.in-Ok.ensures.ok in
+    let told = rw c.untold.ensures at c.tell.ensures in (
       Course-told (Course-wrote (Course-read so_far.course c.read.new.self piece c.in-Some.ensures.came)
           c.write_whole.new.writer new.out wrote) c.tell.new.errors new.messages told,
       IsLeft-piece so_far.served piece (HasReadAll g.R.Read.remaining c.read.new.self)
@@ -104,12 +101,11 @@ returns-in-Ok-last-clause-run g c =
     record { steps = so_far.served.steps; begun = c.deref.ensures.value ∙ so_far.served.begun } in
     let steps = subst (λ old. AreSteps g.S.Steps.relation (nonempty_record part) old new) so_far.none_waits
     c.in-Ok-last.ensures.ok in
-    let told = subst (HasTold g.E.Write.contents c.reads.errors c.tell-2.new.errors) c.untold-2.ensures
-    c.tell-2.ensures in
+    let told = rw c.untold-2.ensures at c.tell-2.ensures in
     -- a triple: the bytes that were written, that they were appended, and that they are right for the result
     let written = c.close.ensures.written in (
-      Course-wrote (Course-told (Course-idle so_far.course c.read.new.self (HasRead-end so_far.course c.read.new.self
-          (take end.field-0 c.read.new.buf) end.ensures.came (ap (λ count. take count c.read.new.buf) end.field-0-test)))
+      Course-wrote (Course-told (Course-end so_far.course c.read.new.self
+          (take end.field-0 c.read.new.buf) end.ensures.came (ap (λ count. take count c.read.new.buf) end.field-0-test))
           c.tell-2.new.errors new.messages told) c.close.new.writer written.0 written.1,
       IsLeft-end served (HasReadAll g.R.Read.remaining c.read.new.self) at_end (g.S.Steps.at c.close.new.steps).state
           new steps c.close.result written.0 written.2,
@@ -129,10 +125,9 @@ returns-in-Err-last-clause-run g c =
     record { steps = so_far.served.steps; begun = c.deref.ensures.value ∙ so_far.served.begun } in
     let failed = c.in-Err-last.ensures.error in
     let step = subst (λ old. IsStep g.S.Steps.relation part old new (Err error)) so_far.none_waits failed.0 in
-    let told = subst (HasTold g.E.Write.contents c.reads.errors c.tell-2.new.errors) c.untold-2.ensures
-    c.tell-2.ensures in (
-      Course-told (Course-idle so_far.course c.read.new.self (HasRead-end so_far.course c.read.new.self
-          (take end.field-0 c.read.new.buf) end.ensures.came (ap (λ count. take count c.read.new.buf) end.field-0-test)))
+    let told = rw c.untold-2.ensures at c.tell-2.ensures in (
+      Course-told (Course-end so_far.course c.read.new.self
+          (take end.field-0 c.read.new.buf) end.ensures.came (ap (λ count. take count c.read.new.buf) end.field-0-test))
           c.tell-2.new.errors new.messages told,
       IsLeft-last served (HasReadAll g.R.Read.remaining c.read.new.self) at_end new.state new error step failed.1,
     )
