@@ -3,25 +3,10 @@
 use crate::row_error::RowError;
 use byte_unit::{Bit, Byte, Kind};
 
-/// Evaluates the number of the constant that has a name, of those in a list.
-macro_rules! constant_in {
-    ($size:ident, $name:expr, [$($constant:ident)*]) => {{
-        let constants = [$((stringify!($constant), $size::$constant)),*];
-        let found = constants.iter().find(|constant| constant.0 == $name);
-        found.map(|constant| constant.1.as_u128()).ok_or(RowError::Word)
-    }};
-}
-
-/// Evaluates the number of the constant that has a name: one that both types have, or the base unit of this type.
-macro_rules! constant_of {
-    ($size:ident, $base:ident, $name:expr) => {
-        constant_in!($size, $name, [
-            $base MIN MAX
-            KILOBYTE MEGABYTE GIGABYTE TERABYTE PETABYTE EXABYTE ZETTABYTE YOTTABYTE RONNABYTE
-            KIBIBYTE MEBIBYTE GIBIBYTE TEBIBYTE PEBIBYTE EXBIBYTE ZEBIBYTE YOBIBYTE ROBIBYTE
-            KILOBIT MEGABIT GIGABIT TERABIT PETABIT EXABIT ZETTABIT YOTTABIT RONNABIT
-            KIBIBIT MEBIBIT GIBIBIT TEBIBIT PEBIBIT EXBIBIT ZEBIBIT YOBIBIT ROBIBIT
-        ])
+/// Evaluates an array of the constants that both types have, with their names.
+macro_rules! constants {
+    ($($constant:ident)*) => {
+        [$((stringify!($constant), Byte::$constant, Bit::$constant)),*]
     };
 }
 
@@ -30,18 +15,19 @@ macro_rules! constant_of {
 /// # Errors
 /// Returns an error if there is no such constant.
 pub fn constant(kind: Kind, name: &str) -> Result<u128, RowError> {
-    match kind {
-        Kind::Byte => byte_constant(name),
-        Kind::Bit => bit_constant(name),
+    let constants = constants![
+        MIN MAX
+        KILOBYTE MEGABYTE GIGABYTE TERABYTE PETABYTE EXABYTE ZETTABYTE YOTTABYTE RONNABYTE
+        KIBIBYTE MEBIBYTE GIBIBYTE TEBIBYTE PEBIBYTE EXBIBYTE ZEBIBYTE YOBIBYTE ROBIBYTE
+        KILOBIT MEGABIT GIGABIT TERABIT PETABIT EXABIT ZETTABIT YOTTABIT RONNABIT
+        KIBIBIT MEBIBIT GIBIBIT TEBIBIT PEBIBIT EXBIBIT ZEBIBIT YOBIBIT ROBIBIT
+    ];
+    let found = constants.iter().find(|constant| constant.0 == name);
+    match (kind, name, found) {
+        (Kind::Byte, "BYTE", _) => Ok(Byte::BYTE.as_u128()),
+        (Kind::Bit, "BIT", _) => Ok(Bit::BIT.as_u128()),
+        (Kind::Byte, _, Some(constant)) => Ok(constant.1.as_u128()),
+        (Kind::Bit, _, Some(constant)) => Ok(constant.2.as_u128()),
+        _ => Err(RowError::Word),
     }
-}
-
-/// Returns the number of bytes of a constant.
-fn byte_constant(name: &str) -> Result<u128, RowError> {
-    constant_of!(Byte, BYTE, name)
-}
-
-/// Returns the number of bits of a constant.
-fn bit_constant(name: &str) -> Result<u128, RowError> {
-    constant_of!(Bit, BIT, name)
 }

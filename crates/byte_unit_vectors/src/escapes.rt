@@ -9,70 +9,36 @@ use std::alloc::{AllocError, Global};
 /// # Errors
 /// Returns an error if a backslash begins no escape, or if allocation fails.
 pub fn unescaped(alloc: Global, text: &str) -> Result<String, RowError> {
-    let mut out = String::new(alloc);
-    let mut is_first = true;
-    // The number of copies of the character that the next piece begins with, if it is repeated.
-    let mut count = None;
-    for piece in text.split('\\') {
-        if is_first {
-            out.push_str(piece)?;
-        } else {
-            count = append_piece(piece, count, &mut out)?;
-        }
-        is_first = false;
-    }
-    match count {
-        None => Ok(out),
-        Some(_) => Err(RowError::Escape),
-    }
-}
-
-/// Appends what a piece of a text after a backslash is. Returns the number of copies of the character that the next
-/// piece begins with, if the piece ends where that is.
-fn append_piece(
-    piece: &str,
-    count: Option<usize>,
-    out: &mut String,
-) -> Result<Option<usize>, RowError> {
-    if let Some(rest) = piece.strip_prefix("u{") {
-        let (digits, rest) = rest.split_once('}').ok_or(RowError::Escape)?;
-        push_many(character_of(digits)?, count.unwrap_or(1), out)?;
-        let rest = match count {
-            Some(_) => rest.strip_prefix('}').ok_or(RowError::Escape)?,
-            None => rest,
-        };
+    let text = repeated(alloc, text)?;
+    let mut pieces = text.as_str().split('\\');
+    let mut out = String::from_str(alloc, pieces.next().unwrap_or(""))?;
+    for piece in pieces {
+        let piece = piece.strip_prefix("u{").ok_or(RowError::Escape)?;
+        let (digits, rest) = piece.split_once('}').ok_or(RowError::Escape)?;
+        let code = u32::from_str_radix(digits, 16).ok();
+        out.push(code.and_then(char::from_u32).ok_or(RowError::Escape)?)?;
         out.push_str(rest)?;
-        return Ok(None);
     }
-    let rest = piece.strip_prefix('{').ok_or(RowError::Escape)?;
-    let (digits, rest) = rest.split_once('*').ok_or(RowError::Escape)?;
-    let times = digits.parse::<usize>().ok().ok_or(RowError::Escape)?;
-    if count.is_some() {
-        return Err(RowError::Escape);
-    }
-    let Some(character) = rest.chars().next() else {
-        return Ok(Some(times));
-    };
-    push_many(character, times, out)?;
-    let (_, rest) = rest.split_once('}').ok_or(RowError::Escape)?;
-    out.push_str(rest)?;
-    Ok(None)
+    Ok(out)
 }
 
-/// Returns the character with the code point that hexadecimal digits are.
-fn character_of(digits: &str) -> Result<char, RowError> {
-    let code = u32::from_str_radix(digits, 16)
-        .ok()
-        .ok_or(RowError::Escape)?;
-    char::from_u32(code).ok_or(RowError::Escape)
-}
-
-/// Appends `count` copies of a character.
-fn push_many(character: char, count: usize, out: &mut String) -> Result<(), AllocError> {
-    for _ in 0..count {
-        out.push(character)?;
+/// Returns a text in which each `\{9*c}` is replaced by `c` nine times, as it is escaped.
+fn repeated(alloc: Global, text: &str) -> Result<String, RowError> {
+    let mut pieces = text.split("\\{");
+    let mut out = String::from_str(alloc, pieces.next().unwrap_or(""))?;
+    for piece in pieces {
+        let (times, rest) = piece.split_once('*').ok_or(RowError::Escape)?;
+        let times = times.parse::<usize>().ok().ok_or(RowError::Escape)?;
+        // A `\u{..}` has a brace of its own.
+        let end = if rest.starts_with('\\') { "}}" } else { "}" };
+        let (_, after) = rest.split_once(end).ok_or(RowError::Escape)?;
+        let character = rest
+            .strip_suffix(after)
+            .and_then(|rest| rest.strip_suffix('}'));
+        out.push_str(character.unwrap_or("").repeat(alloc, times)?.as_str())?;
+        out.push_str(after)?;
     }
-    Ok(())
+    Ok(out)
 }
 
 /// Returns a text in printable ASCII, with `\u{..}` for each other character and for a backslash.

@@ -6,31 +6,11 @@
 //! some are, and 2 if the rows cannot be read, the output cannot be written, or memory runs out.
 #![tactic(auto)]
 
-/// Evaluates an expression in which a name is the size of a number in a kind: a `Byte` or a `Bit`. Returns
-/// `RowError::Word` if there is no such size.
-macro_rules! with_size {
-    ($kind:expr, $number:expr, $size:ident => $value:expr) => {
-        match $kind {
-            byte_unit::Kind::Byte => {
-                let $size = byte_unit::Byte::from_u128($number).ok_or(RowError::Word)?;
-                $value
-            }
-            byte_unit::Kind::Bit => {
-                let $size = byte_unit::Bit::from_u128($number).ok_or(RowError::Word)?;
-                $value
-            }
-        }
-    };
-}
-
-mod agreed;
 mod answer;
-mod choices;
+mod answers;
 mod constants;
-mod errors;
 mod escapes;
 mod format;
-mod json;
 mod numbers;
 mod parsing;
 mod row;
@@ -68,11 +48,8 @@ struct Counts {
 fn wrong_in(alloc: Global, line: &str) -> Result<Option<String>, AllocError> {
     match compare(alloc, line) {
         Ok(text) => Ok(text),
-        Err(RowError::OutOfMemory) => Err(AllocError),
-        Err(error) => {
-            let reason = error.reason();
-            Ok(Some(format!(in alloc; "{line}: {reason}")?))
-        }
+        Err(RowError::OutOfMemory(error)) => Err(error),
+        Err(error) => Ok(Some(format!(in alloc; "{line}: {error}")?)),
     }
 }
 

@@ -25,10 +25,7 @@ impl<'a> Row<'a> {
     pub fn of(alloc: Global, line: &'a str) -> Result<Row<'a>, RowError> {
         let (id, rest) = line.split_once(": ").ok_or(RowError::NoId)?;
         let (call, text, answer) = parts_of(rest)?;
-        let mut words = Vec::new(alloc);
-        for word in call.split_whitespace() {
-            words.push(word)?;
-        }
+        let words = call.split_whitespace().collect(alloc)?;
         let text = match text {
             Some(text) => Some(unescaped(alloc, text)?),
             None => None,

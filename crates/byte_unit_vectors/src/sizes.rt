@@ -1,113 +1,118 @@
-//! Calls on sizes: from numbers of a unit, arithmetic, values, and constants.
+//! Calls on sizes: from numbers, as numbers, as JSON, in a unit, arithmetic and constants.
 
-use crate::agreed::or_none;
+use crate::answers::{Answer, agreed, both, or_none, shown, string_of};
 use crate::constants::constant;
 use crate::row_error::RowError;
-use crate::words::{count_of, decimal_of, kind_of, number_of, unit_of};
-use byte_unit::{Bit, Byte, Decimal, Kind, Unit};
+use crate::words::{KINDS, SETS, decimal_of, named, number_of, unit_of};
+use byte_unit::{Bit, Byte, Steps};
 use std::alloc::Global;
+
+/// Evaluates the size of a type that has the number of a word.
+macro_rules! size_of {
+    ($size:ident, $number:expr) => {
+        $size::from_u128(number_of($number)?).ok_or(RowError::Word)?
+    };
+}
+
+/// Evaluates the answer to a call on sizes of a type.
+macro_rules! answer_of {
+    ($size:ident, $alloc:expr, $words:expr) => {
+        match $words {
+            ["make_in", _, number, unit] => {
+                let size = $size::from_u128_with_unit(number_of(number)?, unit_of(unit)?);
+                or_none($alloc, size)
+            }
+            ["make_decimal", _, number, unit] => {
+                let size = $size::from_decimal_with_unit(decimal_of(number)?, unit_of(unit)?);
+                or_none($alloc, size)
+            }
+            // The nearest number of 64 bits, and the size itself if it fits.
+            ["as_u64", _, number] => match $size::from_u128(number_of(number)?) {
+                Some(size) => both($alloc, size.as_u64(), or_none($alloc, size.as_u64_checked())?),
+                None => shown($alloc, "none"),
+            },
+            ["json", _, size] => string_of($alloc, &size_of!($size, size).to_json($alloc)?),
+            ["json", _, size, "in", unit] => {
+                let adjusted = size_of!($size, size).get_adjusted_unit(unit_of(unit)?);
+                string_of($alloc, &adjusted.to_json($alloc)?)
+            }
+            ["value", _, size, "in", unit] => {
+                let adjusted = size_of!($size, size).get_adjusted_unit(unit_of(unit)?);
+                let (bits, unit_bits) = adjusted.get_value();
+                Ok(format!(in $alloc; "{bits}/{unit_bits}")?)
+            }
+            ["compute", _, size, operation, number] => {
+                let size = size_of!($size, size);
+                let computed = match *operation {
+                    "add" => size.add(size_of!($size, number)),
+                    "subtract" => size.subtract(size_of!($size, number)),
+                    "multiply" => size.multiply(number_of(number)?),
+                    "divide" => size.divide(number_of(number)?),
+                    _ => return Err(RowError::Word),
+                };
+                or_none($alloc, computed)
+            }
+            _ => Err(RowError::NoCall),
+        }
+    };
+}
+
+/// Evaluates the answer to a call that chooses a unit for a size of a type.
+macro_rules! unit_chosen {
+    ($size:ident, $alloc:expr, $words:expr) => {
+        match $words {
+            ["exact", _, set, size] => {
+                let (number, unit) = size_of!($size, size).get_exact_unit(named(set, SETS)?);
+                both($alloc, number, unit)
+            }
+            // By the call that counts steps, too.
+            [call @ ("recoverable" | "steps"), _, set, places, size] => {
+                let (size, set) = (size_of!($size, size), named(set, SETS)?);
+                let (places, mut steps) = (number_of(places)?, Steps::new());
+                let (number, unit) = size.get_recoverable_unit_counted(set, places, &mut steps);
+                if *call == "steps" {
+                    return shown($alloc, steps.count());
+                }
+                let counted = both($alloc, number, unit)?;
+                let (number, unit) = size.get_recoverable_unit(set, places);
+                agreed($alloc, &[both($alloc, number, unit)?, counted])
+            }
+            _ => Err(RowError::NoCall),
+        }
+    };
+}
 
 /// Returns the answer to a call on sizes.
 ///
 /// # Errors
 /// Returns an error if there is no such call, if a word of it is invalid, or if allocation fails.
-pub fn answer(alloc: Global, words: &[&str]) -> Result<String, RowError> {
+pub fn answer(alloc: Global, words: &[&str]) -> Answer {
     match words {
-        ["make_in", kind, number, unit] => {
-            make_in(alloc, kind_of(kind)?, number_of(number)?, unit_of(unit)?)
-        }
-        ["make_decimal", kind, number, unit] => {
-            make_decimal(alloc, kind_of(kind)?, decimal_of(number)?, unit_of(unit)?)
-        }
-        ["as_u64", kind, number] => as_u64(alloc, kind_of(kind)?, number_of(number)?),
-        ["value", kind, size, "in", unit] => {
-            value(alloc, kind_of(kind)?, number_of(size)?, unit_of(unit)?)
-        }
-        ["compute", kind, size, operation, number] => {
-            compute(alloc, kind_of(kind)?, number_of(size)?, operation, number)
-        }
-        ["constant", kind, name] => {
-            let size = constant(kind_of(kind)?, name)?;
-            Ok(format!(in alloc; "{size}")?)
-        }
+        ["constant", kind, name] => shown(alloc, constant(named(kind, KINDS)?, name)?),
+        ["exact" | "recoverable" | "steps", "byte", ..] => byte_unit_chosen(alloc, words),
+        ["exact" | "recoverable" | "steps", "bit", ..] => bit_unit_chosen(alloc, words),
+        [_, "byte", ..] => byte_answer(alloc, words),
+        [_, "bit", ..] => bit_answer(alloc, words),
         _ => Err(RowError::NoCall),
     }
 }
 
-/// Returns the size of a whole number of a unit.
-fn make_in(alloc: Global, kind: Kind, number: u128, unit: Unit) -> Result<String, RowError> {
-    let size = match kind {
-        Kind::Byte => Byte::from_u128_with_unit(number, unit).map(Byte::as_u128),
-        Kind::Bit => Bit::from_u128_with_unit(number, unit).map(Bit::as_u128),
-    };
-    Ok(or_none(alloc, size)?)
+/// Returns the answer to a call on sizes in bytes.
+fn byte_answer(alloc: Global, words: &[&str]) -> Answer {
+    answer_of!(Byte, alloc, words)
 }
 
-/// Returns the size of a decimal number of a unit.
-fn make_decimal(
-    alloc: Global,
-    kind: Kind,
-    number: Decimal,
-    unit: Unit,
-) -> Result<String, RowError> {
-    let size = match kind {
-        Kind::Byte => Byte::from_decimal_with_unit(number, unit).map(Byte::as_u128),
-        Kind::Bit => Bit::from_decimal_with_unit(number, unit).map(Bit::as_u128),
-    };
-    Ok(or_none(alloc, size)?)
+/// Returns the answer to a call on sizes in bits.
+fn bit_answer(alloc: Global, words: &[&str]) -> Answer {
+    answer_of!(Bit, alloc, words)
 }
 
-/// Returns a size as 64 bits: the nearest one, and the size itself if it fits. Returns `none` if there is no such size.
-fn as_u64(alloc: Global, kind: Kind, number: u128) -> Result<String, RowError> {
-    let (nearest, checked) = match as_64_bits(kind, number) {
-        Ok(numbers) => numbers,
-        Err(_) => return Ok(String::from_str(alloc, "none")?),
-    };
-    let checked = or_none(alloc, checked)?;
-    Ok(format!(in alloc; "{nearest} {checked}")?)
+/// Returns the answer to a call that chooses a unit for a size in bytes.
+fn byte_unit_chosen(alloc: Global, words: &[&str]) -> Answer {
+    unit_chosen!(Byte, alloc, words)
 }
 
-/// Returns a size as the nearest number of 64 bits, and as the same number if it fits.
-fn as_64_bits(kind: Kind, number: u128) -> Result<(u64, Option<u64>), RowError> {
-    Ok(with_size!(kind, number, size => (size.as_u64(), size.as_u64_checked())))
-}
-
-/// Returns a size in a unit, as a fraction that is not reduced.
-fn value(alloc: Global, kind: Kind, size: u128, unit: Unit) -> Result<String, RowError> {
-    let (bits, unit_bits) = with_size!(kind, size, size => {
-        size.get_adjusted_unit(unit).get_value()
-    });
-    Ok(format!(in alloc; "{bits}/{unit_bits}")?)
-}
-
-/// Evaluates what an operation on a size and a number, or on two sizes, gives.
-macro_rules! computed {
-    ($size:ident, $number:expr, $operation:expr, $other:expr) => {{
-        let size = $size::from_u128($number).ok_or(RowError::Word)?;
-        let computed = match $operation {
-            "add" => size.add($size::from_u128(number_of($other)?).ok_or(RowError::Word)?),
-            "subtract" => {
-                size.subtract($size::from_u128(number_of($other)?).ok_or(RowError::Word)?)
-            }
-            "multiply" => size.multiply(count_of($other)?),
-            "divide" => size.divide(count_of($other)?),
-            _ => return Err(RowError::Word),
-        };
-        computed.map($size::as_u128)
-    }};
-}
-
-/// Returns what an operation on a size and a number, or on two sizes, gives.
-fn compute(
-    alloc: Global,
-    kind: Kind,
-    size: u128,
-    operation: &str,
-    number: &str,
-) -> Result<String, RowError> {
-    let size = match kind {
-        Kind::Byte => computed!(Byte, size, operation, number),
-        Kind::Bit => computed!(Bit, size, operation, number),
-    };
-    Ok(or_none(alloc, size)?)
+/// Returns the answer to a call that chooses a unit for a size in bits.
+fn bit_unit_chosen(alloc: Global, words: &[&str]) -> Answer {
+    unit_chosen!(Bit, alloc, words)
 }

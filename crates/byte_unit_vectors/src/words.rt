@@ -4,8 +4,35 @@ ghost use Rattle.std.specs.Prelude.{◌≡◌, ◌⊎◌, IfOk};
 
 use crate::row_error::RowError;
 use byte_unit::{Decimal, Family, Kind, Unit, UnitType};
+use std::str::FromStr;
 
-/// Returns the value of a name in a list.
+/// The kinds of sizes.
+pub const KINDS: &[(&str, Kind)] = &[("byte", Kind::Byte), ("bit", Kind::Bit)];
+
+/// Whether case is ignored.
+pub const CASES: &[(&str, bool)] = &[("uncased", true), ("cased", false)];
+
+/// Whether a unit without a suffix is of bytes.
+pub const PREFERRED: &[(&str, bool)] = &[("bytes", true), ("bits", false)];
+
+/// Whether units of either kind are allowed, or those of the size's own kind.
+pub const SETS: &[(&str, bool)] = &[("any", true), ("own", false)];
+
+/// The types of units.
+pub const TYPES: &[(&str, UnitType)] = &[
+    ("binary", UnitType::Binary),
+    ("decimal", UnitType::Decimal),
+    ("both", UnitType::Both),
+];
+
+/// The unit sets.
+pub const FAMILIES: &[(&str, Family)] = &[
+    ("all", Family::All),
+    ("bytes", Family::Bytes),
+    ("bits", Family::Bits),
+];
+
+/// Returns the value of a word in a list.
 pub fn named<T: Copy>(word: &str, names: &[(&str, T)]) -> Result<T, RowError> {
     for (name, value) in names {
         if *name == word {
@@ -13,50 +40,6 @@ pub fn named<T: Copy>(word: &str, names: &[(&str, T)]) -> Result<T, RowError> {
         }
     }
     Err(RowError::Word)
-}
-
-/// Returns the kind of a word: `byte` or `bit`.
-pub fn kind_of(word: &str) -> Result<Kind, RowError> {
-    named(word, &[("byte", Kind::Byte), ("bit", Kind::Bit)])
-}
-
-/// Returns whether case is ignored, by a word: `uncased` or `cased`.
-pub fn is_uncased(word: &str) -> Result<bool, RowError> {
-    named(word, &[("uncased", true), ("cased", false)])
-}
-
-/// Returns whether a unit without a suffix is of bytes, by a word: `bytes` or `bits`.
-pub fn prefers_bytes(word: &str) -> Result<bool, RowError> {
-    named(word, &[("bytes", true), ("bits", false)])
-}
-
-/// Returns whether units of either kind are allowed, by a word: `any`, or `own` for those of the size's own kind.
-pub fn is_either_kind(word: &str) -> Result<bool, RowError> {
-    named(word, &[("any", true), ("own", false)])
-}
-
-/// Returns the type of units of a word.
-pub fn type_of(word: &str) -> Result<UnitType, RowError> {
-    named(
-        word,
-        &[
-            ("binary", UnitType::Binary),
-            ("decimal", UnitType::Decimal),
-            ("both", UnitType::Both),
-        ],
-    )
-}
-
-/// Returns the unit set of a word.
-pub fn family_of(word: &str) -> Result<Family, RowError> {
-    named(
-        word,
-        &[
-            ("all", Family::All),
-            ("bytes", Family::Bytes),
-            ("bits", Family::Bits),
-        ],
-    )
 }
 
 /// Returns the number of bits that each one of a size has, by a word: 8 or 1.
@@ -72,29 +55,17 @@ pub fn bits_of(word: &str) -> Result<u128, RowError>
 
 /// Returns the unit with a name.
 pub fn unit_of(name: &str) -> Result<Unit, RowError> {
-    let unit = Unit::parse_str(name, false, true)
-        .ok()
-        .ok_or(RowError::Word)?;
-    if unit.as_str() == name {
-        Ok(unit)
-    } else {
-        Err(RowError::Word)
-    }
+    let unit = Unit::parse_str(name, false, true).ok();
+    let unit = unit.filter(|unit| unit.as_str() == name);
+    unit.ok_or(RowError::Word)
 }
 
 /// Returns the number of a word.
-pub fn number_of(word: &str) -> Result<u128, RowError> {
-    word.parse::<u128>().ok().ok_or(RowError::Word)
-}
-
-/// Returns the number of a word, as a count such as that of places.
-pub fn count_of(word: &str) -> Result<usize, RowError> {
-    word.parse::<usize>().ok().ok_or(RowError::Word)
-}
-
-/// Returns the number of a word, as an exponent.
-pub fn exponent_of(word: &str) -> Result<u32, RowError> {
-    word.parse::<u32>().ok().ok_or(RowError::Word)
+pub fn number_of<T: FromStr + Drop>(word: &str) -> Result<T, RowError>
+where
+    T::Err: Drop,
+{
+    word.parse::<T>().ok().ok_or(RowError::Word)
 }
 
 /// Returns the decimal of a word such as `50.84`.
