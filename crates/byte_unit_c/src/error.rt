@@ -1,10 +1,9 @@
 //! The errors of parsing in the C API: a code, and a struct of details.
 
-ghost use Rattle.std.specs.Prelude.{◌≡◌, ◌<◌, ℕ, List, [], slice_index_or, slice_set};
+ghost use Rattle.std.specs.Prelude.{◌≡◌, ℕ, List, slice_set};
 ghost use Rattle.byte_unit_base.specs.Errors.{value_fault};
 ghost use Rattle.byte_unit_base.specs.Expected.{expected_codes};
 ghost use Rattle.byte_unit_base.specs.Fault.{bad_unit};
-ghost use Rattle.byte_unit_c.specs.declared.error.TheConstants.{EXPECTED_BYTES};
 ghost use Rattle.byte_unit_c.specs.Error.{code_of, expected_bytes, IsErrorOf};
 
 use crate::values::DecimalParts;
@@ -121,28 +120,10 @@ impl Error {
 pub fn bytes_of(expected: Expected) -> [u8; 16]
     ensures { result ≡ expected_bytes (expected_codes expected) }
 {
-    EXPECTED_BYTES[index_of(expected)]
+    EXPECTED_BYTES[expected as usize]
 }
 
-/// Returns the index of these characters in `EXPECTED_BYTES`.
-fn index_of(expected: Expected) -> usize
-    ensures bound { result < 8 }
-    ensures bytes { slice_index_or EXPECTED_BYTES result []
-        ≡ expected_bytes (expected_codes expected) }
-{
-    match expected {
-        Expected::Beginning => 0,
-        Expected::EitherB => 1,
-        Expected::UpperB => 2,
-        Expected::LowerB => 3,
-        Expected::I => 4,
-        Expected::T => 5,
-        Expected::S => 6,
-        Expected::Nothing => 7,
-    }
-}
-
-/// The bytes of each `Expected`, at its `index_of`. `tools/dev render tables` renders them from its characters.
+/// The bytes of each `Expected`, in their order. `tools/dev render tables` renders them from its characters.
 static EXPECTED_BYTES: [[u8; 16]; 8] = [
     *b"BKMGTPEZYR\0\0\0\0\0\0",
     *b"Bb\0\0\0\0\0\0\0\0\0\0\0\0\0\0",

@@ -15,9 +15,9 @@ use crate::codes::{type_at, unit_at};
 use crate::flags::kind_at;
 use crate::spec::Spec;
 use crate::values::Number;
-use byte_unit_base::{Kind, size};
+use byte_unit_base::size;
 use byte_unit_choice::appropriate_unit;
-use byte_unit_format::{FormatSpec, write_adjusted, write_text};
+use byte_unit_format::{write_adjusted, write_text};
 
 /// Formats a size to the start of `out`, and returns the length of the text. The size is in bytes, or in bits with the
 /// flag `BITS` (1). Returns the length and writes nothing if `out` is shorter. Returns 0 and writes nothing if the size
@@ -68,8 +68,11 @@ pub extern "C" fn byte_unit_adjusted_text(
     ensures bound { result < text_limit }
     ensures narrow { IfSome (spec_at spec) (λ asked. result ≤ most_adjusted_text asked) }
 {
-    match (form_at(size, flags, spec), unit_at(unit)) {
-        (Some(form), Some(unit)) => write_adjusted(form.size, form.kind, unit, form.spec, out),
+    let (size, kind) = (size::bounded(size.get()), kind_at(flags));
+    match (size, kind, unit_at(unit), spec.get()) {
+        (Some(size), Some(kind), Some(unit), Some(spec)) => {
+            write_adjusted(size, kind, unit, spec, out)
+        }
         _ => 0,
     }
 }
@@ -102,37 +105,14 @@ pub extern "C" fn byte_unit_approximate_text(
     ensures bound { result < text_limit }
     ensures narrow { IfSome (spec_at spec) (λ asked. result ≤ most_adjusted_text asked) }
 {
-    let (Some(form), Some(unit_type)) = (form_at(size, flags, spec), type_at(unit_type)) else {
-        return 0;
-    };
-    let unit = appropriate_unit(form.size, form.kind, unit_type);
-    write_adjusted(form.size, form.kind, unit, form.spec, out)
-}
-
-/// A size, its kind and how to format it: the decoded arguments that the calls for a size in a unit share.
-#[derive(Clone, Copy)]
-struct Form {
-    /// The size.
-    size: u128,
-    /// Whether it is in bytes or in bits.
-    kind: Kind,
-    /// How it is formatted.
-    spec: FormatSpec,
-}
-
-/// Decodes a size, the flags word of its kind and a spec. Returns `None` if one of them is invalid.
-#[inline(always)]
-fn form_at(size: Number, flags: u32, spec: Spec) -> Option<Form>
-    ensures found { IfSome result (λ form. (form.size ≡ number_of size) × (form.size < size_limit)
-        × (kind_at flags ≡ Some form.kind) × (spec_at spec ≡ Some form.spec)) }
-    ensures rejected { IfNone result ((size_limit ≤ number_of size) ⊎ (kind_at flags ≡ None)
-        ⊎ (spec_at spec ≡ None)) }
-{
-    Some(Form {
-        size: size::bounded(size.get())?,
-        kind: kind_at(flags)?,
-        spec: spec.get()?,
-    })
+    let (size, kind) = (size::bounded(size.get()), kind_at(flags));
+    match (size, kind, type_at(unit_type), spec.get()) {
+        (Some(size), Some(kind), Some(unit_type), Some(spec)) => {
+            let unit = appropriate_unit(size, kind, unit_type);
+            write_adjusted(size, kind, unit, spec, out)
+        }
+        _ => 0,
+    }
 }
 
 /// Writes the name of the unit with a code to the start of `out`, and returns its length. Returns the length and writes

@@ -16,7 +16,7 @@ ghost use Rattle.byte_unit_c.specs.Values.{number_of, AreDecimalParts};
 use crate::codes::{type_at, unit_at, unit_code};
 use crate::flags::{ChoiceFlags, choice_flags_at, kind_at};
 use crate::values::{DecimalParts, Number};
-use byte_unit_base::{Kind, Unit, size};
+use byte_unit_base::size;
 use byte_unit_choice::{appropriate_unit, exact_unit, recoverable_unit};
 use byte_unit_math::Steps;
 
@@ -160,20 +160,10 @@ pub extern "C" fn byte_unit_from_unit(
     ensures rejected { (kind_at flags ≡ None) ⊎ (unit_at unit ≡ None) → result ≡ false }
     ensures unchanged { result ≡ false → size.new ≡ size.old }
 {
-    match (kind_at(flags), unit_at(unit)) {
-        (Some(kind), Some(unit)) => write_from_unit(count.get(), unit, kind, size),
-        _ => false,
-    }
-}
-
-/// Writes the size of `count` units, as `byte_unit_from_unit` does, with a known unit.
-fn write_from_unit(count: u128, unit: Unit, kind: Kind, size: &mut Number) -> bool
-    ensures size { IsSizeOrNone
-        (IsLeastOf kind (count * scale) (shape_of unit))
-        (if result then Some (number_of size.new) else None) }
-    ensures unchanged { result ≡ false → size.new ≡ size.old }
-{
-    match size::with_unit(count, unit, kind) {
+    let (Some(kind), Some(unit)) = (kind_at(flags), unit_at(unit)) else {
+        return false;
+    };
+    match size::with_unit(count.get(), unit, kind) {
         Some(found) => {
             *size = Number::new(found);
             true

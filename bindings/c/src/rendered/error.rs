@@ -91,24 +91,10 @@ impl Error {
 /// Returns the characters that an error names as expected, all of them ASCII, padded with zeros to 16 bytes, so that C
 /// can read them as a string.
 pub fn bytes_of(expected: Expected) -> [u8; 16] {
-    EXPECTED_BYTES[index_of(expected)]
+    EXPECTED_BYTES[expected as usize]
 }
 
-/// Returns the index of these characters in `EXPECTED_BYTES`.
-fn index_of(expected: Expected) -> usize {
-    match expected {
-        Expected::Beginning => 0,
-        Expected::EitherB => 1,
-        Expected::UpperB => 2,
-        Expected::LowerB => 3,
-        Expected::I => 4,
-        Expected::T => 5,
-        Expected::S => 6,
-        Expected::Nothing => 7,
-    }
-}
-
-/// The bytes of each `Expected`, at its `index_of`. `tools/dev render tables` renders them from its characters.
+/// The bytes of each `Expected`, in their order. `tools/dev render tables` renders them from its characters.
 static EXPECTED_BYTES: [[u8; 16]; 8] = [
     *b"BKMGTPEZYR\0\0\0\0\0\0",
     *b"Bb\0\0\0\0\0\0\0\0\0\0\0\0\0\0",

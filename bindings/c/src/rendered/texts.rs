@@ -6,9 +6,9 @@ use crate::rendered::codes::{type_at, unit_at};
 use crate::rendered::flags::kind_at;
 use crate::rendered::spec::Spec;
 use crate::rendered::values::Number;
-use byte_unit::rendered::base::{Kind, size};
+use byte_unit::rendered::base::size;
 use byte_unit::rendered::choice::appropriate_unit;
-use byte_unit::rendered::format::{FormatSpec, write_adjusted, write_text};
+use byte_unit::rendered::format::{write_adjusted, write_text};
 
 /// Formats a size to the start of `out`, and returns the length of the text. The size is in bytes, or in bits with the
 /// flag `BITS` (1). Returns the length and writes nothing if `out` is shorter. Returns 0 and writes nothing if the size
@@ -40,8 +40,9 @@ pub extern "C" fn byte_unit_adjusted_text(
     out_len: usize,
 ) -> usize {
     let out = unsafe { crate::slices::slice_mut(out, out_len) };
-    match (form_at(size, flags, spec), unit_at(unit)) {
-        (Some(form), Some(unit)) => write_adjusted(form.size, form.kind, unit, form.spec, out),
+    let (size, kind) = (size::bounded(size.get()), kind_at(flags));
+    match (size, kind, unit_at(unit), spec.get()) {
+        (Some(size), Some(kind), Some(unit), Some(spec)) => write_adjusted(size, kind, unit, spec, out),
         _ => 0,
     }
 }
@@ -63,28 +64,14 @@ pub extern "C" fn byte_unit_approximate_text(
     out_len: usize,
 ) -> usize {
     let out = unsafe { crate::slices::slice_mut(out, out_len) };
-    let (Some(form), Some(unit_type)) = (form_at(size, flags, spec), type_at(unit_type)) else {
-        return 0;
-    };
-    let unit = appropriate_unit(form.size, form.kind, unit_type);
-    write_adjusted(form.size, form.kind, unit, form.spec, out)
-}
-
-/// A size, its kind and how to format it: the decoded arguments that the calls for a size in a unit share.
-#[derive(Clone, Copy)]
-struct Form {
-    /// The size.
-    size: u128,
-    /// Whether it is in bytes or in bits.
-    kind: Kind,
-    /// How it is formatted.
-    spec: FormatSpec,
-}
-
-/// Decodes a size, the flags word of its kind and a spec. Returns `None` if one of them is invalid.
-#[inline(always)]
-fn form_at(size: Number, flags: u32, spec: Spec) -> Option<Form> {
-    Some(Form { size: size::bounded(size.get())?, kind: kind_at(flags)?, spec: spec.get()? })
+    let (size, kind) = (size::bounded(size.get()), kind_at(flags));
+    match (size, kind, type_at(unit_type), spec.get()) {
+        (Some(size), Some(kind), Some(unit_type), Some(spec)) => {
+            let unit = appropriate_unit(size, kind, unit_type);
+            write_adjusted(size, kind, unit, spec, out)
+        }
+        _ => 0,
+    }
 }
 
 /// Writes the name of the unit with a code to the start of `out`, and returns its length. Returns the length and writes

@@ -5,7 +5,7 @@
 use crate::rendered::codes::{type_at, unit_at, unit_code};
 use crate::rendered::flags::{ChoiceFlags, choice_flags_at, kind_at};
 use crate::rendered::values::{DecimalParts, Number};
-use byte_unit::rendered::base::{Kind, Unit, size};
+use byte_unit::rendered::base::size;
 use byte_unit::rendered::choice::{appropriate_unit, exact_unit, recoverable_unit};
 use byte_unit::rendered::math::Steps;
 
@@ -92,15 +92,10 @@ pub extern "C" fn byte_unit_appropriate_unit(size: Number, flags: u32, unit_type
 /// For example, 17 of the unit 0 (`bit`) in bytes gives `true` and the size 3.
 #[unsafe(no_mangle)]
 pub extern "C" fn byte_unit_from_unit(count: Number, unit: u32, flags: u32, size: &mut Number) -> bool {
-    match (kind_at(flags), unit_at(unit)) {
-        (Some(kind), Some(unit)) => write_from_unit(count.get(), unit, kind, size),
-        _ => false,
-    }
-}
-
-/// Writes the size of `count` units, as `byte_unit_from_unit` does, with a known unit.
-fn write_from_unit(count: u128, unit: Unit, kind: Kind, size: &mut Number) -> bool {
-    match size::with_unit(count, unit, kind) {
+    let (Some(kind), Some(unit)) = (kind_at(flags), unit_at(unit)) else {
+        return false;
+    };
+    match size::with_unit(count.get(), unit, kind) {
         Some(found) => {
             *size = Number::new(found);
             true
