@@ -3,12 +3,11 @@
 ghost use Rattle.std.specs.Prelude.{◌≡◌, ◌↔◌, IsTrue, length};
 ghost use Rattle.byte_unit_base.specs.BinaryReading.{unit_meant};
 ghost use Rattle.byte_unit_base.specs.Errors.{size_fault};
-ghost use Rattle.byte_unit_c.specs.Error.{code_of};
-ghost use Rattle.byte_unit_c.specs.Many.{offsets_of, IsLayout, IsParsed, AreParsed, AreManyReturned};
+ghost use Rattle.byte_unit_c.specs.Error.{code_of, ok};
+ghost use Rattle.byte_unit_c.specs.Many.{offsets_of, IsLayout, IsParsed, IsRejectedCall, AreParsed, AreManyReturned};
 
-use crate::binary::parse_many_binary;
 use crate::error::{Error, INVALID_ARGUMENT, NOT_UTF8, OK, UNIT};
-use crate::flags::{MOST_PLAIN, ParseFlags, plain_flags};
+use crate::flags::{MOST_PLAIN, ParseFlags, binary_flags_at, plain_flags};
 use crate::offsets::Offsets;
 use crate::values::Number;
 use byte_unit_base::{ParseError, size};
@@ -63,18 +62,40 @@ fn parse_many(
 {
     // Only flags with `BINARY_PREFIXES` and unknown ones are greater.
     if flags > MOST_PLAIN {
-        return parse_many_binary(data, offsets, flags, sizes, codes);
+        return match binary_flags_at(flags) {
+            Some(asked) => parse_all::<true>(data, offsets, asked, sizes, codes),
+            None => INVALID_ARGUMENT,
+        };
     }
-    let asked = plain_flags(flags);
+    parse_all::<false>(data, offsets, plain_flags(flags), sizes, codes)
+}
+
+/// Parses many texts with known flags, if the offsets and lengths fit. With `BINARY` decimal prefixes mean binary ones.
+fn parse_all<const BINARY: bool>(
+    data: &[u8],
+    offsets: Offsets<'_>,
+    asked: ParseFlags,
+    sizes: &mut [Number],
+    codes: &mut [u8],
+) -> u32
+    ensures parsed { IsLayout (length «data».now) (offsets_of offsets.entry) (length sizes.old)
+        (length codes.old)
+        → (result ≡ ok)
+        × AreParsed (unit_meant BINARY) asked.kind asked.ignore_case «data».now
+        (offsets_of offsets.entry) (length codes.old) codes.new sizes.new }
+    ensures no_layout { ¬ IsLayout (length «data».now) (offsets_of offsets.entry) (length sizes.old)
+        (length codes.old)
+        → IsRejectedCall result sizes.old sizes.new codes.old codes.new }
+{
     if !is_layout(data, offsets, sizes.len(), codes.len()) {
         return INVALID_ARGUMENT;
     }
-    parse_each::<false>(data, offsets, asked, sizes, codes);
+    parse_each::<BINARY>(data, offsets, asked, sizes, codes);
     OK
 }
 
 /// Returns whether the offsets ascend within the data, and there is a size and a code for each text.
-pub fn is_layout(data: &[u8], offsets: Offsets<'_>, sizes_len: usize, codes_len: usize) -> bool
+fn is_layout(data: &[u8], offsets: Offsets<'_>, sizes_len: usize, codes_len: usize) -> bool
     ensures { IsTrue result
         ↔ IsLayout (length «data».now) (offsets_of offsets.entry) sizes_len codes_len }
 {
@@ -85,7 +106,7 @@ pub fn is_layout(data: &[u8], offsets: Offsets<'_>, sizes_len: usize, codes_len:
 /// Parses each text, and writes its code and its size. With `BINARY` decimal prefixes mean binary ones.
 ///
 /// Precondition (proved at every call): the offsets and lengths are a layout.
-pub fn parse_each<const BINARY: bool>(
+fn parse_each<const BINARY: bool>(
     data: &[u8],
     offsets: Offsets<'_>,
     asked: ParseFlags,

@@ -4,10 +4,8 @@
 //!
 //! The calls without the flag are compiled apart from these, so that it costs them no instruction.
 
-use crate::rendered::error::{Error, INVALID_ARGUMENT, OK};
+use crate::rendered::error::{Error, INVALID_ARGUMENT};
 use crate::rendered::flags::binary_flags_at;
-use crate::rendered::many::{is_layout, parse_each};
-use crate::rendered::offsets::Offsets;
 use crate::rendered::parse::parse_as;
 use crate::rendered::values::Number;
 
@@ -32,20 +30,4 @@ pub extern "C" fn byte_unit_parse_binary_to(
         Some(asked) => parse_as::<true>(text, asked, size, error),
         None => INVALID_ARGUMENT,
     }
-}
-
-/// Parses many texts as `byte_unit_parse_many_to` does with the flag `BINARY_PREFIXES`, with offsets of either width.
-/// Returns `INVALID_ARGUMENT` and writes nothing if that flag is not set, if an unknown flag is, or if the offsets and
-/// lengths do not fit.
-#[cold]
-#[inline(never)]
-pub fn parse_many_binary(data: &[u8], offsets: Offsets<'_>, flags: u32, sizes: &mut [Number], codes: &mut [u8]) -> u32 {
-    let Some(asked) = binary_flags_at(flags) else {
-        return INVALID_ARGUMENT;
-    };
-    if !is_layout(data, offsets, sizes.len(), codes.len()) {
-        return INVALID_ARGUMENT;
-    }
-    parse_each::<true>(data, offsets, asked, sizes, codes);
-    OK
 }

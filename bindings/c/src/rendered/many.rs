@@ -2,9 +2,8 @@
 
 //! Parsing of many texts in one call.
 
-use crate::rendered::binary::parse_many_binary;
 use crate::rendered::error::{Error, INVALID_ARGUMENT, NOT_UTF8, OK, UNIT};
-use crate::rendered::flags::{MOST_PLAIN, ParseFlags, plain_flags};
+use crate::rendered::flags::{MOST_PLAIN, ParseFlags, binary_flags_at, plain_flags};
 use crate::rendered::offsets::Offsets;
 use crate::rendered::values::Number;
 use byte_unit::rendered::base::{ParseError, size};
@@ -60,18 +59,31 @@ pub extern "C" fn byte_unit_parse_many_32_to(
 fn parse_many(data: &[u8], offsets: Offsets<'_>, flags: u32, sizes: &mut [Number], codes: &mut [u8]) -> u32 {
     // Only flags with `BINARY_PREFIXES` and unknown ones are greater.
     if flags > MOST_PLAIN {
-        return parse_many_binary(data, offsets, flags, sizes, codes);
+        return match binary_flags_at(flags) {
+            Some(asked) => parse_all::<true>(data, offsets, asked, sizes, codes),
+            None => INVALID_ARGUMENT,
+        };
     }
-    let asked = plain_flags(flags);
+    parse_all::<false>(data, offsets, plain_flags(flags), sizes, codes)
+}
+
+/// Parses many texts with known flags, if the offsets and lengths fit. With `BINARY` decimal prefixes mean binary ones.
+fn parse_all<const BINARY: bool>(
+    data: &[u8],
+    offsets: Offsets<'_>,
+    asked: ParseFlags,
+    sizes: &mut [Number],
+    codes: &mut [u8],
+) -> u32 {
     if !is_layout(data, offsets, sizes.len(), codes.len()) {
         return INVALID_ARGUMENT;
     }
-    parse_each::<false>(data, offsets, asked, sizes, codes);
+    parse_each::<BINARY>(data, offsets, asked, sizes, codes);
     OK
 }
 
 /// Returns whether the offsets ascend within the data, and there is a size and a code for each text.
-pub fn is_layout(data: &[u8], offsets: Offsets<'_>, sizes_len: usize, codes_len: usize) -> bool {
+fn is_layout(data: &[u8], offsets: Offsets<'_>, sizes_len: usize, codes_len: usize) -> bool {
     let texts = offsets.len().saturating_sub(1);
     sizes_len == texts && codes_len == texts && offsets.ascend_to(data.len())
 }
@@ -79,7 +91,7 @@ pub fn is_layout(data: &[u8], offsets: Offsets<'_>, sizes_len: usize, codes_len:
 /// Parses each text, and writes its code and its size. With `BINARY` decimal prefixes mean binary ones.
 ///
 /// Precondition: the offsets and lengths are a layout.
-pub fn parse_each<const BINARY: bool>(
+fn parse_each<const BINARY: bool>(
     data: &[u8],
     offsets: Offsets<'_>,
     asked: ParseFlags,
