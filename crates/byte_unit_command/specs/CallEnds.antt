@@ -1,4 +1,5 @@
--- Private: how far a converter has come, and how the calls end that convert a field, the fields of a record, or a record.
+-- Private: how far a converter has come, and how the calls end that convert a field, the fields of a record, or a
+-- record.
 use Rattle.std.specs.Prelude.{◌≡◌, ◌⊎◌, ⊤, ℕ, true, List, ◌++◌, Result, IfErr, IsErrOf, OnOk}
 use Rattle.byte_unit_command.specs.Converted.{RunState}
 use Rattle.byte_unit_command.specs.Field.{Found, IsField, IsNoSize}

@@ -45,8 +45,8 @@ is_format c = list_any (λ run. nat_le run.0 c && nat_le c run.1) format_runs
 abbrev pub escape_char : ℕ → List ℕ
 escape_char c = if is_control c || is_format c then codes "\\u{" ++ digits 16 false c ++ codes "}" else encode_utf8 c
 
--- a byte of a text that is not UTF-8, in a message: a printable ASCII character, from the space (32) to `~` (126), as it
--- is, and else as `\x` with its two hexadecimal digits
+-- a byte of a text that is not UTF-8, in a message: a printable ASCII character, from the space (32) to `~` (126), as
+-- it is, and else as `\x` with its two hexadecimal digits
 abbrev pub escape_byte : ℕ → List ℕ
 escape_byte byte =
     if nat_le 32 byte && nat_lt byte 127 then byte ∷ []

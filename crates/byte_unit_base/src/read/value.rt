@@ -17,8 +17,8 @@ const LONG_DIGITS: usize = 38;
 /// 10^19, by which the digits before the last 19 are multiplied.
 const NINETEEN_DIGITS: u128 = 10_000_000_000_000_000_000;
 
-/// Returns the value of the digits of a whole part, from the last 64 bits of it. If it reaches the limit, returns that of
-/// the digits up to the one with which it does, and the index of this digit.
+/// Returns the value of the digits of a whole part, from the last 64 bits of it. If it reaches the limit, returns that
+/// of the digits up to the one with which it does, and the index of this digit.
 #[tactic(auto, using(crate::proofs::NumberBytes::short_digits))]
 #[inline(always)]
 pub fn whole_of(digits: &[u8], last_bits: u64) -> (u128, usize)

@@ -183,7 +183,7 @@ fn parse_text<const BINARY: bool>(bytes: &[u8], ignore_case: bool, kind: Kind) -
 /// number without a unit, where the grammar allows them, so it is the same when trimmed.
 ///
 /// # Errors
-/// Returns where the parser stops in the bytes: [`visible_stop`] returns where it stops in the string, or [`read_text`].
+/// Returns where the parser stops in the bytes: [`visible_stop`] or [`read_text`] returns where it stops in the string.
 ///
 /// # Examples
 /// ```

@@ -1,5 +1,5 @@
--- The first option that is wrong, after those that are right. `.ensures.1` of a `from_residual`: the error in its result
--- is the one that `?` passes on.
+-- The first option that is wrong, after those that are right. `.ensures.1` of a `from_residual`: the error in its
+-- result is the one that `?` passes on.
 use Rattle.std.proofs.Common.{inl, inr}
 use Rattle.byte_unit_command.specs.CallOptions.{IsFirstWrong, OrLater}
 use Rattle.byte_unit_command.proofs.Results.{IfErr-passed}
