@@ -21,11 +21,6 @@ pub record IsServed {S E : Type 0} (relation : Relation S E) (end : ℕ) (start 
       (record { state = state; out = written; messages = messages })
   pub begun : part ≡ begun_record end [] read
 
--- before the first read
-pub IsServed-start : {S E : Type 0} {relation : Relation S E} {end : ℕ} {part : List ℕ} (start : S) (now : Progress S)
-    → now ≡ start_at start → part ≡ [] → IsServed relation end start [] [] [] part now.state
-IsServed-start start now is none = record { steps = ap (λ now. start_at now.state) is; begun = none }
-
 -- a list to which nothing is appended
 appended-nothing : (front more : List ℕ) → more ≡ [] → front ++ more ≡ front
 appended-nothing front more none = ap (λ more. front ++ more) none ∙ append-nil front
@@ -49,12 +44,8 @@ module _ {S E : Type 0} {relation : Relation S E} {end : ℕ} {start state : S} 
       (result : Result ⊤ (RunError E)) → AreConverted relation records (start_at state) new result
       → AreConverted relation all (start_at start) (behind written messages new) result
   AreConverted-all records all same new result at =
-      let before : AreSteps relation finished (start_at start) (record {
-        state = state;
-        out = written ++ [];
-        messages =
-            messages ++ [];
-      }) = rw (append-nil written, append-nil messages) served.steps in
+      let before : AreSteps relation finished (start_at start) (behind written messages (start_at state)) =
+      rw (append-nil written, append-nil messages) served.steps in
       subst (λ all. AreConverted relation all (start_at start) (behind written messages new) result) same
       (AreConverted-then relation written messages finished records (start_at start) (start_at state) new result before at)
 

@@ -1,13 +1,12 @@
 -- Each read is served: the records that end in it are converted, and the part of the record that it has begun is kept.
 use Rattle.std.proofs.Common.{Err, take, arith, ap, subst, sym, ◌∙◌}
 use Rattle.byte_unit_stream.specs.Beginnings.{IsBeginningOf}
-use Rattle.byte_unit_stream.specs.Chunks.{ended_records, nonempty_record}
-use Rattle.byte_unit_stream.specs.Runs.{HasTold}
-use Rattle.byte_unit_stream.specs.Steps.{AreConverted, AreSteps, IsStep}
-use Rattle.byte_unit_stream.specs.Streams.{HasReadAll, HasWritten}
+use Rattle.byte_unit_stream.specs.Chunks.{ended_records}
+use Rattle.byte_unit_stream.specs.Steps.{AreConverted, IsStep, start_at}
+use Rattle.byte_unit_stream.specs.Streams.{HasReadAll}
 use Rattle.byte_unit_stream.proofs.Courses.{Course-end, Course-failed, Course-read, Course-start, Course-told, Course-wrote}
 use Rattle.byte_unit_stream.proofs.Runs.{IsAll-now, IsLeft-end, IsLeft-last, IsLeft-piece, IsLeft-unwritten}
-use Rattle.byte_unit_stream.proofs.Runs.{IsServed, IsServed-piece, IsServed-start}
+use Rattle.byte_unit_stream.proofs.Runs.{IsServed, IsServed-piece}
 use Rattle.byte_unit_stream.proofs.Steps.{start_at-state}
 use Rattle.byte_unit_stream.proofs.run.run_steps.Goals as goal
 
@@ -18,7 +17,10 @@ reads-init g c =
     let now = g.S.Steps.at c.clear-2.new.self in (
       record {
         course = Course-start _ _ _;
-        served = IsServed-start start now c.clear-2.ensures.at c.clear.ensures.items;
+        served = record {
+          steps = ap (λ now. start_at now.state) c.clear-2.ensures.at;
+          begun = c.clear.ensures.items;
+        };
         none_waits = start_at-state now start c.clear-2.ensures.at;
       },
       c.clear-2.ensures.same_end ∙ c.requires.end,
@@ -38,8 +40,7 @@ returns-in-Err-clause-run g c =
     let so_far = c.reads.invariant.0 in
     let piece = take c.in-Some.n c.read.new.buf in
     let new = g.S.Steps.at c.feed-fed.new.steps in
-    let fed = subst (λ old. AreConverted g.S.Steps.relation (ended_records c.args.end c.reads.part.items piece) old new
-    c.feed-fed.result) so_far.none_waits c.feed-fed.ensures.converted in
+    let fed = rw so_far.none_waits at c.feed-fed.ensures.converted in
     -- a triple: the bytes that were written, that they were appended, and that they are a beginning of what waited
     let written = c.in-Err.ensures.err in (
       Course-wrote (Course-read so_far.course c.read.new.self piece c.in-Some.ensures.came) c.write_whole.new.writer
@@ -54,8 +55,7 @@ reads-preserved g c =
     let so_far = c.reads.invariant.0 in
     let piece = take c.in-Some.n c.read.new.buf in
     let new = g.S.Steps.at c.feed-fed.new.steps in
-    let steps = subst (λ old. AreSteps g.S.Steps.relation (ended_records c.args.end c.reads.part.items piece) old new)
-    so_far.none_waits c.in-Ok-fed.ensures.converted in
+    let steps = rw so_far.none_waits at c.in-Ok-fed.ensures.converted in
     let wrote = rw c.waiting.ensures at c.in-Ok.ensures.ok in
     let told = rw c.untold.ensures at c.tell.ensures in
     let course = Course-told (Course-wrote (Course-read so_far.course c.read.new.self piece c.in-Some.ensures.came)
@@ -93,21 +93,16 @@ pub returns-in-Ok-last-clause-run : goal.returns-in-Ok-last-clause-run
 returns-in-Ok-last-clause-run g c =
     let so_far = c.reads.invariant.0 in
     let end = c.in-Some-eq0 in
-    let part = c.deref.result.now in
     let new = g.S.Steps.at c.convert_last-last.new.steps in
     let at_end = end.ensures.end end.field-0-test (omega (arith, c.reads.auto.buffer, c.requires.nonempty)) in
-    let served : IsServed g.S.Steps.relation c.args.end (g.S.Steps.at c.args.steps.now).state so_far.course.read
-    so_far.course.written so_far.course.messages part (g.S.Steps.at c.reads.steps).state =
-    record { steps = so_far.served.steps; begun = c.deref.ensures.value ∙ so_far.served.begun } in
-    let steps = subst (λ old. AreSteps g.S.Steps.relation (nonempty_record part) old new) so_far.none_waits
-    c.in-Ok-last.ensures.ok in
+    let steps = rw (c.deref.ensures.value, so_far.none_waits) at c.in-Ok-last.ensures.ok in
     let told = rw c.untold-2.ensures at c.tell-2.ensures in
     -- a triple: the bytes that were written, that they were appended, and that they are right for the result
     let written = c.close.ensures.written in (
       Course-wrote (Course-told (Course-end so_far.course c.read.new.self
           (take end.field-0 c.read.new.buf) end.ensures.came (ap (λ count. take count c.read.new.buf) end.field-0-test))
           c.tell-2.new.errors new.messages told) c.close.new.writer written.0 written.1,
-      IsLeft-end served (HasReadAll g.R.Read.remaining c.read.new.self) at_end (g.S.Steps.at c.close.new.steps).state
+      IsLeft-end so_far.served (HasReadAll g.R.Read.remaining c.read.new.self) at_end (g.S.Steps.at c.close.new.steps).state
           new steps c.close.result written.0 written.2,
     )
 
