@@ -106,18 +106,21 @@ def build(folder, after_ci=False):
 def words_after_ci(archive, *target):
     """Returns the call that `rt lib` makes, with the libraries that `rt ci` built of its dependencies. It keeps what it
     proves, and the call for another target takes that, and proves only what differs."""
-    kept, kit = Path(path("crates/byte_unit_c/out/targets")), kit_folder()
+    kept = Path(path("crates/byte_unit_c/out/targets"))
     kept.mkdir(parents=True, exist_ok=True)
-    words = [f"{kit}/bin/rattle", "build", "src/lib.rt", "--crate-name", "byte_unit_c", "--links", "byte_unit_c=",
-             "--jobs", "2", "--crate-type", "staticlib", "--incremental", kept, *target,
-             "--toolchain", f"{kit}/toolchain", "-o", archive, "--antt-project", f"{kit}/rattle/logic/antt-project.json",
-             "--logic-built", f"{kit}/logic_built"]  # fmt: skip
-    own = {name: path("crates", name, "out/rlib") for name in below(["byte_unit_c"]) if name != "byte_unit_c"}
-    for name in ["std", *crates()["byte_unit_c"]]:
-        words += ["--extern", f"{name}={own.get(name, f'{kit}/rlibs')}/{name}.rlib"]
-    for folder in [f"{kit}/rlibs", *own.values()]:
-        words += ["-L", f"dependency={folder}"]
-    return words
+    return [*rattle_after_ci("build", "byte_unit_c", crates()["byte_unit_c"]), "--jobs", "2", "--crate-type",
+            "staticlib", "--incremental", kept, *target, "--toolchain", f"{kit_folder()}/toolchain", "-o", archive]
+
+
+def rattle_after_ci(command, crate, used):
+    """Returns a call of rattle for a library in the current folder that uses these, as `rt ci` has built them."""
+    kit = kit_folder()
+    own = {name: path("crates", name, "out/rlib") for name in below(name for name in used if name in crates())}
+    built = [["--extern", f"{name}={own.get(name, f'{kit}/rlibs')}/{name}.rlib"] for name in ["std", *used]]
+    built += [["-L", f"dependency={folder}"] for folder in [f"{kit}/rlibs", *own.values()]]
+    return [f"{kit}/bin/rattle", command, "src/lib.rt", "--crate-name", crate, "--links", f"{crate}=",
+            "--antt-project", f"{kit}/rattle/logic/antt-project.json", "--logic-built", f"{kit}/logic_built",
+            *sum(built, [])]  # fmt: skip
 
 
 def shared_names(folder):

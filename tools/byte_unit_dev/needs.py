@@ -69,7 +69,7 @@ def is_there(need):
 
 
 def installed(packages):
-    """Installs packages: if not all can be, by new lists of packages one by one. Returns those that fail."""
+    """Installs packages; if not all can be, by new lists of packages, and then one by one. Returns those that fail."""
     def fails(*names):
         words = ["apt-get", "install", "--yes", "--quiet", "--no-install-recommends", *names]
         return call(*words, stdin=subprocess.DEVNULL).returncode != 0
@@ -79,7 +79,7 @@ def installed(packages):
     if not fails(*packages):
         return []
     call("apt-get", "update", "--quiet")
-    return [package for package in packages if fails(package)]
+    return [package for package in packages if fails(package)] if fails(*packages) else []
 
 
 def run(*, compared=False):

@@ -23,7 +23,7 @@ COMMENT = r"((?:^--(?: .*)?\n)*)"
 # after `pub`.
 DEFINITION = re.compile(rf"{COMMENT}^(?:[a-z]+ )?pub (?!mod |use )(?:[a-z]+ )?([^\s:(){{}}]+)", re.M)
 # The crates of examples and tests.
-EXAMPLES = re.compile(r"example_\w+|byte_unit_uses|byte_unit_vectors|byte_unit_tests")
+EXAMPLES = re.compile(r"example_\w+|byte_unit_uses|byte_unit_vectors|byte_unit_\w*tests")
 # A block of code in a page, with the comment before it that names its source.
 SHOWN = re.compile(r"(?ms)^((?:<!-- from ([^\s:]+): ([^\n]+) -->\n)?```(\w+)\n)(.*?)^```$")
 # Parts of a file that are all its lines of a form.

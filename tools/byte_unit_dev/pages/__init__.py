@@ -8,7 +8,7 @@
     readme    the commands of README.md print what is below them; its promise, literal and program are as their sources
     guide     docs/GUIDE.md lists each example; its format strings and sizes of programs are those of rows
     command   the commands of command/README.md print what is below them
-    pasted    the blocks of Rattle in docs/GUIDE.md, in empty crates, are proved by `rt ci`
+    pasted    the blocks of Rattle in docs/GUIDE.md, in empty crates, are proved over the libraries of `rt ci`
     examples  the examples of the doc comments hold, and each public function of the library has a doc comment
 
 Without WHAT, checks the first four, which take a second. Prints each finding; the exit status is then 1. A check

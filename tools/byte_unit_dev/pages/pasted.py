@@ -1,11 +1,13 @@
-"""The blocks of Rattle in the guide, pasted into empty crates, which `rt ci` proves over the library that it proved."""
+"""The blocks of Rattle in the guide, pasted into empty crates: they are proved over the libraries of `rt ci`."""
 
 import os
 import re
+import subprocess
 import tempfile
 
-from ..common import call, copy_to, read, write
-from ..source import SHOWN, beside, copy_crates, crates, source
+from ..common import output, read, write
+from ..libraries import rattle_after_ci
+from ..source import SHOWN, beside, crates, source
 from .commands import GUIDE
 from .examples import Example, test_of
 
@@ -41,16 +43,13 @@ def pasted():
     made = {name: crates()[name] for name in dict.fromkeys(file.split("/")[1] for file in found)}
     used = sorted({*sum(made.values(), []), "byte_unit_serde", *crates()["byte_unit_serde"]})
     with tempfile.TemporaryDirectory() as top:
-        copy_crates(top, [name for name in used if name in crates()], {**made, "pasted": used}, ["out"])
-        copy_to(top, "HANDLES")
         for file, codes in found.items():
             paste(top, file, codes)
         modules = "".join(f"\n#[cfg(test)]\nmod {test.test};\n" for test in tests)
         write(f"{top}/crates/pasted/src/lib.rt", f"//! Bodies of tests.\n#![tactic(auto)]\n{modules}")
         for test in tests:
             write(f"{top}/crates/pasted/src/{test.test}.rt", f"//! A block of the guide.\n\n{test_of(test)}")
-        for name in [*made, "pasted"]:
-            call("rt", "fmt", cwd=f"{top}/crates/{name}")
-        got = call("rt", "ci", cwd=top)
-    wrong = [] if got.returncode == 0 else [f"{GUIDE}: status {got.returncode} of rt ci over its blocks\n{got.stdout}"]
-    return wrong, f"{sum(map(len, found.values()))} blocks and {len(tests)} bodies of tests are proved"
+        for name, needed in [*made.items(), ("pasted", used)]:
+            words = [*rattle_after_ci("check", name, needed), *["--test"] * (name == "pasted")]
+            output(*words, cwd=f"{top}/crates/{name}", stdin=subprocess.DEVNULL)
+    return [], f"{sum(map(len, found.values()))} blocks and {len(tests)} bodies of tests are proved"
