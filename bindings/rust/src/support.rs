@@ -1,11 +1,11 @@
-//! What the rendered sources use of Rattle's std that stable Rust does not have.
+//! What the rendered sources use of Rattle's std that stable Rust does not have, and functions of theirs of which rustc
+//! makes fewer instructions as they are written here.
 
-use core::fmt::{self, Display, Write};
+use core::fmt::{self, Display, Formatter, Write};
+
+use crate::rendered::math::power_of_ten;
 
 pub mod lanes;
-
-/// The powers of 10 with fewer than eight digits after the first.
-const POWERS_OF_TEN: [u64; 8] = [1, 10, 100, 1000, 10_000, 100_000, 1_000_000, 10_000_000];
 
 /// Reads the digits of `bytes` from the index `from` on. Returns the index after the last of them, and the number
 /// `so_far` with these digits appended, wrapped to 64 bits.
@@ -16,16 +16,16 @@ pub fn read_digits(bytes: &[u8], from: usize, so_far: u64) -> (usize, u64) {
     while let Some((eight, after)) = rest.split_first_chunk() {
         // A digit is its value here, and any other byte is ten or more.
         let word = u64::from_le_bytes(*eight) ^ 0x3030_3030_3030_3030;
-        // The upper bit of each byte that is ten or more: no sum of seven bits carries into the next byte.
-        let others = (((word & 0x7f7f_7f7f_7f7f_7f7f) + 0x7676_7676_7676_7676) | word) & 0x8080_8080_8080_8080;
+        // The lowest upper bit is that of the first byte that is ten or more: no sum before it carries into the next.
+        let others = (word.wrapping_add(0x7676_7676_7676_7676) | word) & 0x8080_8080_8080_8080;
         if others != 0 {
             let count = others.trailing_zeros() / 8;
             // Leading zeros in place of the bytes after the digits. Two shifts, since a shift by 64 is not defined.
-            let digits = number_of_eight(word << (56 - 8 * count) << 8);
-            value = value.wrapping_mul(POWERS_OF_TEN[count as usize]).wrapping_add(digits);
+            let digits = value_of_eight(word << (56 - 8 * count) << 8);
+            value = value.wrapping_mul(power_of_ten(count) as u64).wrapping_add(digits);
             return (bytes.len() - rest.len() + count as usize, value);
         }
-        value = value.wrapping_mul(100_000_000).wrapping_add(number_of_eight(word));
+        value = value.wrapping_mul(100_000_000).wrapping_add(value_of_eight(word));
         rest = after;
     }
     while let Some((digit, after)) = rest.split_first().filter(|(byte, _)| byte.is_ascii_digit()) {
@@ -35,13 +35,31 @@ pub fn read_digits(bytes: &[u8], from: usize, so_far: u64) -> (usize, u64) {
     (bytes.len() - rest.len(), value)
 }
 
-/// Returns the number of eight digits, of which the first is the lowest byte: first of pairs, then of both halves.
+/// Returns the value of eight digits, of which the first is the lowest byte: of pairs, then of fours, then of all.
 #[inline(always)]
-fn number_of_eight(word: u64) -> u64 {
-    let pairs = word.wrapping_mul(10).wrapping_add(word >> 8);
-    let first_and_third = (pairs & 0x0000_00ff_0000_00ff).wrapping_mul(100 + (1_000_000 << 32));
-    let second_and_fourth = ((pairs >> 16) & 0x0000_00ff_0000_00ff).wrapping_mul(1 + (10_000 << 32));
-    first_and_third.wrapping_add(second_and_fourth) >> 32
+pub fn value_of_eight(word: u64) -> u64 {
+    let pairs = (word.wrapping_mul(1 + (10 << 8)) >> 8) & 0x00ff_00ff_00ff_00ff;
+    let fours = (pairs.wrapping_mul(1 + (100 << 16)) >> 16) & 0x0000_ffff_0000_ffff;
+    fours.wrapping_mul(1 + (10_000 << 32)) >> 32
+}
+
+/// Returns the character at an index, or `None` at the end.
+#[inline(always)]
+pub fn char_at(text: &str, index: usize) -> Option<char> {
+    match text.as_bytes().get(index) {
+        Some(byte) if byte.is_ascii() => Some(char::from(*byte)),
+        _ => text[index..].chars().next(),
+    }
+}
+
+/// Writes a character as `Debug` does, without quotes, between two texts: at once if it is not escaped.
+pub fn write_quoted(f: &mut Formatter<'_>, before: &str, c: char, after: &str) -> fmt::Result {
+    f.write_str(before)?;
+    match c {
+        ' '..='~' if c != '\'' && c != '\\' => f.write_char(c)?,
+        _ => c.escape_debug().try_for_each(|part| f.write_char(part))?,
+    }
+    f.write_str(after)
 }
 
 /// A text of at most `N` bytes, without an allocation.

@@ -1,7 +1,9 @@
 //! What the rendered sources use in place of Rattle's std, each beside a plain function on random input.
 
-use byte_unit::support::lanes::{last_16_digits, u8x4, u8x8, u8x16, u8x32, u32x1, u64x1};
-use byte_unit::support::{InlineText, read_digits, u64_of, u128_of};
+use std::fmt::{self, Display, Formatter};
+
+use byte_unit::support::lanes::{last_16_digits, suffix_len, u8x4, u8x8, u8x16, u8x32, u32x1, u64x1};
+use byte_unit::support::{InlineText, char_at, read_digits, u64_of, u128_of, value_of_eight, write_quoted};
 
 /// Numbers of a linear congruential generator: the upper half of its state.
 struct Random(u128);
@@ -39,14 +41,12 @@ fn digits_are_read_as_one_by_one() {
     }
 }
 
-/// Compares the operations of vectors of bytes, of any number of lanes, with those of each lane.
+/// Compares the operations of vectors of bytes with those of each lane.
 macro_rules! compare_bytes {
     ($random:ident, $($vector:ident $lanes:literal),*) => { $({
         let (a, b) = ($random.bytes::<$lanes>(), $random.bytes::<$lanes>().map(|byte| byte % 4));
         let other = std::array::from_fn::<u8, $lanes, _>(|at| if b[at] == 0 { a[at] } else { b[at] });
         let (x, y) = ($vector::from_array(a), $vector::from_slice(&[&other[..], &[9]].concat()));
-        let each = |lane: fn(u8, u8) -> u8| std::array::from_fn::<u8, $lanes, _>(|at| lane(a[at], other[at]));
-        assert_eq!((x | y).to_array(), each(|a, b| a | b));
         let equal = (0..$lanes).filter(|&at| a[at] == other[at]).map(|at| 1u64 << at).sum::<u64>();
         assert_eq!(x.simd_eq(y).to_bitmask(), equal);
         assert_eq!(x.simd_ne(y).to_bitmask(), equal ^ (u64::MAX >> (64 - $lanes)));
@@ -58,14 +58,41 @@ macro_rules! compare_bytes {
 fn lanes_are_as_each_lane() {
     let mut random = Random(2);
     for _ in 0..20_000 {
-        compare_bytes!(random, u8x4 4, u8x8 8, u8x16 16, u8x32 32);
+        compare_bytes!(random, u8x8 8, u8x16 16, u8x32 32);
         let number = (random.next() >> random.below(64)) % 10_u64.pow(16);
         assert_eq!(last_16_digits(number).to_array(), format!("{number:016}").as_bytes());
+        let digits = random.bytes::<8>().map(|byte| byte % 10);
+        let value = digits.iter().fold(0, |n, digit| n * 10 + u64::from(*digit));
+        assert_eq!(value_of_eight(u64::from_le_bytes(digits)), value);
         let eight = random.bytes::<8>();
         assert_eq!(u64x1::from_le_bytes(u8x8::from_array(eight)).to_array(), [u64::from_le_bytes(eight)]);
-        assert_eq!(u64x1::splat(u64::from_le_bytes(eight)).to_le_bytes().to_array(), eight);
+        // Letters of a suffix in either case, of which a few are another byte.
+        let near = |at: usize| b"bitsBITS"[at % 4 + 4 * random.below(2)] ^ [0, 0, 0, 0, 0x40, 0x80, 1][random.below(7)];
+        let word: [u8; 8] = std::array::from_fn(near);
+        let letters = word.iter().zip(b"bits").take_while(|(byte, letter)| byte.eq_ignore_ascii_case(letter));
+        assert_eq!(suffix_len(u64::from_le_bytes(word)), letters.count(), "{word:?}");
         let four = random.bytes::<4>();
         assert_eq!(u32x1::from_le_bytes(u8x4::from_array(four)).to_array(), [u32::from_le_bytes(four)]);
+    }
+}
+
+/// A character in quotes between two words.
+struct Quoted(char);
+
+impl Display for Quoted {
+    fn fmt(&self, f: &mut Formatter<'_>) -> fmt::Result {
+        write_quoted(f, "before '", self.0, "' after")
+    }
+}
+
+#[test]
+fn characters_are_found_and_quoted_as_by_std() {
+    let mut random = Random(4);
+    let drawn = (0..100_000).filter_map(|_| char::from_u32(random.below(0x11_0000) as u32));
+    for c in ('\0'..='\u{fff}').chain(drawn) {
+        let text = format!("1 {c}");
+        assert_eq!((char_at(&text, 2), char_at(&text, text.len())), (Some(c), None));
+        assert_eq!(Quoted(c).to_string(), format!("before {c:?} after"));
     }
 }
 

@@ -22,13 +22,15 @@ ITEMS_LEFT_OUT = {
         "allocators are not stable, and no call of the package allocates",
     r"impl fmt::Display for (?:Unit|Decimal|Byte|Bit|AdjustedByte|AdjustedBit)\b":
         "by hand: the original's obeys the flags of the formatter",
-    r"fn last_16_digits\(": "by hand, in `support::lanes`: of divisions of lanes rustc makes many instructions",
+    r"fn (?:last_16_digits|suffix_len)\(":
+        "by hand, in `support::lanes`: of divisions and comparisons of lanes rustc makes many instructions",
+    r"fn value_of_eight\(|pub fn first_char\(": "by hand, in `support`: see `FORMS`",
     r"pub fn from_u128_unsafe": "by hand: the original's is `unsafe`",
     r"pub fn get_value": "by hand: the original's returns a float",
     r"(?<=    )pub fn (?:text_len|write_text)\(self": "see `LEFT_OUT` of `/text.rt`",
 }  # fmt: skip
 # Paths of names that are left out with their items.
-NAMES_LEFT_OUT = re.compile(r".*::(?:append_\w+|JsonSizeError)")
+NAMES_LEFT_OUT = re.compile(r".*::(?:append_\w+|JsonSizeError|first_char)")
 # Attributes, by their first word: whether they are kept. `inline` is added, see `INLINED`.
 ATTRIBUTES = {"tactic": False, "inline": True, "cold": True, "repr": True, "unsafe": True, "derive": True,
               "macro_export": True}  # fmt: skip
@@ -62,6 +64,9 @@ FORMS = [
     (r"#\[macro_export\]", "#[doc(hidden)]\n#[macro_export]", "the macro is none of the package's names"),
     (r"bytes\[start \+ 1\] = PAIRS\[pair \+ 1\];\s*bytes\[start\] = PAIRS\[pair\];",
      "bytes[start..end].copy_from_slice(&PAIRS[pair..pair + 2]);", "one store, and one test of its indexes"),
+    (r"\bvalue_of_eight\(", "crate::support::value_of_eight(", "fewer instructions, as in `read_digits`"),
+    (r"\bfirst_char\(&text\[([\w.]+)\.\.\]\)", r"crate::support::char_at(text, \1)", "fewer, if it is ASCII"),
+    (r"#\[inline\(never\)\](?=\s*fn long_value\()", "#[inline(always)]", "fewer, since a call saves registers"),
     (r"^( *)'\w+: (?=while\b|for\b|loop\b)", r"\1", "labels name loops for proofs alone"),
     (r"(pub fn (?:parse_str(?:_binary)?|error_position))\(s: &str((?:, \w+: bool)*\)[^{]*\{)",
      r"\1<S: AsRef<str>>(s: S\2 let s = s.as_ref();", "as in the original: any type of strings"),
@@ -96,11 +101,16 @@ INLINED = ["byte_unit_byte", "byte_unit_bit"]
 # prove these.
 HIDDEN = ["get_recoverable_unit_counted"]
 
-# Forms of comments.
+QUOTED = "crate::support::write_quoted(f, "
+# Forms of comments, and those that are found by what is in a string or a comment.
 COMMENT_FORMS = [
     (r" \(proved at every call\)", "", "proved of the calls in Rattle alone"),
     (r"(?:\n *///)? In (?:a contract|contracts) (?:[^\n.]|\.(?=\d))*\.(?=\n)", "", "there is no contract"),
     (r" In contracts (?:[^\n.]|\.(?=\d))*\.(?= )", "", "the same"),
+    # With its text. In Rust a character in quotes takes fewer instructions without a formatter of its own.
+    (r'write!\(f, "([^{}"]*)\{(\w+):\?\}([^{}"]*)"\)', rf"""{QUOTED}"\1'", *\2, "'\3")""", "fewer instructions"),
+    (r'write!\(f, "([^{}"]*)\{:\?\}([^{}"]*)", ([\w.]+)\)', rf"""{QUOTED}"\1'", \3, "'\2")""", "the same"),
+    (r'write!\(f, "\{(\w+)\}\{(\w+):\?\}"\)\?', rf"""f.write_str(\1)?; {QUOTED}"'", *\2, "'")?""", "the same"),
     # With its comments. rustc puts the error beside it in a result at its beginning, and would split a number there.
     (r"(pub struct Decimal \{\n)((?:.*\n){2})((?:.*\n){2})((?:.*\n){2})(?=\})", r"#[repr(C)]\n\1\4\3\2",
      "the number of places first: fewer instructions"),

@@ -1,8 +1,6 @@
 //! Vectors of a few lanes, as arrays, with the few calls that are used; those on all bytes go by words of eight.
 #![allow(non_camel_case_types)]
 
-use core::ops::BitOr;
-
 /// A vector of `N` lanes.
 #[derive(Clone, Copy, Debug, PartialEq, Eq)]
 pub struct Lanes<T, const N: usize>([T; N]);
@@ -18,18 +16,7 @@ pub type u8x32 = Lanes<u8, 32>;
 pub type u32x1 = Lanes<u32, 1>;
 pub type u64x1 = Lanes<u64, 1>;
 
-/// Does what `core::array::from_fn` does, of which rustc does not inline every call.
-#[inline(always)]
-fn from_fn<T: Copy + Default, const N: usize>(lane: impl Fn(usize) -> T) -> [T; N] {
-    let (mut lanes, mut at) = ([T::default(); N], 0);
-    while at < N {
-        lanes[at] = lane(at);
-        at += 1;
-    }
-    lanes
-}
-
-impl<T: Copy + Default, const N: usize> Lanes<T, N> {
+impl<T: Copy, const N: usize> Lanes<T, N> {
     /// Returns the vector whose lanes are all this value.
     #[inline(always)]
     pub const fn splat(value: T) -> Self {
@@ -55,6 +42,7 @@ impl<T: Copy + Default, const N: usize> Lanes<T, N> {
     }
 }
 
+/// Comparisons of vectors of which each eight lanes are a word.
 impl<const N: usize> Lanes<u8, N> {
     /// Returns whether the lanes are equal to those of another vector.
     #[inline(always)]
@@ -67,23 +55,20 @@ impl<const N: usize> Lanes<u8, N> {
     pub fn simd_ne(self, other: Self) -> Mask {
         let (mut bits, mut at) = (0, N);
         while at > 0 {
-            at = at.saturating_sub(8);
+            at -= 8;
             let word = self.word_at(at) ^ other.word_at(at);
             // The upper bit of each byte that is not zero: no sum of seven bits carries into the next byte.
             let others = (((word & 0x7f7f_7f7f_7f7f_7f7f) + 0x7f7f_7f7f_7f7f_7f7f) | word) & 0x8080_8080_8080_8080;
             // Each of these bits is moved to its place in the upper byte.
-            bits = (bits << 8) | ((others >> 7).wrapping_mul(0x0102_0408_1020_4080) >> 56);
+            bits = (bits << 8) | (others.wrapping_mul(0x0002_0408_1020_4081) >> 56);
         }
         Mask(bits)
     }
 
-    /// Returns eight lanes, or all if they are fewer, as a number, the first as the lowest byte.
+    /// Returns eight lanes as a number, the first as the lowest byte.
     #[inline(always)]
     fn word_at(&self, at: usize) -> u64 {
-        match self.0[at..].first_chunk() {
-            Some(eight) => u64::from_le_bytes(*eight),
-            None => u64::from_le_bytes(from_fn(|lane| if lane < N { self.0[lane] } else { 0 })),
-        }
+        u64::from_le_bytes(*self.0[at..].first_chunk().expect("eight lanes"))
     }
 }
 
@@ -95,13 +80,12 @@ impl Mask {
     }
 }
 
-impl<const N: usize> BitOr for Lanes<u8, N> {
-    type Output = Self;
-
-    #[inline(always)]
-    fn bitor(self, other: Self) -> Self {
-        Lanes(from_fn(|lane| self.0[lane] | other.0[lane]))
-    }
+/// Returns how many of eight bytes are the letters of `bits` in either case, from the first on.
+#[inline(always)]
+pub fn suffix_len(word: u64) -> usize {
+    // With the bit 0x20 an ASCII letter is in lower case; no byte with it is 0, so the fifth one always differs.
+    let others = (word | 0x2020_2020_2020_2020) ^ u64::from(u32::from_le_bytes(*b"bits"));
+    others.trailing_zeros() as usize / 8
 }
 
 /// Returns the digits of a number below 10^16, with leading zeros.
@@ -132,12 +116,6 @@ impl u32x1 {
 }
 
 impl u64x1 {
-    /// Returns the bytes of the lane, the lowest first.
-    #[inline(always)]
-    pub const fn to_le_bytes(self) -> u8x8 {
-        Lanes(self.0[0].to_le_bytes())
-    }
-
     /// Returns the lane of these bytes, the lowest first.
     #[inline(always)]
     pub const fn from_le_bytes(bytes: u8x8) -> Self {

@@ -103,7 +103,9 @@ impl fmt::Display for ValueParseError {
                 fmt::Display::fmt(value, f)?;
                 f.write_str(" exceeds the valid range")
             }
-            ValueParseError::NotNumber(c) => write!(f, "the character {c:?} is not a number"),
+            ValueParseError::NotNumber(c) => {
+                crate::support::write_quoted(f, "the character '", *c, "' is not a number")
+            }
             ValueParseError::NoValue => f.write_str("no value can be found"),
             ValueParseError::NumberTooLong => f.write_str("value number is too long"),
         }
@@ -114,7 +116,7 @@ impl Error for ValueParseError {}
 
 impl fmt::Display for UnitParseError {
     fn fmt(&self, f: &mut fmt::Formatter<'_>) -> fmt::Result {
-        write!(f, "the character {:?} is incorrect", self.character)?;
+        crate::support::write_quoted(f, "the character '", self.character, "' is incorrect")?;
         write_expected(self.expected_characters, self.also_expect_no_character, f)
     }
 }
@@ -149,7 +151,7 @@ fn write_expected(expected: &[char], also_expect_no_character: bool, f: &mut fmt
     match expected {
         [] => f.write_str(" (no character is expected)"),
         [first, others @ ..] => {
-            write!(f, " ({first:?}")?;
+            crate::support::write_quoted(f, " ('", *first, "'")?;
             write_others(others, f)?;
             if also_expect_no_character {
                 f.write_str(" or no character")?;
@@ -164,7 +166,8 @@ fn write_others(others: &[char], f: &mut fmt::Formatter<'_>) -> fmt::Result {
     let mut left = others;
     while let [c, rest @ ..] = left {
         let before = if rest.is_empty() { " or " } else { ", " };
-        write!(f, "{before}{c:?}")?;
+        f.write_str(before)?;
+        crate::support::write_quoted(f, "'", *c, "'")?;
         left = rest;
     }
     Ok(())

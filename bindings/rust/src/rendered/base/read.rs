@@ -3,7 +3,7 @@
 //! The parser of a number and a unit in a string, and a test that bytes have nothing to trim.
 
 use crate::rendered::base::read::number::read_number_and_unit;
-use crate::rendered::base::read::stop::{Stop, error_at, first_char};
+use crate::rendered::base::read::stop::{Stop, error_at};
 use crate::rendered::base::unit::scan::Flags;
 use crate::rendered::base::{ParseError, Unit};
 use crate::rendered::math::Decimal;
@@ -47,7 +47,7 @@ pub fn read_size(s: &str, ignore_case: bool, prefer_byte: bool) -> Result<(Decim
     match read_number_and_unit::<true>(bytes, bytes, flags) {
         Ok(found) => Ok((found.1, found.0)),
         Err(stop) => {
-            let next = first_char(&text[stop.place..]);
+            let next = crate::support::char_at(text, stop.place);
             Err(error_at(stop.reason, next, flags))
         }
     }
@@ -65,9 +65,11 @@ pub(crate) fn read_or_stop(s: &str, flags: Flags) -> Result<(Unit, Decimal), Sto
     let bytes = text.as_bytes();
     match read_number_and_unit::<true>(bytes, bytes, flags) {
         Ok(found) => Ok(found),
-        Err(stop) => {
-            Err(Stop { reason: stop.reason, next: first_char(&text[stop.place..]), index: leading_len(s) + stop.place })
-        }
+        Err(stop) => Err(Stop {
+            reason: stop.reason,
+            next: crate::support::char_at(text, stop.place),
+            index: leading_len(s) + stop.place,
+        }),
     }
 }
 

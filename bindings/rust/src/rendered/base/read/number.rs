@@ -11,9 +11,6 @@ use crate::rendered::math::{DECIMAL_PLACES, Decimal, WHOLE_LIMIT};
 use crate::support::lanes::*;
 use crate::support::read_digits;
 
-/// Keeps the lowest byte of every four bytes: the value of one pair of digits.
-const PAIR_OF_FOUR_BYTES: u64 = 0x0000_00ff_0000_00ff;
-
 /// Parses a number and a unit from a line, which is not trimmed. Returns the unit and the number. The line is at the
 /// beginning of `bytes`: eight of them are loaded at once where eight are left, past the end of the line too.
 ///
@@ -100,12 +97,12 @@ fn leading_digits<const ALONE: bool>(line: &[u8], bytes: &[u8], from: usize) -> 
         if others != 0 {
             let count = others.trailing_zeros() / 8;
             // The digits are moved to the end, with zeros before them. Two shifts, since a shift by 64 is not defined.
-            let value = value_of_eight(digits << (56 - 8 * count) << 8);
+            let value = crate::support::value_of_eight(digits << (56 - 8 * count) << 8);
             // What follows the line is no digit.
             return (from + count as usize, value);
         }
         start += 8;
-        value = value_of_eight(digits);
+        value = crate::support::value_of_eight(digits);
     }
     read_digits(line, start, value)
 }
@@ -125,16 +122,6 @@ fn few_digits(line: &[u8], from: usize) -> (usize, u64) {
         end += 1;
     }
     (end, value)
-}
-
-/// Returns the number that eight digits write, from their values. Two products add four pairs by their places: the
-/// first and the third pair, and the second and the fourth (D. Lemire, "Number parsing at a gigabyte per second").
-#[inline(always)]
-fn value_of_eight(digits: u64) -> u64 {
-    let pairs = digits.wrapping_mul(10).wrapping_add(digits >> 8);
-    let odd = (pairs & PAIR_OF_FOUR_BYTES).wrapping_mul(100 + (1_000_000 << 32));
-    let even = ((pairs >> 16) & PAIR_OF_FOUR_BYTES).wrapping_mul(1 + (10_000 << 32));
-    odd.wrapping_add(even) >> 32
 }
 
 /// Parses a unit from a line, from an index on to its end. Nothing is trimmed. The line is at the beginning of `bytes`.
@@ -169,15 +156,6 @@ pub fn read_unit(line: &[u8], bytes: &[u8], from: usize, flags: Flags) -> Result
 #[inline(always)]
 pub fn unit_of(power: usize, binary: bool, bit: bool) -> Unit {
     BY_POWER[power][2 * usize::from(binary) + usize::from(bit)]
-}
-
-/// Returns how many of eight bytes are the letters of `bits` in either case, from the first on.
-#[inline(always)]
-fn suffix_len(word: u64) -> usize {
-    // With the bit 0x20 an ASCII letter is in lower case; no byte with it is 0, so the fifth one always differs.
-    let bytes = u64x1::splat(word).to_le_bytes() | u8x8::splat(0x20);
-    let others = bytes.simd_ne(u8x8::from_array(*b"bits\0\0\0\0"));
-    others.to_bitmask().trailing_zeros() as usize
 }
 
 /// Returns whether a unit with this suffix, the first `length` letters of `bits`, is of bits. The suffix `b` is of

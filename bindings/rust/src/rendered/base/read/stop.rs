@@ -95,11 +95,6 @@ pub fn error_at(reason: Reason, next: Option<char>, flags: Flags) -> ParseError 
     }
 }
 
-/// Returns the first character of a string.
-pub fn first_char(s: &str) -> Option<char> {
-    s.chars().next()
-}
-
 /// Returns the first character of ASCII bytes.
 #[inline(always)]
 pub fn first_ascii(bytes: &[u8]) -> Option<char> {

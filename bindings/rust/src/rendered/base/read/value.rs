@@ -42,7 +42,7 @@ pub fn value_of(digits: &[u8], last_bits: u64) -> u128 {
 }
 
 /// Slow path: returns the value of 19 to 38 digits, from the last 64 bits of that value.
-#[inline(never)]
+#[inline(always)]
 fn long_value(digits: &[u8], last_bits: u64) -> u128 {
     let (front, _) = digits.split_at(digits.len() - SHORT_DIGITS);
     let (_, high) = read_digits(front, 0, 0);

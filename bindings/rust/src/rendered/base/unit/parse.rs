@@ -4,7 +4,6 @@
 
 use crate::rendered::base::read::leading_len;
 use crate::rendered::base::read::number::read_unit;
-use crate::rendered::base::read::stop::first_char;
 use crate::rendered::base::unit::scan::{Flags, UnitStop};
 use crate::rendered::base::{Unit, UnitParseError};
 use core::str::FromStr;
@@ -90,7 +89,7 @@ pub fn read_unit_text(s: &str, flags: Flags) -> Result<Unit, (UnitStop, Option<c
     match read_unit(bytes, bytes, 0, flags) {
         Ok(found) => Ok(found),
         Err(stop) => {
-            let next = first_char(&text[stop.1..]);
+            let next = crate::support::char_at(text, stop.1);
             Err((stop.0, next, leading_len(s) + stop.1))
         }
     }
