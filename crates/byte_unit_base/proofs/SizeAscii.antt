@@ -1,28 +1,31 @@
 -- The inputs of the grammar of sizes are visible characters of ASCII, and spaces between a number and a unit. So only
 -- spaces after a number without a unit can be trimmed, and what is left is the same number and unit.
 --
--- Of a spelling `h` of a suffix or an infix, `h.0` says which text it is. Of digits `h` and of visible characters `p`,
--- the first part is that the first one is such, and the second that the rest are. In `prefix_visible`, `is` has the two
--- bounds of the position of the letter, and that the letter is there.
-use Rattle.std.proofs.Common.{◌≡◌, ℕ, zero, suc, ◌-◌, ◌<◌, Bool, true, false, nat_eq, inl, inr, List, [], ◌∷◌, ◌++◌}
+-- Of digits `h` and of visible characters `p`, the first part is that the first one is such, and the second that the
+-- rest are.
+use Rattle.std.proofs.Common.{◌≡◌, ℕ, zero, suc, ◌<◌, true, false, nat_eq, inl, inr, Some, List, [], ◌∷◌, ◌++◌}
 use Rattle.std.proofs.Common.{length, replicate, refl, ap, sym, subst, ◌∙◌, arith, append-nil, length-append}
 use Rattle.std.specs.List.{list_all}
-use Rattle.std.specs.Char.{is_ascii_graphic, to_ascii_lowercase}
-use Rattle.std.specs.Str.{IsAscii, chars, str_to_ascii_lowercase, skip_leading_whitespace, drop_trailing_whitespace}
+use Rattle.std.specs.Char.{is_ascii_graphic}
+use Rattle.std.specs.Str.{IsAscii, chars, skip_leading_whitespace, drop_trailing_whitespace}
 use Rattle.std.specs.Str.Parse.{AllDigits}
 use Rattle.std.proofs.lemmas.Bool.{and_from, and_parts}
 use Rattle.std.proofs.lemmas.Bool.Decides.{nat_tests}
-use Rattle.std.proofs.lemmas.List.Elements.{All-replicate, All-get_or}
-use Rattle.std.proofs.lemmas.List.Sums.{AllPass-from_list_all}
+use Rattle.std.proofs.lemmas.List.Elements.{All-replicate}
+use Rattle.std.proofs.lemmas.List.Sums.{list_all-from_AllPass}
 use Rattle.std.proofs.lemmas.List.Folds.{list_all-append}
 use Rattle.std.proofs.lemmas.Str.{IsAscii-append, chars-IsAscii}
 use Rattle.std.proofs.lemmas.Str.Ascii.{IsAscii-nil, IsAscii-cons, IsAscii-from_all}
 use Rattle.byte_unit_base.specs.Shape.{Shape}
 use Rattle.byte_unit_base.specs.Version.{current}
-use Rattle.byte_unit_base.specs.Spelling.{Flags, SpellsBinary, SpellsPrefix, SpellsCount, Spells}
+use Rattle.byte_unit_base.specs.Spelling.{Flags, Spells}
 use Rattle.byte_unit_base.specs.Number.{IsNumberText}
 use Rattle.byte_unit_base.specs.SizeText.{space, trim_of, IsSizeText}
+use Rattle.byte_unit_base.specs.Scan.{run}
+use Rattle.byte_unit_base.specs.UnitScan.{UnitScan, unit_step, start}
+use Rattle.byte_unit_base.proofs.Scans.{run_all}
 use Rattle.byte_unit_base.proofs.Trim.{visible_not_white}
+use Rattle.byte_unit_base.proofs.UnitRuns.{spelling_runs, step_range}
 
 -- visible characters
 
@@ -41,14 +44,6 @@ visible_ascii (c ∷ cs) h =
     let p = and_parts (is_ascii_graphic c) (list_all is_ascii_graphic cs) h in
     IsAscii-cons c cs (grind (arith, nat_tests, p.0)) (visible_ascii cs p.1)
 
--- a text is of visible characters if the same text in lowercase is
-text_visible : (text : List ℕ) → IsVisible (str_to_ascii_lowercase text) → IsVisible text
-text_visible [] h = refl
-text_visible (c ∷ cs) h =
-    let lower = str_to_ascii_lowercase cs in
-    let p = and_parts (is_ascii_graphic (to_ascii_lowercase c)) (list_all is_ascii_graphic lower) h in
-    and_from _ _ (grind (arith, nat_tests, p.0)) (text_visible cs p.1)
-
 -- decimal digits are visible
 digits_visible : (text : List ℕ) → AllDigits 10 text → IsVisible text
 digits_visible [] h = refl
@@ -56,35 +51,15 @@ digits_visible (c ∷ cs) h = and_from _ _ (grind (arith, nat_tests, h.0)) (digi
 
 -- spellings
 
--- the suffix of a unit is visible
-count_visible : (flags : Flags) (text : List ℕ) (bit : Bool) → SpellsCount flags text bit → IsVisible text
-count_visible flags text bit (inl h) = ap (list_all is_ascii_graphic) h.0
-count_visible flags text bit (inr (inl h)) = ap (list_all is_ascii_graphic) h.0
-count_visible flags text bit (inr (inr (inl h))) = ap (list_all is_ascii_graphic) h.0
-count_visible flags text bit (inr (inr (inr (inl h)))) = text_visible text (ap (list_all is_ascii_graphic) h.0)
-count_visible flags text bit (inr (inr (inr (inr h)))) = text_visible text (ap (list_all is_ascii_graphic) h.0)
-
--- what follows the letter of a prefix is visible
-binary_visible : (text : List ℕ) (binary : Bool) → SpellsBinary text binary → IsVisible text
-binary_visible text binary (inl h) = ap (list_all is_ascii_graphic) h.0
-binary_visible text binary (inr h) = text_visible text (ap (list_all is_ascii_graphic) h.0)
-
--- a prefix is visible
-prefix_visible : (text : List ℕ) (power : ℕ) (binary : Bool) → SpellsPrefix current text power binary → IsVisible text
-prefix_visible text power binary h =
-    let is = h.letter_is in
-    let letters = AllPass-from_list_all is_ascii_graphic current.letters refl in
-    let inside : power - 1 < length current.letters = omega (arith, is.0, is.1) in
-    let letter = All-get_or (λ c. is_ascii_graphic c ≡ true) current.letters (power - 1) 0 inside letters in
-    let visible : is_ascii_graphic h.letter ≡ true = grind (arith, nat_tests, ap is_ascii_graphic is.2 ∙ letter) in
-    ap (list_all is_ascii_graphic) h.text_is ∙ and_from _ _ visible (binary_visible h.infix_part binary h.infix_is)
+-- what the state machine of units reads is visible
+pub run_visible : (text : List ℕ) (s t : UnitScan) → run unit_step s text ≡ Some t → IsVisible text
+run_visible text s t e =
+    list_all-from_AllPass is_ascii_graphic text (run_all unit_step (λ c. is_ascii_graphic c ≡ true)
+    (λ s t c step. let range = step_range s t c step in grind (arith, nat_tests, range)) text s t e)
 
 -- a spelling is visible
 spelling_visible : (flags : Flags) (text : List ℕ) (unit : Shape) → Spells current flags text unit → IsVisible text
-spelling_visible flags text unit (inl h) = count_visible flags text unit.bit h.count_is
-spelling_visible flags text unit (inr h) = ap (list_all is_ascii_graphic) h.text_is
-    ∙ visible_append h.prefix_part h.count_part (prefix_visible h.prefix_part unit.power unit.binary h.prefix_is)
-    (count_visible flags h.count_part unit.bit h.count_is)
+spelling_visible flags text unit h = run_visible text start _ (spelling_runs flags text unit h).run_is
 
 -- numbers and sizes
 

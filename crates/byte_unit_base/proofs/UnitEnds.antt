@@ -25,7 +25,7 @@ use Rattle.byte_unit_base.proofs.Scans.{run_through, run_step, RunsTo}
 use Rattle.byte_unit_base.proofs.SizeRuns.{run_in_unit}
 use Rattle.byte_unit_base.proofs.SizeAscii.{number_ascii}
 use Rattle.byte_unit_base.proofs.SizeRest.{first_char, ends_gap, text_from, utf8_from}
-use Rattle.byte_unit_base.proofs.UnitStops.{run_ascii, none_left, no_unit, kept_state}
+use Rattle.byte_unit_base.proofs.UnitStops.{run_ascii, none_left, unit_fault_after}
 use Rattle.byte_unit_base.proofs.UnitRuns.{no_other_step}
 
 -- after a number, spaces lead to a state in which the next character ends the number
@@ -60,11 +60,9 @@ at_first flags n s kept (c ∷ cs) before ends other next some = (
 in_unit : (flags : Flags) (n : ℕ) (u : UnitScan) (rest : List ℕ) → IsFirst (λ c. unit_step u c ≡ None) rest
     → (rest ≡ [] → unit_of flags u ≡ None) → IsStoppedBefore flags (UnitAt n u) (InUnit (unit_stop u)) rest
 unfolding size_step
-in_unit flags n u [] next ends = (tt, no_unit flags u.multiple u.word (ends refl))
-in_unit flags n u (c ∷ cs) next ends = (
-  ap (option_map (UnitAt n)) next,
-  ap (λ state. fault_at current flags state c) (sym (kept_state u.multiple u.word)),
-)
+in_unit flags n u [] next ends = (tt, unit_fault_after flags u [] ends)
+in_unit flags n u (c ∷ cs) next ends =
+    (ap (option_map (UnitAt n)) next, unit_fault_after flags u (c ∷ cs) ends)
 
 -- after a number, the beginning of a unit leads to a state in which the parser stops if that of the unit does
 after_unit : (flags : Flags) (n : ℕ) (s : SizeScan) (unit rest : List ℕ) (u : UnitScan)
@@ -126,7 +124,7 @@ stops_in_unit flags bytes rest n end spaces place kept number rest_is within gap
           let no_space = first_char IsNoSpace (λ c wide. λ e. omega (arith, wide, e)) unit utf8_unit
           (subst (IsFirst IsNoSpace) at_unit other) in
           let no_letter = first_char (λ c. unit_step scan c ≡ None)
-          (λ c wide. no_other_step scan.multiple scan.word c (inr wide)) (drop place unit)
+          (λ c wide. no_other_step scan.multiple scan.word c (inr (omega (arith, wide)))) (drop place unit)
           (utf8_from unit place utf8_unit leads.within unit_ascii) leads.next in
           let b = after_unit flags n a.state (take place unit) after scan
           (subst (IsFirst (EndsNumber a.state n)) unit_text a.holds) (subst (IsFirst IsNoSpace) unit_text no_space)

@@ -31,10 +31,14 @@ pub record HasVisibleEnds (bytes : List ℕ) : Type 0 where
   pub start : is_ascii_graphic (slice_index bytes 0) ≡ true
   pub end : is_ascii_graphic (slice_index bytes (length bytes - 1)) ≡ true
 
+-- the first character, if there is one, has the property
+abbrev pub IsFirst : (ℕ → Type 0) → List ℕ → Type 0
+IsFirst Has [] = ⊤
+IsFirst Has (c ∷ rest) = Has c
+
 -- what follows a line: a line feed (10), or nothing
 abbrev pub IsAfterLine : List ℕ → Type 0
-IsAfterLine [] = ⊤
-IsAfterLine (byte ∷ rest) = byte ≡ 10
+IsAfterLine = IsFirst (λ byte. byte ≡ 10)
 
 -- the bytes begin with the line; `after` is what follows it
 pub record IsLineOf (line bytes : List ℕ) : Type 0 where
@@ -45,11 +49,6 @@ pub record IsLineOf (line bytes : List ℕ) : Type 0 where
 -- the first eight bytes, and 0 in place of those after the end
 abbrev pub first_eight : List ℕ → List ℕ
 first_eight bytes = take 8 (bytes ++ replicate 8 0)
-
--- the first character, if there is one, has the property
-abbrev pub IsFirst : (ℕ → Type 0) → List ℕ → Type 0
-IsFirst Has [] = ⊤
-IsFirst Has (c ∷ rest) = Has c
 
 -- the character is no space
 abbrev pub IsNoSpace : ℕ → Type 0
