@@ -30,7 +30,7 @@ use Rattle.byte_unit_base.proofs.Lists.{dropped_first}
 use Rattle.byte_unit_base.proofs.Scans.{run_through, reached}
 use Rattle.byte_unit_base.proofs.SizeReached.{fraction_number}
 use Rattle.byte_unit_base.proofs.SizeReads.{size_scan_is}
-use Rattle.byte_unit_base.proofs.SizeRuns.{run_whole, run_pointed, run_places, number_end}
+use Rattle.byte_unit_base.proofs.SizeRuns.{run_whole, run_pointed, run_places}
 use Rattle.byte_unit_base.proofs.SizeRest.{first_char, IsNoDigit, wide_no_digit, no_digit_first, ends_whole}
 use Rattle.byte_unit_base.proofs.SizeRest.{ends_fraction, text_from, utf8_from}
 use Rattle.byte_unit_base.proofs.NumberBytes.{digits_of_run}
@@ -118,7 +118,6 @@ module _ (bytes : List ℕ) (end whole : ℕ) (run_is : end ≡ 0 + digits_len (
         number_is = inl (whole, whole_is, sym at);
         state = Whole whole;
         run_is = run_whole (take end bytes) whole whole_is;
-        at_end = λ flags. number_end flags n (Whole whole) at;
         next = λ utf8.
             first_char ends (λ c wide. ends_whole whole n c at (wide_no_digit c wide) (grind (arith, nat_tests)))
             (drop end bytes) (utf8_from bytes end utf8 within whole_ascii)
@@ -209,7 +208,6 @@ module _ (bytes : List ℕ) (end whole : ℕ) (run_is : end ≡ 0 + digits_len (
                 (reached (size_scan_is (flags_of false false)) (take stop bytes) state run_digits)));
             state = state;
             run_is = run_digits;
-            at_end = λ flags. number_end flags n state at;
             next = λ utf8.
                 first_char ends (λ c wide. ends_number c (wide_no_digit c wide)) (drop stop bytes)
                 (utf8_from bytes stop utf8 stop_within digits_ascii)

@@ -30,11 +30,11 @@ use Rattle.byte_unit_base.proofs.UnitRuns.{spelling_runs, step_range}
 -- visible characters
 
 -- the characters of the text are visible ones of ASCII
-abbrev IsVisible : List ℕ → Type 0
+abbrev pub IsVisible : List ℕ → Type 0
 IsVisible text = list_all is_ascii_graphic text ≡ true
 
 -- two texts of visible characters are one when put together
-visible_append : (xs ys : List ℕ) → IsVisible xs → IsVisible ys → IsVisible (xs ++ ys)
+pub visible_append : (xs ys : List ℕ) → IsVisible xs → IsVisible ys → IsVisible (xs ++ ys)
 visible_append xs ys h k = list_all-append is_ascii_graphic xs ys ∙ and_from _ _ h k
 
 -- a text of visible characters is ASCII
@@ -45,7 +45,7 @@ visible_ascii (c ∷ cs) h =
     IsAscii-cons c cs (grind (arith, nat_tests, p.0)) (visible_ascii cs p.1)
 
 -- decimal digits are visible
-digits_visible : (text : List ℕ) → AllDigits 10 text → IsVisible text
+pub digits_visible : (text : List ℕ) → AllDigits 10 text → IsVisible text
 digits_visible [] h = refl
 digits_visible (c ∷ cs) h = and_from _ _ (grind (arith, nat_tests, h.0)) (digits_visible cs h.1)
 
@@ -82,6 +82,12 @@ number_ascii text number h = visible_ascii text (number_visible text number h)
 
 -- trimming
 
+-- spaces at the start are skipped
+skip_spaces : (count : ℕ) (text : List ℕ)
+    → skip_leading_whitespace (replicate count space ++ text) ≡ skip_leading_whitespace text
+skip_spaces zero text = refl
+skip_spaces (suc count) text = skip_spaces count text
+
 -- no white space is skipped before visible characters
 skip_kept : (front rest : List ℕ) → IsVisible front → 0 < length front
     → skip_leading_whitespace (front ++ rest) ≡ front ++ rest
@@ -96,38 +102,56 @@ drop_after (c ∷ cs) rest h =
     let p = and_parts _ _ h in rw (visible_not_white c p.0) (ap (λ kept. c ∷ kept) (drop_after cs rest p.1))
 
 -- spaces at the end are dropped
-gap_dropped : (spaces : ℕ) → drop_trailing_whitespace (replicate spaces space ++ []) ≡ []
-gap_dropped zero = refl
-gap_dropped (suc spaces) = rw (gap_dropped spaces) refl
+pub spaces_dropped : (spaces : ℕ) → drop_trailing_whitespace (replicate spaces space) ≡ []
+spaces_dropped zero = refl
+spaces_dropped (suc spaces) = rw (spaces_dropped spaces) refl
 
--- spaces before a visible character are left
-gap_left : (spaces c : ℕ) (cs : List ℕ) → IsVisible (c ∷ cs)
-    → drop_trailing_whitespace (replicate spaces space ++ c ∷ cs) ≡ replicate spaces space ++ c ∷ cs
-gap_left zero c cs h = subst (λ text. drop_trailing_whitespace text ≡ text) (append-nil (c ∷ cs)) (drop_after (c ∷ cs) [] h)
-gap_left (suc spaces) c cs h =
-    let count = length-append (replicate spaces space) (c ∷ cs) in
-    let some : nat_eq (length (replicate spaces space ++ c ∷ cs)) 0 ≡ false = grind (arith, nat_tests, count) in
-    rw (gap_left spaces c cs h, some) refl
+-- spaces before visible characters are left
+pub gap_left : (spaces : ℕ) (last : List ℕ) → IsVisible last → 0 < length last
+    → drop_trailing_whitespace (replicate spaces space ++ last) ≡ replicate spaces space ++ last
+gap_left zero last h some = subst (λ text. drop_trailing_whitespace text ≡ text) (append-nil last) (drop_after last [] h)
+gap_left (suc spaces) last h some =
+    let count = length-append (replicate spaces space) last in
+    let some_left : nat_eq (length (replicate spaces space ++ last)) 0 ≡ false = grind (arith, nat_tests, count, some) in
+    rw (gap_left spaces last h some, some_left) refl
+
+-- from visible characters, spaces before them are trimmed, and after them what is dropped at the end of the rest
+pub trim_front : (before : ℕ) (front rest : List ℕ) → IsVisible front → 0 < length front → IsAscii rest
+    → trim_of (replicate before space ++ (front ++ rest)) ≡ front ++ drop_trailing_whitespace rest
+trim_front before front rest visible some ascii =
+    let spaces = IsAscii-from_all (replicate before space) (All-replicate (λ c. c < 128) before space (omega arith)) in
+    let all = IsAscii-append (replicate before space) (front ++ rest) spaces
+    (IsAscii-append front rest (visible_ascii front visible) ascii) in
+    rw (
+      chars-IsAscii (replicate before space ++ (front ++ rest)) all,
+      skip_spaces before (front ++ rest),
+      skip_kept front rest visible some,
+    ) (drop_after front rest visible)
 
 -- of spaces and a unit the unit is left, and the spaces unless it is empty
 gap_kept : (spaces : ℕ) (unit_part : List ℕ) → IsVisible unit_part
     → (left : ℕ) × (drop_trailing_whitespace (replicate spaces space ++ unit_part) ≡ replicate left space ++ unit_part)
     × (0 < length unit_part → left ≡ spaces)
-gap_kept spaces [] h = (0, gap_dropped spaces, λ some. absurd (omega (arith, some)))
-gap_kept spaces (c ∷ cs) h = (spaces, gap_left spaces c cs h, λ some. refl)
+gap_kept spaces [] h = (
+  0,
+  ap drop_trailing_whitespace (append-nil (replicate spaces space)) ∙ spaces_dropped spaces,
+  λ some. absurd (omega (arith, some)),
+)
+gap_kept spaces (c ∷ cs) h = (spaces, gap_left spaces (c ∷ cs) h (omega arith), λ some. refl)
 
 -- the bytes are a number and a unit
 module _ (flags : Flags) (bytes : List ℕ) (number : ℕ) (unit : Shape) (h : IsSizeText current flags bytes number unit)
   where
+    -- the spaces and the unit are ASCII
+    rest_ascii : IsAscii (replicate h.spaces space ++ h.unit_part)
+    rest_ascii = IsAscii-append (replicate h.spaces space) h.unit_part
+        (IsAscii-from_all (replicate h.spaces space) (All-replicate (λ c. c < 128) h.spaces space (omega arith)))
+        (visible_ascii h.unit_part (spelling_visible flags h.unit_part unit h.unit_is))
+
     -- the bytes of a number and a unit are ASCII
     pub size_ascii : IsAscii bytes
-    size_ascii =
-        let gap = IsAscii-from_all (replicate h.spaces space) (All-replicate (λ c. c < 128) h.spaces space (omega arith)) in
-        let spelling = visible_ascii h.unit_part (spelling_visible flags h.unit_part unit h.unit_is) in
-        subst IsAscii (sym h.text_is)
-        (IsAscii-append h.number_part (replicate h.spaces space ++ h.unit_part)
-        (number_ascii h.number_part number h.number_is)
-        (IsAscii-append (replicate h.spaces space) h.unit_part gap spelling))
+    size_ascii = subst IsAscii (sym h.text_is) (IsAscii-append h.number_part (replicate h.spaces space ++ h.unit_part)
+        (number_ascii h.number_part number h.number_is) rest_ascii)
 
     -- the characters of the bytes are the same number and unit
     pub size_of_chars : IsSizeText current flags (chars bytes) number unit
@@ -140,12 +164,10 @@ module _ (flags : Flags) (bytes : List ℕ) (number : ℕ) (unit : Shape) (h : I
 
     -- the trimmed bytes are the number and what is left
     trimmed_text : trim_of bytes ≡ h.number_part ++ (replicate kept.0 space ++ h.unit_part)
-    trimmed_text =
-        let digits = number_visible h.number_part number h.number_is in
-        let gap = replicate h.spaces space ++ h.unit_part in
-        ap (λ text. drop_trailing_whitespace (skip_leading_whitespace text)) (chars-IsAscii bytes size_ascii ∙ h.text_is)
-        ∙ (ap drop_trailing_whitespace (skip_kept h.number_part gap digits (number_some h.number_part number h.number_is))
-        ∙ (drop_after h.number_part gap digits ∙ ap (λ rest. h.number_part ++ rest) kept.1))
+    trimmed_text = ap trim_of h.text_is
+        ∙ (trim_front 0 h.number_part (replicate h.spaces space ++ h.unit_part)
+        (number_visible h.number_part number h.number_is) (number_some h.number_part number h.number_is) rest_ascii
+        ∙ ap (λ rest. h.number_part ++ rest) kept.1)
 
     -- the characters of the bytes, trimmed, are the same number and unit
     pub trimmed_size : IsSizeText current flags (trim_of bytes) number unit

@@ -150,23 +150,27 @@ step_unit n c (Whole w) u h e = let range = step_range unit_start u c e in grind
 step_unit n c _ u h e = let range = step_range unit_start u c e in grind (arith, nat_tests, h, e)
 
 -- an input that ends after a number has the result of the number without a unit
-pub number_end : (flags : Flags) (n : ℕ) (s : SizeScan) → AtNumber n s
+number_end : (flags : Flags) (n : ℕ) (s : SizeScan) → AtNumber n s
     → size_at_end flags s ≡ size_or_fault n (unit_of flags unit_start)
 number_end flags n (Whole w) h = grind (arith, h)
 number_end flags n _ h = grind (arith, h)
 
+-- if a space leads to the state after spaces, more spaces lead there
+pub run_gap : (n k : ℕ) (s : SizeScan) → size_step s space ≡ Some (Gap n)
+    → run size_step s (replicate (suc k) space) ≡ Some (Gap n)
+run_gap n zero s e = run_step size_step s (Gap n) space [] e
+run_gap n (suc k) s e =
+    run_step size_step s (Gap n) space (replicate (suc k) space) e ∙ run_gap n k (Gap n) (step_space n (Gap n) refl)
+
 -- one space or more after a number lead to the state after spaces
 run_some_spaces : (n k : ℕ) (s : SizeScan) → 0 < k → AtNumber n s → run size_step s (replicate k space) ≡ Some (Gap n)
 run_some_spaces n zero s some h = absurd (omega (arith, some))
-run_some_spaces n (suc zero) s some h = run_step size_step s (Gap n) space [] (step_space n s h)
-run_some_spaces n (suc (suc k)) s some h =
-    run_step size_step s (Gap n) space (replicate (suc k) space) (step_space n s h)
-    ∙ run_some_spaces n (suc k) (Gap n) (omega arith) refl
+run_some_spaces n (suc k) s some h = run_gap n k s (step_space n s h)
 
 -- any number of spaces after a number, even none, leads to a state after the number
 run_spaces : (n k : ℕ) (s : SizeScan) → AtNumber n s → RunsTo size_step (AtNumber n) s (replicate k space)
 run_spaces n zero s h = record { state = s; run_is = refl; holds = h }
-run_spaces n (suc k) s h = record { state = Gap n; run_is = run_some_spaces n (suc k) s (omega arith) h; holds = refl }
+run_spaces n (suc k) s h = record { state = Gap n; run_is = run_gap n k s (step_space n s h); holds = refl }
 
 -- within a unit, the letters of the unit are read as by the parser of a unit
 pub run_in_unit : (n : ℕ) (u : UnitScan) (cs : List ℕ) (s : UnitScan) → run unit_step s cs ≡ Some u

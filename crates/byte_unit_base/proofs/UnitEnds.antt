@@ -22,7 +22,7 @@ use Rattle.byte_unit_base.specs.declared.read.stop.Reason.TheVariants.{InUnit}
 use Rattle.byte_unit_base.specs.declared.unit.scan.UnitStop.{UnitStop}
 use Rattle.byte_unit_base.proofs.Options.{some_passed}
 use Rattle.byte_unit_base.proofs.Scans.{run_through, run_step, RunsTo}
-use Rattle.byte_unit_base.proofs.SizeRuns.{run_in_unit}
+use Rattle.byte_unit_base.proofs.SizeRuns.{run_in_unit, run_gap}
 use Rattle.byte_unit_base.proofs.SizeAscii.{number_ascii}
 use Rattle.byte_unit_base.proofs.SizeRest.{first_char, ends_gap, text_from, utf8_from}
 use Rattle.byte_unit_base.proofs.UnitStops.{run_ascii, none_left, unit_fault_after}
@@ -33,12 +33,7 @@ after_spaces : (n spaces : ℕ) (s : SizeScan) (text : List ℕ) → IsFirst (En
     → RunsTo size_step (λ t. IsFirst (EndsNumber t n) text) s (replicate spaces space)
 after_spaces n zero s text next = record { state = s; run_is = refl; holds = next }
 after_spaces n (suc spaces) s text next =
-    let r = after_spaces n spaces (Gap n) text (ends_gap n (replicate spaces space ++ text)) in
-    record {
-      state = r.state;
-      run_is = run_step size_step s (Gap n) space (replicate spaces space) next.step_is ∙ r.run_is;
-      holds = r.holds;
-    }
+    record { state = Gap n; run_is = run_gap n spaces s next.step_is; holds = ends_gap n text }
 
 -- a character that ends the number, and is no space, has the step that it has at the start of a unit
 unit_first : (n c : ℕ) (s : SizeScan) → EndsNumber s n c → IsNoSpace c

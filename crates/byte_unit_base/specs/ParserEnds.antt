@@ -15,7 +15,7 @@ use Rattle.byte_unit_base.specs.Fault.{Fault, IsFaultAfter, fault_at, no_unit, n
 use Rattle.byte_unit_base.specs.Scan.{run}
 use Rattle.byte_unit_base.specs.UnitScan.{UnitScan, unit_of, unit_step, start}
 use Rattle.byte_unit_base.specs.UnitWord.{unit_stop, stop_parser_state}
-use Rattle.byte_unit_base.specs.SizeScan.{SizeScan, Beginning, size_step, size_at_end, size_or_fault, size_parser_state}
+use Rattle.byte_unit_base.specs.SizeScan.{SizeScan, Beginning, size_step, size_parser_state}
 use Rattle.byte_unit_base.specs.SizeScan.{after_number}
 use Rattle.byte_unit_base.specs.declared.unit.Unit.{Unit as UnitName}
 use Rattle.byte_unit_base.specs.declared.read.stop.ByteStop.{ByteStop}
@@ -137,10 +137,9 @@ pub record EndsNumber (state : SizeScan) (n c : ℕ) : Type 0 where
 pub record IsLeadingNumber (bytes : List ℕ) (n end : ℕ) : Type 0 where
   pub within : end ≤ length bytes
   pub number_is : IsNumberText current (take end bytes) n
-  -- the state machine has this state after the number, and its result there if the input ends, or if it goes on
+  -- the state machine has this state after the number, and goes on from there as after it
   pub state : SizeScan
   pub run_is : run size_step Beginning (take end bytes) ≡ Some state
-  pub at_end : (flags : Flags) → size_at_end flags state ≡ size_or_fault n (unit_of flags start)
   pub next : IsUtf8 bytes → IsFirst (EndsNumber state n) (chars (drop end bytes))
 
 -- the number with which the bytes begin, or why and where the parser stops in it
