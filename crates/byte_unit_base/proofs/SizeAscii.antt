@@ -131,13 +131,8 @@ trim_front before front rest visible some ascii =
 -- of spaces and a unit the unit is left, and the spaces unless it is empty
 gap_kept : (spaces : ℕ) (unit_part : List ℕ) → IsVisible unit_part
     → (left : ℕ) × (drop_trailing_whitespace (replicate spaces space ++ unit_part) ≡ replicate left space ++ unit_part)
-    × (0 < length unit_part → left ≡ spaces)
-gap_kept spaces [] h = (
-  0,
-  ap drop_trailing_whitespace (append-nil (replicate spaces space)) ∙ spaces_dropped spaces,
-  λ some. absurd (omega (arith, some)),
-)
-gap_kept spaces (c ∷ cs) h = (spaces, gap_left spaces (c ∷ cs) h (omega arith), λ some. refl)
+gap_kept spaces [] h = (0, ap drop_trailing_whitespace (append-nil (replicate spaces space)) ∙ spaces_dropped spaces)
+gap_kept spaces (c ∷ cs) h = (spaces, gap_left spaces (c ∷ cs) h (omega arith))
 
 -- the bytes are a number and a unit
 module _ (flags : Flags) (bytes : List ℕ) (number : ℕ) (unit : Shape) (h : IsSizeText current flags bytes number unit)
@@ -157,30 +152,26 @@ module _ (flags : Flags) (bytes : List ℕ) (number : ℕ) (unit : Shape) (h : I
     pub size_of_chars : IsSizeText current flags (chars bytes) number unit
     size_of_chars = subst (λ text. IsSizeText current flags text number unit) (sym (chars-IsAscii bytes size_ascii)) h
 
-    -- what is left of the spaces and the unit when the bytes are trimmed
-    abbrev kept : (left : ℕ) × (drop_trailing_whitespace (replicate h.spaces space ++ h.unit_part)
-        ≡ replicate left space ++ h.unit_part) × (0 < length h.unit_part → left ≡ h.spaces)
-    kept = gap_kept h.spaces h.unit_part (spelling_visible flags h.unit_part unit h.unit_is)
-
-    -- the trimmed bytes are the number and what is left
-    trimmed_text : trim_of bytes ≡ h.number_part ++ (replicate kept.0 space ++ h.unit_part)
-    trimmed_text = ap trim_of h.text_is
-        ∙ (trim_front 0 h.number_part (replicate h.spaces space ++ h.unit_part)
+    -- the trimmed bytes are the number and what is left of the spaces and the unit
+    trimmed_text : trim_of bytes ≡ h.number_part ++ drop_trailing_whitespace (replicate h.spaces space ++ h.unit_part)
+    trimmed_text = ap trim_of h.text_is ∙ trim_front 0 h.number_part (replicate h.spaces space ++ h.unit_part)
         (number_visible h.number_part number h.number_is) (number_some h.number_part number h.number_is) rest_ascii
-        ∙ ap (λ rest. h.number_part ++ rest) kept.1)
 
     -- the characters of the bytes, trimmed, are the same number and unit
     pub trimmed_size : IsSizeText current flags (trim_of bytes) number unit
-    trimmed_size = record {
-      number_part = h.number_part;
-      spaces = kept.0;
-      unit_part = h.unit_part;
-      text_is = trimmed_text;
-      number_is = h.number_is;
-      unit_is = h.unit_is;
-    }
+    trimmed_size =
+        let kept = gap_kept h.spaces h.unit_part (spelling_visible flags h.unit_part unit h.unit_is) in
+        record {
+          number_part = h.number_part;
+          spaces = kept.0;
+          unit_part = h.unit_part;
+          text_is = trimmed_text ∙ ap (λ rest. h.number_part ++ rest) kept.1;
+          number_is = h.number_is;
+          unit_is = h.unit_is;
+        }
 
     -- if the unit is not empty, nothing is trimmed
     pub kept_text : 0 < length h.unit_part → trim_of bytes ≡ bytes
-    kept_text some = trimmed_text
-        ∙ (ap (λ n. h.number_part ++ (replicate n space ++ h.unit_part)) (kept.2 some) ∙ sym h.text_is)
+    kept_text some =
+        let visible = spelling_visible flags h.unit_part unit h.unit_is in
+        trimmed_text ∙ (ap (λ rest. h.number_part ++ rest) (gap_left h.spaces h.unit_part visible some) ∙ sym h.text_is)

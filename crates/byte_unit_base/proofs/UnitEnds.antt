@@ -7,14 +7,11 @@ use Rattle.std.proofs.lemmas.List.{length-drop, drop-drop}
 use Rattle.std.proofs.lemmas.List.Elements.{All-replicate}
 use Rattle.std.proofs.lemmas.Str.{IsAscii-append}
 use Rattle.std.proofs.lemmas.Str.Ascii.{IsAscii-from_all}
-use Rattle.byte_unit_base.specs.Version.{current}
 use Rattle.byte_unit_base.specs.Spelling.{Flags}
 use Rattle.byte_unit_base.specs.SizeText.{space}
-use Rattle.byte_unit_base.specs.ViablePrefix.{before_unit}
-use Rattle.byte_unit_base.specs.Fault.{fault_at}
 use Rattle.byte_unit_base.specs.Scan.{run}
 use Rattle.byte_unit_base.specs.UnitScan.{UnitScan, unit_step, unit_of, start as unit_start}
-use Rattle.byte_unit_base.specs.UnitWord.{unit_stop, stop_parser_state}
+use Rattle.byte_unit_base.specs.UnitWord.{unit_stop}
 use Rattle.byte_unit_base.specs.SizeScan.{SizeScan, Beginning, Gap, UnitAt, size_step}
 use Rattle.byte_unit_base.specs.ParserEnds.{IsFirst, IsNoSpace, EndsNumber, IsLeadingNumber, IsStopAt, IsStoppedBefore}
 use Rattle.byte_unit_base.specs.ParserEnds.{IsUnitStop}
@@ -42,14 +39,12 @@ unit_first n c s ends other = let no_space : eqb c 32 ≡ false = grind (arith, 
     ends.step_is ∙ rw no_space refl
 
 -- if no unit begins at what follows a number, the parser stops there
-at_first : (flags : Flags) (n : ℕ) (s : SizeScan) (kept : UnitStop) (rest : List ℕ) → stop_parser_state kept ≡ before_unit
-    → IsFirst (EndsNumber s n) rest → IsFirst IsNoSpace rest → IsFirst (λ c. unit_step unit_start c ≡ None) rest
-    → (rest ≡ [] → ⊥) → IsStoppedBefore flags s (InUnit kept) rest
-at_first flags n s kept [] before ends other next some = absurd (some refl)
-at_first flags n s kept (c ∷ cs) before ends other next some = (
-  unit_first n c s ends other ∙ ap (option_map (UnitAt n)) next,
-  ap (λ state. fault_at current flags state c) before ∙ sym (ends.fault_is flags),
-)
+at_first : (flags : Flags) (n : ℕ) (s : SizeScan) (rest : List ℕ) → IsFirst (EndsNumber s n) rest
+    → IsFirst IsNoSpace rest → IsFirst (λ c. unit_step unit_start c ≡ None) rest → (rest ≡ [] → ⊥)
+    → IsStoppedBefore flags s (InUnit (unit_stop unit_start)) rest
+at_first flags n s [] ends other next some = absurd (some refl)
+at_first flags n s (c ∷ cs) ends other next some =
+    (unit_first n c s ends other ∙ ap (option_map (UnitAt n)) next, sym (ends.fault_is flags))
 
 -- within a unit after a number, the parser stops where the unit alone has no step, and cannot end
 in_unit : (flags : Flags) (n : ℕ) (u : UnitScan) (rest : List ℕ) → IsFirst (λ c. unit_step u c ≡ None) rest
@@ -67,11 +62,10 @@ after_unit : (flags : Flags) (n : ℕ) (s : SizeScan) (unit rest : List ℕ) (u 
     → RunsTo size_step (λ t. IsStoppedBefore flags t (InUnit (unit_stop u)) rest) s unit
 after_unit flags n s [] rest u number other run_is next ends =
     let same : unit_start ≡ u = cc in
-    record {
+    subst (λ x. RunsTo size_step (λ t. IsStoppedBefore flags t (InUnit (unit_stop x)) rest) s []) same record {
       state = s;
       run_is = refl;
-      holds = at_first flags n s (unit_stop u) rest (ap (λ x. stop_parser_state (unit_stop x)) (sym same)) number other
-          (subst (λ x. IsFirst (λ c. unit_step x c ≡ None) rest) (sym same) next)
+      holds = at_first flags n s rest number other (subst (λ x. IsFirst (λ c. unit_step x c ≡ None) rest) (sym same) next)
           (λ none. let e = ap (unit_of flags) same ∙ ends none in let z : ⊥ = cc in z);
     }
 after_unit flags n s (c ∷ cs) rest u number other run_is next ends =
