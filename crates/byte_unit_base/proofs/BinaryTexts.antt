@@ -14,40 +14,18 @@ use Rattle.byte_unit_base.specs.SizeText.{space, trim_of, IsSizeText}
 use Rattle.byte_unit_base.specs.Fault.{Fault, IsSizeFault, letter_i}
 use Rattle.byte_unit_base.specs.Kinds.{flags_for}
 use Rattle.byte_unit_base.specs.Accepted.{as_written}
-use Rattle.byte_unit_base.specs.ReaderLaws.{IsOneAnswer, Represents}
+use Rattle.byte_unit_base.specs.ReaderLaws.{Represents}
 use Rattle.byte_unit_base.specs.Parsed.{parsed_size_as, size_of_parsed}
 use Rattle.byte_unit_base.specs.BinaryReading.{binary_of}
 use Rattle.byte_unit_base.specs.BinaryLaws.{HasDecimalPrefix, IsWithI, BinaryReadingsAreThoseWithI, EachTextHasOneWithI}
 use Rattle.byte_unit_base.specs.declared.kind.Kind.{Kind}
-use Rattle.byte_unit_base.proofs.Scans
+use Rattle.byte_unit_base.proofs.Scans.{one_answer}
 use Rattle.byte_unit_base.proofs.SizeReads.{size_scan_is}
 use Rattle.byte_unit_base.proofs.ParsedTexts.{parsed_numbers_are_represented, size_reading}
 use Rattle.byte_unit_base.proofs.SizeAscii.{kept_text}
 
--- a text is one number of one unit, or has one error
-one_answer : (flags : Flags) (text : List ℕ)
-    → IsOneAnswer (ℕ × Shape) (Represents flags text) (IsSizeFault current flags text)
-one_answer flags text = Scans.one_answer (size_scan_is flags) text
-
 -- the text has a decimal prefix
 module _ (flags : Flags) (text front suffix : List ℕ) (h : HasDecimalPrefix flags text front suffix) where
-  -- the letter, an `i` or nothing, and the suffix spell the binary or the decimal unit
-  spells_with : (infix_part : List ℕ) (binary : Bool) → SpellsBinary infix_part binary
-      → Spells current flags (h.letter ∷ (infix_part ++ suffix)) (shape h.power binary h.bit)
-  spells_with infix_part binary is = inr record {
-    prefix_part = h.letter ∷ infix_part;
-    count_part = suffix;
-    text_is = refl;
-    prefix_is = record {
-      letter = h.letter;
-      infix_part = infix_part;
-      text_is = refl;
-      letter_is = h.letter_is;
-      infix_is = is;
-    };
-    count_is = h.suffix_is;
-  }
-
   -- with an `i` or nothing after the letter, the text is the number of the binary or of the decimal unit
   abbrev size_with : (infix_part : List ℕ) (binary : Bool) → SpellsBinary infix_part binary
       → IsSizeText current flags (front ++ (infix_part ++ suffix)) h.number (shape h.power binary h.bit)
@@ -57,7 +35,19 @@ module _ (flags : Flags) (text front suffix : List ℕ) (h : HasDecimalPrefix fl
     unit_part = h.letter ∷ (infix_part ++ suffix);
     text_is = rw h.before_is (simp append_assoc);
     number_is = h.number_is;
-    unit_is = spells_with infix_part binary is;
+    unit_is = inr record {
+      prefix_part = h.letter ∷ infix_part;
+      count_part = suffix;
+      text_is = refl;
+      prefix_is = record {
+        letter = h.letter;
+        infix_part = infix_part;
+        text_is = refl;
+        letter_is = h.letter_is;
+        infix_is = is;
+      };
+      count_is = h.suffix_is;
+    };
   }
 
   -- the text itself is the number of the decimal unit
@@ -135,7 +125,7 @@ same_answer flags text other (inr (none, e)) = subst (SameAnswer flags text) (sy
     (λ same. inl (m.0, m.1, subst (λ u. IsSizeText current flags text m.0.0 u) (sym same) m.1))
     (unit_cases flags text m.0.0 m.0.1 m.1 m.1.unit_is))
     (λ f. inr (f.0, f.1, f.1))
-    (one_answer flags text).some)
+    (one_answer (size_scan_is flags) text).some)
 
 -- the input gives the number of the binary unit that the other gives, or the same error, so both give the same size
 same_parsed : (kind : Kind) (ignore_case : Bool) (bytes other : List ℕ)
@@ -178,7 +168,7 @@ module _ (flags : Flags) (bytes : List ℕ) where
   no_prefix meaning is same front suffix h =
       let text = trim_of bytes in
       let decimal = shape h.power false h.bit in
-      let one = (one_answer flags text).one_meaning meaning (h.number, decimal) is
+      let one = (one_answer (size_scan_is flags) text).one_meaning meaning (h.number, decimal) is
       (decimal_size flags text front suffix h) in
       let unit : binary_of decimal ≡ decimal = subst (λ r. binary_of r.1 ≡ r.1) one same in
       let binary : true ≡ false = ap (λ u. u.binary) (sym (binary_unit flags text front suffix h) ∙ unit) in
@@ -192,12 +182,12 @@ module _ (flags : Flags) (bytes : List ℕ) where
       (λ f. (
         bytes,
         inr (
-          λ front suffix h. (one_answer flags (trim_of bytes)).not_both
+          λ front suffix h. (one_answer (size_scan_is flags) (trim_of bytes)).not_both
               (h.number, shape h.power false h.bit) f.0 (decimal_size flags (trim_of bytes) front suffix h) f.1,
           refl,
         ),
       ))
-      (one_answer flags (trim_of bytes)).some
+      (one_answer (size_scan_is flags) (trim_of bytes)).some
 
 -- for each input there is one with an `i` after its decimal prefix
 pub each_text_with_i : EachTextHasOneWithI

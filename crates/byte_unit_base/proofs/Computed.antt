@@ -1,6 +1,7 @@
 -- The parsers as functions: what a parser returns is what they give, and the size that they give is the least one.
-use Rattle.std.proofs.Common.{◌≡◌, ℕ, List, true, false, refl, arith}
+use Rattle.std.proofs.Common.{◌≡◌, ℕ, List, false, refl, arith}
 use Rattle.std.specs.Str.{IsUtf8, is_utf8}
+use Rattle.std.proofs.lemmas.Bool.{false_from_ne_true}
 use Rattle.std.proofs.lemmas.Str.{IsUtf8-from_is_utf8}
 use Rattle.byte_unit_base.specs.Shape.{Shape}
 use Rattle.byte_unit_base.specs.Units.{shape_of}
@@ -14,11 +15,7 @@ use Rattle.byte_unit_base.specs.declared.unit.Unit.TheVariants as UnitNames
 
 -- the test for UTF-8 computes to `false` for bytes that are not UTF-8
 pub test_of_not_utf8 : (bytes : List ℕ) → ¬ IsUtf8 bytes → is_utf8 bytes ≡ false
-test_of_not_utf8 bytes is_not =
-    elim (is_utf8 bytes) as (λ test. is_utf8 bytes ≡ test → test ≡ false) [
-      | true ↦ λ is_so. absurd (is_not (IsUtf8-from_is_utf8 bytes is_so))
-      | false ↦ λ is_so. refl
-    ] refl
+test_of_not_utf8 bytes is_not = false_from_ne_true (is_utf8 bytes) (λ is. is_not (IsUtf8-from_is_utf8 bytes is))
 
 -- the unit of the crate that has the shape of a unit is that unit
 pub unit_of_its_shape : (unit : UnitName) → unit_of_shape (shape_of unit) ≡ unit

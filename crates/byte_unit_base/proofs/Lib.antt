@@ -17,7 +17,6 @@ pub mod Rounding
 pub mod SizeOfText
 pub mod SizeOrFault
 pub mod ParsedTexts
-pub mod BinaryUnits
 pub mod BinaryTexts
 pub mod OnLiterals
 pub mod ErrorTexts

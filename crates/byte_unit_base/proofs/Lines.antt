@@ -1,7 +1,7 @@
 -- A line at the beginning of bytes: what follows it, eight of its bytes as a number, and its digits.
 use Rattle.std.proofs.Common.{◌≡◌, ℕ, suc, zero, ◌<◌, ◌≤◌, List, [], ◌∷◌, ◌++◌, length, take, drop, sym, ap, ◌∙◌, arith}
 use Rattle.std.proofs.Common.{◌+◌, ◌-◌, ◌*◌, ◌^◌, ◌%◌, replicate, get_or, length-drop, Fits, w8, cond, refl, ◌/◌}
-use Rattle.std.proofs.Common.{slice_range, slice_index, pow-suc, mod-eq_of_lt}
+use Rattle.std.proofs.Common.{slice_range, pow-suc, mod-eq_of_lt}
 use Rattle.std.proofs.lemmas.List.{take-append-drop, drop-append-le, take_all, take-replicate, take-append-le}
 use Rattle.std.proofs.lemmas.List.{drop-drop, take-take}
 use Rattle.std.proofs.Math.Seq.{take-append-add}
@@ -17,21 +17,14 @@ use Rattle.core.specs.Dec2flt.Digits.{IsEightBytes}
 use lib.Lanes.{number_l}
 use Rattle.byte_unit_base.specs.Line.{IsLine}
 use Rattle.byte_unit_base.specs.ParserEnds.{IsAfterLine, IsLineOf, first_eight}
-
--- if the byte at an index is a line feed (10), or there is none, the bytes from there on can follow a line
-after_line : (bytes : List ℕ) (len : ℕ) → (len < length bytes → slice_index bytes len ≡ 10)
-    → IsAfterLine (drop len bytes)
-after_line [] zero after = tt
-after_line [] (suc n) after = tt
-after_line (byte ∷ bytes) zero after = after (omega arith)
-after_line (byte ∷ bytes) (suc n) after = after_line bytes n (λ inside. after (omega (arith, inside)))
+use Rattle.byte_unit_base.proofs.Lists.{dropped_first}
 
 -- the first bytes, up to a line feed or the end, are a line
 pub first_line : (bytes : List ℕ) (len : ℕ) → IsLine bytes len → IsLineOf (take len bytes) bytes
 first_line bytes len line = record {
   after = drop len bytes;
   bytes_are = sym (take-append-drop len bytes);
-  ends = after_line bytes len line.after;
+  ends = dropped_first (λ byte. byte ≡ 10) bytes len line.after;
 }
 
 -- the rest of the bytes is the rest of the line, and what follows it

@@ -1,12 +1,11 @@
--- The name of a unit spells it: its prefix letter, an `i` or nothing, and the letter of its kind. It is ASCII, and has
--- no white space at its ends.
-use Rattle.std.proofs.Common.{◌≡◌, ℕ, ◌+◌, ◌-◌, ◌<◌, ◌≤◌, Bool, true, false, not, ◌&&◌, eqb, ltb, List, [], ◌∷◌, ◌++◌}
+-- The name of a unit spells it: its prefix letter, an `i` or nothing, and the letter of its kind. It is visible ASCII.
+use Rattle.std.proofs.Common.{◌≡◌, ℕ, suc, ◌-◌, ◌<◌, ◌≤◌, Bool, true, false, not, ◌&&◌, List, [], ◌∷◌, ◌++◌}
 use Rattle.std.proofs.Common.{length, ⊎_elim, inl, inr, arith, refl, sym, ap, codes, slice_index, if◌then◌else◌, nat_lt}
-use Rattle.std.specs.Char.{is_whitespace, to_ascii_uppercase}
-use Rattle.std.specs.Str.{IsAscii, chars}
-use Rattle.std.proofs.lemmas.Bool.{agree_below, agree_below_at, cases_lt, and_parts, eqb-true, ltb-true}
+use Rattle.std.specs.Char.{is_ascii_graphic, to_ascii_uppercase}
+use Rattle.std.specs.Str.{chars}
+use Rattle.std.proofs.lemmas.Bool.{and_from, cases_lt, cond_both}
 use Rattle.std.proofs.lemmas.Bool.Decides.{nat_tests}
-use Rattle.std.proofs.lemmas.Str.Ascii.{IsAscii-cons}
+use Rattle.std.proofs.lemmas.List.{length-append}
 use Rattle.byte_unit_base.specs.Shape.{Shape}
 use Rattle.byte_unit_base.specs.Version.{current, unit_name, unit_name_in}
 use Rattle.byte_unit_base.specs.Units.{shape_of}
@@ -15,8 +14,7 @@ use Rattle.byte_unit_base.specs.SizeText.{trim_of}
 use Rattle.byte_unit_base.specs.ReaderLaws.{NamesSpellTheirUnits}
 use Rattle.byte_unit_base.specs.declared.unit.Unit.{Unit as UnitName}
 use Rattle.byte_unit_base.specs.declared.unit.Unit.TheVariants.{Bit, B}
-use Rattle.byte_unit_base.proofs.Trim.{EndsWithoutSpace}
-use Rattle.byte_unit_base.proofs.SizeAscii.{visible_ascii}
+use Rattle.byte_unit_base.proofs.SizeAscii.{IsVisible}
 
 -- the unit has a prefix of the current version, or none; without one, it is a byte (binary) or a bit (decimal)
 pub record IsKnown (s : Shape) : Type 0 where
@@ -41,23 +39,11 @@ infix_of binary = if binary then codes "i" else []
 abbrev count_of : Bool → List ℕ
 count_of bit = if bit then codes "b" else codes "B"
 
--- a capital letter of ASCII
-abbrev is_letter : ℕ → Bool
-is_letter c = eqb (to_ascii_uppercase c) c && ltb c 128
-
--- each letter of a prefix is a capital letter of ASCII
-known_letters : agree_below (λ n. is_letter (letter_at n)) (λ n. true) (length current.letters + 1) ≡ true
-known_letters = refl
-
--- the letter of a known prefix is its own uppercase, and is ASCII
+-- the letter of a known prefix is its own uppercase, and is visible; the first case is a position of ten or more
 letter_found : (power : ℕ) → power ≤ length current.letters
-    → (to_ascii_uppercase (letter_at power) ≡ letter_at power) × (letter_at power < 128)
-letter_found power known =
-    let c = letter_at power in
-    let is = agree_below_at (λ n. is_letter (letter_at n)) (λ n. true) (length current.letters + 1) power known_letters
-    (omega (arith, known)) in
-    let parts = and_parts (eqb (to_ascii_uppercase c) c) (ltb c 128) is in
-    (eqb-true _ _ parts.0, ltb-true _ _ parts.1)
+    → (to_ascii_uppercase (letter_at power) ≡ letter_at power) × (is_ascii_graphic (letter_at power) ≡ true)
+letter_found (suc (suc (suc (suc (suc (suc (suc (suc (suc (suc n)))))))))) known = absurd (omega (arith, known))
+letter_found _ known = (refl, refl)
 
 -- what follows the letter says whether the prefix is binary
 infix_spells : (binary : Bool) → SpellsBinary (infix_of binary) binary
@@ -73,16 +59,11 @@ count_spells : (flags : Flags) (bit : Bool) → SaysKind flags bit → SpellsCou
 count_spells flags false h = inr (inl (refl, refl))
 count_spells flags true h = inr (inr (inl (refl, ap not (sym (h refl)))))
 
--- what follows the prefix letter is ASCII
-rest_ascii : (binary bit : Bool) → IsAscii (infix_of binary ++ count_of bit)
-rest_ascii true true = visible_ascii (codes "ib") refl
-rest_ascii false true = visible_ascii (codes "b") refl
-rest_ascii binary bit = visible_ascii (infix_of binary ++ count_of bit) refl
-
--- the letter of the kind is one character, and no white space
-count_end : (bit : Bool) → (last : ℕ) × (count_of bit ≡ last ∷ []) × (is_whitespace last ≡ false)
-count_end true = (98, refl, refl)
-count_end false = (66, refl, refl)
+-- what follows the prefix letter is visible
+rest_visible : (binary bit : Bool) → IsVisible (infix_of binary ++ count_of bit)
+rest_visible true true = refl
+rest_visible false true = refl
+rest_visible binary bit = refl
 
 -- the name of a unit with a prefix: its letter, an `i` if it is binary, and the letter of the kind
 pub with_prefix : (s : Shape) → 0 < s.power → unit_name_in current s ≡ letter_at s.power ∷ (infix_of s.binary ++ count_of s.bit)
@@ -124,21 +105,20 @@ module _ (flags : Flags) (s : Shape) (h : IsKnown s) (says : SaysKind flags s.bi
   pub name_spells : Spells current flags (unit_name_in current s) s
   name_spells = ⊎_elim spells_multiple spells_plain (cases_lt 0 s.power)
 
--- the name of a unit is ASCII
-pub name_ascii : (s : Shape) → s.power ≤ length current.letters → IsAscii (unit_name_in current s)
-name_ascii s known = ⊎_elim
-    (λ some. rw (with_prefix s some) (IsAscii-cons (letter_at s.power) (infix_of s.binary ++ count_of s.bit)
-    (letter_found s.power known).1 (rest_ascii s.binary s.bit)))
-    (λ none. rw (without_prefix s none) (rest_ascii false s.bit))
+-- the name of a unit is visible
+pub name_visible : (s : Shape) → s.power ≤ length current.letters → IsVisible (unit_name_in current s)
+name_visible s known = ⊎_elim
+    (λ some. rw (with_prefix s some) (and_from _ _ (letter_found s.power known).1 (rest_visible s.binary s.bit)))
+    (λ none. rw (without_prefix s none) (rest_visible false s.bit))
     (cases_lt 0 s.power)
 
--- the name of a unit does not end in white space
-pub name_end : (s : Shape) → EndsWithoutSpace (unit_name_in current s)
-name_end s =
-    let end = count_end s.bit in
+-- the name of a unit is not empty
+pub name_some : (s : Shape) → 0 < length (unit_name_in current s)
+name_some s =
     let some = nat_lt 0 s.power in
     let front = (if some then letter_at s.power ∷ [] else []) ++ (if some && s.binary then codes "i" else []) in
-    record { front = front; last = end.0; text_is = ap (λ t. front ++ t) end.1; last_is = end.2 }
+    let last : 0 < length (count_of s.bit) = cond_both s.bit _ _ (λ t. 0 < length t) (λ _. omega arith) (λ _. omega arith) in
+    omega (arith, last, length-append front (count_of s.bit))
 
 -- the name of each unit of the crate has no white space at its ends
 is_trimmed : (unit : UnitName) → trim_of (unit_name unit) ≡ unit_name unit

@@ -1,7 +1,7 @@
 -- The parser reads the digits of a number at once. It gets to the state that the state machine has after them, or stops
 -- where the machine has an error.
-use Rattle.std.proofs.Common.{◌≡◌, ◌≢◌, ℕ, zero, suc, ◌+◌, ◌-◌, ◌*◌, ◌^◌, ◌<◌, ◌≤◌, true, inl, inr, List, [], ◌∷◌, ◌++◌}
-use Rattle.std.proofs.Common.{None, Some, length, take, drop, get_or, refl, sym, ap, subst, ◌∙◌, arith, append_assoc}
+use Rattle.std.proofs.Common.{◌≡◌, ◌≢◌, ℕ, ◌+◌, ◌-◌, ◌*◌, ◌^◌, ◌<◌, ◌≤◌, true, false, inl, inr, List, [], ◌∷◌, ◌++◌}
+use Rattle.std.proofs.Common.{None, Some, length, take, drop, get_or, refl, sym, ap, subst, ◌∙◌, arith}
 use Rattle.std.proofs.Common.{take-append-drop, take-add, chars, IsAscii, get_or-drop}
 use Rattle.std.specs.Char.{digit_value}
 use Rattle.std.specs.Float.Numeral.{digits_len}
@@ -14,11 +14,11 @@ use Rattle.std.proofs.lemmas.Int.Digits.{digits_value-lt, digits_value_more}
 use Rattle.std.proofs.lemmas.List.{length-take-le, length-drop, drop_more, take_more, get_or-take, take-append-le}
 use Rattle.std.proofs.lemmas.Str.{IsAscii-append}
 use Rattle.std.proofs.lemmas.Str.Parse.{digit_at}
-use Rattle.std.proofs.lemmas.Str.Ascii.{IsAscii-nil, IsAscii-cons}
+use Rattle.std.proofs.lemmas.Str.Ascii.{IsAscii-nil, IsAscii-cons, IsAscii-more}
 use Rattle.byte_unit_math.specs.Bounds.{scale, places_of_decimal, whole_limit}
 use Rattle.byte_unit_base.specs.Version.{current}
-use Rattle.byte_unit_base.specs.Spelling.{Flags}
-use Rattle.byte_unit_base.specs.Number.{point, IsWholePart, IsPointed}
+use Rattle.byte_unit_base.specs.Spelling.{Flags, flags_of}
+use Rattle.byte_unit_base.specs.Number.{point, IsWholePart, IsPointed, IsPrecise}
 use Rattle.byte_unit_base.specs.Fault.{fault_at, too_long}
 use Rattle.byte_unit_base.specs.Scan.{run}
 use Rattle.byte_unit_base.specs.SizeScan.{SizeScan, Beginning, Whole, Point, Fraction, is_digit, size_step, fixed_point}
@@ -26,21 +26,16 @@ use Rattle.byte_unit_base.specs.SizeScan.{size_parser_state}
 use Rattle.byte_unit_base.specs.ParserEnds.{IsFirst, IsStopAt, IsStoppedBefore, EndsNumber, IsLeadingNumber, IsLimitAt}
 use Rattle.byte_unit_base.specs.declared.read.stop.NumberStop.TheVariants.{NoWhole, NoFraction, TooLong}
 use Rattle.byte_unit_base.specs.declared.read.stop.Reason.TheVariants.{InNumber}
-use Rattle.byte_unit_base.proofs.Scans.{run_through}
-use Rattle.byte_unit_base.proofs.SizeRuns.{run_whole, run_pointed, run_places, number_end}
+use Rattle.byte_unit_base.proofs.Lists.{dropped_first}
+use Rattle.byte_unit_base.proofs.Scans.{run_through, reached}
+use Rattle.byte_unit_base.proofs.SizeReached.{fraction_number}
+use Rattle.byte_unit_base.proofs.SizeReads.{size_scan_is}
+use Rattle.byte_unit_base.proofs.SizeRuns.{run_whole, run_pointed, run_places}
 use Rattle.byte_unit_base.proofs.SizeRest.{first_char, IsNoDigit, wide_no_digit, no_digit_first, ends_whole}
 use Rattle.byte_unit_base.proofs.SizeRest.{ends_fraction, text_from, utf8_from}
 use Rattle.byte_unit_base.proofs.NumberBytes.{digits_of_run}
 
 -- what follows digits
-
--- what holds of the byte at an index, if there is one, holds of the first byte from there on
-dropped_first : (Has : ℕ → Type 0) (bytes : List ℕ) (end : ℕ) → (end < length bytes → Has (get_or bytes end 0))
-    → IsFirst Has (drop end bytes)
-dropped_first Has [] zero has = tt
-dropped_first Has [] (suc end) has = tt
-dropped_first Has (b ∷ bs) zero has = has (omega arith)
-dropped_first Has (b ∷ bs) (suc end) has = dropped_first Has bs end (λ inside. has (omega (arith, inside)))
 
 -- no digit follows a run of digits that std finds
 none_after : (bytes : List ℕ) (end : ℕ) → end ≡ 0 + digits_len (drop 0 bytes) → end < length bytes
@@ -51,7 +46,7 @@ none_after bytes end is inside =
     (no_digit_first (drop end bytes) (ap (λ n. digits_len (drop n bytes)) all ∙ ends_digits bytes))
 
 -- a digit of digits, by the test of the state machine
-digit_in : (ds : List ℕ) (i : ℕ) → AllDigits 10 ds → i < length ds → is_digit (get_or ds i 0) ≡ true
+pub digit_in : (ds : List ℕ) (i : ℕ) → AllDigits 10 ds → i < length ds → is_digit (get_or ds i 0) ≡ true
 digit_in ds i digits inside = let range = digit_at ds i digits inside in grind (arith, nat_tests, range)
 
 -- if no digit is at the start of the text, the parser stops there
@@ -71,15 +66,21 @@ no_fraction flags w (c ∷ cs) none = (rw none refl, refl)
 -- if a digit follows for which the state machine has no step, with the error of a number that is too long, the parser
 -- stops there
 one_too_many : (flags : Flags) (state : SizeScan) (bytes : List ℕ) (place : ℕ) → place < length bytes
+    → IsAscii (take place bytes) → run size_step Beginning (take place bytes) ≡ Some state
     → is_digit (get_or bytes place 0) ≡ true → size_step state (get_or bytes place 0) ≡ None
     → too_long ≡ fault_at current flags (size_parser_state state) (get_or bytes place 0)
-    → IsStoppedBefore flags state (InNumber TooLong) (chars (drop place bytes))
-one_too_many flags state bytes place inside digit none fault_is =
+    → IsStopAt flags bytes place (InNumber TooLong)
+one_too_many flags state bytes place inside ascii run_is digit none fault_is =
     let c = get_or bytes place 0 in
     let small : c < 128 = grind (arith, nat_tests, digit) in
     let next = ap chars (drop_more bytes place 0 inside)
     ∙ text_from (c ∷ drop (place + 1) bytes) 1 (IsAscii-cons c [] small IsAscii-nil) in
-    subst (IsStoppedBefore flags state (InNumber TooLong)) (sym next) (none, fault_is)
+    let before = subst (IsStoppedBefore flags state (InNumber TooLong)) (sym next) (none, fault_is) in
+    record {
+      within = omega (arith, inside);
+      ascii = ascii;
+      stopped = λ utf8. record { state = state; run_is = run_is; before = before };
+    }
 
 -- if the bytes start with no digit, the parser stops at the start, where a digit is missing
 pub stops_at_start : (bytes : List ℕ) → digits_len bytes ≡ 0 → (flags : Flags) → IsStopAt flags bytes 0 (InNumber NoWhole)
@@ -117,7 +118,6 @@ module _ (bytes : List ℕ) (end whole : ℕ) (run_is : end ≡ 0 + digits_len (
         number_is = inl (whole, whole_is, sym at);
         state = Whole whole;
         run_is = run_whole (take end bytes) whole whole_is;
-        at_end = λ flags. number_end flags n (Whole whole) at;
         next = λ utf8.
             first_char ends (λ c wide. ends_whole whole n c at (wide_no_digit c wide) (grind (arith, nat_tests)))
             (drop end bytes) (utf8_from bytes end utf8 within whole_ascii)
@@ -145,8 +145,7 @@ module _ (bytes : List ℕ) (end whole : ℕ) (run_is : end ≡ 0 + digits_len (
 
     -- they are ASCII
     pointed_ascii : IsAscii (take (end + 1) bytes)
-    pointed_ascii = subst IsAscii (sym pointed.text_is)
-        (IsAscii-append (take end bytes) (point ∷ []) whole_ascii (IsAscii-cons point [] (omega arith) IsAscii-nil))
+    pointed_ascii = IsAscii-more bytes end inside whole_ascii (omega (arith, point_is))
 
     -- if no digit follows the point, the parser stops after it, where a digit is missing
     pub stops_after_point : digits_len rest ≡ 0 → (flags : Flags) → IsStopAt flags bytes (end + 1) (InNumber NoFraction)
@@ -204,24 +203,11 @@ module _ (bytes : List ℕ) (end whole : ℕ) (run_is : end ≡ 0 + digits_len (
           omega (arith, count_within, length-drop {A = ℕ} (end + 1) bytes, inside) in
           record {
             within = stop_within;
-            number_is = inr record {
-              whole = take end bytes;
-              fraction = take count rest;
-              value = whole;
-              part = fraction * 10 ^ (places_of_decimal - length (take count rest));
-              text_is = text_is ∙ (ap (λ front. front ++ take count rest) pointed.text_is
-                  ∙ append_assoc (take end bytes) (point ∷ []) (take count rest));
-              whole_is = whole_is;
-              fraction_is = (
-                (omega (arith, count_is, some_digits), digits),
-                omega (arith, count_is, few),
-                refl,
-              );
-              number_is = sym at;
-            };
+            number_is = inr (subst (IsPrecise current (take stop bytes)) at
+                (fraction_number whole fraction _ (take stop bytes)
+                (reached (size_scan_is (flags_of false false)) (take stop bytes) state run_digits)));
             state = state;
             run_is = run_digits;
-            at_end = λ flags. number_end flags n state at;
             next = λ utf8.
                 first_char ends (λ c wide. ends_number c (wide_no_digit c wide)) (drop stop bytes)
                 (utf8_from bytes stop utf8 stop_within digits_ascii)
@@ -275,17 +261,11 @@ module _ (bytes : List ℕ) (end whole : ℕ) (run_is : end ≡ 0 + digits_len (
           let digit : is_digit c ≡ true = ap is_digit (sym here) ∙ digit_in (take places rest) count digits_are
           (omega (arith, many, length-take-le places rest places_within)) in
           let full = length-take-le count rest count_within in
-          record {
-            within = omega (arith, stop_is, stop_within, many);
-            ascii = digits_ascii count count_within first (omega arith) (omega arith);
-            stopped = λ utf8. record {
-              state = Fraction whole (digits_value 10 (take count rest)) (length (take count rest));
-              run_is = run_digits count count_within first (omega arith) (omega arith);
-              before = one_too_many flags (Fraction whole (digits_value 10 (take count rest)) (length (take count rest)))
-                  bytes place (omega (arith, stop_is, stop_within, many)) digit
-                  (grind (arith, nat_tests, digit, full)) (rw digit refl);
-            };
-          }
+          one_too_many flags (Fraction whole (digits_value 10 (take count rest)) (length (take count rest))) bytes place
+          (omega (arith, stop_is, stop_within, many))
+          (digits_ascii count count_within first (omega arith) (omega arith))
+          (run_digits count count_within first (omega arith) (omega arith)) digit
+          (grind (arith, nat_tests, digit, full)) (rw digit refl)
 
       -- a whole part, a point and a fraction are the leading number
       pub leading_precise : (fraction n : ℕ) → (places ≡ 0 → ⊥)
@@ -326,13 +306,6 @@ stops_in_whole bytes end place run_is within limit flags =
       ap (digits_value 10) kept,
       limit.below,
     ) in
-    record {
-      within = place_within;
-      ascii = IsAscii-from_digits (take place bytes) first;
-      stopped = λ utf8. record {
-        state = Whole value;
-        run_is = run_whole (take place bytes) value whole;
-        before = one_too_many flags (Whole value) bytes place (omega (arith, limit.inside, len, within)) digit
-            (grind (arith, nat_tests, digit, next)) (rw digit refl);
-      };
-    }
+    one_too_many flags (Whole value) bytes place (omega (arith, limit.inside, len, within))
+    (IsAscii-from_digits (take place bytes) first) (run_whole (take place bytes) value whole) digit
+    (grind (arith, nat_tests, digit, next)) (rw digit refl)

@@ -1,22 +1,18 @@
--- A decimal, as it is printed, is a number of the grammar with the same value. It is ASCII, and does not start with
--- white space.
+-- A decimal, as it is printed, is a number of the grammar with the same value, of visible characters.
 use Rattle.std.proofs.Common.{◌≡◌, ℕ, ◌+◌, ◌-◌, ◌*◌, ◌^◌, ◌<◌, ◌≤◌, inl, inr, List, [], ◌∷◌, ◌++◌, length, refl, sym}
-use Rattle.std.proofs.Common.{ap, ◌∙◌, arith, false, append-nil, fold, All, decimal, IsAscii}
+use Rattle.std.proofs.Common.{ap, ◌∙◌, arith, append-nil, fold, All, decimal}
 use Rattle.std.proofs.lemmas.List.{length-map}
-use Rattle.std.specs.Char.{digit_value, is_whitespace}
-use Rattle.std.specs.Str.Parse.{AllDigits, IsNumeral, digits_value_after}
+use Rattle.std.specs.Char.{digit_value}
+use Rattle.std.specs.Str.Parse.{AllDigits, digits_value_after}
 use Rattle.std.proofs.lemmas.Bool.Decides.{nat_tests}
-use Rattle.std.proofs.lemmas.Fmt.{decimal_is_IsNumeral_wide, IsAscii-from_digits}
-use Rattle.std.proofs.lemmas.Str.{IsAscii-append}
-use Rattle.std.proofs.lemmas.Str.Ascii.{IsAscii-nil, IsAscii-cons}
-use Rattle.std.proofs.lemmas.Str.Parse.{digit_from_value}
+use Rattle.std.proofs.lemmas.Fmt.{decimal_is_IsNumeral_wide}
 use Rattle.std.proofs.lemmas.List.Elements.{All-head, All-tail}
 use Rattle.byte_unit_math.specs.Bounds.{scale, places_of_decimal, whole_limit}
 use Rattle.byte_unit_base.specs.Version.{current}
 use Rattle.byte_unit_base.specs.Number.{IsWholePart, IsNumberText}
 use Rattle.byte_unit_math.specs.Finite.{Finite, value_of_digits}
 use Rattle.byte_unit_math.specs.Numeral.{glyphs, fraction_text}
-use Rattle.byte_unit_base.proofs.Trim.{StartsWithoutSpace}
+use Rattle.byte_unit_base.proofs.SizeAscii.{IsVisible, digits_visible, visible_append}
 
 -- the character of a digit has the value of the digit
 pub glyph_value : (digit : ℕ) → digit < 10 → digit_value (48 + digit) ≡ digit
@@ -79,40 +75,18 @@ pub record IsBounded (e : Finite) : Type 0 where
   pub small : All (λ digit. digit < 10) e.digits
   pub bound : e.whole < whole_limit
 
--- a decimal digit is not white space
-pub not_white : (character : ℕ) → digit_value character < 10 → is_whitespace character ≡ false
-not_white character is_digit = let value = digit_from_value character is_digit in grind (arith, nat_tests, value)
+-- the point and the digits of a fraction are visible
+fraction_visible : (digits : List ℕ) → All (λ digit. digit < 10) digits → IsVisible (fraction_text digits)
+fraction_visible [] small = refl
+fraction_visible (digit ∷ digits) small = digits_visible (glyphs (digit ∷ digits)) (glyph_digits (digit ∷ digits) small)
 
--- a text of decimal digits does not start with white space
-pub starts_with_digit : (text : List ℕ) → IsNumeral 10 text → StartsWithoutSpace text
-starts_with_digit [] numeral = absurd (omega (arith, numeral.0))
-starts_with_digit (character ∷ rest) numeral =
-    record { head = character; tail = rest; text_is = refl; head_is = not_white character numeral.1.0 }
+-- the digits of a whole part are visible
+pub whole_visible : (whole : ℕ) → whole < whole_limit → IsVisible (decimal whole)
+whole_visible whole bound = digits_visible (decimal whole) (whole_text whole bound).0.1
 
--- a text that starts with the digits of a whole part does not start with white space
-pub number_start : (whole : ℕ) (rest : List ℕ) → whole < whole_limit → StartsWithoutSpace (decimal whole ++ rest)
-number_start whole rest bound =
-    let start = starts_with_digit (decimal whole) (whole_text whole bound).0 in
-    record {
-      head = start.head;
-      tail = start.tail ++ rest;
-      text_is = ap (λ text. text ++ rest) start.text_is;
-      head_is = start.head_is;
-    }
-
--- the point and the digits of a fraction are ASCII
-fraction_ascii : (digits : List ℕ) → All (λ digit. digit < 10) digits → IsAscii (fraction_text digits)
-fraction_ascii [] small = IsAscii-nil
-fraction_ascii (digit ∷ digits) small = IsAscii-cons 46 (glyphs (digit ∷ digits)) (omega arith)
-    (IsAscii-from_digits (glyphs (digit ∷ digits)) (glyph_digits (digit ∷ digits) small))
-
--- the digits of a whole part are ASCII
-pub decimal_ascii : (whole : ℕ) → whole < whole_limit → IsAscii (decimal whole)
-decimal_ascii whole bound = IsAscii-from_digits (decimal whole) (whole_text whole bound).0.1
-
--- the text of a whole part and a fraction is ASCII
-pub number_ascii :
+-- the text of a whole part and a fraction is visible
+pub fixed_visible :
     (whole : ℕ) (digits : List ℕ) → All (λ digit. digit < 10) digits → whole < whole_limit
-    → IsAscii (decimal whole ++ fraction_text digits)
-number_ascii whole digits small bound =
-    IsAscii-append (decimal whole) (fraction_text digits) (decimal_ascii whole bound) (fraction_ascii digits small)
+    → IsVisible (decimal whole ++ fraction_text digits)
+fixed_visible whole digits small bound =
+    visible_append (decimal whole) (fraction_text digits) (whole_visible whole bound) (fraction_visible digits small)

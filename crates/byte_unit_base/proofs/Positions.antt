@@ -1,21 +1,20 @@
 -- Where a parser stops in a string, at the end of the longest viable prefix: the error there is that of the string, and
 -- the index is its position.
 --
--- Here `found` is a number and its unit, `count` is a kind, and that the suffix spells it, and `stop` is a state of the
--- unit, that the text leads to it and no unit ends there, and what the code keeps of it.
-use Rattle.std.proofs.Common.{◌≡◌, ℕ, ◌+◌, Bool, not, inl, inr, List, [], ◌∷◌, Option, Some, None, Ok, Err, length}
+-- Here `found` is a number and its unit, and `stop` is a state of the unit, that the text leads to it and no unit ends
+-- there, and what the code keeps of it. Of an error `of`, the parts are the error, and that it is one.
+use Rattle.std.proofs.Common.{◌≡◌, ℕ, ◌+◌, inr, List, [], ◌∷◌, Option, Some, None, Ok, Err, length}
 use Rattle.std.proofs.Common.{take, drop, refl, sym, ap, ◌∙◌, arith, chars, IsUtf8, length-take-le, ◌≤◌, IsAscii, subst}
 use Rattle.std.proofs.Common.{take-append-drop}
 use Rattle.std.proofs.lemmas.Str.{IsAscii-append, IsUtf8-from_ascii}
-use Rattle.byte_unit_base.specs.Shape.{Shape, shape}
 use Rattle.byte_unit_base.specs.Version.{current}
 use Rattle.byte_unit_base.specs.Units.{shape_of}
-use Rattle.byte_unit_base.specs.Spelling.{Flags, SpellsCount, Spells}
+use Rattle.byte_unit_base.specs.Spelling.{Flags}
 use Rattle.byte_unit_base.specs.SizeText.{trim_of}
 use Rattle.byte_unit_base.specs.ViablePrefix.{ParserState}
 use Rattle.byte_unit_base.specs.Fault.{Fault, fault_at, IsFaultAfter, IsFirstFault, IsSizeFault, IsUnitFault}
 use Rattle.byte_unit_base.specs.Scan.{Scan, run}
-use Rattle.byte_unit_base.specs.UnitScan.{UnitScan, unit_step, unit_parser_state, unit_of, start as unit_start}
+use Rattle.byte_unit_base.specs.UnitScan.{unit_step, unit_parser_state, start as unit_start}
 use Rattle.byte_unit_base.specs.UnitWord.{unit_stop}
 use Rattle.byte_unit_base.specs.SizeScan.{size_parser_state}
 use Rattle.byte_unit_base.specs.Outcome.{IsStop, IsUnitOrStop}
@@ -28,70 +27,38 @@ use Rattle.byte_unit_base.specs.declared.unit.Unit.{Unit as UnitName}
 use Rattle.byte_unit_base.specs.declared.unit.scan.UnitStop.{UnitStop}
 use Rattle.byte_unit_base.proofs.Scans.{IsScanOf, first_fault, one_answer}
 use Rattle.byte_unit_base.proofs.UnitReads.{unit_scan_is, unit_reading}
-use Rattle.byte_unit_base.proofs.UnitStops.{run_ascii, none_left, no_unit, kept_state}
+use Rattle.byte_unit_base.proofs.UnitStops.{run_ascii, none_left, unit_fault_after}
 use Rattle.byte_unit_base.proofs.UnitRuns.{no_other_step}
-use Rattle.byte_unit_base.proofs.SizeReads.{size_scan_is, number_reading}
+use Rattle.byte_unit_base.proofs.SizeReads.{size_scan_is, number_reading, with_shape}
 use Rattle.byte_unit_base.proofs.SizeRest.{first_char, text_from, utf8_from}
 use Rattle.byte_unit_base.proofs.Trim.{trim_visible, no_leading_white}
-
--- what a text spells under some flags, it spells under any: a unit, of bits or of bytes by the flags
-
--- a suffix under some flags is one under any flags, perhaps of the other kind
-count_any : (flags other : Flags) (text : List ℕ) (bit : Bool) → SpellsCount flags text bit
-    → (of : Bool) × SpellsCount other text of
-count_any flags other text bit (inl h) = (_, inl (h.0, refl))
-count_any flags other text bit (inr (inl h)) = (_, inr (inl (h.0, refl)))
-count_any flags other text bit (inr (inr (inl h))) = (_, inr (inr (inl (h.0, refl))))
-count_any flags other text bit (inr (inr (inr (inl h)))) = (_, inr (inr (inr (inl (h.0, refl)))))
-count_any flags other text bit (inr (inr (inr (inr h)))) = (_, inr (inr (inr (inr (h.0, refl)))))
-
--- a unit under some flags is one under any flags, perhaps of the other kind
-spells_any : (flags other : Flags) (text : List ℕ) (unit : Shape) → Spells current flags text unit
-    → (of : Shape) × Spells current other text of
-spells_any flags other text unit (inl plain) =
-    let count = count_any flags other text unit.bit plain.count_is in
-    (shape 0 (not count.0) count.0, inl record { count_is = count.1; power_is = refl; binary_is = refl })
-spells_any flags other text unit (inr multiple) =
-    let count = count_any flags other multiple.count_part unit.bit multiple.count_is in (
-      shape unit.power unit.binary count.0,
-      inr record {
-        prefix_part = multiple.prefix_part;
-        count_part = multiple.count_part;
-        text_is = multiple.text_is;
-        prefix_is = multiple.prefix_is;
-        count_is = count.1;
-      },
-    )
-
--- if a string is a number and a unit, it has no position of an error
-pub no_size_position : (flags : Flags) (bytes : List ℕ) (found : ℕ × UnitName)
-    → IsNumberReading flags bytes (Ok found) → IsSizePosition bytes None
-no_size_position flags bytes found reading other fault first =
-    let h = reading.found in
-    let unit = spells_any flags other h.unit_part (shape_of found.1) h.unit_is in
-    (one_answer (size_scan_is other) (trim_of bytes)).not_both (found.0, unit.0) fault
-    record {
-      number_part = h.number_part;
-      spaces = h.spaces;
-      unit_part = h.unit_part;
-      text_is = h.text_is;
-      number_is = h.number_is;
-      unit_is = unit.1;
-    }
-    first
-
--- if a string is a unit, it has no position of an error
-pub no_unit_position : (flags : Flags) (bytes : List ℕ) (unit : UnitName) → IsUnitReading flags bytes (Ok unit)
-    → IsUnitPosition bytes None
-no_unit_position flags bytes unit reading other fault first =
-    let found = spells_any flags other (trim_of bytes) (shape_of unit) reading.found in
-    (one_answer (unit_scan_is other) (trim_of bytes)).not_both found.0 fault found.1 first
 
 -- an error by the parser state is one under any flags, perhaps with other characters expected
 any_fault : (flags other : Flags) (place : ParserState) (rest : List ℕ) (fault : Fault)
     → IsFaultAfter current flags place rest fault → (of : Fault) × IsFaultAfter current other place rest of
 any_fault flags other place [] fault h = (fault, h)
 any_fault flags other place (c ∷ cs) fault h = (fault_at current other place c, refl)
+
+-- an input that has an error under some flags has one under any
+first_fault_any : {IsViable : ParserState → List ℕ → Type 0} {text : List ℕ} {fault : Fault} (flags other : Flags)
+    → IsFirstFault IsViable current flags text fault → (of : Fault) × IsFirstFault IsViable current other text of
+first_fault_any flags other h =
+    let of = any_fault flags other h.place h.rest _ h.fault_is in
+    (of.0, record { place = h.place; front = h.front; rest = h.rest; longest = h.longest; fault_is = of.1 })
+
+-- if a string is a number and a unit, it has no position of an error
+pub no_size_position : (flags : Flags) (bytes : List ℕ) (found : ℕ × UnitName)
+    → IsNumberReading flags bytes (Ok found) → IsSizePosition bytes None
+no_size_position flags bytes found reading other fault first =
+    let of = first_fault_any other flags first in
+    (one_answer (size_scan_is flags) (trim_of bytes)).not_both (with_shape found) of.0 reading.found of.1
+
+-- if a string is a unit, it has no position of an error
+pub no_unit_position : (flags : Flags) (bytes : List ℕ) (unit : UnitName) → IsUnitReading flags bytes (Ok unit)
+    → IsUnitPosition bytes None
+no_unit_position flags bytes unit reading other fault first =
+    let of = first_fault_any other flags first in
+    (one_answer (unit_scan_is flags) (trim_of bytes)).not_both (shape_of unit) of.0 reading.found of.1
 
 -- `bytes` is a string, and `text` it without the white space at its ends; a state machine has a state after the text up
 -- to this place, and no step for what follows
@@ -151,13 +118,6 @@ stop_in_visible flags bytes place reason next seen stop =
 
 -- where the parser of a unit stops
 
--- the error of the state at what follows is that of what is kept of it
-unit_fault_after : (flags : Flags) (scan : UnitScan) (rest : List ℕ) → (rest ≡ [] → unit_of flags scan ≡ None)
-    → IsFaultAfter current flags (unit_parser_state scan) rest (unit_stop_fault flags (unit_stop scan) (next_char rest))
-unit_fault_after flags scan [] ends = no_unit flags scan.multiple scan.word (ends refl)
-unit_fault_after flags scan (c ∷ cs) ends =
-    ap (λ state. fault_at current flags state c) (sym (kept_state scan.multiple scan.word))
-
 -- where the parser of a unit stops in the trimmed string, it stops in the string
 pub unit_stop_in_string : (flags : Flags) (bytes text : List ℕ) (place index : ℕ) (kept : UnitStop) (next : Option ℕ)
     → chars text ≡ trim_of bytes → IsUtf8 text → IsUnitStop flags text kept place
@@ -169,7 +129,7 @@ unit_stop_in_string flags bytes text place index kept next trimmed utf8 stop nex
     let rest = chars (drop place text) in
     let ascii = run_ascii (take place text) unit_start scan leads.run_is in
     let cannot = first_char (λ c. unit_step scan c ≡ None)
-    (λ c wide. no_other_step scan.multiple scan.word c (inr wide)) (drop place text)
+    (λ c wide. no_other_step scan.multiple scan.word c (inr (omega (arith, wide)))) (drop place text)
     (utf8_from text place utf8 leads.within ascii) leads.next in
     let ends = λ (none : rest ≡ []). stop.2 (none_left text place utf8 leads.within ascii none) in
     let fault = unit_stop_fault flags (unit_stop scan) (next_char rest) in (

@@ -9,7 +9,6 @@ use Rattle.byte_unit_base.specs.declared.kind.Kind.{Kind}
 use Rattle.byte_unit_base.specs.declared.kind.Kind.TheVariants.{Byte, Bit}
 use Rattle.byte_unit_base.specs.Kinds.{bits_in}
 use Rattle.byte_unit_base.specs.SizeLaws.{EachNumberHasOneLeastSize, GreaterNumbersGiveNoSmallerSizes}
-use Rattle.byte_unit_base.specs.Parsed.{rounded_up}
 use Rattle.byte_unit_base.proofs.Computed.{rounded_up_is_least}
 use Rattle.byte_unit_base.specs.LeastOfKind.{IsLeastOf, IsAtLeast}
 
@@ -49,19 +48,11 @@ pub least_is_unique : (kind : Kind) (N : ℕ) (unit : Shape) (m n : ℕ) → IsL
     → IsLeastOf kind N unit n → m ≡ n
 least_is_unique kind N unit m n a b = omega (arith, a.least n b.has, b.least m a.has)
 
--- each number of a unit has a least size, in whole bytes or bits, that holds it
-pub least_exists : (kind : Kind) (N : ℕ) (unit : Shape) → (n : ℕ) × IsLeastOf kind N unit n
-least_exists kind N unit = (rounded_up kind N unit, rounded_up_is_least kind N unit)
-
 -- each number of each unit, rounded up, is exactly one size
 pub one_least_size : EachNumberHasOneLeastSize
 one_least_size kind number unit =
-    let least = least_exists kind number unit in
-    record {
-      size = least.0;
-      is_least = least.1;
-      one = λ other h. least_is_unique kind number unit other least.0 h least.1;
-    }
+    let least = rounded_up_is_least kind number unit in
+    record { size = _; is_least = least; one = λ other h. least_is_unique kind number unit other _ h least }
 
 -- a greater number of a unit is not rounded up to a smaller size
 pub more_covers_more : GreaterNumbersGiveNoSmallerSizes

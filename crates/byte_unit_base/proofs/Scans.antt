@@ -5,12 +5,14 @@
 -- and, if there is a third part, that the rest of the text leads on from there. What a field of `IsScanOf` gives, as
 -- `r` or `g`, is a state or a rest of the input, and then what is known of it.
 use Rattle.std.proofs.Common.{◌≡◌, ℕ, ◌⊎◌, inl, inr, List, [], ◌∷◌, ◌++◌, Option, Some, None, Result, Ok, Err}
-use Rattle.std.proofs.Common.{option_and_then, sym, refl, ap, subst, ◌∙◌, append-nil, ⊎_elim, append_assoc, ◌↔◌}
+use Rattle.std.proofs.Common.{option_and_then, sym, refl, ap, subst, ◌∙◌, append-nil, ⊎_elim, append_assoc, ◌↔◌, All}
+use Rattle.std.proofs.lemmas.List.Elements.{All-nil, All-cons}
 use Rattle.byte_unit_base.specs.Version.{current}
 use Rattle.byte_unit_base.specs.ViablePrefix.{ParserState}
 use Rattle.byte_unit_base.specs.Fault.{Fault, fault_at, fault_at_end, IsFaultAfter, IsFirstFault}
 use Rattle.byte_unit_base.specs.ParserEnds.{IsFirst}
 use Rattle.byte_unit_base.specs.ReaderLaws.{IsOneAnswer, CanBecome}
+use Rattle.byte_unit_base.specs.ParsedLaws.{GivesAnswer}
 use Rattle.byte_unit_base.specs.Scan.{Scan, run, read}
 use Rattle.byte_unit_base.proofs.Options.{none_or_some, some_passed}
 
@@ -42,6 +44,14 @@ module _ {S : Type 0} (step : S → ℕ → Option S) where
       let next = some_passed (λ v. run step v (xs ++ ys)) u (step s c) e in
       let t = run_before next.0 u xs ys next.2 in
       (t.0, run_step s next.0 c xs next.1 ∙ t.1)
+
+  -- what holds of each character that has a step holds of each character of a text that is read
+  pub run_all : (Has : ℕ → Type 0) → ((s t : S) (c : ℕ) → step s c ≡ Some t → Has c) → (text : List ℕ) (s t : S)
+      → run step s text ≡ Some t → All Has text
+  run_all Has each [] s t e = All-nil Has
+  run_all Has each (c ∷ cs) s t e =
+      let u = some_passed (λ v. run step v cs) t (step s c) e in
+      All-cons Has c cs (each s u.0 c u.1) (run_all Has each cs u.0 t u.2)
 
   -- a text after a text
   pub runs_then : {P Q : S → Type 0} {s : S} {xs ys : List ℕ} → RunsTo step P s xs → ((t : S) → P t → RunsTo step Q t ys)
@@ -97,6 +107,29 @@ EndsIn {Meaning} Means None answer = (meaning : Meaning) × Means meaning × (an
 abbrev pub IsAnswer : {Meaning : Type 0} → (Meaning → Type 0) → (Fault → Type 0) → Result Meaning Fault → Type 0
 IsAnswer Means Fails (Ok meaning) = Means meaning
 IsAnswer Means Fails (Err fault) = Fails fault
+
+-- a result that is a meaning of the input, or its error, and that is each meaning and each error of it, is exactly these
+pub gives_answer : {Meaning : Type 0} {Means : Meaning → Type 0} {Fails : Fault → Type 0} {r : Result Meaning Fault}
+    → IsAnswer Means Fails r → ((meaning : Meaning) → Means meaning → r ≡ Ok meaning)
+    → ((fault : Fault) → Fails fault → r ≡ Err fault) → GivesAnswer Meaning Means Fails r
+gives_answer {Means = Means} {Fails = Fails} answer meaning_given fault_given = record {
+  is_meaning = λ meaning. (λ e. subst (IsAnswer Means Fails) e answer, meaning_given meaning);
+  is_fault = λ fault. (λ e. subst (IsAnswer Means Fails) e answer, fault_given fault);
+}
+
+-- if a result is exactly the meaning of an input, or its error, the input has exactly one of these
+pub one_of_given : {Meaning : Type 0} {Means : Meaning → Type 0} {Fails : Fault → Type 0} {r : Result Meaning Fault}
+    → GivesAnswer Meaning Means Fails r → IsOneAnswer Meaning Means Fails
+one_of_given {Meaning} {Means} {Fails} {r} given = record {
+  some = elim r as (λ x. r ≡ x → ((meaning : Meaning) × Means meaning) ⊎ ((fault : Fault) × Fails fault)) [
+    | Ok meaning ↦ λ e. inl (meaning, (given.is_meaning meaning).0 e)
+    | Err fault ↦ λ e. inr (fault, (given.is_fault fault).0 e)
+  ] refl;
+  one_meaning = λ m n h k. let e = sym ((given.is_meaning m).1 h) ∙ (given.is_meaning n).1 k in cc;
+  one_fault = λ f g h k. let e = sym ((given.is_fault f).1 h) ∙ (given.is_fault g).1 k in cc;
+  not_both = λ m f h k.
+      let e = sym ((given.is_meaning m).1 h) ∙ (given.is_fault f).1 k in absurd (let z : ⊥ = cc in z);
+}
 
 -- no longer beginning of the input is a viable prefix
 abbrev pub NoLongerFront : (ParserState → List ℕ → Type 0) → List ℕ → List ℕ → Type 0
@@ -225,21 +258,14 @@ module _ {S Meaning : Type 0} {scan : Scan S Meaning} {Reached : S → List ℕ 
       ap (read scan scan.start) h.longest.text_is
       ∙ (read_through scan scan.start r.state h.front h.rest r.run_is ∙ rest)
 
-  -- a result that is a meaning of the input, or its error, gives one of the two
-  some_answer : (text : List ℕ) (answer : Result Meaning Fault) → Answers text answer
-      → ((meaning : Meaning) × Means text meaning)
-      ⊎ ((fault : Fault) × IsFirstFault IsViable current scan.flags text fault)
-  some_answer text (Ok meaning) h = inl (meaning, h)
-  some_answer text (Err fault) h = inr (fault, h)
+  -- the result for an input is exactly its meaning, or exactly its error
+  pub reads : (text : List ℕ)
+      → GivesAnswer Meaning (Means text) (IsFirstFault IsViable current scan.flags text) (read scan scan.start text)
+  reads text = gives_answer (reads_meaning_or_fault text) (reads_meaning text) (reads_fault text)
 
   -- each input has exactly one meaning, or exactly one error, and not both
   pub one_answer : (text : List ℕ) → IsOneAnswer Meaning (Means text) (IsFirstFault IsViable current scan.flags text)
-  one_answer text = record {
-    some = some_answer text (read scan scan.start text) (reads_meaning_or_fault text);
-    one_meaning = λ m n h k. let e = sym (reads_meaning text m h) ∙ reads_meaning text n k in cc;
-    one_fault = λ f g h k. let e = sym (reads_fault text f h) ∙ reads_fault text g k in cc;
-    not_both = λ m f h k. let e = sym (reads_meaning text m h) ∙ reads_fault text f k in absurd (let z : ⊥ = cc in z);
-  }
+  one_answer text = one_of_given (reads text)
 
   -- the viable prefixes are exactly the beginnings of the inputs that have a meaning
   pub fronts_are_beginnings : (text : List ℕ) → ((place : ParserState) × IsViable place text) ↔ CanBecome Meaning Means text
@@ -248,7 +274,7 @@ module _ {S Meaning : Type 0} {scan : Scan S Meaning} {Reached : S → List ℕ 
         let r = is.front_read f.0 text f.1 in
         let g = is.goes_on r.state in
         let e = read_through scan scan.start r.state text g.0 r.run_is ∙ g.2 in
-        (g.0, g.1, subst (Answers (text ++ g.0)) e (reads_meaning_or_fault (text ++ g.0))),
+        (g.0, g.1, ((reads (text ++ g.0)).is_meaning g.1).0 e),
     λ b.
         let r = is.meaning_read (text ++ b.0) b.1 b.2 in
         let t = run_before scan.step scan.start r.state text b.0 r.run_is in

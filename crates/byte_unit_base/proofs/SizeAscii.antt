@@ -1,37 +1,40 @@
 -- The inputs of the grammar of sizes are visible characters of ASCII, and spaces between a number and a unit. So only
 -- spaces after a number without a unit can be trimmed, and what is left is the same number and unit.
 --
--- Of a spelling `h` of a suffix or an infix, `h.0` says which text it is. Of digits `h` and of visible characters `p`,
--- the first part is that the first one is such, and the second that the rest are. In `prefix_visible`, `is` has the two
--- bounds of the position of the letter, and that the letter is there.
-use Rattle.std.proofs.Common.{◌≡◌, ℕ, zero, suc, ◌-◌, ◌<◌, Bool, true, false, nat_eq, inl, inr, List, [], ◌∷◌, ◌++◌}
+-- Of digits `h` and of visible characters `p`, the first part is that the first one is such, and the second that the
+-- rest are.
+use Rattle.std.proofs.Common.{◌≡◌, ℕ, zero, suc, ◌<◌, true, false, nat_eq, inl, inr, Some, List, [], ◌∷◌, ◌++◌}
 use Rattle.std.proofs.Common.{length, replicate, refl, ap, sym, subst, ◌∙◌, arith, append-nil, length-append}
 use Rattle.std.specs.List.{list_all}
-use Rattle.std.specs.Char.{is_ascii_graphic, to_ascii_lowercase}
-use Rattle.std.specs.Str.{IsAscii, chars, str_to_ascii_lowercase, skip_leading_whitespace, drop_trailing_whitespace}
+use Rattle.std.specs.Char.{is_ascii_graphic}
+use Rattle.std.specs.Str.{IsAscii, chars, skip_leading_whitespace, drop_trailing_whitespace}
 use Rattle.std.specs.Str.Parse.{AllDigits}
 use Rattle.std.proofs.lemmas.Bool.{and_from, and_parts}
 use Rattle.std.proofs.lemmas.Bool.Decides.{nat_tests}
-use Rattle.std.proofs.lemmas.List.Elements.{All-replicate, All-get_or}
-use Rattle.std.proofs.lemmas.List.Sums.{AllPass-from_list_all}
+use Rattle.std.proofs.lemmas.List.Elements.{All-replicate}
+use Rattle.std.proofs.lemmas.List.Sums.{list_all-from_AllPass}
 use Rattle.std.proofs.lemmas.List.Folds.{list_all-append}
 use Rattle.std.proofs.lemmas.Str.{IsAscii-append, chars-IsAscii}
 use Rattle.std.proofs.lemmas.Str.Ascii.{IsAscii-nil, IsAscii-cons, IsAscii-from_all}
 use Rattle.byte_unit_base.specs.Shape.{Shape}
 use Rattle.byte_unit_base.specs.Version.{current}
-use Rattle.byte_unit_base.specs.Spelling.{Flags, SpellsBinary, SpellsPrefix, SpellsCount, Spells}
+use Rattle.byte_unit_base.specs.Spelling.{Flags, Spells}
 use Rattle.byte_unit_base.specs.Number.{IsNumberText}
 use Rattle.byte_unit_base.specs.SizeText.{space, trim_of, IsSizeText}
+use Rattle.byte_unit_base.specs.Scan.{run}
+use Rattle.byte_unit_base.specs.UnitScan.{UnitScan, unit_step, start}
+use Rattle.byte_unit_base.proofs.Scans.{run_all}
 use Rattle.byte_unit_base.proofs.Trim.{visible_not_white}
+use Rattle.byte_unit_base.proofs.UnitRuns.{spelling_runs, step_range}
 
 -- visible characters
 
 -- the characters of the text are visible ones of ASCII
-abbrev IsVisible : List ℕ → Type 0
+abbrev pub IsVisible : List ℕ → Type 0
 IsVisible text = list_all is_ascii_graphic text ≡ true
 
 -- two texts of visible characters are one when put together
-visible_append : (xs ys : List ℕ) → IsVisible xs → IsVisible ys → IsVisible (xs ++ ys)
+pub visible_append : (xs ys : List ℕ) → IsVisible xs → IsVisible ys → IsVisible (xs ++ ys)
 visible_append xs ys h k = list_all-append is_ascii_graphic xs ys ∙ and_from _ _ h k
 
 -- a text of visible characters is ASCII
@@ -41,50 +44,22 @@ visible_ascii (c ∷ cs) h =
     let p = and_parts (is_ascii_graphic c) (list_all is_ascii_graphic cs) h in
     IsAscii-cons c cs (grind (arith, nat_tests, p.0)) (visible_ascii cs p.1)
 
--- a text is of visible characters if the same text in lowercase is
-text_visible : (text : List ℕ) → IsVisible (str_to_ascii_lowercase text) → IsVisible text
-text_visible [] h = refl
-text_visible (c ∷ cs) h =
-    let lower = str_to_ascii_lowercase cs in
-    let p = and_parts (is_ascii_graphic (to_ascii_lowercase c)) (list_all is_ascii_graphic lower) h in
-    and_from _ _ (grind (arith, nat_tests, p.0)) (text_visible cs p.1)
-
 -- decimal digits are visible
-digits_visible : (text : List ℕ) → AllDigits 10 text → IsVisible text
+pub digits_visible : (text : List ℕ) → AllDigits 10 text → IsVisible text
 digits_visible [] h = refl
 digits_visible (c ∷ cs) h = and_from _ _ (grind (arith, nat_tests, h.0)) (digits_visible cs h.1)
 
 -- spellings
 
--- the suffix of a unit is visible
-count_visible : (flags : Flags) (text : List ℕ) (bit : Bool) → SpellsCount flags text bit → IsVisible text
-count_visible flags text bit (inl h) = ap (list_all is_ascii_graphic) h.0
-count_visible flags text bit (inr (inl h)) = ap (list_all is_ascii_graphic) h.0
-count_visible flags text bit (inr (inr (inl h))) = ap (list_all is_ascii_graphic) h.0
-count_visible flags text bit (inr (inr (inr (inl h)))) = text_visible text (ap (list_all is_ascii_graphic) h.0)
-count_visible flags text bit (inr (inr (inr (inr h)))) = text_visible text (ap (list_all is_ascii_graphic) h.0)
-
--- what follows the letter of a prefix is visible
-binary_visible : (text : List ℕ) (binary : Bool) → SpellsBinary text binary → IsVisible text
-binary_visible text binary (inl h) = ap (list_all is_ascii_graphic) h.0
-binary_visible text binary (inr h) = text_visible text (ap (list_all is_ascii_graphic) h.0)
-
--- a prefix is visible
-prefix_visible : (text : List ℕ) (power : ℕ) (binary : Bool) → SpellsPrefix current text power binary → IsVisible text
-prefix_visible text power binary h =
-    let is = h.letter_is in
-    let letters = AllPass-from_list_all is_ascii_graphic current.letters refl in
-    let inside : power - 1 < length current.letters = omega (arith, is.0, is.1) in
-    let letter = All-get_or (λ c. is_ascii_graphic c ≡ true) current.letters (power - 1) 0 inside letters in
-    let visible : is_ascii_graphic h.letter ≡ true = grind (arith, nat_tests, ap is_ascii_graphic is.2 ∙ letter) in
-    ap (list_all is_ascii_graphic) h.text_is ∙ and_from _ _ visible (binary_visible h.infix_part binary h.infix_is)
+-- what the state machine of units reads is visible
+pub run_visible : (text : List ℕ) (s t : UnitScan) → run unit_step s text ≡ Some t → IsVisible text
+run_visible text s t e =
+    list_all-from_AllPass is_ascii_graphic text (run_all unit_step (λ c. is_ascii_graphic c ≡ true)
+    (λ s t c step. let range = step_range s t c step in grind (arith, nat_tests, range)) text s t e)
 
 -- a spelling is visible
 spelling_visible : (flags : Flags) (text : List ℕ) (unit : Shape) → Spells current flags text unit → IsVisible text
-spelling_visible flags text unit (inl h) = count_visible flags text unit.bit h.count_is
-spelling_visible flags text unit (inr h) = ap (list_all is_ascii_graphic) h.text_is
-    ∙ visible_append h.prefix_part h.count_part (prefix_visible h.prefix_part unit.power unit.binary h.prefix_is)
-    (count_visible flags h.count_part unit.bit h.count_is)
+spelling_visible flags text unit h = run_visible text start _ (spelling_runs flags text unit h).run_is
 
 -- numbers and sizes
 
@@ -107,6 +82,12 @@ number_ascii text number h = visible_ascii text (number_visible text number h)
 
 -- trimming
 
+-- spaces at the start are skipped
+skip_spaces : (count : ℕ) (text : List ℕ)
+    → skip_leading_whitespace (replicate count space ++ text) ≡ skip_leading_whitespace text
+skip_spaces zero text = refl
+skip_spaces (suc count) text = skip_spaces count text
+
 -- no white space is skipped before visible characters
 skip_kept : (front rest : List ℕ) → IsVisible front → 0 < length front
     → skip_leading_whitespace (front ++ rest) ≡ front ++ rest
@@ -121,69 +102,76 @@ drop_after (c ∷ cs) rest h =
     let p = and_parts _ _ h in rw (visible_not_white c p.0) (ap (λ kept. c ∷ kept) (drop_after cs rest p.1))
 
 -- spaces at the end are dropped
-gap_dropped : (spaces : ℕ) → drop_trailing_whitespace (replicate spaces space ++ []) ≡ []
-gap_dropped zero = refl
-gap_dropped (suc spaces) = rw (gap_dropped spaces) refl
+pub spaces_dropped : (spaces : ℕ) → drop_trailing_whitespace (replicate spaces space) ≡ []
+spaces_dropped zero = refl
+spaces_dropped (suc spaces) = rw (spaces_dropped spaces) refl
 
--- spaces before a visible character are left
-gap_left : (spaces c : ℕ) (cs : List ℕ) → IsVisible (c ∷ cs)
-    → drop_trailing_whitespace (replicate spaces space ++ c ∷ cs) ≡ replicate spaces space ++ c ∷ cs
-gap_left zero c cs h = subst (λ text. drop_trailing_whitespace text ≡ text) (append-nil (c ∷ cs)) (drop_after (c ∷ cs) [] h)
-gap_left (suc spaces) c cs h =
-    let count = length-append (replicate spaces space) (c ∷ cs) in
-    let some : nat_eq (length (replicate spaces space ++ c ∷ cs)) 0 ≡ false = grind (arith, nat_tests, count) in
-    rw (gap_left spaces c cs h, some) refl
+-- spaces before visible characters are left
+pub gap_left : (spaces : ℕ) (last : List ℕ) → IsVisible last → 0 < length last
+    → drop_trailing_whitespace (replicate spaces space ++ last) ≡ replicate spaces space ++ last
+gap_left zero last h some = subst (λ text. drop_trailing_whitespace text ≡ text) (append-nil last) (drop_after last [] h)
+gap_left (suc spaces) last h some =
+    let count = length-append (replicate spaces space) last in
+    let some_left : nat_eq (length (replicate spaces space ++ last)) 0 ≡ false = grind (arith, nat_tests, count, some) in
+    rw (gap_left spaces last h some, some_left) refl
+
+-- from visible characters, spaces before them are trimmed, and after them what is dropped at the end of the rest
+pub trim_front : (before : ℕ) (front rest : List ℕ) → IsVisible front → 0 < length front → IsAscii rest
+    → trim_of (replicate before space ++ (front ++ rest)) ≡ front ++ drop_trailing_whitespace rest
+trim_front before front rest visible some ascii =
+    let spaces = IsAscii-from_all (replicate before space) (All-replicate (λ c. c < 128) before space (omega arith)) in
+    let all = IsAscii-append (replicate before space) (front ++ rest) spaces
+    (IsAscii-append front rest (visible_ascii front visible) ascii) in
+    rw (
+      chars-IsAscii (replicate before space ++ (front ++ rest)) all,
+      skip_spaces before (front ++ rest),
+      skip_kept front rest visible some,
+    ) (drop_after front rest visible)
 
 -- of spaces and a unit the unit is left, and the spaces unless it is empty
 gap_kept : (spaces : ℕ) (unit_part : List ℕ) → IsVisible unit_part
     → (left : ℕ) × (drop_trailing_whitespace (replicate spaces space ++ unit_part) ≡ replicate left space ++ unit_part)
-    × (0 < length unit_part → left ≡ spaces)
-gap_kept spaces [] h = (0, gap_dropped spaces, λ some. absurd (omega (arith, some)))
-gap_kept spaces (c ∷ cs) h = (spaces, gap_left spaces c cs h, λ some. refl)
+gap_kept spaces [] h = (0, ap drop_trailing_whitespace (append-nil (replicate spaces space)) ∙ spaces_dropped spaces)
+gap_kept spaces (c ∷ cs) h = (spaces, gap_left spaces (c ∷ cs) h (omega arith))
 
 -- the bytes are a number and a unit
 module _ (flags : Flags) (bytes : List ℕ) (number : ℕ) (unit : Shape) (h : IsSizeText current flags bytes number unit)
   where
+    -- the spaces and the unit are ASCII
+    rest_ascii : IsAscii (replicate h.spaces space ++ h.unit_part)
+    rest_ascii = IsAscii-append (replicate h.spaces space) h.unit_part
+        (IsAscii-from_all (replicate h.spaces space) (All-replicate (λ c. c < 128) h.spaces space (omega arith)))
+        (visible_ascii h.unit_part (spelling_visible flags h.unit_part unit h.unit_is))
+
     -- the bytes of a number and a unit are ASCII
     pub size_ascii : IsAscii bytes
-    size_ascii =
-        let gap = IsAscii-from_all (replicate h.spaces space) (All-replicate (λ c. c < 128) h.spaces space (omega arith)) in
-        let spelling = visible_ascii h.unit_part (spelling_visible flags h.unit_part unit h.unit_is) in
-        subst IsAscii (sym h.text_is)
-        (IsAscii-append h.number_part (replicate h.spaces space ++ h.unit_part)
-        (number_ascii h.number_part number h.number_is)
-        (IsAscii-append (replicate h.spaces space) h.unit_part gap spelling))
+    size_ascii = subst IsAscii (sym h.text_is) (IsAscii-append h.number_part (replicate h.spaces space ++ h.unit_part)
+        (number_ascii h.number_part number h.number_is) rest_ascii)
 
     -- the characters of the bytes are the same number and unit
     pub size_of_chars : IsSizeText current flags (chars bytes) number unit
     size_of_chars = subst (λ text. IsSizeText current flags text number unit) (sym (chars-IsAscii bytes size_ascii)) h
 
-    -- what is left of the spaces and the unit when the bytes are trimmed
-    abbrev kept : (left : ℕ) × (drop_trailing_whitespace (replicate h.spaces space ++ h.unit_part)
-        ≡ replicate left space ++ h.unit_part) × (0 < length h.unit_part → left ≡ h.spaces)
-    kept = gap_kept h.spaces h.unit_part (spelling_visible flags h.unit_part unit h.unit_is)
-
-    -- the trimmed bytes are the number and what is left
-    trimmed_text : trim_of bytes ≡ h.number_part ++ (replicate kept.0 space ++ h.unit_part)
-    trimmed_text =
-        let digits = number_visible h.number_part number h.number_is in
-        let gap = replicate h.spaces space ++ h.unit_part in
-        ap (λ text. drop_trailing_whitespace (skip_leading_whitespace text)) (chars-IsAscii bytes size_ascii ∙ h.text_is)
-        ∙ (ap drop_trailing_whitespace (skip_kept h.number_part gap digits (number_some h.number_part number h.number_is))
-        ∙ (drop_after h.number_part gap digits ∙ ap (λ rest. h.number_part ++ rest) kept.1))
+    -- the trimmed bytes are the number and what is left of the spaces and the unit
+    trimmed_text : trim_of bytes ≡ h.number_part ++ drop_trailing_whitespace (replicate h.spaces space ++ h.unit_part)
+    trimmed_text = ap trim_of h.text_is ∙ trim_front 0 h.number_part (replicate h.spaces space ++ h.unit_part)
+        (number_visible h.number_part number h.number_is) (number_some h.number_part number h.number_is) rest_ascii
 
     -- the characters of the bytes, trimmed, are the same number and unit
     pub trimmed_size : IsSizeText current flags (trim_of bytes) number unit
-    trimmed_size = record {
-      number_part = h.number_part;
-      spaces = kept.0;
-      unit_part = h.unit_part;
-      text_is = trimmed_text;
-      number_is = h.number_is;
-      unit_is = h.unit_is;
-    }
+    trimmed_size =
+        let kept = gap_kept h.spaces h.unit_part (spelling_visible flags h.unit_part unit h.unit_is) in
+        record {
+          number_part = h.number_part;
+          spaces = kept.0;
+          unit_part = h.unit_part;
+          text_is = trimmed_text ∙ ap (λ rest. h.number_part ++ rest) kept.1;
+          number_is = h.number_is;
+          unit_is = h.unit_is;
+        }
 
     -- if the unit is not empty, nothing is trimmed
     pub kept_text : 0 < length h.unit_part → trim_of bytes ≡ bytes
-    kept_text some = trimmed_text
-        ∙ (ap (λ n. h.number_part ++ (replicate n space ++ h.unit_part)) (kept.2 some) ∙ sym h.text_is)
+    kept_text some =
+        let visible = spelling_visible flags h.unit_part unit h.unit_is in
+        trimmed_text ∙ (ap (λ rest. h.number_part ++ rest) (gap_left h.spaces h.unit_part visible some) ∙ sym h.text_is)

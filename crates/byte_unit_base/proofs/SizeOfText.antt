@@ -3,10 +3,8 @@
 --
 -- Here `found` is a number, `found.0`, and its unit, `found.1`. Of a size, `size.0` is that it is this number of the
 -- unit that is meant, rounded up, and `size.1` that it is below the limit.
-use Rattle.std.proofs.Common.{◌≡◌, ℕ, Bool, List, Some, None, Ok, Err, sym, ap, ◌∙◌, IsUtf8}
+use Rattle.std.proofs.Common.{ℕ, Bool, List, Some, None, Ok, Err, sym, refl, inl, inr, IsUtf8}
 use Rattle.std.proofs.lemmas.Str.{IsUtf8-from_ascii}
-use Rattle.std.proofs.lemmas.Bool.{cond-true, cond-false, lt-ltb, le-ltb}
-use Rattle.byte_unit_math.specs.Bounds.{size_limit}
 use Rattle.byte_unit_base.specs.Shape.{Shape}
 use Rattle.byte_unit_base.specs.Spelling.{Flags}
 use Rattle.byte_unit_base.specs.Version.{current}
@@ -21,27 +19,23 @@ use Rattle.byte_unit_base.specs.SizeOrNone.{IsSizeOrNone}
 use Rattle.byte_unit_base.specs.Kinds.{flags_for}
 use Rattle.byte_unit_base.specs.Readings.{IsNumberReading}
 use Rattle.byte_unit_base.specs.SizeReading.{IsReadingAs}
-use Rattle.byte_unit_base.specs.SizeText.{trim_of, IsSizeText}
+use Rattle.byte_unit_base.specs.SizeText.{IsSizeText}
 use Rattle.byte_unit_base.specs.Errors.{size_fault}
-use Rattle.byte_unit_base.specs.Parsed.{parsed_number, parsed_size_as, rounded_up, size_of_parsed, size_within_limit}
+use Rattle.byte_unit_base.specs.Fault.{exceeded}
+use Rattle.byte_unit_base.specs.Accepted.{IsAcceptedAs, IsRejectedAs}
+use Rattle.byte_unit_base.specs.ParsedLaws.{GivesAnswer}
+use Rattle.byte_unit_base.specs.Parsed.{parsed_size_as, rounded_up}
 use Rattle.byte_unit_base.proofs.Computed.{rounded_up_is_least}
-use Rattle.byte_unit_base.proofs.Scans.{reads_meaning, reads_fault}
 use Rattle.byte_unit_base.proofs.SizeAscii.{trimmed_size, size_ascii}
-use Rattle.byte_unit_base.proofs.SizeReads.{size_scan_is, number_reading, with_shape}
-use Rattle.byte_unit_base.proofs.ParsedTexts.{size_reading}
-use Rattle.byte_unit_base.proofs.Rounding.{least_is_unique}
+use Rattle.byte_unit_base.proofs.SizeReads.{number_reading}
+use Rattle.byte_unit_base.proofs.ParsedTexts.{size_given, size_reading}
 
 -- an input, `bytes`, in one reading
 module _ (meant : Shape → Shape) (kind : Kind) (ignore_case : Bool) (bytes : List ℕ) where
-  -- the parser as a function finds the number and unit that the parser found, rounds the number up, and gives the size,
-  -- or the error if it is too large
-  parsed_found : (found : ℕ × UnitName) → IsNumberReading (flags_for kind ignore_case) bytes (Ok found)
-      → parsed_size_as meant kind ignore_case bytes
-      ≡ size_within_limit found.0 (rounded_up kind found.0 (meant (shape_of found.1)))
-  unfolding parsed_size_as parsed_number
-  parsed_found found reading =
-      ap (size_of_parsed meant kind)
-      (reads_meaning (size_scan_is (flags_for kind ignore_case)) (trim_of bytes) (with_shape found) reading.found)
+  -- what the parser as a function gives
+  abbrev given : GivesAnswer ℕ (IsAcceptedAs meant current kind ignore_case bytes)
+      (IsRejectedAs meant current kind ignore_case bytes) (parsed_size_as meant kind ignore_case bytes)
+  given = size_given meant kind ignore_case bytes
 
   -- if the size of the number and unit is below the limit, it is the result
   pub reading_of_size : (found : ℕ × UnitName) (n : ℕ)
@@ -49,10 +43,11 @@ module _ (meant : Shape → Shape) (kind : Kind) (ignore_case : Bool) (bytes : L
       → IsSizeOrNone (IsLeastOf kind found.0 (meant (shape_of found.1))) (Some n)
       → IsReadingAs meant kind ignore_case bytes (Ok n)
   reading_of_size found n reading size =
-      let unit = meant (shape_of found.1) in
-      let same = least_is_unique kind found.0 unit _ n (rounded_up_is_least kind found.0 unit) size.0 in
-      size_reading meant kind ignore_case bytes (Ok n) (sym (parsed_found found reading
-      ∙ (ap (size_within_limit found.0) same ∙ cond-true _ _ _ (lt-ltb n size_limit size.1))))
+      size_reading meant kind ignore_case bytes (Ok n) (sym ((given.is_meaning n).1 record {
+        number = found.0;
+        is_read = record { unit = shape_of found.1; is_size = reading.found; is_least = size.0 };
+        below = size.1;
+      }))
 
   -- if the size of the number and unit reaches the limit, the result is the error with the number
   pub reading_of_excess : (found : ℕ × UnitName)
@@ -60,17 +55,23 @@ module _ (meant : Shape → Shape) (kind : Kind) (ignore_case : Bool) (bytes : L
       → IsSizeOrNone (IsLeastOf kind found.0 (meant (shape_of found.1))) None
       → IsReadingAs meant kind ignore_case bytes (Err (Value (ExceededBounds found.0)))
   reading_of_excess found reading none =
-      let above = none _ (rounded_up_is_least kind found.0 (meant (shape_of found.1))) in
+      let least = rounded_up_is_least kind found.0 (meant (shape_of found.1)) in
       size_reading meant kind ignore_case bytes (Err (Value (ExceededBounds found.0)))
-      (sym (parsed_found found reading ∙ cond-false _ _ _ (le-ltb _ size_limit above)))
+      (sym ((given.is_fault (exceeded found.0)).1 (inl (
+        found.0,
+        refl,
+        record {
+          size = rounded_up kind found.0 (meant (shape_of found.1));
+          is_read = record { unit = shape_of found.1; is_size = reading.found; is_least = least };
+          above = none _ least;
+        },
+      ))))
 
   -- the result if the input is not a number and a unit: its error
   pub reading_of_fault : (error : ParseError) → IsNumberReading (flags_for kind ignore_case) bytes (Err error)
       → IsReadingAs meant kind ignore_case bytes (Err error)
-  unfolding parsed_size_as parsed_number
   reading_of_fault error reading = size_reading meant kind ignore_case bytes (Err error)
-      (sym (ap (size_of_parsed meant kind)
-      (reads_fault (size_scan_is (flags_for kind ignore_case)) (trim_of bytes) (size_fault error) reading.fault)))
+      (sym ((given.is_fault (size_fault error)).1 (inr reading.fault)))
 
 -- bytes that are a number and a unit are UTF-8, and the same number and unit when trimmed
 pub bytes_number : (flags : Flags) (bytes : List ℕ) (number : ℕ) (unit : UnitName)

@@ -17,7 +17,6 @@ use Rattle.byte_unit_base.specs.SizeScan.{fixed_point, SizeScan, Beginning, Whol
 use Rattle.byte_unit_base.proofs.UnitReached.{Reached, Reached-step, Reached-start}
 use Rattle.byte_unit_base.proofs.SizeSteps.{UnitStep, AfterNumber, StepOf}
 use Rattle.byte_unit_base.proofs.Lists.{push_last}
-use Rattle.byte_unit_base.specs.ViablePrefix.{before_unit, IsNumberAndUnitPrefix}
 
 -- the text is a whole part `w`, a point, and `j` digits of value `f`
 pub record FractionReached (w f j : ℕ) (text : List ℕ) : Type 0 where
@@ -45,7 +44,7 @@ SizeReached Beginning text = text ≡ []
 SizeReached (Whole w) text = IsWholePart current text w
 SizeReached (Point w) text = IsPointed current text w
 SizeReached (Fraction w f j) text = FractionReached w f j text
-SizeReached (Gap n) text = (r : IsNumberAndUnitPrefix current before_unit text) × (r.number ≡ n) × (0 < r.spaces)
+SizeReached (Gap n) text = (r : UnitReached n unit_start text) × (0 < r.spaces)
 SizeReached (UnitAt n s) text = (r : UnitReached n s text) × (0 < length r.unit_part)
 
 -- the text of a whole part, a point and a fraction is their number
@@ -81,33 +80,41 @@ unit_grows n c s t text r k =
     } in
     subst (λ x. SizeReached x (text ++ c ∷ [])) k.2 (grown, omega (arith, length-append r.unit_part (c ∷ [])))
 
--- after a number and any number of spaces there is one space more, or the first character of a unit
-number_grows : (n spaces c : ℕ) (t : SizeScan) (text number : List ℕ) → text ≡ number ++ (replicate spaces 32 ++ [])
-    → IsNumberText current number n → AfterNumber n c t → SizeReached t (text ++ c ∷ [])
-number_grows n spaces c t text number e h (inl k) =
-    let more : (replicate spaces 32 ++ []) ++ c ∷ [] ≡ replicate (spaces + 1) 32 ++ [] =
-    rw (append-nil {A = ℕ} (replicate spaces 32), k.0, append-nil {A = ℕ}) (replicate_more spaces 32) in
-    subst (λ x. SizeReached x (text ++ c ∷ [])) k.1 (
-      record {
-        number_part = number;
-        number = n;
-        spaces = spaces + 1;
-        unit_part = [];
-        text_is = push_last text number (replicate spaces 32 ++ []) c e ∙ ap (λ g. number ++ g) more;
-        number_is = h;
-        unit_is = refl;
-      },
-      refl,
-      omega arith,
-    )
-number_grows n spaces c t text number e h (inr k) = unit_grows n c unit_start t text (record {
-  number_part = number;
-  spaces = spaces;
+-- a number alone is followed by no spaces and no unit
+pub alone : (n : ℕ) (text : List ℕ) → IsNumberText current text n → UnitReached n unit_start text
+alone n text h = record {
+  number_part = text;
+  spaces = 0;
   unit_part = [];
-  text_is = e;
+  text_is = sym (append-nil text);
   number_is = h;
   reached = Reached-start;
-}) k
+}
+
+-- nothing has led to the first state of units
+pub nothing_reached : (text : List ℕ) → Reached unit_start text → text ≡ []
+nothing_reached text r = r.text_is ∙ (ap (λ x. x ++ r.word) r.front_is ∙ r.word_is)
+
+-- after a number and any number of spaces there is one space more, or the first character of a unit
+number_grows : (n c : ℕ) (t : SizeScan) (text : List ℕ) → UnitReached n unit_start text → AfterNumber n c t
+    → SizeReached t (text ++ c ∷ [])
+number_grows n c t text r (inl k) =
+    let gap : List ℕ = replicate r.spaces 32 in
+    let more : (gap ++ r.unit_part) ++ c ∷ [] ≡ replicate (r.spaces + 1) 32 ++ [] =
+    rw (nothing_reached r.unit_part r.reached, append-nil {A = ℕ} gap, k.0, append-nil {A = ℕ})
+    (replicate_more r.spaces 32) in
+    subst (λ x. SizeReached x (text ++ c ∷ [])) k.1 (
+      record {
+        number_part = r.number_part;
+        spaces = r.spaces + 1;
+        unit_part = [];
+        text_is = push_last text r.number_part (gap ++ r.unit_part) c r.text_is ∙ ap (λ g. r.number_part ++ g) more;
+        number_is = r.number_is;
+        reached = Reached-start;
+      },
+      omega arith,
+    )
+number_grows n c t text r (inr k) = unit_grows n c unit_start t text r k
 
 -- digits with one digit more are digits
 digits_push_is : (text : List ℕ) (c : ℕ) → IsNumeral 10 text → digit_value c < 10 → IsNumeral 10 (text ++ c ∷ [])
@@ -127,7 +134,7 @@ SizeReached-step (Whole w) t c text (inr (inl k)) r = subst (λ x. SizeReached x
   whole_is = r;
 })
 SizeReached-step (Whole w) t c text (inr (inr k)) r =
-    number_grows (w * scale) 0 c t text text (sym (append-nil text)) (inl (w, r, refl)) k
+    number_grows (w * scale) c t text (alone (w * scale) text (inl (w, r, refl))) k
 SizeReached-step (Point w) t c text k r = subst (λ x. SizeReached x (text ++ c ∷ [])) k.1 (record {
   whole = r.whole;
   fraction = c ∷ [];
@@ -149,9 +156,6 @@ SizeReached-step (Fraction w f j) t c text (inl k) r = subst (λ x. SizeReached 
   few = omega (arith, k.1);
 })
 SizeReached-step (Fraction w f j) t c text (inr k) r =
-    number_grows (fixed_point w f j) 0 c t text text (sym (append-nil text)) (inr (fraction_number w f j text r)) k
-SizeReached-step (Gap n) t c text k r =
-    let front = r.0 in
-    number_grows n front.spaces c t text front.number_part (rw front.unit_is at front.text_is)
-    (rw r.1 at front.number_is) k
+    number_grows (fixed_point w f j) c t text (alone (fixed_point w f j) text (inr (fraction_number w f j text r))) k
+SizeReached-step (Gap n) t c text k r = number_grows n c t text r.0 k
 SizeReached-step (UnitAt n s) t c text k r = unit_grows n c s t text r.0 k

@@ -4,8 +4,8 @@
 -- Here `found` is a number and its unit. Of a state within a unit, `r.0` is what is known of the text that led to
 -- it, and `r.1` that a unit has begun. Of the end of an input, `e.0` is the unit, `e.1` that it is spelled, and `e.2`
 -- an equation of the result.
-use Rattle.std.proofs.Common.{◌≡◌, ◌≢◌, ℕ, ◌<◌, ◌*◌, inl, inr, List, [], ◌∷◌, ◌++◌, Option, Some, None, Result, Ok, Err}
-use Rattle.std.proofs.Common.{length, replicate, sym, refl, ap, ◌∙◌, arith, append-nil}
+use Rattle.std.proofs.Common.{◌≡◌, ◌≢◌, ℕ, ◌<◌, ◌*◌, inl, inr, List, [], ◌∷◌, Option, Some, None, Result, Ok, Err}
+use Rattle.std.proofs.Common.{length, sym, refl, ap, ◌∙◌, arith}
 use Rattle.std.specs.Result.{result_map_both}
 use Rattle.byte_unit_math.specs.Bounds.{scale}
 use Rattle.byte_unit_base.specs.Shape.{Shape}
@@ -13,10 +13,9 @@ use Rattle.byte_unit_base.specs.Version.{current}
 use Rattle.byte_unit_base.specs.Units.{shape_of}
 use Rattle.byte_unit_base.specs.Parsed.{parsed_number, number_and_unit_of_crate}
 use Rattle.byte_unit_base.specs.Spelling.{Flags, Spells}
-use Rattle.byte_unit_base.specs.Number.{IsNumberText}
 use Rattle.byte_unit_base.specs.SizeText.{trim_of, IsSizeText}
 use Rattle.byte_unit_base.specs.Readings.{IsNumberReading}
-use Rattle.byte_unit_base.specs.ViablePrefix.{ParserState, beginning, in_whole, IsViableUnitPrefix}
+use Rattle.byte_unit_base.specs.ViablePrefix.{ParserState, beginning, in_whole, before_unit, IsViableUnitPrefix}
 use Rattle.byte_unit_base.specs.ViablePrefix.{IsNumberAndUnitPrefix, IsViableSizePrefix, after_bi}
 use Rattle.byte_unit_base.specs.Fault.{Fault, IsFaultAfter, IsSizeFault, fault_at_end, exceeded}
 use Rattle.byte_unit_base.specs.Errors.{size_fault}
@@ -30,10 +29,10 @@ use Rattle.byte_unit_base.specs.declared.unit.Unit.{Unit as UnitName}
 use Rattle.byte_unit_base.specs.declared.errors.ParseError.{ParseError}
 use Rattle.byte_unit_base.proofs.Computed.{unit_of_its_shape}
 use Rattle.byte_unit_base.proofs.Scans.{EndsIn, IsScanOf, IsAnswer, one_answer, reads_meaning, reads_fault}
-use Rattle.byte_unit_base.proofs.UnitReached.{Reached-start, Spells-reached}
 use Rattle.byte_unit_base.proofs.UnitReads.{unit_front, unit_ends}
 use Rattle.byte_unit_base.proofs.SizeSteps.{step_cases}
 use Rattle.byte_unit_base.proofs.SizeReached.{SizeReached, SizeReached-step, UnitReached, fraction_number}
+use Rattle.byte_unit_base.proofs.SizeReached.{alone, nothing_reached}
 use Rattle.byte_unit_base.proofs.SizeRuns.{size_text_runs, size_front_runs}
 
 -- the text that led to a state is a viable prefix
@@ -56,37 +55,21 @@ size_front_in_unit : (n : ℕ) (m : Multiple) (w : SuffixPart) (text : List ℕ)
     → 0 < length r.unit_part → IsViableSizePrefix current (word_parser_state m w) text
 size_front_in_unit n m Bi text r some = front_in_unit n _ after_bi text r (unit_front m Bi r.unit_part r.reached)
 size_front_in_unit n One Empty text r some =
-    let none : r.unit_part ≡ [] = r.reached.text_is
-    ∙ (ap (λ x. x ++ r.reached.word) r.reached.front_is ∙ r.reached.word_is) in
-    absurd (omega (arith, some, ap length none))
+    absurd (omega (arith, some, ap length (nothing_reached r.unit_part r.reached)))
 size_front_in_unit n m w text r some = front_in_unit n _ (word_parser_state m w) text r (unit_front m w r.unit_part r.reached)
 
 -- the text that led to any state is a viable prefix of a size, with the parser state of the state
 size_front : (s : SizeScan) (text : List ℕ) → SizeReached s text → IsViableSizePrefix current (size_parser_state s) text
+unfolding front_in_unit
 size_front Beginning text r = r
 size_front (Whole w) text r = (w, r)
 size_front (Point w) text r = (w, r)
 size_front (Fraction w f j) text r = (fixed_point w f j, fraction_number w f j text r)
-size_front (Gap n) text r = (r.0, r.2)
+size_front (Gap n) text r =
+    (front_in_unit n unit_start before_unit text r.0 (nothing_reached r.0.unit_part r.0.reached), r.1)
 size_front (UnitAt n s) text r = size_front_in_unit n s.multiple s.word text r.0 r.1
 
 -- the result for an input that ends in a state
-
--- an input that ends after a number, or after spaces, is the number without a unit
-number_at_end : (flags : Flags) (n : ℕ) (text number : List ℕ) (k : ℕ) → text ≡ number ++ (replicate k 32 ++ [])
-    → IsNumberText current number n → EndsIn (Represents flags text) None (size_or_fault n (unit_of flags unit_start))
-number_at_end flags n text number k e h = (
-  (n, _),
-  record {
-    number_part = number;
-    spaces = k;
-    unit_part = [];
-    text_is = e;
-    number_is = h;
-    unit_is = Spells-reached flags _ _ [] _ refl Reached-start;
-  },
-  refl,
-)
 
 -- an input that ends after a number and a unit has the result that the unit has alone, with the number
 unit_at_end_of : (flags : Flags) (n : ℕ) (text unit_part : List ℕ)
@@ -99,31 +82,34 @@ unit_at_end_of flags n text unit_part states None None e = absurd (let k : ⊥ =
 unit_at_end_of flags n text unit_part states None (Some unit) e =
     let same : unit ≡ e.0 = cc (e.2) in ((n, e.0), states e.0 e.1, ap (λ x. Ok (n, x)) same)
 
+-- so an input that ends after a number, spaces and what led to a state of units has the result of this state
+ends_in_unit : (flags : Flags) (n : ℕ) (s : UnitScan) (text : List ℕ) → UnitReached n s text
+    → EndsIn (Represents flags text) (fault_at_end (word_parser_state s.multiple s.word)) (size_or_fault n (unit_of flags s))
+ends_in_unit flags n s text r =
+    unit_at_end_of flags n text r.unit_part
+    (λ unit h. record {
+      number_part = r.number_part;
+      spaces = r.spaces;
+      unit_part = r.unit_part;
+      text_is = r.text_is;
+      number_is = r.number_is;
+      unit_is = h;
+    })
+    (fault_at_end (word_parser_state s.multiple s.word)) (unit_of flags s)
+    (unit_ends flags s.multiple s.word r.unit_part r.reached)
+
 -- an input that ends in a state has the error of its parser state, or is a number and a unit
 size_ends : (flags : Flags) (s : SizeScan) (text : List ℕ) → SizeReached s text
     → EndsIn (Represents flags text) (fault_at_end (size_parser_state s)) (size_at_end flags s)
 size_ends flags Beginning text r = refl
-size_ends flags (Whole w) text r = number_at_end flags (w * scale) text text 0 (sym (append-nil text)) (inl (w, r, refl))
+size_ends flags (Whole w) text r =
+    ends_in_unit flags (w * scale) unit_start text (alone (w * scale) text (inl (w, r, refl)))
 size_ends flags (Point w) text r = refl
 size_ends flags (Fraction w f j) text r =
-    number_at_end flags (fixed_point w f j) text text 0 (sym (append-nil text)) (inr (fraction_number w f j text r))
-size_ends flags (Gap n) text r =
-    let front = r.0 in
-    number_at_end flags n text front.number_part front.spaces (rw front.unit_is at front.text_is)
-    (rw r.1 at front.number_is)
-size_ends flags (UnitAt n s) text r =
-    let u = r.0 in
-    unit_at_end_of flags n text u.unit_part
-    (λ unit h. record {
-      number_part = u.number_part;
-      spaces = u.spaces;
-      unit_part = u.unit_part;
-      text_is = u.text_is;
-      number_is = u.number_is;
-      unit_is = h;
-    })
-    (fault_at_end (word_parser_state s.multiple s.word)) (unit_of flags s)
-    (unit_ends flags s.multiple s.word u.unit_part u.reached)
+    let number = inr (fraction_number w f j text r) in
+    ends_in_unit flags (fixed_point w f j) unit_start text (alone (fixed_point w f j) text number)
+size_ends flags (Gap n) text r = ends_in_unit flags n unit_start text r.0
+size_ends flags (UnitAt n s) text r = ends_in_unit flags n s text r.0
 
 -- a digit completes a number at the beginning and after the point, a `t` completes `bi`, and nothing is missing
 -- elsewhere
@@ -163,7 +149,7 @@ size_scan_is flags = record {
 }
 
 -- no parser state gives the error of a size that is too large
-no_bounds_after : (flags : Flags) (rest : List ℕ) (place : ParserState) (fault : Fault) (n : ℕ)
+pub no_bounds_after : (flags : Flags) (rest : List ℕ) (place : ParserState) (fault : Fault) (n : ℕ)
     → IsFaultAfter current flags place rest fault → fault ≢ exceeded n
 no_bounds_after flags [] beginning fault n h = λ e. grind (arith, h, e)
 no_bounds_after flags (c ∷ cs) in_whole fault n h = λ e. grind (arith, h, e)

@@ -11,7 +11,9 @@ use Rattle.byte_unit_math.specs.Bounds.{scale}
 use Rattle.byte_unit_base.specs.ViablePrefix.{in_fraction}
 use Rattle.byte_unit_base.specs.SizeScan.{SizeScan, Whole, Fraction, Gap, is_digit, size_step, size_parser_state}
 use Rattle.byte_unit_base.specs.SizeScan.{after_number}
-use Rattle.byte_unit_base.specs.ParserEnds.{IsFirst, EndsNumber}
+use Rattle.byte_unit_base.specs.ParserEnds.{IsFirst, EndsNumber, IsStopAt}
+use Rattle.byte_unit_base.specs.Spelling.{Flags}
+use Rattle.byte_unit_base.specs.declared.read.stop.Reason.{Reason}
 use Rattle.byte_unit_base.proofs.SizeRuns.{AtNumber}
 
 -- the first character of bytes that are UTF-8
@@ -43,6 +45,12 @@ pub boundary_at : (bytes : List ℕ) (end : ℕ) → IsUtf8 bytes → end ≤ le
     → IsCharBoundary bytes end
 boundary_at bytes end utf8 within ascii =
     IsCharBoundary-from_take bytes end utf8 within (IsUtf8-from_ascii (take end bytes) ascii)
+
+-- where the parser stops in the bytes of a string, one of its characters ends
+pub boundary_of_stop : {flags : Flags} {bytes text : List ℕ} {place : ℕ} {reason : Reason} → bytes ≡ text
+    → IsUtf8 bytes → IsStopAt flags bytes place reason → IsCharBoundary text place
+boundary_of_stop {bytes = bytes} {place = place} same utf8 stop =
+    subst (λ text. IsCharBoundary text place) same (boundary_at bytes place utf8 stop.within stop.ascii)
 
 -- what follows ASCII bytes in UTF-8 is UTF-8
 pub utf8_from : (bytes : List ℕ) (end : ℕ) → IsUtf8 bytes → end ≤ length bytes → IsAscii (take end bytes)

@@ -3,11 +3,10 @@
 -- Of a numeral `h`, `h.0` is that it is not empty, and `h.1` that it has digits only: first one, then the rest. Of a
 -- whole part `h`, `h.0` is its numeral, `h.1` its value and `h.2` the limit. Of a first step `t` of a run, the parts are
 -- the state after it, that the step leads there, and that the rest of the text leads on from there.
-use Rattle.std.proofs.Common.{◌≡◌, ◌≢◌, ℕ, zero, suc, ◌+◌, ◌*◌, ◌<◌, ◌≤◌, inl, inr, ⊎_elim, List, [], ◌∷◌, ◌++◌, Some}
+use Rattle.std.proofs.Common.{◌≡◌, ◌≢◌, ℕ, zero, suc, ◌+◌, ◌*◌, ◌<◌, ◌≤◌, inl, inr, List, [], ◌∷◌, ◌++◌, Some}
 use Rattle.std.proofs.Common.{Ok, length, replicate, sym, refl, ap, subst, ◌∙◌, arith, append-nil, option_map}
 use Rattle.std.specs.Char.{digit_value}
 use Rattle.std.specs.Str.Parse.{IsNumeral, AllDigits, digits_value, digits_value_after}
-use Rattle.std.proofs.lemmas.Bool.{cases_lt}
 use Rattle.std.proofs.lemmas.Bool.Decides.{nat_tests}
 use Rattle.byte_unit_math.specs.Bounds.{scale, places_of_decimal, whole_limit}
 use Rattle.byte_unit_base.specs.Shape.{Shape}
@@ -18,13 +17,12 @@ use Rattle.byte_unit_base.specs.SizeText.{space, IsSizeText}
 use Rattle.byte_unit_base.specs.ViablePrefix.{ParserState, beginning, in_whole, after_point, in_fraction, before_unit}
 use Rattle.byte_unit_base.specs.ViablePrefix.{IsNumberAndUnitPrefix, IsViableSizePrefix}
 use Rattle.byte_unit_base.specs.Scan.{run}
-use Rattle.byte_unit_base.specs.UnitScan.{unit_step, unit_parser_state, unit_of, start as unit_start, UnitScan, One}
-use Rattle.byte_unit_base.specs.UnitScan.{Empty}
+use Rattle.byte_unit_base.specs.UnitScan.{unit_step, unit_parser_state, unit_of, start as unit_start, UnitScan}
 use Rattle.byte_unit_base.specs.SizeScan.{size_step, size_scan, size_at_end, size_parser_state, size_or_fault}
 use Rattle.byte_unit_base.specs.SizeScan.{fixed_point, SizeScan, Beginning, Whole, Point, Fraction, Gap, UnitAt}
 use Rattle.byte_unit_base.proofs.Options.{some_passed}
 use Rattle.byte_unit_base.proofs.Scans.{run_through, run_step, runs_then, RunsTo, IsScanned}
-use Rattle.byte_unit_base.proofs.UnitRuns.{spelling_runs, unit_front_runs, no_other_step}
+use Rattle.byte_unit_base.proofs.UnitRuns.{spelling_runs, unit_front_runs, step_range}
 
 -- digits
 
@@ -106,6 +104,14 @@ run_places (c ∷ cs) w h l =
     ∙ (run_more_places cs w (digit_value c) 1 h.1.1 (omega arith)
     ∙ cc (first, count))
 
+-- a whole part, a point and at most 28 digits lead to the state of this fraction
+pub run_fraction : (whole fraction : List ℕ) (w : ℕ) → IsWholePart current whole w → IsNumeral 10 fraction
+    → length fraction ≤ places_of_decimal
+    → run size_step Beginning (whole ++ 46 ∷ fraction) ≡ Some (Fraction w (digits_value 10 fraction) (length fraction))
+run_fraction whole fraction w is numeral few =
+    run_through size_step Beginning (Whole w) whole (46 ∷ fraction) (run_whole whole w is)
+    ∙ (run_step size_step (Whole w) (Point w) 46 fraction (step_point w) ∙ run_places fraction w numeral few)
+
 -- the state is after the number `n`, scaled by 10^28, or after spaces that follow it
 abbrev pub AtNumber : ℕ → SizeScan → Type 0
 AtNumber n (Whole w) = w * scale ≡ n
@@ -116,27 +122,17 @@ AtNumber n _ = ⊥
 -- after a whole part, a point and a fraction, the state is that of their number
 pub run_precise : (text : List ℕ) (n : ℕ) → IsPrecise current text n
     → RunsTo size_step (λ s. AtNumber n s × (size_parser_state s ≡ in_fraction)) Beginning text
-run_precise text n h =
-    let whole = run_whole h.whole h.value h.whole_is in
-    record {
-      state = Fraction h.value (digits_value 10 h.fraction) (length h.fraction);
-      run_is = ap (run size_step Beginning) h.text_is
-          ∙ (run_through size_step Beginning (Whole h.value) h.whole (46 ∷ h.fraction) whole
-          ∙ (run_step size_step (Whole h.value) (Point h.value) 46 h.fraction (step_point h.value)
-          ∙ run_places h.fraction h.value h.fraction_is.0 h.fraction_is.1));
-      holds = (ap (λ x. h.value * scale + x) (sym h.fraction_is.2) ∙ sym h.number_is, refl);
-    }
+run_precise text n h = record {
+  state = Fraction h.value (digits_value 10 h.fraction) (length h.fraction);
+  run_is = ap (run size_step Beginning) h.text_is
+      ∙ run_fraction h.whole h.fraction h.value h.whole_is h.fraction_is.0 h.fraction_is.1;
+  holds = (ap (λ x. h.value * scale + x) (sym h.fraction_is.2) ∙ sym h.number_is, refl);
+}
 
 -- a number leads to a state after that number
 run_number : (text : List ℕ) (n : ℕ) → IsNumberText current text n → RunsTo size_step (AtNumber n) Beginning text
 run_number text n (inl h) = record { state = Whole h.0; run_is = run_whole text h.0 h.1; holds = sym h.2 }
 run_number text n (inr h) = let r = run_precise text n h in record { state = r.state; run_is = r.run_is; holds = r.holds.0 }
-
--- the first letter of a unit has at least the code of `A`, 65
-first_letter : (c : ℕ) (u : UnitScan) → unit_step unit_start c ≡ Some u → 65 ≤ c
-first_letter c u e = ⊎_elim
-    (λ small. let none = no_other_step One Empty c (inl small) in absurd (let k : ⊥ = cc in k))
-    (λ large. large) (cases_lt c 65)
 
 -- the steps after a number
 
@@ -150,27 +146,31 @@ step_space n _ h = grind (arith, h)
 step_unit : (n c : ℕ) (s : SizeScan) (u : UnitScan) → AtNumber n s → unit_step unit_start c ≡ Some u
     → size_step s c ≡ Some (UnitAt n u)
 unfolding size_step
-step_unit n c (Whole w) u h e = let large = first_letter c u e in grind (arith, nat_tests, h, e)
-step_unit n c _ u h e = let large = first_letter c u e in grind (arith, nat_tests, h, e)
+step_unit n c (Whole w) u h e = let range = step_range unit_start u c e in grind (arith, nat_tests, h, e)
+step_unit n c _ u h e = let range = step_range unit_start u c e in grind (arith, nat_tests, h, e)
 
 -- an input that ends after a number has the result of the number without a unit
-pub number_end : (flags : Flags) (n : ℕ) (s : SizeScan) → AtNumber n s
+number_end : (flags : Flags) (n : ℕ) (s : SizeScan) → AtNumber n s
     → size_at_end flags s ≡ size_or_fault n (unit_of flags unit_start)
 number_end flags n (Whole w) h = grind (arith, h)
 number_end flags n _ h = grind (arith, h)
 
+-- if a space leads to the state after spaces, more spaces lead there
+pub run_gap : (n k : ℕ) (s : SizeScan) → size_step s space ≡ Some (Gap n)
+    → run size_step s (replicate (suc k) space) ≡ Some (Gap n)
+run_gap n zero s e = run_step size_step s (Gap n) space [] e
+run_gap n (suc k) s e =
+    run_step size_step s (Gap n) space (replicate (suc k) space) e ∙ run_gap n k (Gap n) (step_space n (Gap n) refl)
+
 -- one space or more after a number lead to the state after spaces
 run_some_spaces : (n k : ℕ) (s : SizeScan) → 0 < k → AtNumber n s → run size_step s (replicate k space) ≡ Some (Gap n)
 run_some_spaces n zero s some h = absurd (omega (arith, some))
-run_some_spaces n (suc zero) s some h = run_step size_step s (Gap n) space [] (step_space n s h)
-run_some_spaces n (suc (suc k)) s some h =
-    run_step size_step s (Gap n) space (replicate (suc k) space) (step_space n s h)
-    ∙ run_some_spaces n (suc k) (Gap n) (omega arith) refl
+run_some_spaces n (suc k) s some h = run_gap n k s (step_space n s h)
 
 -- any number of spaces after a number, even none, leads to a state after the number
 run_spaces : (n k : ℕ) (s : SizeScan) → AtNumber n s → RunsTo size_step (AtNumber n) s (replicate k space)
 run_spaces n zero s h = record { state = s; run_is = refl; holds = h }
-run_spaces n (suc k) s h = record { state = Gap n; run_is = run_some_spaces n (suc k) s (omega arith) h; holds = refl }
+run_spaces n (suc k) s h = record { state = Gap n; run_is = run_gap n k s (step_space n s h); holds = refl }
 
 -- within a unit, the letters of the unit are read as by the parser of a unit
 pub run_in_unit : (n : ℕ) (u : UnitScan) (cs : List ℕ) (s : UnitScan) → run unit_step s cs ≡ Some u
@@ -243,15 +243,8 @@ size_front_runs flags in_fraction text h =
     let r = run_precise text h.0 h.1 in record { state = r.state; run_is = r.run_is; holds = r.holds.1 }
 size_front_runs flags before_unit text h =
     let f = h.0 in
-    let a = run_number f.number_part f.number f.number_is in
-    let spaces = replicate f.spaces space in
-    let e : text ≡ f.number_part ++ spaces = f.text_is
-    ∙ ap (λ x. f.number_part ++ x) (ap (λ x. spaces ++ x) f.unit_is ∙ append-nil spaces) in
-    record {
-      state = Gap f.number;
-      run_is = ap (run size_step Beginning) e
-          ∙ (run_through size_step Beginning a.state f.number_part spaces a.run_is
-          ∙ run_some_spaces f.number f.spaces a.state h.1 a.holds);
-      holds = refl;
-    }
+    let e = rw (f.unit_is, append-nil {A = ℕ} (replicate f.spaces space)) at f.text_is in
+    subst (IsScanned (size_scan flags) before_unit) (sym e)
+    (runs_then size_step (run_number f.number_part f.number f.number_is) (λ s after.
+    record { state = Gap f.number; run_is = run_some_spaces f.number f.spaces s h.1 after; holds = refl }))
 size_front_runs flags place text h = sized_front flags place text (λ e. cc) h

@@ -41,36 +41,14 @@ unfolding trim_end
 chars-trim bs u = rw (chars-trim_start bs u) (chars-encodes _ (scalars_drop (skip_leading_whitespace (chars bs))
     (scalars_skip (chars bs) (scalars-chars bs u))))
 
--- the text is not empty, and its first character is not white space
-pub record StartsWithoutSpace (text : List ℕ) : Type 0 where
-  pub head : ℕ
-  pub tail : List ℕ
-  pub text_is : text ≡ head ∷ tail
-  pub head_is : is_whitespace head ≡ false
-
--- the text is not empty, and its last character is not white space
-pub record EndsWithoutSpace (text : List ℕ) : Type 0 where
-  pub front : List ℕ
-  pub last : ℕ
-  pub text_is : text ≡ front ++ last ∷ []
-  pub last_is : is_whitespace last ≡ false
-
 -- a text whose last character is not white space has no white space to drop at its end
-pub keep_last : (front : List ℕ) (last : ℕ) → is_whitespace last ≡ false
+keep_last : (front : List ℕ) (last : ℕ) → is_whitespace last ≡ false
     → drop_trailing_whitespace (front ++ last ∷ []) ≡ front ++ last ∷ []
 keep_last [] last is_none = rw is_none refl
 keep_last (next ∷ front) last is_none =
     let count = length-append front (last ∷ []) in
     let some : nat_eq (length (front ++ last ∷ [])) 0 ≡ false = grind (arith, nat_tests, count) in
     rw (keep_last front last is_none, and_right (is_whitespace next) _ some) refl
-
--- a text with a character other than white space at each end has no white space to drop
-pub nothing_to_drop : (text : List ℕ) → StartsWithoutSpace text → EndsWithoutSpace text
-    → drop_trailing_whitespace (skip_leading_whitespace text) ≡ text
-nothing_to_drop text start end =
-    let skipped : skip_leading_whitespace text ≡ text = rw (start.text_is, start.head_is) refl in
-    let kept : drop_trailing_whitespace text ≡ text = rw end.text_is (keep_last end.front end.last end.last_is) in
-    ap drop_trailing_whitespace skipped ∙ kept
 
 -- visible ends
 
@@ -82,21 +60,18 @@ visible_not_white c e = grind (arith, nat_tests)
 visible_ascii : (c : ℕ) → is_ascii_graphic c ≡ true → IsAscii (c ∷ [])
 visible_ascii c e = IsAscii-cons c [] (grind (arith, nat_tests)) IsAscii-nil
 
--- a string with visible ends does not start with white space
-visible_start : (bytes : List ℕ) → HasVisibleEnds bytes → StartsWithoutSpace (chars bytes)
+-- no white space is skipped at the start of a string with visible ends
+visible_start : (bytes : List ℕ) → HasVisibleEnds bytes → skip_leading_whitespace (chars bytes) ≡ chars bytes
 visible_start [] ends = absurd (omega (arith, ends.some))
 visible_start (c ∷ cs) ends =
     let first = visible_ascii c ends.start in
-    record {
-      head = c;
-      tail = chars cs;
-      text_is = chars-append (c ∷ []) cs (IsUtf8-from_ascii (c ∷ []) first)
-          ∙ ap (λ front. front ++ chars cs) (chars-IsAscii (c ∷ []) first);
-      head_is = visible_not_white c ends.start;
-    }
+    let text : chars (c ∷ cs) ≡ c ∷ chars cs = chars-append (c ∷ []) cs (IsUtf8-from_ascii (c ∷ []) first)
+    ∙ ap (λ front. front ++ chars cs) (chars-IsAscii (c ∷ []) first) in
+    rw (text, visible_not_white c ends.start) refl
 
--- a string with visible ends does not end in white space
-visible_end : (bytes : List ℕ) → IsUtf8 bytes → HasVisibleEnds bytes → EndsWithoutSpace (chars bytes)
+-- no white space is dropped at the end of a string with visible ends
+visible_end : (bytes : List ℕ) → IsUtf8 bytes → HasVisibleEnds bytes
+    → drop_trailing_whitespace (chars bytes) ≡ chars bytes
 visible_end bytes utf8 ends =
     let place = length bytes - 1 in
     let inside : place < length bytes = omega (arith, ends.some) in
@@ -107,23 +82,17 @@ visible_end bytes utf8 ends =
     let utf8_front = IsUtf8-take bytes place utf8 (IsCharBoundary-before_ascii bytes place inside small) in
     let whole : bytes ≡ front ++ last ∷ [] =
     sym (take_all (place + 1) bytes (omega (arith, ends.some))) ∙ take_more bytes place 0 inside in
-    record {
-      front = chars front;
-      last = last;
-      text_is = ap chars whole
-          ∙ (chars-append front (last ∷ []) utf8_front ∙ ap (λ end. chars front ++ end) (chars-IsAscii (last ∷ []) ascii));
-      last_is = visible_not_white last ends.end;
-    }
+    let text : chars bytes ≡ chars front ++ last ∷ [] = ap chars whole
+    ∙ (chars-append front (last ∷ []) utf8_front ∙ ap (λ end. chars front ++ end) (chars-IsAscii (last ∷ []) ascii)) in
+    rw text (keep_last (chars front) last (visible_not_white last ends.end))
 
 -- a string with visible characters of ASCII at both ends has nothing to trim
 pub trim_visible : (bytes : List ℕ) → IsUtf8 bytes → HasVisibleEnds bytes → trim_of bytes ≡ chars bytes
-trim_visible bytes utf8 ends = nothing_to_drop (chars bytes) (visible_start bytes ends) (visible_end bytes utf8 ends)
+trim_visible bytes utf8 ends = ap drop_trailing_whitespace (visible_start bytes ends) ∙ visible_end bytes utf8 ends
 
 -- a string with visible characters of ASCII at both ends has no white space at its start
 pub no_leading_white : (bytes : List ℕ) → IsUtf8 bytes → HasVisibleEnds bytes → leading_white bytes ≡ 0
 unfolding trim_start
 no_leading_white bytes utf8 ends =
-    let start = visible_start bytes ends in
-    let skipped : skip_leading_whitespace (chars bytes) ≡ chars bytes = rw (start.text_is, start.head_is) refl in
-    let kept : trim_start bytes ≡ bytes = ap encode_utf8_all skipped ∙ encodes-chars bytes utf8 in
+    let kept : trim_start bytes ≡ bytes = ap encode_utf8_all (visible_start bytes ends) ∙ encodes-chars bytes utf8 in
     omega (arith, ap length kept)

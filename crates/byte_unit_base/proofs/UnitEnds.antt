@@ -7,14 +7,11 @@ use Rattle.std.proofs.lemmas.List.{length-drop, drop-drop}
 use Rattle.std.proofs.lemmas.List.Elements.{All-replicate}
 use Rattle.std.proofs.lemmas.Str.{IsAscii-append}
 use Rattle.std.proofs.lemmas.Str.Ascii.{IsAscii-from_all}
-use Rattle.byte_unit_base.specs.Version.{current}
 use Rattle.byte_unit_base.specs.Spelling.{Flags}
 use Rattle.byte_unit_base.specs.SizeText.{space}
-use Rattle.byte_unit_base.specs.ViablePrefix.{before_unit}
-use Rattle.byte_unit_base.specs.Fault.{fault_at}
 use Rattle.byte_unit_base.specs.Scan.{run}
 use Rattle.byte_unit_base.specs.UnitScan.{UnitScan, unit_step, unit_of, start as unit_start}
-use Rattle.byte_unit_base.specs.UnitWord.{unit_stop, stop_parser_state}
+use Rattle.byte_unit_base.specs.UnitWord.{unit_stop}
 use Rattle.byte_unit_base.specs.SizeScan.{SizeScan, Beginning, Gap, UnitAt, size_step}
 use Rattle.byte_unit_base.specs.ParserEnds.{IsFirst, IsNoSpace, EndsNumber, IsLeadingNumber, IsStopAt, IsStoppedBefore}
 use Rattle.byte_unit_base.specs.ParserEnds.{IsUnitStop}
@@ -22,10 +19,10 @@ use Rattle.byte_unit_base.specs.declared.read.stop.Reason.TheVariants.{InUnit}
 use Rattle.byte_unit_base.specs.declared.unit.scan.UnitStop.{UnitStop}
 use Rattle.byte_unit_base.proofs.Options.{some_passed}
 use Rattle.byte_unit_base.proofs.Scans.{run_through, run_step, RunsTo}
-use Rattle.byte_unit_base.proofs.SizeRuns.{run_in_unit}
+use Rattle.byte_unit_base.proofs.SizeRuns.{run_in_unit, run_gap}
 use Rattle.byte_unit_base.proofs.SizeAscii.{number_ascii}
 use Rattle.byte_unit_base.proofs.SizeRest.{first_char, ends_gap, text_from, utf8_from}
-use Rattle.byte_unit_base.proofs.UnitStops.{run_ascii, none_left, no_unit, kept_state}
+use Rattle.byte_unit_base.proofs.UnitStops.{run_ascii, none_left, unit_fault_after}
 use Rattle.byte_unit_base.proofs.UnitRuns.{no_other_step}
 
 -- after a number, spaces lead to a state in which the next character ends the number
@@ -33,12 +30,7 @@ after_spaces : (n spaces : ℕ) (s : SizeScan) (text : List ℕ) → IsFirst (En
     → RunsTo size_step (λ t. IsFirst (EndsNumber t n) text) s (replicate spaces space)
 after_spaces n zero s text next = record { state = s; run_is = refl; holds = next }
 after_spaces n (suc spaces) s text next =
-    let r = after_spaces n spaces (Gap n) text (ends_gap n (replicate spaces space ++ text)) in
-    record {
-      state = r.state;
-      run_is = run_step size_step s (Gap n) space (replicate spaces space) next.step_is ∙ r.run_is;
-      holds = r.holds;
-    }
+    record { state = Gap n; run_is = run_gap n spaces s next.step_is; holds = ends_gap n text }
 
 -- a character that ends the number, and is no space, has the step that it has at the start of a unit
 unit_first : (n c : ℕ) (s : SizeScan) → EndsNumber s n c → IsNoSpace c
@@ -47,24 +39,20 @@ unit_first n c s ends other = let no_space : eqb c 32 ≡ false = grind (arith, 
     ends.step_is ∙ rw no_space refl
 
 -- if no unit begins at what follows a number, the parser stops there
-at_first : (flags : Flags) (n : ℕ) (s : SizeScan) (kept : UnitStop) (rest : List ℕ) → stop_parser_state kept ≡ before_unit
-    → IsFirst (EndsNumber s n) rest → IsFirst IsNoSpace rest → IsFirst (λ c. unit_step unit_start c ≡ None) rest
-    → (rest ≡ [] → ⊥) → IsStoppedBefore flags s (InUnit kept) rest
-at_first flags n s kept [] before ends other next some = absurd (some refl)
-at_first flags n s kept (c ∷ cs) before ends other next some = (
-  unit_first n c s ends other ∙ ap (option_map (UnitAt n)) next,
-  ap (λ state. fault_at current flags state c) before ∙ sym (ends.fault_is flags),
-)
+at_first : (flags : Flags) (n : ℕ) (s : SizeScan) (rest : List ℕ) → IsFirst (EndsNumber s n) rest
+    → IsFirst IsNoSpace rest → IsFirst (λ c. unit_step unit_start c ≡ None) rest → (rest ≡ [] → ⊥)
+    → IsStoppedBefore flags s (InUnit (unit_stop unit_start)) rest
+at_first flags n s [] ends other next some = absurd (some refl)
+at_first flags n s (c ∷ cs) ends other next some =
+    (unit_first n c s ends other ∙ ap (option_map (UnitAt n)) next, sym (ends.fault_is flags))
 
 -- within a unit after a number, the parser stops where the unit alone has no step, and cannot end
 in_unit : (flags : Flags) (n : ℕ) (u : UnitScan) (rest : List ℕ) → IsFirst (λ c. unit_step u c ≡ None) rest
     → (rest ≡ [] → unit_of flags u ≡ None) → IsStoppedBefore flags (UnitAt n u) (InUnit (unit_stop u)) rest
 unfolding size_step
-in_unit flags n u [] next ends = (tt, no_unit flags u.multiple u.word (ends refl))
-in_unit flags n u (c ∷ cs) next ends = (
-  ap (option_map (UnitAt n)) next,
-  ap (λ state. fault_at current flags state c) (sym (kept_state u.multiple u.word)),
-)
+in_unit flags n u [] next ends = (tt, unit_fault_after flags u [] ends)
+in_unit flags n u (c ∷ cs) next ends =
+    (ap (option_map (UnitAt n)) next, unit_fault_after flags u (c ∷ cs) ends)
 
 -- after a number, the beginning of a unit leads to a state in which the parser stops if that of the unit does
 after_unit : (flags : Flags) (n : ℕ) (s : SizeScan) (unit rest : List ℕ) (u : UnitScan)
@@ -74,11 +62,10 @@ after_unit : (flags : Flags) (n : ℕ) (s : SizeScan) (unit rest : List ℕ) (u 
     → RunsTo size_step (λ t. IsStoppedBefore flags t (InUnit (unit_stop u)) rest) s unit
 after_unit flags n s [] rest u number other run_is next ends =
     let same : unit_start ≡ u = cc in
-    record {
+    subst (λ x. RunsTo size_step (λ t. IsStoppedBefore flags t (InUnit (unit_stop x)) rest) s []) same record {
       state = s;
       run_is = refl;
-      holds = at_first flags n s (unit_stop u) rest (ap (λ x. stop_parser_state (unit_stop x)) (sym same)) number other
-          (subst (λ x. IsFirst (λ c. unit_step x c ≡ None) rest) (sym same) next)
+      holds = at_first flags n s rest number other (subst (λ x. IsFirst (λ c. unit_step x c ≡ None) rest) (sym same) next)
           (λ none. let e = ap (unit_of flags) same ∙ ends none in let z : ⊥ = cc in z);
     }
 after_unit flags n s (c ∷ cs) rest u number other run_is next ends =
@@ -126,7 +113,7 @@ stops_in_unit flags bytes rest n end spaces place kept number rest_is within gap
           let no_space = first_char IsNoSpace (λ c wide. λ e. omega (arith, wide, e)) unit utf8_unit
           (subst (IsFirst IsNoSpace) at_unit other) in
           let no_letter = first_char (λ c. unit_step scan c ≡ None)
-          (λ c wide. no_other_step scan.multiple scan.word c (inr wide)) (drop place unit)
+          (λ c wide. no_other_step scan.multiple scan.word c (inr (omega (arith, wide)))) (drop place unit)
           (utf8_from unit place utf8_unit leads.within unit_ascii) leads.next in
           let b = after_unit flags n a.state (take place unit) after scan
           (subst (IsFirst (EndsNumber a.state n)) unit_text a.holds) (subst (IsFirst IsNoSpace) unit_text no_space)

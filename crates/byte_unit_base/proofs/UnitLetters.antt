@@ -15,6 +15,10 @@ use Rattle.byte_unit_base.specs.ParserEnds.{first_eight, IsLineOf, IsLeadingUnit
 use Rattle.byte_unit_base.specs.UnitScan.{unit_step, multiple_step, multiple_shape, prefix_at, is_i, scan_of, start}
 use Rattle.byte_unit_base.specs.UnitScan.{Multiple, One, Decimal, Binary, Empty}
 use Rattle.byte_unit_base.specs.UnitWord.{letter_power, multiple_of, word_of, bits_len, has_prefix}
+use Rattle.byte_unit_base.specs.Units.{shape_of}
+use Rattle.byte_unit_base.specs.BinaryReading.{binary_of}
+use Rattle.byte_unit_base.specs.declared.unit.Unit.{Unit as UnitName}
+use Rattle.byte_unit_base.specs.declared.unit.Unit.TheVariants.{Bit}
 use Rattle.byte_unit_base.specs.declared.unit.tables.TheConstants.{LETTER_POWERS}
 use Rattle.byte_unit_base.proofs.Lines.{rest_of_line}
 use Rattle.byte_unit_base.proofs.UnitReached.{prefix_found}
@@ -40,6 +44,12 @@ pub shape_of_power : (n : ℕ) → 1 ≤ n → n ≤ 9 → (binary bit : Bool)
 shape_of_power zero some few _ _ = absurd (omega (arith, some))
 shape_of_power (suc n) some few true bit = refl
 shape_of_power (suc n) some few false bit = refl
+
+-- the binary prefix at the position of the prefix of a unit, or none, gives the binary unit of this unit
+pub binary_shape : (unit : UnitName)
+    → multiple_shape (multiple_of (shape_of unit).power true) (shape_of unit).bit ≡ binary_of (shape_of unit)
+binary_shape Bit = refl
+binary_shape _ = refl
 
 -- a number that is one more than another is not 0
 not_zero : (n : ℕ) → eqb (suc n) 0 ≡ false

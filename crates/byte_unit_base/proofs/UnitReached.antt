@@ -4,10 +4,11 @@
 -- Of a position `h` or `found`, the parts are its two bounds, and that the letter is there. Of `letter`, `v` and `bit`,
 -- they are a position, a suffix or a kind, that it is found, and that the prefix, state or unit is the one with it.
 use Rattle.std.proofs.Common.{◌≡◌, ℕ, suc, ◌+◌, ◌-◌, ◌<◌, ◌≤◌, inl, inr, List, [], ◌∷◌, ◌++◌, length, Option, Some}
-use Rattle.std.proofs.Common.{None, sym, refl, ap, subst, ◌∙◌, arith, Bool, true, false, cond, eqb, eqb→eq, T}
+use Rattle.std.proofs.Common.{None, sym, refl, ap, subst, ◌∙◌, arith, Bool, false, eqb}
 use Rattle.std.proofs.Common.{append-nil, slice_index, option_map}
 use Rattle.std.specs.Char.{to_ascii_lowercase, to_ascii_uppercase}
 use Rattle.std.specs.Str.{str_to_ascii_lowercase}
+use Rattle.std.proofs.lemmas.Bool.{cond_both, eqb-true}
 use Rattle.std.proofs.lemmas.Bool.Decides.{nat_tests}
 use Rattle.byte_unit_base.specs.Shape.{Shape}
 use Rattle.byte_unit_base.specs.Version.{current}
@@ -31,25 +32,20 @@ pub record Reached (s : UnitScan) (text : List ℕ) : Type 0 where
 abbrev IsPositionIn : List ℕ → ℕ → ℕ → ℕ → Type 0
 IsPositionIn letters first u p = (first ≤ p) × (p < first + length letters) × (u ≡ slice_index letters (p - first))
 
--- if a search compares the first letter, and else goes on with the others, the letter is at the position that it gives
-position_here : (letter : ℕ) (letters : List ℕ) (first u p : ℕ) (is : Bool) → eqb u letter ≡ is
-    → (position_in letters (suc first) u ≡ Some p → IsPositionIn letters (suc first) u p)
-    → cond is (Some first) (position_in letters (suc first) u) ≡ Some p → IsPositionIn (letter ∷ letters) first u p
-position_here letter letters first u p true same later e =
-    let here : first ≡ p = cc in
-    let none : p - first ≡ 0 = omega (arith, here) in
-    (omega (arith, here), omega (arith, here), rw none (eqb→eq u letter (subst T (sym same) tt)))
-position_here letter letters first u p false same later e =
-    let h = later e in
-    let next : p - first ≡ suc (p - suc first) = omega (arith, h.0) in
-    (omega (arith, h.0), omega (arith, h.1), rw next h.2)
-
 -- the position that the search gives is that of the letter
 position_found : (letters : List ℕ) (first u p : ℕ) → position_in letters first u ≡ Some p
     → IsPositionIn letters first u p
 position_found [] first u p e = absurd (let k : ⊥ = cc in k)
 position_found (letter ∷ letters) first u p e =
-    position_here letter letters first u p (eqb u letter) refl (position_found letters (suc first) u p) e
+    cond_both (eqb u letter) _ _ (λ o. o ≡ Some p → IsPositionIn (letter ∷ letters) first u p)
+    (λ is found.
+    let here : first ≡ p = cc in
+    let none : p - first ≡ 0 = omega (arith, here) in
+    (omega (arith, here), omega (arith, here), rw none (eqb-true u letter is)))
+    (λ other later.
+    let h = position_found letters (suc first) u p later in
+    let next : p - first ≡ suc (p - suc first) = omega (arith, h.0) in
+    (omega (arith, h.0), omega (arith, h.1), rw next h.2)) e
 
 -- a character for which a prefix is found is its letter, in either case
 pub prefix_found : (c p : ℕ) → prefix_at c ≡ Some p → IsPrefixLetter current p c

@@ -5,6 +5,7 @@
 -- part is the prefix or the suffix of a state, the second that the text leads to it, and the third what it means.
 use Rattle.std.proofs.Common.{◌≡◌, ℕ, zero, suc, inl, inr, ⊎_elim, List, [], ◌∷◌, Some, sym, refl, ap, subst, ◌∙◌}
 use Rattle.std.proofs.Common.{arith, Bool, not, option_map, None, ◌⊎◌, ◌<◌, ◌≤◌}
+use Rattle.std.proofs.lemmas.Bool.{cases_lt}
 use Rattle.std.proofs.lemmas.Bool.Decides.{nat_tests}
 use Rattle.std.specs.Char.{to_ascii_lowercase}
 use Rattle.byte_unit_base.specs.Shape.{Shape, shape}
@@ -15,17 +16,25 @@ use Rattle.byte_unit_base.specs.ViablePrefix.{after_bits, IsWord, IsViableWordPr
 use Rattle.byte_unit_base.specs.Scan.{run}
 use Rattle.byte_unit_base.specs.UnitScan.{unit_step, unit_of, unit_scan, scan_of, prefix_at, count_of, SuffixPart}
 use Rattle.byte_unit_base.specs.UnitScan.{start, multiple_shape, IsWordText, word_parser_state, multiple_parser_state}
-use Rattle.byte_unit_base.specs.UnitScan.{Empty, UpperB, LowerB, Bi, Bit, Bits, Multiple, One, Decimal, Binary}
+use Rattle.byte_unit_base.specs.UnitScan.{Empty, UpperB, LowerB, Bi, Bit, Bits, Multiple, One, Decimal, Binary, UnitScan}
 use Rattle.byte_unit_base.proofs.Lists.{from_lowercase}
 use Rattle.byte_unit_base.proofs.Scans.{run_through, run_step, RunsTo, IsScanned}
 
--- no character before the letters, and none past ASCII, continues a unit
-pub no_other_step : (m : Multiple) (w : SuffixPart) (c : ℕ) → (c < 65) ⊎ (128 ≤ c) → unit_step (scan_of m w) c ≡ None
+-- no character before the letters, and none after the visible ones of ASCII, continues a unit
+pub no_other_step : (m : Multiple) (w : SuffixPart) (c : ℕ) → (c < 65) ⊎ (127 ≤ c) → unit_step (scan_of m w) c ≡ None
 unfolding unit_step
 no_other_step m Bits c other = refl
 no_other_step One Empty c other =
     let none : prefix_at c ≡ None = grind (arith, nat_tests) in rw none (grind (arith, nat_tests))
 no_other_step m w c other = grind (arith, nat_tests)
+
+-- a character that continues a unit is one from `A` (65) to `~` (126)
+pub step_range : (s t : UnitScan) (c : ℕ) → unit_step s c ≡ Some t → (65 ≤ c) × (c < 127)
+step_range s t c e =
+    let never = λ (out : (c < 65) ⊎ (127 ≤ c)). let z : ⊥ = cc (no_other_step s.multiple s.word c out) in z in (
+      ⊎_elim (λ low. absurd (never (inl low))) (λ h. h) (cases_lt c 65),
+      ⊎_elim (λ h. h) (λ wide. absurd (never (inr wide))) (cases_lt c 127),
+    )
 
 -- `B` and `b` begin a suffix
 step_letter_b : (m : Multiple) → (unit_step (scan_of m Empty) 66 ≡ Some (scan_of m UpperB))
@@ -50,10 +59,8 @@ pub run_suffix : (m : Multiple) (w : SuffixPart) (text : List ℕ) → IsWordTex
     → run unit_step (scan_of m Empty) text ≡ Some (scan_of m w)
 unfolding unit_step
 run_suffix m Empty text h = ap (run unit_step (scan_of m Empty)) h
-run_suffix m UpperB text h = ap (run unit_step (scan_of m Empty)) h
-    ∙ run_step unit_step (scan_of m Empty) (scan_of m UpperB) 66 [] (step_letter_b m).0
-run_suffix m LowerB text h = ap (run unit_step (scan_of m Empty)) h
-    ∙ run_step unit_step (scan_of m Empty) (scan_of m LowerB) 98 [] (step_letter_b m).1
+run_suffix m UpperB text h = rw (h, (step_letter_b m).0) refl
+run_suffix m LowerB text h = rw (h, (step_letter_b m).1) refl
 run_suffix m Bi (b ∷ i ∷ []) h = after_bi_text m b i [] (cc) (cc)
 run_suffix m Bit (b ∷ i ∷ t ∷ []) h =
     let third : to_ascii_lowercase t ≡ 116 = cc in after_bi_text m b i (t ∷ []) (cc) (cc) ∙ rw third refl

@@ -2,12 +2,10 @@
 --
 -- Of a walk `w`, `w.0` is the state where it ends, and `w.1` its length. Of a step `u`, `u.0` is the state after it.
 -- What is known of a walk, as `h`, is that its length is within the text, its run, and that no step follows.
-use Rattle.std.proofs.Common.{◌≡◌, ℕ, ◌+◌, ◌<◌, ◌≤◌, List, [], ◌∷◌, ◌++◌, Some, None, length, take, drop, refl}
-use Rattle.std.proofs.Common.{sym, ap, ◌∙◌, arith, inl, inr, ⊎_elim, length-drop, replicate, one-add, chars}
+use Rattle.std.proofs.Common.{◌≡◌, ℕ, ◌+◌, ◌≤◌, List, [], ◌∷◌, ◌++◌, Some, None, length, take, drop, refl}
+use Rattle.std.proofs.Common.{sym, ap, ◌∙◌, arith, inl, inr, length-drop, replicate, one-add, chars}
 use Rattle.std.proofs.Common.{encode_utf8_all, IsUtf8, IsAscii, take_all}
-use Rattle.std.proofs.lemmas.Bool.{cases_lt}
 use Rattle.std.proofs.lemmas.Str.{encodes-chars, chars-IsAscii}
-use Rattle.std.proofs.lemmas.Str.Ascii.{IsAscii-nil, IsAscii-cons}
 use Rattle.byte_unit_base.specs.Shape.{Shape}
 use Rattle.byte_unit_base.specs.Version.{current}
 use Rattle.byte_unit_base.specs.Spelling.{Flags, Spells}
@@ -15,25 +13,21 @@ use Rattle.byte_unit_base.specs.Scan.{run}
 use Rattle.byte_unit_base.specs.UnitScan.{unit_step, unit_of, unit_parser_state, word_parser_state, scan_of}
 use Rattle.byte_unit_base.specs.UnitScan.{start, UnitScan, Multiple, One, SuffixPart, Empty, Bi}
 use Rattle.byte_unit_base.specs.UnitWord.{unit_stop, stop_parser_state}
-use Rattle.byte_unit_base.specs.Fault.{fault_at_end, stops_at_bi}
-use Rattle.byte_unit_base.specs.ParserEnds.{IsAfterLine, IsFirst, IsLeadingUnit}
-use Rattle.byte_unit_base.proofs.Options.{none_or_some, some_passed}
+use Rattle.byte_unit_base.specs.Fault.{fault_at, fault_at_end, stops_at_bi, IsFaultAfter}
+use Rattle.byte_unit_base.specs.ParserEnds.{IsAfterLine, IsFirst, IsLeadingUnit, next_char, unit_stop_fault}
+use Rattle.byte_unit_base.proofs.Options.{none_or_some}
 use Rattle.byte_unit_base.proofs.Scans.{reached}
 use Rattle.byte_unit_base.proofs.UnitReached.{Spells-reached}
 use Rattle.byte_unit_base.proofs.UnitRuns.{spelling_runs, no_other_step}
 use Rattle.byte_unit_base.proofs.UnitReads.{unit_scan_is}
+use Rattle.byte_unit_base.proofs.SizeAscii.{run_visible, visible_ascii}
 use Rattle.byte_unit_base.proofs.SizeRest.{utf8_from}
 
 -- beginnings of units are ASCII
 
 -- what the state machine reads is ASCII
 pub run_ascii : (text : List ℕ) (s t : UnitScan) → run unit_step s text ≡ Some t → IsAscii text
-run_ascii [] s t e = IsAscii-nil
-run_ascii (c ∷ cs) s t e =
-    let u = some_passed (λ v. run unit_step v cs) t (unit_step s c) e in
-    let small : c < 128 = ⊎_elim (λ small. small)
-    (λ wide. let no : ⊥ = cc (u.1, no_other_step s.multiple s.word c (inr wide)) in absurd no) (cases_lt c 128) in
-    IsAscii-cons c cs small (run_ascii cs u.0 t u.2)
+run_ascii text s t e = visible_ascii text (run_visible text s t e)
 
 -- the text of a unit is ASCII, so its bytes are its characters
 pub spelled_chars : (flags : Flags) (bytes : List ℕ) (unit : Shape) → Spells current flags bytes unit
@@ -52,17 +46,24 @@ spelled flags bytes scan unit place leads all e =
 -- where the parser stops
 
 -- what the code keeps of a state has its parser state
-pub kept_state : (m : Multiple) (w : SuffixPart)
+kept_state : (m : Multiple) (w : SuffixPart)
     → unit_parser_state (scan_of m w) ≡ stop_parser_state (unit_stop (scan_of m w))
 kept_state One Empty = refl
 kept_state m Empty = refl
 kept_state m _ = refl
 
 -- if no unit ends in a state, an input that ends there has the error of one that ends in `bi`
-pub no_unit : (flags : Flags) (m : Multiple) (w : SuffixPart) → unit_of flags (scan_of m w) ≡ None
+no_unit : (flags : Flags) (m : Multiple) (w : SuffixPart) → unit_of flags (scan_of m w) ≡ None
     → fault_at_end (word_parser_state m w) ≡ Some stops_at_bi
 no_unit flags m Bi none = refl
 no_unit flags m w none = absurd (let z : ⊥ = cc in z)
+
+-- the error of the state at what follows is that of what is kept of it
+pub unit_fault_after : (flags : Flags) (scan : UnitScan) (rest : List ℕ) → (rest ≡ [] → unit_of flags scan ≡ None)
+    → IsFaultAfter current flags (unit_parser_state scan) rest (unit_stop_fault flags (unit_stop scan) (next_char rest))
+unit_fault_after flags scan [] ends = no_unit flags scan.multiple scan.word (ends refl)
+unit_fault_after flags scan (c ∷ cs) ends =
+    ap (λ state. fault_at current flags state c) (sym (kept_state scan.multiple scan.word))
 
 -- if no character is left after the first bytes, which are ASCII, these are all of the bytes
 pub none_left : (bytes : List ℕ) (place : ℕ) → IsUtf8 bytes → place ≤ length bytes → IsAscii (take place bytes)

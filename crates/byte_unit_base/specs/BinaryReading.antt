@@ -3,8 +3,7 @@
 use Rattle.std.specs.Prelude.{ℕ, Bool, true, false, List, Option, Result, if◌then◌else◌, nat_lt}
 use Rattle.byte_unit_base.specs.Shape.{Shape, shape}
 use Rattle.byte_unit_base.specs.Version.{current}
-use Rattle.byte_unit_base.specs.Fault.{Fault}
-use Rattle.byte_unit_base.specs.Accepted.{as_written, IsAcceptedAs, IsRejectedAs}
+use Rattle.byte_unit_base.specs.Accepted.{as_written, IsAcceptedAs}
 use Rattle.byte_unit_base.specs.SizeReading.{IsReadingAs, IsBytesReadingAs}
 use Rattle.byte_unit_base.specs.declared.errors.ParseError.{ParseError}
 use Rattle.byte_unit_base.specs.declared.kind.Kind.{Kind}
@@ -21,10 +20,6 @@ unit_meant false = as_written
 -- The string is accepted as the size n, if decimal prefixes mean binary ones.
 abbrev pub IsBinaryAccepted : Kind → Bool → List ℕ → ℕ → Type 0
 IsBinaryAccepted = IsAcceptedAs binary_of current
-
--- The string is rejected with this error, if decimal prefixes mean binary ones.
-abbrev pub IsBinaryRejected : Kind → Bool → List ℕ → Fault → Type 0
-IsBinaryRejected = IsRejectedAs binary_of current
 
 -- as `IsSizeReading`, by the binary reading
 abbrev pub IsBinaryReading : Kind → Bool → List ℕ → Result ℕ ParseError → Type 0

@@ -15,7 +15,7 @@ use Rattle.byte_unit_base.specs.Fault.{Fault, IsFaultAfter, fault_at, no_unit, n
 use Rattle.byte_unit_base.specs.Scan.{run}
 use Rattle.byte_unit_base.specs.UnitScan.{UnitScan, unit_of, unit_step, start}
 use Rattle.byte_unit_base.specs.UnitWord.{unit_stop, stop_parser_state}
-use Rattle.byte_unit_base.specs.SizeScan.{SizeScan, Beginning, size_step, size_at_end, size_or_fault, size_parser_state}
+use Rattle.byte_unit_base.specs.SizeScan.{SizeScan, Beginning, size_step, size_parser_state}
 use Rattle.byte_unit_base.specs.SizeScan.{after_number}
 use Rattle.byte_unit_base.specs.declared.unit.Unit.{Unit as UnitName}
 use Rattle.byte_unit_base.specs.declared.read.stop.ByteStop.{ByteStop}
@@ -31,10 +31,14 @@ pub record HasVisibleEnds (bytes : List ℕ) : Type 0 where
   pub start : is_ascii_graphic (slice_index bytes 0) ≡ true
   pub end : is_ascii_graphic (slice_index bytes (length bytes - 1)) ≡ true
 
+-- the first character, if there is one, has the property
+abbrev pub IsFirst : (ℕ → Type 0) → List ℕ → Type 0
+IsFirst Has [] = ⊤
+IsFirst Has (c ∷ rest) = Has c
+
 -- what follows a line: a line feed (10), or nothing
 abbrev pub IsAfterLine : List ℕ → Type 0
-IsAfterLine [] = ⊤
-IsAfterLine (byte ∷ rest) = byte ≡ 10
+IsAfterLine = IsFirst (λ byte. byte ≡ 10)
 
 -- the bytes begin with the line; `after` is what follows it
 pub record IsLineOf (line bytes : List ℕ) : Type 0 where
@@ -45,11 +49,6 @@ pub record IsLineOf (line bytes : List ℕ) : Type 0 where
 -- the first eight bytes, and 0 in place of those after the end
 abbrev pub first_eight : List ℕ → List ℕ
 first_eight bytes = take 8 (bytes ++ replicate 8 0)
-
--- the first character, if there is one, has the property
-abbrev pub IsFirst : (ℕ → Type 0) → List ℕ → Type 0
-IsFirst Has [] = ⊤
-IsFirst Has (c ∷ rest) = Has c
 
 -- the character is no space
 abbrev pub IsNoSpace : ℕ → Type 0
@@ -138,10 +137,9 @@ pub record EndsNumber (state : SizeScan) (n c : ℕ) : Type 0 where
 pub record IsLeadingNumber (bytes : List ℕ) (n end : ℕ) : Type 0 where
   pub within : end ≤ length bytes
   pub number_is : IsNumberText current (take end bytes) n
-  -- the state machine has this state after the number, and its result there if the input ends, or if it goes on
+  -- the state machine has this state after the number, and goes on from there as after it
   pub state : SizeScan
   pub run_is : run size_step Beginning (take end bytes) ≡ Some state
-  pub at_end : (flags : Flags) → size_at_end flags state ≡ size_or_fault n (unit_of flags start)
   pub next : IsUtf8 bytes → IsFirst (EndsNumber state n) (chars (drop end bytes))
 
 -- the number with which the bytes begin, or why and where the parser stops in it

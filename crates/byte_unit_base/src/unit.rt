@@ -203,7 +203,7 @@ impl Unit {
     /// assert_eq!(rt; (Unit::MB.to_binary(), Unit::Kbit.to_binary()), (Unit::MiB, Unit::Kibit));
     /// assert_eq!(rt; (Unit::B.to_binary(), Unit::GiB.to_binary()), (Unit::B, Unit::GiB));
     /// ```
-    #[tactic(auto, using(crate::proofs::Names::unit_known, crate::proofs::BinaryUnits::binary_shape))]
+    #[tactic(auto, using(crate::proofs::Names::unit_known, crate::proofs::UnitLetters::binary_shape))]
     pub fn to_binary(self) -> Unit
         ensures { shape_of result ≡ binary_of (shape_of self) }
     {

@@ -1,17 +1,16 @@
 -- A formatted size is read as the size, and what the string of an adjusted size is read as.
 --
 -- The number of an adjusted form, `number_is`, is its expansion, that it is this, and that the text is that of it.
-use Rattle.std.proofs.Common.{◌≡◌, ℕ, zero, suc, ◌<◌, List, [], ◌∷◌, ◌++◌, refl, arith, ◌≢◌, ◌+◌, ◌-◌, ◌*◌, ◌/◌, ◌%◌}
+use Rattle.std.proofs.Common.{◌≡◌, ℕ, ◌<◌, List, [], ◌++◌, refl, arith, ◌≢◌, ◌+◌, ◌-◌, ◌*◌}
 use Rattle.std.proofs.Common.{◌≤◌, ⊎_elim, inl, inr, length, rules, sym, ap, ◌∙◌, Bool, false, append-nil, append_assoc}
 use Rattle.std.proofs.Common.{◌^◌, subst}
-use Rattle.std.specs.Str.{skip_leading_whitespace, drop_trailing_whitespace, IsAscii}
-use Rattle.std.proofs.lemmas.Str.{chars-IsAscii, IsAscii-append}
+use Rattle.std.proofs.lemmas.Str.{IsAscii-append}
 use Rattle.byte_unit_base.specs.SizeText.{trim_of, IsSizeText}
-use Rattle.byte_unit_base.proofs.Trim.{StartsWithoutSpace, EndsWithoutSpace, keep_last}
+use Rattle.byte_unit_base.proofs.SizeAscii.{visible_ascii, gap_left, spaces_dropped, trim_front}
 use Rattle.byte_unit_format.specs.Plain.{spaces, plus_of, plain, plain_padding, plain_left_padding}
 use Rattle.std.specs.Fmt.{decimal}
 use Rattle.std.proofs.lemmas.Nat.{mul-le}
-use Rattle.std.proofs.lemmas.List.{replicate-append-replicate}
+use Rattle.std.proofs.lemmas.List.{replicate-append-replicate, length-append}
 use Rattle.byte_unit_math.specs.Bounds.{scale, places_of_decimal, whole_limit, bits_limit}
 use Rattle.byte_unit_base.specs.Shape.{Shape, bits}
 use Rattle.byte_unit_base.specs.Version.{current, unit_name_in}
@@ -21,9 +20,7 @@ use Rattle.byte_unit_math.specs.Digits.{at_places, trim_expansion}
 use Rattle.byte_unit_math.specs.Numeral.{fraction_text, text_of}
 use Rattle.byte_unit_math.proofs.Digits.{ShortOf-shortened}
 use Rattle.byte_unit_math.proofs.Scales.{pow10_times_rest}
-use Rattle.byte_unit_math.proofs.WrittenDigits.{decimal_one_digit, decimal_next_digit}
 use Rattle.std.proofs.lemmas.Bool.{cases_lt}
-use Rattle.std.proofs.lemmas.Bool.Decides.{nat_tests}
 use Rattle.byte_unit_base.specs.declared.kind.Kind.{Kind}
 use Rattle.byte_unit_base.specs.declared.kind.Kind.TheVariants.{Byte, Bit}
 use Rattle.byte_unit_format.specs.declared.spec.FormatSpec.{FormatSpec}
@@ -32,15 +29,15 @@ use Rattle.byte_unit_format.specs.declared.spec.Sign.TheVariants.{Plus}
 use Rattle.byte_unit_choice.specs.Family.{HasKind, own_family}
 use Rattle.byte_unit_choice.specs.Choice.{IsRecoveredIn}
 use Rattle.byte_unit_choice.proofs.Choosing.{some_bits, own_number}
-use Rattle.byte_unit_base.proofs.Names.{IsKnown, SaysKind, name_spells, name_ascii, name_end, unit_known}
+use Rattle.byte_unit_base.proofs.Names.{IsKnown, SaysKind, name_spells, name_visible, name_some, unit_known}
 use Rattle.byte_unit_base.specs.Kinds.{bits_in, counts_bits, own_unit, flags_for}
 use Rattle.byte_unit_base.specs.LeastOfKind.{IsLeastOf}
 use Rattle.byte_unit_base.specs.Accepted.{IsAccepted, IsAcceptedAs, IsRejected, as_written}
 use Rattle.byte_unit_format.specs.Layout.{layout, layout_padding, layout_left_padding, gap_of}
 use Rattle.byte_unit_format.specs.Forms.{places_of, IsSizeForm}
 use Rattle.byte_unit_format.specs.FormLaws.{SizeFormReadsBack, PlainFormReadsBack, AdjustedStringReadsBack, FitsDecimal}
-use Rattle.byte_unit_base.proofs.NumberTexts.{fixed_point_of, number_text, number_start, number_ascii, decimal_ascii}
-use Rattle.byte_unit_base.proofs.NumberTexts.{whole_text, IsBounded, starts_with_digit}
+use Rattle.byte_unit_base.proofs.NumberTexts.{fixed_point_of, number_text, fixed_visible, whole_visible}
+use Rattle.byte_unit_base.proofs.NumberTexts.{whole_text, IsBounded}
 use Rattle.byte_unit_format.proofs.NarrowTexts.{own_kind}
 use Rattle.byte_unit_format.proofs.AdjustedLengths.{whole_at_most}
 use Rattle.byte_unit_format.proofs.TextParts.{run_ascii}
@@ -53,39 +50,6 @@ use Rattle.byte_unit_format.specs.declared.spec.TheConstants.FormatSpec.{ALTERNA
 use Rattle.byte_unit_base.specs.declared.unit.Unit.{Unit as UnitName}
 use Rattle.byte_unit_base.proofs.LongFractions.{long_fault}
 use Rattle.byte_unit_choice.proofs.Quotients.{exact_more}
-
--- Spaces before a text are skipped as leading white space.
-skip_spaces : (count : ℕ) (text : List ℕ)
-    → skip_leading_whitespace (spaces count ++ text) ≡ skip_leading_whitespace text
-skip_spaces zero text = refl
-skip_spaces (suc count) text = skip_spaces count text
-
--- Spaces alone are dropped as trailing white space.
-drop_spaces : (count : ℕ) → drop_trailing_whitespace (spaces count) ≡ []
-drop_spaces zero = refl
-drop_spaces (suc count) = rw (drop_spaces count) refl
-
--- Spaces after a text are dropped as trailing white space.
-drop_end : (text : List ℕ) (count : ℕ) → drop_trailing_whitespace (text ++ spaces count) ≡ drop_trailing_whitespace text
-drop_end [] count = drop_spaces count
-drop_end (next ∷ text) count = rw (drop_end text count) refl
-
--- Trimming a text between spaces gives the text, if it begins and ends with no white space.
-pub trim_between :
-    (before behind : ℕ) (text : List ℕ) → StartsWithoutSpace text → EndsWithoutSpace text → IsAscii text
-    → trim_of (spaces before ++ (text ++ spaces behind)) ≡ text
-trim_between before behind text start end ascii =
-    let all : IsAscii (spaces before ++ (text ++ spaces behind)) =
-    IsAscii-append (spaces before) (text ++ spaces behind) (run_ascii before 32 (omega arith))
-    (IsAscii-append text (spaces behind) ascii (run_ascii behind 32 (omega arith))) in
-    let skipped : skip_leading_whitespace (text ++ spaces behind) ≡ text ++ spaces behind =
-    rw (start.text_is, start.head_is) refl in
-    rw (
-      chars-IsAscii (spaces before ++ (text ++ spaces behind)) all,
-      skip_spaces before (text ++ spaces behind),
-      skipped,
-      drop_end text behind,
-    ) (rw end.text_is (keep_last end.front end.last end.last_is))
 
 -- Units of the kind's own unit set are read in their kind: where bits are read, case is significant.
 own_says : (kind : Kind) (ignore_case bit : Bool) → HasKind (own_family kind) bit
@@ -121,13 +85,13 @@ accepted_as meant kind ignore_case text number size unit itself is_size exact be
   below = below;
 }
 
--- A layout is a text with spaces before it and none after it: the number, spaces and the unit.
+-- A layout is spaces, the number, spaces and the unit.
 layout_regrouped :
     (before behind gap : ℕ) (number unit : List ℕ)
     → (((spaces before ++ number) ++ spaces behind) ++ spaces gap) ++ unit
-    ≡ spaces before ++ ((number ++ (spaces (behind + gap) ++ unit)) ++ spaces 0)
+    ≡ spaces before ++ (number ++ (spaces (behind + gap) ++ unit))
 layout_regrouped before behind gap number unit =
-    rw (← replicate-append-replicate {A = ℕ} behind gap 32) (simp (append_assoc {A = ℕ}, append-nil {A = ℕ}))
+    rw (← replicate-append-replicate {A = ℕ} behind gap 32) (simp (append_assoc {A = ℕ}))
 
 -- A number formatted with its unit is, without the spaces at both ends, the number, some spaces and the unit.
 pub trimmed_layout : (spec : FormatSpec) (e : Finite) (unit : Shape) → IsBounded e → unit.power ≤ length current.letters
@@ -136,27 +100,21 @@ pub trimmed_layout : (spec : FormatSpec) (e : Finite) (unit : Shape) → IsBound
 trimmed_layout spec e unit bounded known =
     let name = unit_name_in current unit in
     let number = text_of e in
-    let fraction = fraction_text e.digits in
     let pad = layout_padding number name spec in
     let before = layout_left_padding spec.align pad in
     let gap = gap_of spec.sign name in
     let between = (pad - before) + gap in
-    let behind = spaces between ++ name in
-    let end = name_end unit in
-    let ascii : IsAscii (number ++ behind) =
-    IsAscii-append number behind (number_ascii e.whole e.digits bounded.small bounded.bound)
-    (IsAscii-append (spaces between) name (run_ascii between 32 (omega arith)) (name_ascii unit known)) in
-    let starts : StartsWithoutSpace (number ++ behind) =
-    rw (append_assoc (decimal e.whole) fraction behind) (number_start e.whole (fraction ++ behind) bounded.bound) in
-    let ends : EndsWithoutSpace (number ++ behind) = record {
-      front = number ++ (spaces between ++ end.front);
-      last = end.last;
-      text_is = ap (λ name. number ++ (spaces between ++ name)) end.text_is ∙ simp (append_assoc {A = ℕ});
-      last_is = end.last_is;
-    } in (
+    let visible = name_visible unit known in
+    let some : 0 < length number = omega (
+      arith,
+      length-append (decimal e.whole) (fraction_text e.digits),
+      (whole_text e.whole bounded.bound).0.0,
+    ) in
+    let behind = IsAscii-append (spaces between) name (run_ascii between 32 (omega arith)) (visible_ascii name visible) in (
       between,
       ap trim_of (layout_regrouped before (pad - before) gap number name)
-          ∙ trim_between before 0 (number ++ behind) starts ends ascii,
+          ∙ (trim_front before number (spaces between ++ name) (fixed_visible e.whole e.digits bounded.small bounded.bound)
+          some behind ∙ ap (λ rest. number ++ rest) (gap_left between name visible (name_some unit))),
     )
 
 -- A decimal of at most 28 digits after the point, formatted with a unit, is the text of that number of the unit.
@@ -231,23 +189,6 @@ size_form_reads_back kind size spec ignore_case text below form =
 no_plus : (sign : Sign) → sign ≢ Plus → plus_of sign ≡ []
 no_plus sign other = grind arith
 
--- The digits of a number do not end with white space.
-decimal_end : (whole : ℕ) → whole < whole_limit → EndsWithoutSpace (decimal whole)
-decimal_end whole bound = ⊎_elim
-    (λ one. record {
-      front = [];
-      last = 48 + whole;
-      text_is = decimal_one_digit whole one;
-      last_is = grind (arith, nat_tests);
-    })
-    (λ more. record {
-      front = decimal (whole / 10);
-      last = 48 + whole % 10;
-      text_is = decimal_next_digit whole more (omega (arith, bound));
-      last_is = grind (arith, nat_tests);
-    })
-    (cases_lt whole 10)
-
 -- The empty text spells the base unit of the kind.
 no_unit : (kind : Kind) (ignore_case : Bool) → Spells current (flags_for kind ignore_case) [] (own_unit kind)
 no_unit Byte ignore_case = inl record { count_is = inl (refl, refl); power_is = refl; binary_is = refl }
@@ -264,8 +205,9 @@ digits_are_size kind size spec ignore_case below sign =
     let trims : trim_of (plain size spec) ≡ decimal size =
     ap (λ plus. trim_of ((spaces before ++ (plus ++ decimal size)) ++ spaces (pad - before))) (no_plus spec.sign sign)
     ∙ (ap trim_of (append_assoc (spaces before) (decimal size) (spaces (pad - before)))
-    ∙ trim_between before (pad - before) (decimal size) (starts_with_digit (decimal size) (whole_text size bound).0)
-    (decimal_end size bound) (decimal_ascii size bound)) in
+    ∙ (trim_front before (decimal size) (spaces (pad - before)) (whole_visible size bound)
+    (whole_text size bound).0.0 (run_ascii (pad - before) 32 (omega arith))
+    ∙ (ap (λ rest. decimal size ++ rest) (spaces_dropped (pad - before)) ∙ append-nil (decimal size)))) in
     record {
       number_part = decimal size;
       spaces = 0;

@@ -1,5 +1,7 @@
 //! Laws of the binary reading. Each function does nothing; its contract is the law.
 
+#![tactic(auto, using(crate::proofs::BinaryTexts::each_text_with_i))]
+
 ghost use Rattle.byte_unit_base.specs.BinaryLaws.{BinaryReadingsAreThoseWithI, EachTextHasOneWithI};
 
 /// States that the binary reading of each string is the reading of it with an `i` after its decimal prefix. A string

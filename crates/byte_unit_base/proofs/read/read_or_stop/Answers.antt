@@ -5,17 +5,13 @@ use Rattle.byte_unit_base.specs.ParserEnds.{IsStopAt, next_char}
 use Rattle.byte_unit_base.proofs.Positions.{stop_in_string}
 use Rattle.byte_unit_base.proofs.SizeAscii.{size_of_chars}
 use Rattle.byte_unit_base.proofs.SizeReads.{number_reading}
-use Rattle.byte_unit_base.proofs.SizeRest.{boundary_at}
+use Rattle.byte_unit_base.proofs.SizeRest.{boundary_of_stop}
 use Rattle.byte_unit_base.proofs.read.read_or_stop.Goals as goal
 
 -- the parser stops at the boundary of a character, since ASCII comes before
 pub range_from-requires : goal.range_from-requires
 range_from-requires c =
-    let stop = c.in-Err.stop in
-    let stops = subst (λ text. IsStopAt c.args.flags text stop.place stop.reason) c.as_bytes-bytes.ensures.value
-    c.in-Err.ensures in
-    let utf8 = subst IsUtf8 c.as_bytes-bytes.ensures.value c.as_bytes-bytes.ensures.utf8 in
-    λ _. boundary_at c.trimmed-text.result.now stop.place utf8 stops.within stops.ascii
+    λ _. boundary_of_stop c.as_bytes-bytes.ensures.value c.as_bytes-bytes.ensures.utf8 c.in-Err.ensures
 
 -- the bytes are the number and the unit that the parser has read
 pub returns-in-Ok : goal.returns-in-Ok
