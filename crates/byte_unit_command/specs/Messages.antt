@@ -8,11 +8,13 @@ use Rattle.std.specs.List.{flat_map, list_any}
 use Rattle.std.specs.Str.{IsUtf8, is_utf8, chars}
 use Rattle.byte_unit.specs.Errors.{size_fault}
 use Rattle.byte_unit.specs.FaultText.{parse_text}
+use Rattle.byte_unit.specs.declared.ParseError.TheVariants.{Value, Unit as UnitFault}
+use Rattle.byte_unit.specs.declared.ValueParseError.TheVariants.{NotNumber}
 use Rattle.byte_unit_command.specs.Field.{IsSize, IsNoSize, ignores_case, without_suffix}
 use Rattle.byte_unit_command.specs.Fields.{IsChosenField, fields_of}
 use Rattle.byte_unit_command.specs.Prefixes.{IsRejectedBy}
 use Rattle.byte_unit_command.specs.Sums.{is_above, is_below}
-use Rattle.byte_unit_command.specs.WrongCharacter.{ArePlaceWords, begins_character}
+use Rattle.byte_unit_command.specs.WrongCharacter.{IsPlaceTold, begins_character}
 use Rattle.byte_unit_command.specs.declared.notice.FieldError.{FieldError}
 use Rattle.byte_unit_command.specs.declared.notice.FieldError.TheVariants.{NotUtf8, Rejected, Above, Below}
 use Rattle.byte_unit_command.specs.declared.options.Invalid.{Invalid}
@@ -83,9 +85,10 @@ field_text (Some delimiter) number = codes "field " ++ decimal number ++ codes "
 abbrev pub place_text : Options → List ℕ → ℕ → ℕ → List ℕ
 place_text options word place number = record_text word place ++ field_text options.delimiter number
 
--- what a message says of the place of the error in the text of a field
+-- what a message says of the place in the text of a field: it names that if it names a character
 abbrev pub AreCharacterWords : FieldError → List ℕ → List ℕ → Type 0
-AreCharacterWords (Rejected error) text words = ArePlaceWords error text words
+AreCharacterWords (Rejected (Value (NotNumber c))) text words = IsPlaceTold text words
+AreCharacterWords (Rejected (UnitFault error)) text words = IsPlaceTold text words
 AreCharacterWords _ text words = words ≡ []
 
 -- a message about the field with this number, in the record at this place, which is called by this word

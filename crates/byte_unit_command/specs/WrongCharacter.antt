@@ -5,9 +5,6 @@ use Rattle.std.specs.Fmt.{decimal}
 use Rattle.std.specs.List.{count_by}
 use Rattle.std.specs.Str.{IsUtf8, trim_end}
 use Rattle.byte_unit.specs.ErrorPosition.{IsSizePosition}
-use Rattle.byte_unit.specs.declared.ParseError.{ParseError}
-use Rattle.byte_unit.specs.declared.ParseError.TheVariants.{Value, Unit as UnitFault}
-use Rattle.byte_unit.specs.declared.ValueParseError.TheVariants.{NotNumber}
 
 -- whether a byte begins a character
 abbrev pub begins_character : ℕ → Bool
@@ -33,9 +30,3 @@ character_words (Some number) = codes " (character " ++ (decimal number ++ codes
 -- the words for the place of the first wrong character of a text
 abbrev pub IsPlaceTold : List ℕ → List ℕ → Type 0
 IsPlaceTold text words = (number : Option ℕ) × IsWrongCharacter text number × (words ≡ character_words number)
-
--- what a message says of the place in the text: it names that if it names a character
-abbrev pub ArePlaceWords : ParseError → List ℕ → List ℕ → Type 0
-ArePlaceWords (Value (NotNumber c)) text words = IsPlaceTold text words
-ArePlaceWords (Value _) text words = words ≡ []
-ArePlaceWords (UnitFault error) text words = IsPlaceTold text words

@@ -275,12 +275,10 @@ fn add_character<A: Allocator>(
         × (string_bytes line.new ≡ string_bytes line.old ++ words)) }
 {
     match reason {
-        FieldError::Rejected(ParseError::Unit(_)) => add_number(wrong_character(text), line),
-        FieldError::Rejected(ParseError::Value(ValueParseError::NotNumber(_))) => {
-            add_number(wrong_character(text), line)
-        }
-        FieldError::Rejected(ParseError::Value(_)) => Ok(()),
-        FieldError::NotUtf8 | FieldError::Above | FieldError::Below => Ok(()),
+        FieldError::Rejected(
+            ParseError::Unit(_) | ParseError::Value(ValueParseError::NotNumber(_)),
+        ) => add_number(wrong_character(text), line),
+        _ => Ok(()),
     }
 }
 

@@ -1,9 +1,8 @@
 //! Where a text is wrong: the number of its first wrong character, for messages.
 
-ghost use Rattle.std.specs.Prelude.{◌≡◌, ◌≤◌, ℕ, Option, length};
-ghost use Rattle.std.specs.List.{count_by};
+ghost use Rattle.std.specs.Prelude.{◌≡◌, ℕ, Option};
 ghost use Rattle.byte_unit.specs.ErrorPosition.{IsSizePosition};
-ghost use Rattle.byte_unit_command.specs.WrongCharacter.{IsWrongCharacter, begins_character, character_at};
+ghost use Rattle.byte_unit_command.specs.WrongCharacter.{IsWrongCharacter, character_at};
 
 use crate::quote::is_boundary;
 use byte_unit_base::size;
@@ -25,28 +24,11 @@ fn character_of(text: &str) -> Option<usize>
     ensures { (position : Option ℕ) × IsSizePosition text.now position
         × (result ≡ character_at text.now position) }
 {
-    match size::error_position(text) {
-        None => None,
-        Some(position) => {
-            if position < text.trim_end().len() {
-                Some(characters_in(&text.as_bytes()[..position]) + 1)
-            } else {
-                None
-            }
-        }
+    let position = size::error_position(text)?;
+    if position < text.trim_end().len() {
+        let before = &text.as_bytes()[..position];
+        Some(before.iter().filter(|byte| is_boundary(**byte)).count() + 1)
+    } else {
+        None
     }
-}
-
-/// Returns the number of characters that begin in these bytes.
-fn characters_in(bytes: &[u8]) -> usize
-    ensures count { result ≡ count_by begins_character bytes.now }
-    ensures bound { result ≤ length bytes.now }
-{
-    let mut count = 0usize;
-    for byte in bytes {
-        if is_boundary(*byte) {
-            count += 1;
-        }
-    }
-    count
 }

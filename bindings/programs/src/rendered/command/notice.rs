@@ -193,12 +193,10 @@ fn add_words<A: Allocator>(reason: &FieldError, words: &mut String<A>, line: &mu
 #[inline(always)]
 fn add_character<A: Allocator>(reason: &FieldError, text: &[u8], line: &mut String<A>) -> Result<(), AllocError> {
     match reason {
-        FieldError::Rejected(ParseError::Unit(_)) => add_number(wrong_character(text), line),
-        FieldError::Rejected(ParseError::Value(ValueParseError::NotNumber(_))) => {
+        FieldError::Rejected(ParseError::Unit(_) | ParseError::Value(ValueParseError::NotNumber(_))) => {
             add_number(wrong_character(text), line)
         }
-        FieldError::Rejected(ParseError::Value(_)) => Ok(()),
-        FieldError::NotUtf8 | FieldError::Above | FieldError::Below => Ok(()),
+        _ => Ok(()),
     }
 }
 

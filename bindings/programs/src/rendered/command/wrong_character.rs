@@ -17,25 +17,11 @@ pub(crate) fn wrong_character(text: &[u8]) -> Option<usize> {
 
 /// Returns what [`wrong_character`] does, for a string.
 fn character_of(text: &str) -> Option<usize> {
-    match size::error_position(text) {
-        None => None,
-        Some(position) => {
-            if position < text.trim_end().len() {
-                Some(characters_in(&text.as_bytes()[..position]) + 1)
-            } else {
-                None
-            }
-        }
+    let position = size::error_position(text)?;
+    if position < text.trim_end().len() {
+        let before = &text.as_bytes()[..position];
+        Some(before.iter().filter(|byte| is_boundary(**byte)).count() + 1)
+    } else {
+        None
     }
-}
-
-/// Returns the number of characters that begin in these bytes.
-fn characters_in(bytes: &[u8]) -> usize {
-    let mut count = 0usize;
-    for byte in bytes {
-        if is_boundary(*byte) {
-            count += 1;
-        }
-    }
-    count
 }
