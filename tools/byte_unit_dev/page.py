@@ -1,9 +1,4 @@
-"""Makes the page "How a size is read", one file with the module of WebAssembly inside.
-
-    tools/dev make-page PAGE.html
-
-The module is bindings/js/byte_unit.wasm.
-"""
+"""Makes the page "How a size is read", one file with the module of WebAssembly inside."""
 
 import base64
 import re

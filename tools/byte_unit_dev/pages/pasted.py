@@ -1,24 +1,20 @@
 """The blocks of Rattle in the guide, pasted into empty crates: they are proved over the libraries of `rt ci`."""
 
 import os
-import re
 import subprocess
 import tempfile
 
 from ..common import output, read, write
 from ..libraries import rattle_after_ci
-from ..source import SHOWN, beside, crates, source
+from ..source import SHOWN, beside, crates
 from .commands import GUIDE
 from .examples import Example, test_of
 
 
-def paste(top, name, codes):
-    """Writes a crate with the name of a file's crate, with the blocks of this file and what they need beside them."""
+def paste(top, name, code):
+    """Writes a crate with the name of a file's crate, with the block of this file and what it needs beside it."""
     crate, _, module = name.removeprefix("crates/").removesuffix(".rt").partition("/src/")
-    folder, is_root, code = f"{top}/crates/{crate}", module in ("lib", "main"), "\n".join(codes)
-    if codes[1:]:  # each has its own `use` lines, which may name one thing twice
-        code = re.sub(r"^(?:ghost )?use [^;]*;\n", "", code, flags=re.M)
-        code = "\n".join([*source(name).imports_for(code), code])
+    folder, is_root = f"{top}/crates/{crate}", module in ("lib", "main")
     tactic = "" if "#![" in code and is_root else "#![tactic(auto)]\n"
     root = f"{folder}/src/lib.rt"
     before = read(root) if os.path.exists(root) else f"//! Blocks of the guide.\n{tactic}"
@@ -39,12 +35,12 @@ def pasted():
         if language == "rust" and parts.startswith("example"):
             tests.append(Example(file, 0, code, "byte_unit", f"block_{len(tests)}"))
         elif language == "rust":
-            found.setdefault(file, []).append(code)
+            found[file] = found.get(file, "") + code
     made = {name: crates()[name] for name in dict.fromkeys(file.split("/")[1] for file in found)}
     used = sorted({*sum(made.values(), []), "byte_unit_serde", *crates()["byte_unit_serde"]})
     with tempfile.TemporaryDirectory() as top:
-        for file, codes in found.items():
-            paste(top, file, codes)
+        for file, code in found.items():
+            paste(top, file, code)
         modules = "".join(f"\n#[cfg(test)]\nmod {test.test};\n" for test in tests)
         write(f"{top}/crates/pasted/src/lib.rt", f"//! Bodies of tests.\n#![tactic(auto)]\n{modules}")
         for test in tests:
@@ -52,4 +48,4 @@ def pasted():
         for name, needed in [*made.items(), ("pasted", used)]:
             words = [*rattle_after_ci("check", name, needed), *["--test"] * (name == "pasted")]
             output(*words, cwd=f"{top}/crates/{name}", stdin=subprocess.DEVNULL)
-    return [], f"{sum(map(len, found.values()))} blocks and {len(tests)} bodies of tests are proved"
+    return [], f"{len(found)} blocks and {len(tests)} bodies of tests are proved"

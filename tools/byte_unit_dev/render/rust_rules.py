@@ -22,9 +22,8 @@ ITEMS_LEFT_OUT = {
         "allocators are not stable, and no call of the package allocates",
     r"impl fmt::Display for (?:Unit|Decimal|Byte|Bit|AdjustedByte|AdjustedBit)\b":
         "by hand: the original's obeys the flags of the formatter",
-    r"fn (?:last_16_digits|suffix_len)\(":
-        "by hand, in `support::lanes`: of divisions and comparisons of lanes rustc makes many instructions",
-    r"fn value_of_eight\(|pub fn first_char\(": "by hand, in `support`: see `FORMS`",
+    r"(?:pub )?fn (?:last_16_digits|suffix_len|value_of_eight|first_char)\(":
+        "by hand, in `support`: rustc makes many instructions of them",
     r"pub fn from_u128_unsafe": "by hand: the original's is `unsafe`",
     r"pub fn get_value": "by hand: the original's returns a float",
     r"(?<=    )pub fn (?:text_len|write_text)\(self": "see `LEFT_OUT` of `/text.rt`",
