@@ -2,6 +2,7 @@
 --
 -- The `test` whether a size is exact in a unit gives two parts, for the exponent of 2 and for that of 5; before it is
 -- applied, its parts are its two directions.
+use Rattle.std.proofs.lemmas.Grind.{common_steps}
 use Rattle.std.proofs.Common.{◌≡◌, ℕ, ◌+◌, ◌-◌, ◌*◌, ◌^◌, ◌<◌, ◌≤◌, ⊎_elim, inl, inr}
 use Rattle.std.proofs.Common.{Bool, true, false, ltb, max, refl, arith, ap, ◌∙◌, subst}
 use Rattle.std.proofs.Math.Nat.{mul-le-mul_left, mul-le-mul_right, one-le-pow, pow-le-pow_left, pow-le-pow_right}
@@ -81,14 +82,7 @@ module _ (family : Family) (in_bits precision a b power : ℕ) (bit : Bool) (pow
 
   -- the size has fewer twos than the greatest binary unit of the same kind
   fewer_twos : a < twos (greatest bit)
-  fewer_twos =
-      ⊎_elim (λ fewer. fewer)
-      (λ more.
-      let below = below_greatest (omega (arith, more)) in
-      let power_of_two = pow-le-pow_right {n = 2} (omega arith) {i = twos (greatest bit)} {j = a} more in
-      let product = mul-le-mul_left {m = 1} {n = 5 ^ b} (2 ^ a) (one-le-pow b 5 (omega arith)) in
-      absurd (omega (arith, below, power_of_two, product, powers_below in_bits a b powers)))
-      (cases_lt a (twos (greatest bit)))
+  fewer_twos = grind (arith, common_steps, below_greatest, pow-le-pow_right, mul-le-mul_left, one-le-pow, powers_below)
 
 -- no multiple of 2^91 lies between RB and RiB
 no_multiple : (n a b : ℕ) → IsTwoFive n a b → 91 ≤ a → bits (shape 9 false false) ≤ n → ¬ (n < bits (greatest false))

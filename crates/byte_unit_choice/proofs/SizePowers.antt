@@ -2,7 +2,8 @@
 --
 -- The exponents `h` of a number are that of 2, that of 5, and that these are its exponents. The two parts of
 -- `known_zeros` are for a byte and for a bit.
-use Rattle.std.proofs.Common.{◌≡◌, ◌≢◌, ℕ, ◌+◌, ◌*◌, ◌^◌, ◌<◌, ◌≤◌, ◌⊎◌, ⊎_elim, inl, inr, arith, refl, sym, ap, ◌∙◌}
+use Rattle.std.proofs.lemmas.Grind.{common_steps}
+use Rattle.std.proofs.Common.{◌≡◌, ◌≢◌, ℕ, ◌+◌, ◌*◌, ◌^◌, ◌<◌, ◌≤◌, ◌⊎◌, inl, inr, arith, refl, sym, ap, ◌∙◌}
 use Rattle.std.proofs.Math.Nat.{pow-le-pow_right, mul-le-mul_left}
 use Rattle.std.proofs.lemmas.Nat.{pow-add}
 use Rattle.std.specs.Int.{w128, trailing_zeros}
@@ -75,20 +76,12 @@ module _ {family : Family} {in_bits most a b : ℕ} (precision : ℕ) (same : mo
   -- a unit whose exponents are no greater than those of the size plus the places is one in which the size is exact
   exact_of_powers : (unit : Shape) → HasPowers family in_bits (a + most) (b + most) unit
       → IsExactUnit family in_bits precision unit
-  exact_of_powers unit h = record {
-    member = h.member;
-    not_above = h.not_above;
-    exact = rw (← same)
-        ((exact_by_powers in_bits (twos unit) (fives unit) a b most powers).1 (h.few_twos, h.few_fives));
-  }
+  exact_of_powers unit h = grind (arith, common_steps, exact_by_powers in_bits (twos unit) (fives unit) a b most powers)
 
   -- a unit in which the size is exact has no greater exponents than those of the size plus the places
   powers_of_exact : (unit : Shape) → IsExactUnit family in_bits precision unit
       → HasPowers family in_bits (a + most) (b + most) unit
-  powers_of_exact unit s =
-      let exact : IsExactAt in_bits (bits unit) most = rw same s.exact in
-      let h = (exact_by_powers in_bits (twos unit) (fives unit) a b most powers).0 exact in
-      record { member = s.member; not_above = s.not_above; few_twos = h.0; few_fives = h.1 }
+  powers_of_exact unit s = grind (arith, common_steps, exact_by_powers in_bits (twos unit) (fives unit) a b most powers)
 
   -- the largest unit with no greater exponents than those of the size plus the places is chosen, with its quotient
   pub chosen_by_powers : {number : ℕ} (unit : Shape) → IsLargest (HasPowers family in_bits (a + most) (b + most)) unit
@@ -111,11 +104,7 @@ exact_by_row {most = most} unit room same powers h =
 pub count_fits : {row : ShapeRow} (size own_bits places : ℕ) → IsMultiple row → (own_bits ≡ 8) ⊎ (own_bits ≡ 1)
     → size < current.size_limit → places ≤ 5 → size * own_bits * 10 ^ places < whole_limit * row.bits
 count_fits {row} size own_bits places multiple kind small few =
-    let tens = pow-le-pow_right {n = 10} (omega arith) {i = places} {j = 5} few in
-    let scaled = mul-le-mul_left {m = 10 ^ places} {n = 10 ^ 5} (size * own_bits) tens in
-    let in_bits : size * own_bits ≤ 8 * current.size_limit =
-    ⊎_elim (λ e. omega (arith, ap (λ d. size * d) e, small)) (λ e. omega (arith, ap (λ d. size * d) e, small)) kind in
-    omega (arith, scaled, in_bits, multiple.large)
+    grind (arith, common_steps, pow-le-pow_right {n = 10} (omega arith) {i = places} {j = 5} few, mul-le-mul_left)
 
 -- the steps of the two trials, and then of the division, are the step count of a choice
 pub counted_choice : {size number a b places : ℕ} (old mid new : ℕ) → IsTwoFive size a b

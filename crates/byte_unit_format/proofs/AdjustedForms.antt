@@ -3,6 +3,7 @@
 -- Of a text by a rule, as `of_text`, the parts are the expansion or the nearest decimal, that it is this, and that the
 -- text is its. The same holds of `of_other`. A nearest decimal that is `found` is its number, and that it is nearest; a
 -- text that is `found` is the text, and that it is by the rule.
+use Rattle.std.proofs.lemmas.Grind.{common_steps}
 use Rattle.std.proofs.Common.{◌≡◌, ℕ, ◌+◌, ◌*◌, ◌/◌, ◌%◌, ◌^◌, ◌<◌, ◌≤◌, ◌++◌, ⊎_elim, List, arith, ap, sym, refl, ◌∙◌}
 use Rattle.std.specs.Fmt.{decimal}
 use Rattle.std.proofs.Math.Nat.{div-add-mod', mod-eq_of_lt, pow-le-pow_right}
@@ -39,26 +40,16 @@ use Rattle.byte_unit_format.specs.FormLaws.{SizeHasOneAdjustedForm}
 -- A quotient has at most one text by a rule.
 numeral_unique : (rule : Rule) (num den : ℕ) (text other : List ℕ) → 0 < den → IsNumeralBy rule num den text
     → IsNumeralBy rule num den other → text ≡ other
-numeral_unique full num den text other some of_text of_other =
-    of_text.2 ∙ (ap text_of (expansion_unique num den of_text.0 of_other.0 some of_text.1 of_other.1) ∙ sym of_other.2)
-numeral_unique (round_to places) num den text other some of_text of_other =
-    let same = nearest_unique num den places Even of_text.0 of_other.0
-    (record { positive = some; this = of_text.1; other = of_other.1 }) in
-    of_text.2 ∙ (ap (λ nearest. numeral nearest places) same ∙ sym of_other.2)
-numeral_unique (short_to places) num den text other some of_text of_other =
-    let same = nearest_unique num den places Up of_text.0 of_other.0
-    (record { positive = some; this = of_text.1; other = of_other.1 }) in
-    of_text.2 ∙ (ap (λ nearest. short_numeral nearest places) same ∙ sym of_other.2)
+numeral_unique full num den text other some of_text of_other = grind (arith, common_steps, expansion_unique)
+numeral_unique (round_to places) num den text other some of_text of_other = grind (arith, common_steps, nearest_unique)
+numeral_unique (short_to places) num den text other some of_text of_other = grind (arith, common_steps, nearest_unique)
 
 -- A size has at most one text in a unit by a spec.
 pub adjusted_form_unique : {version : Version} {kind : Kind} {size : ℕ} {unit : Shape} {spec : FormatSpec}
     {text other : List ℕ} → IsAdjustedFormIn version kind size unit spec text
     → IsAdjustedFormIn version kind size unit spec other → text ≡ other
 adjusted_form_unique {version} {kind} {size} {unit} {spec} form other =
-    let rule = rule_of spec.precision spec.alternate unit in
-    let same = numeral_unique rule (size * bits_in kind) (bits unit) form.number other.number (some_bits unit)
-    form.number_is other.number_is in
-    rw (form.text_is, other.text_is, same) refl
+    grind (arith, common_steps, numeral_unique, some_bits unit)
 
 -- For each quotient there is a nearest multiple of 10^-places, whichever way ties are broken.
 nearest_exists : (num den places : ℕ) (ties : Ties) → 0 < den → (q : ℕ) × IsNearest num den places ties q

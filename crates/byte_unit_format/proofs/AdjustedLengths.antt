@@ -3,6 +3,7 @@
 --
 -- Of a number that is `found`, `found.0` is its expansion or nearest decimal, `found.1` that it is this, and `found.2`
 -- that the text is that of it.
+use Rattle.std.proofs.lemmas.Grind.{common_steps}
 use Rattle.std.proofs.Common.{◌≡◌, ℕ, ◌+◌, ◌*◌, ◌/◌, ◌^◌, ◌<◌, ◌≤◌, ⊎_elim, min, Bool, true, false, Option, None, Some}
 use Rattle.std.proofs.Common.{List, length, arith, ap, refl}
 use Rattle.std.specs.Fmt.{decimal}
@@ -21,7 +22,6 @@ use Rattle.byte_unit_math.specs.declared.expansion.Ties.TheVariants.{Even, Up}
 use Rattle.byte_unit_math.proofs.Digits.{one_le_pow10, length_last_digits}
 use Rattle.byte_unit_math.proofs.Texts.{short_numeral_is_expansion}
 use Rattle.byte_unit_base.specs.Shape.{bits}
-use Rattle.byte_unit_base.specs.Version.{unit_name}
 use Rattle.byte_unit_base.specs.Units.{shape_of}
 use Rattle.byte_unit_base.specs.Kinds.{bits_in}
 use Rattle.byte_unit_choice.proofs.Choosing.{some_bits}
@@ -122,9 +122,7 @@ numeral_length (Some precision) false kind size unit number small found =
 pub adjusted_narrow : (kind : Kind) (size : ℕ) (unit : UnitName) (spec : FormatSpec) (text : List ℕ)
     → size < size_limit → IsAdjustedForm kind size unit spec text → length text ≤ most_adjusted_text spec
 adjusted_narrow kind size unit spec text below form =
-    let small : size * bits_in kind < 10 ^ 31 = grind (arith, below) in
-    let number = numeral_length spec.precision spec.alternate kind size unit form.number small form.number_is in
-    grind (arith, layout_fills_width form.number (unit_name unit) spec, name_short (shape_of unit), number)
+    grind (arith, common_steps, numeral_length, layout_fills_width, name_short)
 
 -- What is written of a size in a unit has at most that length.
 pub written_narrow : (kind : Kind) (size : ℕ) (unit : UnitName) (spec : FormatSpec) {old new : List ℕ} {needed : ℕ}

@@ -1,6 +1,7 @@
 -- What the first version of the grammar accepts and formats, the current version does in the same way.
 --
 -- Of a prefix letter, `letter_is` is the two bounds of its position, and an equation.
+use Rattle.std.proofs.lemmas.Grind.{common_steps}
 use Rattle.std.proofs.Common.{◌≡◌, ℕ, ◌-◌, ◌*◌, ◌<◌, ◌≤◌, inl, inr, Bool, false, List, length, rules, arith, sym, ap}
 use Rattle.std.proofs.Common.{◌∙◌, ◌↔◌, slice_index}
 use Rattle.std.proofs.Math.Nat.{le_of_mul-le-mul_right}
@@ -8,13 +9,13 @@ use Rattle.std.proofs.lemmas.Bool.Decides.{nat_tests}
 use Rattle.byte_unit_math.specs.Bounds.{places_of_decimal}
 use Rattle.byte_unit_math.specs.Numeral.{short_numeral}
 use Rattle.byte_unit_base.specs.Shape.{Shape, shape, bits}
-use Rattle.byte_unit_base.specs.Version.{Version, first_version, current, unit_name_in}
+use Rattle.byte_unit_base.specs.Version.{first_version, current, unit_name_in}
 use Rattle.byte_unit_base.specs.Spelling.{Spells, SpellsPrefix}
 use Rattle.byte_unit_base.specs.declared.unit.scan.Flags.{Flags}
 use Rattle.byte_unit_base.specs.Number.{IsNumberText}
 use Rattle.byte_unit_choice.specs.Family.{InFamily, own_family}
 use Rattle.byte_unit_base.specs.Kinds.{bits_in, flags_for}
-use Rattle.byte_unit_choice.specs.Choice.{IsLargestOrOwn, IsExactUnitIn, IsEligibleUnitIn, IsRecoveredIn}
+use Rattle.byte_unit_choice.specs.Choice.{IsLargestOrOwn, IsRecoveredIn}
 use Rattle.byte_unit_format.specs.Layout.{layout}
 use Rattle.byte_unit_format.specs.Forms.{places_of}
 use Rattle.byte_unit_format.specs.VersionLaws.{AcceptedTextsStay, SizeFormsStay, AppropriateUnitsStay}
@@ -66,11 +67,7 @@ member_is_old : (kind : Kind) (size : ℕ) (unit : Shape) → size < first_versi
     → InFamily current (own_family kind) unit
     → bits unit ≤ size * bits_in kind → InFamily first_version (own_family kind) unit
 member_is_old kind size unit small h not_above =
-    let fits : prefix_of unit.power unit.binary ≤ size = le_of_mul-le-mul_right {k = bits_in kind}
-    (omega (arith, unit_bits kind unit.power unit.binary unit.bit h.kind, not_above)) (bits_in_positive kind) in
-    let least = prefix_at_least unit.power unit.binary in
-    let few = exponent_below 10 (3 * unit.power) 27 size (omega arith) (omega (arith, least, fits)) small in
-    record { prefix = record { some = h.prefix.some; known = omega (arith, few) }; kind = h.kind }
+    grind (arith, prefix_of, le_of_mul-le-mul_right, unit_bits, bits_in_positive, prefix_at_least, exponent_below)
 
 -- A unit of a unit set in the first version is one in the current version.
 member_stays : (family : Family) (unit : Shape) → InFamily first_version family unit → InFamily current family unit
@@ -87,13 +84,7 @@ same_largest kind Has Had unit there back (inr h) = inr ((λ other had. h.0 othe
 -- A size of the first version has the same appropriate unit.
 pub appropriate_stays : AppropriateUnitsStay
 appropriate_stays kind unit_type size unit small =
-    let Has : Version → Shape → Type 0 =
-    λ version. IsEligibleUnitIn version (own_family kind) unit_type (size * bits_in kind) in
-    let there : (other : Shape) → Has first_version other → Has current other =
-    λ other h. assumption (member_stays (own_family kind) other h.member) in
-    let back : (other : Shape) → Has current other → Has first_version other =
-    λ other h. assumption (member_is_old kind size other small h.member h.not_above) in
-    (same_largest kind _ _ unit there back, same_largest kind _ _ unit back there)
+    grind (arith, common_steps, member_stays, member_is_old, same_largest)
 
 -- The exact unit of a size in the first version is a unit of that version.
 recovered_old : (kind : Kind) (size precision : ℕ) (unit : Shape)
@@ -104,14 +95,7 @@ recovered_old kind size precision unit (inr h) = omega (arith, ap (λ s. s.power
 -- A size of the first version has the same exact unit at each precision.
 recovered_stays : (kind : Kind) (size precision : ℕ) (unit : Shape) → size < first_version.size_limit
     → IsRecoveredIn first_version kind false size precision unit ↔ IsRecoveredIn current kind false size precision unit
-recovered_stays kind size precision unit small =
-    let Has : Version → Shape → Type 0 =
-    λ version. IsExactUnitIn version (own_family kind) (size * bits_in kind) precision in
-    let there : (other : Shape) → Has first_version other → Has current other =
-    λ other h. assumption (member_stays (own_family kind) other h.member) in
-    let back : (other : Shape) → Has current other → Has first_version other =
-    λ other h. assumption (member_is_old kind size other small h.member h.not_above) in
-    (same_largest kind _ _ unit there back, same_largest kind _ _ unit back there)
+recovered_stays kind size precision unit small = grind (arith, common_steps, member_stays, member_is_old, same_largest)
 
 -- A number with a unit of the first version is laid out the same.
 layout_stays : (number : List ℕ) (unit : Shape) (spec : FormatSpec) → unit.power ≤ length first_version.letters
@@ -137,10 +121,7 @@ forms_stay kind size spec text small =
 
 -- A size has the same texts in each unit of the first version.
 pub adjusted_forms_stay : AdjustedFormsStay
-adjusted_forms_stay kind size unit spec text known = (
-  λ h. let text_is = h.text_is ∙ layout_stays h.number unit spec known in search (rules, text_is),
-  λ h. let text_is = h.text_is ∙ sym (layout_stays h.number unit spec known) in search (rules, text_is),
-)
+adjusted_forms_stay kind size unit spec text known = grind (arith, common_steps, layout_stays)
 
 -- what the first version accepts and prints keeps its meaning
 pub ruleset meanings_stay = (accepted_stays, forms_stay, appropriate_stays, adjusted_forms_stay)

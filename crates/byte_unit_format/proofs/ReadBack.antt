@@ -30,8 +30,7 @@ use Rattle.byte_unit_choice.specs.Family.{HasKind, own_family}
 use Rattle.byte_unit_choice.specs.Choice.{IsRecoveredIn}
 use Rattle.byte_unit_choice.proofs.Choosing.{some_bits, own_number}
 use Rattle.byte_unit_base.proofs.Names.{IsKnown, SaysKind, name_spells, name_visible, name_some, unit_known}
-use Rattle.byte_unit_base.specs.Kinds.{bits_in, counts_bits, own_unit, flags_for}
-use Rattle.byte_unit_base.specs.LeastOfKind.{IsLeastOf}
+use Rattle.byte_unit_base.specs.Kinds.{bits_in, own_unit, flags_for}
 use Rattle.byte_unit_base.specs.Accepted.{IsAccepted, IsAcceptedAs, IsRejected, as_written}
 use Rattle.byte_unit_format.specs.Layout.{layout, layout_padding, layout_left_padding, gap_of}
 use Rattle.byte_unit_format.specs.Forms.{places_of, IsSizeForm}
@@ -57,16 +56,6 @@ own_says : (kind : Kind) (ignore_case bit : Bool) → HasKind (own_family kind) 
 own_says Byte ignore_case bit has is_bit = absurd (let never : ⊥ = cc in never)
 own_says Bit ignore_case bit has is_bit = refl
 
--- The flags of a kind keep case significant, unless it is to be ignored.
-pub case_counts : (kind : Kind) → (flags_for kind false).ignore_case ≡ false
-case_counts kind = grind arith
-
--- The size that a number of units is exactly is the least one.
-IsLeastOf-exact : (kind : Kind) (number size : ℕ) (unit : Shape) → number * bits unit ≡ size * bits_in kind * scale
-    → IsLeastOf kind number unit size
-IsLeastOf-exact kind number size unit exact =
-    record { has = grind (arith, exact); least = λ other covers. grind (arith, exact, covers) }
-
 -- A text that is read as a number of a unit is accepted as the size, if that number of the unit is exactly the size and
 -- `meant` leaves the unit as it is.
 pub accepted_as :
@@ -74,16 +63,7 @@ pub accepted_as :
     → meant unit ≡ unit → IsSizeText current (flags_for kind ignore_case) (trim_of text) number unit
     → number * bits unit ≡ size * bits_in kind * scale → size < current.size_limit
     → IsAcceptedAs meant current kind ignore_case text size
-accepted_as meant kind ignore_case text number size unit itself is_size exact below = record {
-  number = number;
-  is_read = record {
-    unit = unit;
-    is_size = is_size;
-    is_least = subst (λ unit. IsLeastOf kind number unit size) (sym itself)
-        (IsLeastOf-exact kind number size unit exact);
-  };
-  below = below;
-}
+accepted_as meant kind ignore_case text number size unit itself is_size exact below = grind (arith)
 
 -- A layout is spaces, the number, spaces and the unit.
 layout_regrouped :
@@ -135,9 +115,7 @@ pub layout_accepted :
     → fixed_point_of e.whole e.digits * bits unit ≡ size * bits_in kind * scale → size < current.size_limit
     → IsAccepted kind ignore_case (layout (text_of e) (unit_name_in current unit) spec) size
 layout_accepted kind ignore_case size spec e unit bounded few known says exact below =
-    accepted_as as_written kind ignore_case (layout (text_of e) (unit_name_in current unit) spec)
-    (fixed_point_of e.whole e.digits) size unit refl
-    (layout_is_size kind ignore_case spec e unit bounded few known says) exact below
+    grind (arith, accepted_as, fixed_point_of, layout_is_size)
 
 -- A size has fewer than 8 * 10^30 bits.
 pub bits_of_size_bound : (kind : Kind) (size : ℕ) → size < current.size_limit → size * bits_in kind < bits_limit
@@ -147,15 +125,8 @@ bits_of_size_bound kind size below = grind arith
 recovered_name : (kind : Kind) (ignore_case : Bool) (size precision : ℕ) (unit : Shape)
     → IsRecoveredIn current kind false size precision unit
     → IsKnown unit × SaysKind (flags_for kind ignore_case) unit.bit
-recovered_name kind ignore_case size precision unit (inl largest) =
-    let member = largest.has.member in (
-      record { known = member.prefix.known; alone = λ none. absurd (omega (arith, none, member.prefix.some)) },
-      own_says kind ignore_case unit.bit member.kind,
-    )
-recovered_name kind ignore_case size precision unit (inr own) = rw own.1 (
-  record { known = omega arith; alone = λ none. refl },
-  own_says kind ignore_case (counts_bits kind) (own_kind kind),
-)
+recovered_name kind ignore_case size precision unit (inl largest) = grind (arith, own_says)
+recovered_name kind ignore_case size precision unit (inr own) = grind (arith, own_says, own_kind)
 
 -- A size formatted with a unit is the text of its number of its unit.
 pub form_is_size :
@@ -260,7 +231,7 @@ form_accepted kind size unit text below form exact =
     let e = form.number_is.0 in
     let few = form.number_is.1.least places_of_decimal exact in
     rw (form.text_is, form.number_is.2) (layout_accepted kind false size ALTERNATE e shape
-    (expansion_bounded kind size shape e below form.number_is.1) few (unit_known unit) (λ bit. case_counts kind)
+    (expansion_bounded kind size shape e below form.number_is.1) few (unit_known unit) (λ bit. grind arith)
     (expansion_product (size * bits_in kind) (bits shape) e form.number_is.1 few) below)
 
 -- An adjusted text whose size is not exact within 28 places is rejected as too long.

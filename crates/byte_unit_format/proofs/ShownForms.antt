@@ -15,9 +15,7 @@ use Rattle.byte_unit_base.specs.declared.kind.Kind.{Kind}
 use Rattle.byte_unit_format.specs.Adjusted.{adjusted_text}
 use Rattle.byte_unit_base.specs.Units.{shape_of}
 use Rattle.byte_unit_base.specs.Kinds.{bits_in}
-use Rattle.byte_unit_format.specs.Layout.{layout}
 use Rattle.byte_unit_format.specs.FormLaws.{ShownSizeIsPlainForm, ShownAdjustedSizeIsPlainForm}
-use Rattle.byte_unit_format.specs.declared.spec.TheConstants.FormatSpec.{PLAIN}
 use Rattle.byte_unit_base.specs.declared.unit.Unit.{Unit as UnitName}
 use Rattle.byte_unit_base.specs.declared.unit.Unit.TheVariants.{Bit}
 use Rattle.byte_unit_choice.proofs.Choosing.{some_bits}
@@ -32,29 +30,22 @@ pub exact_in_unit : (num : ℕ) (unit : UnitName) → IsExactAt num (bits (shape
 exact_in_unit num unit = powers_are_exact num (twos (shape_of unit)) (fives (shape_of unit))
     (leb-true _ _ (unit_below_limit unit))
 
--- The expansion of a number of bits in a unit is found by division.
-number_by_division : (num : ℕ) (unit : UnitName) (e : Finite) → IsExpansion num (bits (shape_of unit)) e
-    → e ≡ expansion_of num (bits (shape_of unit))
-number_by_division num unit e expansion =
-    expansion_is_by_division num (bits (shape_of unit)) e (some_bits (shape_of unit))
-    (exact_in_unit num unit) expansion
-
 -- The text of the expansion of a size in a unit, a space and the unit's name are what `Display` writes.
 pub written_text : (kind : Kind) (size : ℕ) (unit : UnitName) {e : Finite} {name : List ℕ}
     → IsExpansion (size * bits_in kind) (bits (shape_of unit)) e → name ≡ unit_name unit
     → text_of e ++ codes " " ++ name ≡ adjusted_text kind size unit
 written_text kind size unit {e} expansion name_is =
-    rw (number_by_division (size * bits_in kind) unit e expansion, name_is) refl
-
--- By the plain spec there is one space between number and name, and no padding.
-plain_layout : (number unit : List ℕ) → number ++ codes " " ++ unit ≡ layout number unit PLAIN
-plain_layout number unit = ap (λ front. front ++ codes " " ++ unit) (sym (append-nil number))
+    let num : ℕ = size * bits_in kind in
+    let same = expansion_is_by_division num (bits (shape_of unit)) e (some_bits (shape_of unit)) (exact_in_unit num unit)
+    expansion in
+    rw (same, name_is) refl
 
 -- The digits of a size are its text by the plain spec.
 pub shown_size_is_plain : ShownSizeIsPlainForm
 shown_size_is_plain version kind size = sym (append-nil (decimal size))
 
--- All digits of a size in a unit, a space and the unit's name are its text in that unit by the plain spec.
+-- All digits of a size in a unit, a space and the unit's name are its text in that unit by the plain spec, which puts
+-- one space between number and name, and no padding.
 pub shown_adjusted_size_is_plain : ShownAdjustedSizeIsPlainForm
 shown_adjusted_size_is_plain version kind size unit =
     let num : ℕ = size * bits_in kind in
@@ -66,5 +57,6 @@ shown_adjusted_size_is_plain version kind size unit =
         expansion_of_is_expansion num den (some_bits (shape_of unit)) (exact_in_unit num unit),
         refl,
       );
-      text_is = plain_layout (text_of (expansion_of num den)) (unit_name_in version (shape_of unit));
+      text_is = ap (λ front. front ++ codes " " ++ unit_name_in version (shape_of unit))
+          (sym (append-nil (text_of (expansion_of num den))));
     }

@@ -1,7 +1,6 @@
 -- The parts of a text, written or appended one after the other, are the text: runs of one byte, digits, names.
-use Rattle.std.proofs.Common.{◌≡◌, ℕ, List, ◌++◌, length, Result, arith, ap, refl, subst, ◌∙◌, ◌+◌, ◌-◌, ◌<◌, ◌≤◌, min}
+use Rattle.std.proofs.Common.{◌≡◌, ℕ, List, ◌++◌, length, Result, arith, ap, subst, ◌∙◌, ◌+◌, ◌-◌, ◌<◌, ◌≤◌, min}
 use Rattle.std.proofs.Common.{◌∷◌, take, replicate, sym, append_assoc, rules}
-use Rattle.std.specs.String.{string_bytes}
 use Rattle.std.specs.declared.string.String.{String}
 use Rattle.std.proofs.lemmas.Result.{on_ok_weaker, on_err_weaker}
 use Rattle.byte_unit_format.specs.Room.{AppendsForm}
@@ -30,17 +29,7 @@ use Rattle.byte_unit_format.specs.declared.parts.Fraction.TheVariants.{Last, Fir
 pub appends_form : {Z E R : Type 0} {IsForm : List ℕ → Type 0} {old new : String Z} {result : Result R E}
     (form : List ℕ) → IsForm form → ((other : List ℕ) → IsForm other → length other ≡ length form)
     → AppendsForm (λ other. other ≡ form) old new result → AppendsForm IsForm old new result
-appends_form {old = old} {result = result} form is_form as_long this = record {
-  added = on_ok_weaker result (λ added. (form, is_form, added.2 ∙ ap (λ other. string_bytes old ++ other) added.1))
-      this.added;
-  used = on_ok_weaker result (λ used other is_other. let room = used form refl in
-      omega (arith, room, as_long other is_other)) this.used;
-  refused =
-      on_err_weaker result (λ refused.
-      (form, is_form, let same = ap length refused.1 in omega (arith, same, refused.2))) this.refused;
-  unchanged = this.unchanged;
-  kept = this.kept;
-}
+appends_form {old = old} {result = result} form is_form as_long this = grind (arith, on_ok_weaker, on_err_weaker)
 
 -- A call that appends a text appends each equal text.
 pub appends_same : {Z E R : Type 0} {old new : String Z} {result : Result R E} {text form : List ℕ} → text ≡ form
@@ -94,10 +83,7 @@ pub layout_of_parts :
     → before ≡ layout_left_padding spec.align pad → gap ≡ gap_of spec.sign name
     → spaces before ++ number ++ spaces (pad - before + gap) ++ name ≡ layout number name spec
 layout_of_parts number name spec pad before gap pad_is before_is gap_is =
-    let all = layout_padding number name spec in
-    let front = layout_left_padding spec.align all in
-    rw (before_is, pad_is, gap_is, ← replicate-append-replicate {A = ℕ} (all - front) (gap_of spec.sign name) 32)
-    (simp (append_assoc {A = ℕ}))
+    grind (arith, replicate-append-replicate, append_assoc)
 
 -- A run of an ASCII byte is ASCII.
 pub run_ascii : (count byte : ℕ) → byte < 128 → IsAscii (replicate count byte)

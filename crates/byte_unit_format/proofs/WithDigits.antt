@@ -272,9 +272,7 @@ found_power {digits} {size} {len} {used} {power} digits_are len_is small wide gi
 pub not_above_digits : (size other : ℕ) → 1 ≤ size → size < size_limit → FitsPrefix 3 size (10 ^ (3 * other))
     → other ≤ (length (decimal size) - 1) / 3
 not_above_digits size other some small fits =
-    let powers = between_powers size some (omega (arith, small)) in
-    let less = exponent_below 10 (3 * other) (length (decimal size)) size (omega arith) fits.not_above powers.1 in
-    omega (arith, less)
+    grind (arith, common_steps, between_powers size some (omega (arith, small)), exponent_below)
 
 -- The first bytes of the padded digits of a size, as many as it has digits, are its digits.
 pub first_of_padded : (size len : ℕ) → len ≡ length (decimal size) → take len (padded_digits size) ≡ decimal size

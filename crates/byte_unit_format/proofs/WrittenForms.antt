@@ -2,7 +2,7 @@
 --
 -- A choice `found` is a unit, a number, and that these are chosen; a form `found` is a text, and that it is the form.
 use Rattle.std.proofs.Common.{rules, ◌≡◌, ℕ, ◌*◌, inl, inr, false, List, refl, sym, ◌∙◌, ⊎_elim, ◌+◌, ◌-◌, ◌<◌, min}
-use Rattle.std.proofs.Common.{zero, suc, Bool, true, ◌∷◌, ◌++◌, length, take, replicate, arith, ap, subst, MatchBool}
+use Rattle.std.proofs.Common.{zero, suc, Bool, true, ◌∷◌, ◌++◌, length, take, replicate, arith, ap, MatchBool}
 use Rattle.std.proofs.Math.Nat.{eq_of_mul-eq-mul_right}
 use Rattle.byte_unit_base.specs.Shape.{Shape, bits}
 use Rattle.byte_unit_base.specs.Version.{Version, unit_name_in, current}
@@ -46,14 +46,13 @@ recovered_unit_unique version kind size precision unit other (inr own) (inr othe
 -- A size has at most one text with a unit by a spec.
 pub size_form_unique : (version : Version) (kind : Kind) (size : ℕ) (spec : FormatSpec) (text other : List ℕ)
     → IsSizeFormIn version kind size spec text → IsSizeFormIn version kind size spec other → text ≡ other
-size_form_unique version kind size spec text other form other_form =
-    let unit =
-    recovered_unit_unique version kind size (places_of spec.precision) form.unit other_form.unit form.is_recovered
-    other_form.is_recovered in
-    let same : form.number * bits form.unit ≡ other_form.number * bits form.unit =
-    form.number_is ∙ rw unit (sym other_form.number_is) in
-    let number = eq_of_mul-eq-mul_right (bits form.unit) (some_bits form.unit) form.number other_form.number same in
-    rw (form.text_is, other_form.text_is, unit, number) refl
+size_form_unique version kind size spec text other form other_form = grind (
+  arith,
+  common_steps,
+  recovered_unit_unique version kind size (places_of spec.precision) form.unit other_form.unit form.is_recovered other_form.is_recovered,
+  eq_of_mul-eq-mul_right,
+  some_bits form.unit,
+)
 
 -- Each size has a text with its exact unit by each spec.
 form_exists : (version : Version) (kind : Kind) (size : ℕ) (spec : FormatSpec)
@@ -99,14 +98,7 @@ pub fraction_some :
     (places : ℕ) (digits : List ℕ) → 0 < places
     → fraction_text (take places digits ++ replicate (places - length digits) 0)
     ≡ 46 ∷ (glyphs (take places digits) ++ replicate (places - length digits) 48)
-fraction_some places digits positive =
-    let all = take places digits ++ replicate (places - length digits) 0 in
-    let some : 0 < length all = grind (arith, common_steps) in
-    rw (
-      fraction_text_some all some,
-      map-append (λ digit. 48 + digit) (take places digits) (replicate (places - length digits) 0),
-      glyphs_of_zeros (places - length digits),
-    ) refl
+fraction_some places digits positive = grind (arith, common_steps, fraction_text_some, map-append, glyphs_of_zeros)
 
 -- The text of digits after the point is as long as the digits, and one more for the point if there are any.
 pub length_of_fraction_text : (digits : List ℕ) → length (fraction_text digits) ≡ length digits + min 1 (length digits)
@@ -140,10 +132,7 @@ size_form_of_fields kind size spec {unit} {number} {places} {whole} {digits} {co
 pub size_form_is_text :
     (kind : Kind) (size : ℕ) (spec : FormatSpec) {text : List ℕ} → spec.alternate ≡ true
     → IsSizeForm kind size spec text → IsText kind size spec text
-size_form_is_text kind size spec {text} alternate form =
-    let Text : Bool → Type 0 =
-    λ alternate. MatchBool alternate (IsSizeForm kind size spec text) (text ≡ plain size spec) in
-    subst Text (sym alternate) form
+size_form_is_text kind size spec {text} alternate form = grind (arith, common_steps)
 
 -- A size has at most one text by a spec.
 text_unique :

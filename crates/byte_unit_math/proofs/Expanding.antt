@@ -72,12 +72,6 @@ Dividing-more size unit rest fraction digits some left h =
           (cases_lt digits fewer);
     }
 
--- If no remainder is left, the quotient is exact.
-pub Dividing-ended :
-    (size unit rest fraction digits : ℕ) → Dividing size unit rest fraction digits → rest ≡ 0
-    → size * 10 ^ digits ≡ (size / unit * 10 ^ digits + fraction) * unit
-Dividing-ended size unit rest fraction digits h none = omega (arith, h.product, none)
-
 -- The whole part and an exact fraction, scaled by 10^28, are the quotient.
 pub IsQuotient-digits :
     (size unit fraction digits places : ℕ) → digits ≤ places → places ≤ places_of_decimal
@@ -142,10 +136,6 @@ pub record IsDividing (numerator den whole rest places : ℕ) (digits : List ℕ
   pub exact : numerator * 10 ^ places ≡ (whole * 10 ^ places + value_of_digits (take places digits)) * den + rest
   pub last : rest ≡ 0 → 0 < places → 0 < get_or digits (places - 1) 0
 
--- The digit with which a division ends is not zero, since a remainder was left before it.
-last_digit_positive : (rest den digit next : ℕ) → rest ≢ 0 → den * digit + next ≡ rest * 10 → next ≡ 0 → 0 < digit
-last_digit_positive rest den digit next h e z = grind arith
-
 -- A division that leaves a remainder so far, and ends after at most 93 digits.
 module _ (numerator den whole rest places : ℕ) (digits : List ℕ)
     (h : IsDividing numerator den whole rest places digits) (ends : IsExactAt numerator den expansion_places)
@@ -172,8 +162,8 @@ module _ (numerator den whole rest places : ℕ) (digits : List ℕ)
         zeros = zeros_after_set expansion_places places digit digits h.zeros;
         below = omega arith;
         exact = rw (power, value_more_set digits places digit fits) (omega (arith, h.exact, parts));
-        last = λ z _. rw (back, get_or-set_same digits places digit 0 fits)
-            (last_digit_positive rest den digit (rest * 10 % den) some parts z);
+        -- a remainder was left before the digit with which the division ends
+        last = λ z _. rw (back, get_or-set_same digits places digit 0 fits) (grind (arith, parts, z, some));
       }
 
 -- Before the first digit the array holds zeros, and the remainder of the whole part is left.
@@ -240,14 +230,10 @@ pub IsDividing-ended :
 IsDividing-ended num den whole rest places digits h none =
     grind (arith, All-get_or, All-take, expansion_of_digits, get_or-take, length-take-le, value_by_last_digit)
 
--- If 2^a * 5^b is at most 2^93, so are 2^a and 5^b.
-factors_within_limit : (a b : ℕ) → 2 ^ a * 5 ^ b ≤ unit_limit → (2 ^ a ≤ unit_limit) × (5 ^ b ≤ unit_limit)
-factors_within_limit a b h = grind (arith, mul-le, one-le-pow)
-
 -- If 2^a * 5^b is at most 2^93, a is at most 93, and b at most 40.
 pub exponents_within_places : (a b : ℕ) → 2 ^ a * 5 ^ b ≤ unit_limit → (a ≤ expansion_places) × (b ≤ 40)
 exponents_within_places a b h =
-    let small = factors_within_limit a b h in (
+    let small : (2 ^ a ≤ unit_limit) × (5 ^ b ≤ unit_limit) = grind (arith, mul-le, one-le-pow) in (
       exponent_at_most 2 expansion_places a (unit_limit + 1) (omega arith) (omega (arith, small.0)) (omega arith),
       exponent_at_most 5 40 b (unit_limit + 1) (omega arith) (omega (arith, small.1)) (omega arith),
     )

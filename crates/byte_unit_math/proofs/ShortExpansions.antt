@@ -19,10 +19,6 @@ use Rattle.byte_unit_math.proofs.Powers.{odd_times_fives}
 use Rattle.byte_unit_math.proofs.Scales.{pow10_split, pow10_times_rest, power_of_sum}
 use Rattle.byte_unit_math.proofs.TwosFives.{FivesOff-trailing_zeros, trailing_zeros_divide}
 
--- 10^p is 2^p times 5^p.
-pub ten_power : (p : ℕ) → 10 ^ p ≡ 2 ^ p * 5 ^ p
-ten_power p = mul-pow 2 5 p
-
 -- Masked by its last p bits, a number is its remainder by 2^p.
 pub masked_rest : (n p : ℕ) → p ≤ expansion_places → bit_and n (1 * 2 ^ p % 2 ^ 128 - 1) ≡ n % 2 ^ p
 masked_rest n p few =
@@ -32,12 +28,12 @@ masked_rest n p few =
 
 -- A remainder by 2^p, times 5^p, is below 10^p.
 pub rest_below_ten_power : (n p : ℕ) → n % 2 ^ p * 5 ^ p < 10 ^ p
-rest_below_ten_power n p = grind (arith, ten_power, mul-lt-mul_of_pos_right, mod_below, one-le-pow)
+rest_below_ten_power n p = grind (arith, mul-pow 2 5 p, mul-lt-mul_of_pos_right, mod_below, one-le-pow)
 
 -- The whole part, and the remainder by 2^p as p digits, are the number times 5^p.
 pub binary_count : (n p : ℕ) → n / 2 ^ p * 10 ^ p + n % 2 ^ p * 5 ^ p ≡ n * 5 ^ p
 binary_count n p =
-    let power = ap (λ power. n / 2 ^ p * power) (ten_power p) in
+    let power = ap (λ power. n / 2 ^ p * power) (mul-pow 2 5 p) in
     let number = ap (λ m. m * 5 ^ p) (div-add-mod' n (2 ^ p)) in
     omega (arith, power, number)
 
@@ -48,7 +44,7 @@ binary_is_expansion n p odd =
     let digits : ℕ = n % 2 ^ p * 5 ^ p in
     let value = value_of_last_digits p digits ∙ mod-eq_of_lt (rest_below_ten_power n p) in
     let exact : n * 10 ^ p ≡ (n / 2 ^ p * 10 ^ p + digits) * 2 ^ p =
-    omega (arith, ap (λ power. n * power) (ten_power p), ap (λ m. m * 2 ^ p) (binary_count n p)) in
+    omega (arith, ap (λ power. n * power) (mul-pow 2 5 p), ap (λ m. m * 2 ^ p) (binary_count n p)) in
     let positive : 0 < 2 ^ p = omega (arith, one-le-pow p 2 (omega arith)) in
     let least = IsLeastPlaces-last_digit n (2 ^ p) (n / 2 ^ p * 10 ^ p + digits) p positive exact
     (λ some. rw (binary_count n p) (omega (arith, odd_times_fives n p (odd some)))) in
@@ -80,7 +76,7 @@ pub decimal_is_exact : (n twos tens : ℕ) → tens + twos ≤ places_of_decimal
     → n * 5 ^ twos * 10 ^ (places_of_decimal - (tens + twos)) * (2 ^ twos * 10 ^ tens) ≡ n * scale
 decimal_is_exact n twos tens few =
     let behind = 10 ^ (places_of_decimal - (tens + twos)) in
-    let twice = ap (λ power. n * (power * 10 ^ tens * behind)) (ten_power twos) in
+    let twice = ap (λ power. n * (power * 10 ^ tens * behind)) (mul-pow 2 5 twos) in
     let power = ap (λ power. n * (power * behind)) (power_of_sum 10 (tens + twos) tens twos (omega arith)) in
     let all = ap (λ s. n * s) (pow10_times_rest (tens + twos) few) in
     omega (arith, twice, power, all)
@@ -139,5 +135,5 @@ reduced_decimal number reduced shared left twos fives sum number_is =
     record {
       positive = mul-le 1 1 _ _ (one-le-pow left 2 (omega arith)) (one-le-pow fives 10 (omega arith));
       positive' = product_positive twos fives;
-      same = rw (number_is, first, second, ten_power fives) (omega arith);
+      same = rw (number_is, first, second, mul-pow 2 5 fives) (omega arith);
     }

@@ -91,9 +91,9 @@ text_of_short_numeral q p e h =
     ap text_of (expansion_unique q (10 ^ p) e (trim_expansion (at_places p q)) (omega (arith, one_le_pow10 p)) h
     (short_numeral_is_expansion q p))
 
--- The expansion of q / 10^p, padded with zeros to p digits after the point, has the digits of q.
-pub padded_is_at_places : (q p : ℕ) (e : Finite) → IsExpansion q (10 ^ p) e → pad_of p e ≡ at_places p q
-padded_is_at_places q p e h =
+-- The text of the expansion of q / 10^p, padded to p digits after the point, is the numeral with all p digits.
+pub text_of_padded : (q p : ℕ) (e : Finite) → IsExpansion q (10 ^ p) e → text_of (pad_of p e) ≡ numeral q p
+text_of_padded q p e h =
     let len = length e.digits in
     let few : len ≤ p = h.least p (q, refl) in
     let zeros = replicate {A = ℕ} (p - len) 0 in
@@ -105,12 +105,10 @@ padded_is_at_places q p e h =
     (rw (count, value_append_zeros e.digits (p - len)) (omega (arith, h.exact, power))) in
     let small = All-append (λ d. d < 10) e.digits zeros h.small
     (All-replicate (λ d. d < 10) (p - len) 0 (omega arith)) in
+    let padded : pad_of p e ≡ at_places p q =
     rw (take_all p e.digits few) (same_finite f (at_places p q) small (last_digits_below_ten p q)
-    (count ∙ sym (length_last_digits p q)) (same ∙ sym (scaled_at_places p q)))
-
--- The text of the expansion of q / 10^p, padded to p digits after the point, is the numeral with all p digits.
-pub text_of_padded : (q p : ℕ) (e : Finite) → IsExpansion q (10 ^ p) e → text_of (pad_of p e) ≡ numeral q p
-text_of_padded q p e h = ap text_of (padded_is_at_places q p e h)
+    (count ∙ sym (length_last_digits p q)) (same ∙ sym (scaled_at_places p q))) in
+    ap text_of padded
 
 -- Padded to its own number of digits after the point, a decimal is unchanged.
 pub padded_to_own_places : (e : Finite) → pad_of (length e.digits) e ≡ e
@@ -167,22 +165,17 @@ expansion_of_same_fraction num den num' den' e same h =
       least = λ p k. h.least p (k.0, same_places num den num' den' p k.0 same k.1);
     }
 
--- A fraction that is exact with p digits after the point is expanded by these digits without their trailing zeros.
-expansion_at : (num den p : ℕ) → 0 < den → IsExactAt num den p
-    → IsExpansion num den (trim_expansion (at_places p (num * 10 ^ p / den)))
-expansion_at num den p some h =
-    let quotient : num * 10 ^ p / den ≡ h.0 = ap (λ n. n / den) h.1 ∙ mul-div_cancel h.0 some in
-    let ExpandsTo : ℕ → Type 0 = λ q. IsExpansion num den (trim_expansion (at_places p q)) in
-    subst ExpandsTo (sym quotient)
-    (expansion_of_same_fraction h.0 (10 ^ p) num den (trim_expansion (at_places p h.0))
-    (record { positive = omega (arith, one_le_pow10 p); positive' = some; same = sym h.1 })
-    (short_numeral_is_expansion h.0 p))
-
 -- If num / den is exact with 93 digits after the point, the quotient cut off there without trailing zeros is its
 -- expansion.
 pub expansion_of_is_expansion : (num den : ℕ) → 0 < den → IsExactAt num den expansion_places
     → IsExpansion num den (expansion_of num den)
-expansion_of_is_expansion num den some ends = expansion_at num den expansion_places some ends
+expansion_of_is_expansion num den some ends =
+    let p = expansion_places in
+    let quotient : num * 10 ^ p / den ≡ ends.0 = ap (λ n. n / den) ends.1 ∙ mul-div_cancel ends.0 some in
+    let ExpandsTo : ℕ → Type 0 = λ q. IsExpansion num den (trim_expansion (at_places p q)) in
+    subst ExpandsTo (sym quotient)
+    (expansion_of_same_fraction ends.0 (10 ^ p) num den (trim_expansion (at_places p ends.0))
+    (record { positive = omega arith; positive' = some; same = sym ends.1 }) (short_numeral_is_expansion ends.0 p))
 
 -- If num / den is exact with 93 digits after the point, each expansion of it is the quotient cut off there.
 pub expansion_is_by_division :

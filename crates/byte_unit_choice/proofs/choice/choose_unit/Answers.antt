@@ -1,5 +1,6 @@
 -- The first row that passes the test is the largest unit in which the size is exact; the number times the unit is the
 -- size; if no row passes, no unit of the set is such. The steps are those of `factors_of` and one for each place.
+use Rattle.std.proofs.lemmas.Grind.{common_steps}
 use Rattle.std.proofs.Common.{rules, ◌≡◌, ◌*◌, ◌^◌, ℕ, min, arith, refl, ap, subst, sym, ◌∙◌}
 use Rattle.std.proofs.lemmas.Bool.{both_ways}
 use Rattle.byte_unit_math.specs.Bounds.{scale, places_of_decimal, whole_limit}
@@ -146,10 +147,7 @@ returns-clause-none c =
 
 -- only the trials of `factors_of` are counted
 pub returns-clause-steps_of_none : goal.returns-clause-steps_of_none
-returns-clause-steps_of_none c =
-    let trials = c.factors_of-left in
-    let still : c.loop-row.steps ≡ saturating_add trials.new.steps 0 = omega (arith, c.loop-row.invariant.steps) in
-    counted_choice _ _ _ trials.ensures.powers (whole_takes_none 0) trials.ensures.steps still
+returns-clause-steps_of_none c = grind (arith, common_steps, counted_choice, whole_takes_none 0)
 
 -- without a choice, the steps of `factors_of` are within the same bound
 pub returns-clause-few_steps : goal.returns-clause-few_steps

@@ -1,7 +1,8 @@
 -- The number is shown with all its digits, or it is the nearest with the number of digits after the point that the
 -- rounding gives.
+use Rattle.std.proofs.Common.{arith}
 use Rattle.std.proofs.Common.{◌∙◌}
-use Rattle.byte_unit_math.specs.declared.expansion.Ties.TheVariants.{Even, Up}
+use Rattle.byte_unit_math.specs.declared.expansion.Ties.TheVariants.{Up}
 use Rattle.byte_unit_math.proofs.Texts.{nearest_of_expansion, text_of_padded, text_of_short_numeral}
 use Rattle.byte_unit_format.proofs.WrittenForms.{all_places}
 use Rattle.byte_unit_format.proofs.adjusted.round.Goals as goal
@@ -13,10 +14,7 @@ returns-in-Exact-clause-text c = λ num den some is.
 
 -- `near` is the rounded number, that it is nearest to the expansion, and that the decimal, not padded, is this number.
 pub returns-in-To-clause-text : goal.returns-in-To-clause-text
-returns-in-To-clause-text c = λ num den some is.
-    let near = c.round.ensures in
-    let nearest = nearest_of_expansion num den c.args.number.now c.in-To.places Even near.0 (some, is.exact) near.1 in
-    rw c.in-To.is (near.0, nearest, text_of_padded near.0 c.in-To.places c.round.new.self near.2)
+returns-in-To-clause-text c = grind (arith, nearest_of_expansion, text_of_padded)
 
 -- `near` is the rounded number, that it is nearest to the expansion, and that the decimal is this number without
 -- trailing zeros.

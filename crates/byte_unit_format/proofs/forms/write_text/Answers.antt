@@ -1,7 +1,6 @@
 -- The alternate form is written, or the parts of the text, which are a text of the size. Without a width it has at
 -- most 37 bytes.
 use Rattle.std.proofs.Common.{arith, sym, ◌∙◌}
-use Rattle.byte_unit_format.specs.TextParts.{parts_text}
 use Rattle.byte_unit_format.proofs.NamedSpecs.{is_alternate}
 use Rattle.byte_unit_format.proofs.NarrowTexts.{text_without_width_narrow}
 use Rattle.byte_unit_format.proofs.forms.write_text.Goals as goal
@@ -13,7 +12,4 @@ returns-then-out-ge-NARROW_TEXT-clause-written c =
 
 -- Every other text without a width has at most 37 bytes.
 pub returns-clause-narrow : goal.returns-clause-narrow
-returns-clause-narrow c = λ none.
-    let narrow = text_without_width_narrow c.args.spec.alternate c.args.kind c.args.size c.args.spec
-    (parts_text c.text_parts.result) c.requires none c.text_parts.ensures.text in
-    omega (arith, c.text_parts.ensures.len, narrow)
+returns-clause-narrow c = grind (arith, text_without_width_narrow)

@@ -1,4 +1,5 @@
 -- The mask has a bit for each byte, set where it is not a zero, so its highest bit is that of the last such byte.
+use Rattle.std.proofs.lemmas.Grind.{common_steps}
 use Rattle.std.proofs.Common.{◌≡◌, ◌≢◌, ℕ, Bool, false, ◌+◌, ◌-◌, ◌*◌, ◌/◌, ◌%◌, ◌^◌, ◌<◌, ◌≤◌, eqb, not, get_or, List}
 use Rattle.std.proofs.Common.{length, map, take, w8, ap, sym, subst, ◌∙◌, arith, cond}
 use Rattle.std.proofs.Math.Nat.{pow-le-pow_right, div-eq_of_lt, div-eq_of_lt-le}
@@ -53,9 +54,7 @@ bit_of vector i within =
 zero_behind : {vector : List ℕ} {used : ℕ} → Bits vector used → (i : ℕ) → used ≤ i → i < length vector
     → get_or vector i 0 ≡ 48
 zero_behind {vector} {used} bits i behind within =
-    let mask = mask_l (map is_used vector) in
-    let small : mask < 2 ^ i = omega (arith, bits.below, pow-le-pow_right {n = 2} (omega arith) behind) in
-    grind (arith, nat_tests, bit_of vector i within, div-eq_of_lt small)
+    grind (arith, common_steps, pow-le-pow_right {n = 2} (omega arith) behind, bit_of vector i within, div-eq_of_lt)
 
 -- The last byte that the bits count is not the character `0`.
 last_is_used : {vector : List ℕ} {used : ℕ} → Bits vector used → (i : ℕ) → i + 1 ≡ used → length vector ≡ 32

@@ -2,7 +2,7 @@
 use Rattle.std.proofs.Common.{◌≡◌, min, arith, subst}
 use Rattle.byte_unit_math.specs.Bounds.{places_of_decimal}
 use Rattle.byte_unit_math.specs.Exact.{IsExactAt}
-use Rattle.byte_unit_math.proofs.Expanding.{Dividing-more, Dividing-ended, next_digit_below, not_exact}
+use Rattle.byte_unit_math.proofs.Expanding.{Dividing-more, next_digit_below, not_exact}
 use Rattle.byte_unit_math.proofs.Expanding.{IsQuotient-digits, IsQuotient-times}
 use Rattle.byte_unit_math.proofs.quotient.exact_quotient.Goals as goal
 
@@ -35,7 +35,7 @@ returns-then-rest-gt0-clause-none c = λ exact.
 
 -- No remainder is left, so the digits are the quotient.
 pub returns-clause-quotient : goal.returns-clause-quotient
-returns-clause-quotient c = grind (arith, Dividing-ended, IsQuotient-digits)
+returns-clause-quotient c = grind (arith, IsQuotient-digits)
 
 -- The quotient times the unit is the size.
 pub returns-clause-exact : goal.returns-clause-exact
