@@ -1,17 +1,16 @@
 -- Lemmas: what is appended for fields and for a record.
-use Rattle.std.proofs.Common.{◌≡◌, ℕ, suc, ◌-◌, List, [], ◌∷◌, ◌++◌, None, Err, Result, IsErrAnd}
+use Rattle.std.proofs.Common.{◌≡◌, ℕ, suc, ◌-◌, List, [], ◌∷◌, ◌++◌, Err, Result, IsErrAnd}
 use Rattle.std.specs.Prelude.{⊤}
 use Rattle.std.proofs.Common.{refl, sym, ap, subst, ◌∙◌, arith, append_assoc, append-nil, inl, inr}
 use Rattle.byte_unit_command.specs.CallEnds.{AddsFields, Appends, Ends, IsEarly, IsEarlyAt, Keeps}
 use Rattle.byte_unit_command.specs.Converted.{IsRejected, converting}
 use Rattle.byte_unit_command.specs.Field.{Found}
-use Rattle.byte_unit_command.specs.Fields.{IsChosenField, between_of, fields_by, fields_of, splits_at_blanks}
+use Rattle.byte_unit_command.specs.Fields.{IsChosenField, between_of, fields_of}
 use Rattle.byte_unit_command.specs.Output.{IsField, IsRecord, Output, Passes, copied, messages_in, other, together}
 use Rattle.byte_unit_command.specs.State.{RunState, next_place}
 use Rattle.byte_unit_command.specs.Sums.{Counts}
 use Rattle.byte_unit_command.specs.declared.error.Reason.{Reason}
 use Rattle.byte_unit_command.specs.declared.error.Reason.TheVariants.{Rejected}
-use Rattle.byte_unit_command.specs.declared.options.Options.{Options}
 use Rattle.byte_unit_command.proofs.Results.{error-passed}
 use Rattle.byte_unit_command.proofs.Tallies.{Counts-append, Counts-none}
 use Rattle.byte_unit_stream.specs.Beginnings.{IsBeginningOf}
@@ -85,11 +84,6 @@ pub AddsFields-other : (number : ℕ) (field : List ℕ) (old : Progress RunStat
 AddsFields-other number field old out not_chosen out_is =
     AddsFields-one number field old (record old { out = out }) (copied field) (other not_chosen refl) (λ mode. refl)
     (Appends-more (Appends-none old) field out out_is)
-
--- a record without a delimiter is one field
-pub fields_of-whole : (options : Options) (bytes : List ℕ) → options.delimiter ≡ None
-    → bytes ∷ [] ≡ fields_of options bytes
-fields_of-whole options bytes none = ap (λ mark. fields_by (splits_at_blanks mark options.blanks) mark bytes) (sym none)
 
 -- the run at the next record
 abbrev pub at_next : Progress RunState → Progress RunState

@@ -5,9 +5,7 @@ use Rattle.byte_unit_command.specs.Field.{IsPlaced}
 use Rattle.byte_unit_command.specs.Fields.{gap_by, width_by}
 use Rattle.byte_unit_command.specs.Formatted.{IsFormatted}
 use Rattle.byte_unit_command.specs.Output.{size}
-use Rattle.byte_unit_command.proofs.Converting.{AddsFields-one, AddsFields-other, Appends-more, Keeps-more}
-use Rattle.byte_unit_command.proofs.Converting.{memory-passed}
-use Rattle.byte_unit_stream.proofs.Beginnings.{IsBeginningOf-same, IsBeginningOf-self}
+use Rattle.byte_unit_command.proofs.Converting.{AddsFields-one, AddsFields-other, Appends-more}
 use Rattle.byte_unit_command.proofs.converter.Converter.add_field.Goals as goal
 
 -- a field that is not chosen: the copy of it is what is appended
@@ -40,21 +38,3 @@ returns g c =
     c.in-Some.ensures.some placed told.are_messages refl) (λ mode. refl)
     (Appends-more (Appends-more told.appends gap c.extend_from_slice-2.new.self.items
     c.in_ok-extend_from_slice-2.ensures.items) formatted.0 c.add_in_width.new.text.items formatted.2)
-
--- allocation failed for the blank
-pub returns-in_err-extend_from_slice-2 : goal.returns-in_err-extend_from_slice-2
-returns-in_err-extend_from_slice-2 g c =
-    let out = c.extend_from_slice-2.new.self.items in
-    memory-passed c.args.number (c.args.field.now ∷ []) (state_of c.args.self.now) _ _
-    c.from_residual-in_err-extend_from_slice-2.ensures.1 (Keeps-more c.in_ok-count.ensures.appends out
-    (IsBeginningOf-same (state_of c.count.new.self).out c.in_err-extend_from_slice-2.ensures.items
-    (IsBeginningOf-self (state_of c.count.new.self).out)))
-
--- allocation failed for the text
-pub returns-in_err-add_in_width : goal.returns-in_err-add_in_width
-returns-in_err-add_in_width g c =
-    let out = c.extend_from_slice-2.new.self.items in
-    memory-passed c.args.number (c.args.field.now ∷ []) (state_of c.args.self.now) _ _
-    c.from_residual-in_err-add_in_width.ensures.1 (Keeps-more (Appends-more c.in_ok-count.ensures.appends
-    c.gap_of.result.now out c.in_ok-extend_from_slice-2.ensures.items) c.add_in_width.new.text.items
-    c.in_err-add_in_width.ensures.kept)
