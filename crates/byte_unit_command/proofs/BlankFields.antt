@@ -41,9 +41,3 @@ blank_fields-whole (byte ∷ []) goes_on = with_byte byte [] false (and-false (n
 blank_fields-whole (byte ∷ next ∷ bytes) goes_on =
     with_byte byte (next ∷ bytes) false (goes_on 0 (omega arith))
     ∙ ap (onto_first byte) (blank_fields-whole (next ∷ bytes) (λ k low. goes_on (suc k) (omega (arith, low))))
-
--- the first byte says whether there is a blank at the beginning
-pub begins_blank-first : (bytes : List ℕ) (default : ℕ) → 0 < length bytes
-    → is_blank (get_or bytes 0 default) ≡ begins_blank bytes
-begins_blank-first [] default some = let never : ⊥ = omega (arith, some) in absurd never
-begins_blank-first (byte ∷ bytes) default some = refl

@@ -2,7 +2,7 @@
 use native.Mathlib.Numerals.{unary_clauses}
 use Rattle.std.proofs.Common.{ℕ, suc, ◌<◌, ◌≤◌, inl, inr, List, [], ◌∷◌, length, arith, slice_index_or}
 use Rattle.std.specs.List.{AllAdjacentBelow}
-use Rattle.byte_unit_command.specs.Fields.{GoesTo, IsChosenField, IsInOrder}
+use Rattle.byte_unit_command.specs.Fields.{IsChosenField, IsInOrder}
 use Rattle.byte_unit_command.specs.declared.options.FieldRange.{FieldRange}
 
 -- of ranges in order, none chooses a field before the first of them
@@ -19,12 +19,6 @@ pub none-before-first : (ranges : List FieldRange) (default : FieldRange) (numbe
     → number < (slice_index_or ranges 0 default).first → ¬ IsChosenField ranges number
 none-before-first [] default number order early = λ none. none
 none-before-first (range ∷ others) default number order early = none-before range others number order early
-
--- the first of them chooses a field that it has begun before, or at, and that it goes to
-pub chosen-by_first : (ranges : List FieldRange) (default : FieldRange) (number : ℕ) → 0 < length ranges
-    → GoesTo ranges number → (slice_index_or ranges 0 default).first ≤ number → IsChosenField ranges number
-chosen-by_first [] default number some goes begun = omega (arith, some)
-chosen-by_first (range ∷ others) default number some goes begun = inl (begun, goes)
 
 -- ranges each of which begins no later than the next one are in order
 pub in_order-adjacent : (ranges : List FieldRange)

@@ -1,61 +1,119 @@
 -- Lemmas: the loop over the fields of a record.
 use Rattle.std.proofs.Common.{◌≡◌, ◌≤◌, ◌<◌, ℕ, ◌+◌, List, [], ◌∷◌, ◌++◌, length, Some, Bool, refl, sym, ap, subst, ◌∙◌}
 use Rattle.std.proofs.Common.{arith, append_assoc, append-nil, inl, inr, true, false, cond, not, ◌&&◌, take, drop, Option}
-use Rattle.std.proofs.Common.{length-drop}
+use Rattle.std.proofs.Common.{length-drop, length-append, map}
+use Rattle.std.proofs.lemmas.List.Concat.{flat_map-append}
 use Rattle.std.proofs.lemmas.List.Splits.{join_with_byte-slice_split}
-use Rattle.std.specs.List.{join_with_byte, onto_first}
-use Rattle.byte_unit_command.specs.Field.{Found, IsField, other}
+use Rattle.std.specs.List.{flat_map, join_with_byte, onto_first}
+use Rattle.byte_unit_command.specs.Field.{Found}
 use Rattle.byte_unit_command.specs.Fields.{IsChosenField, at_blanks, begins_blank, between_of, blank_fields}
 use Rattle.byte_unit_command.specs.Fields.{bytes_between, fields_by, fields_of, is_blank}
-use Rattle.byte_unit_command.specs.Messages.{AreFieldMessages, AreMessagesOfFields, AreMessagesToRejected}
-use Rattle.byte_unit_command.specs.Messages.{other as other_told}
-use Rattle.byte_unit_command.specs.Output.{Passes}
-use Rattle.byte_unit_command.specs.Output.{AreFields, HasRejectedField}
-use Rattle.byte_unit_command.specs.CallEnds.{AddsField, AddsFields, Aborts, IsRejectedField, State, after}
-use Rattle.byte_unit_stream.specs.Records.{split_by}
+use Rattle.byte_unit_command.specs.Output.{AreFields, IsField, Output, Passes, copied, found_in, joined, messages_in}
+use Rattle.byte_unit_command.specs.Output.{other, together}
 use Rattle.byte_unit_command.specs.Sums.{has_rejected}
+use Rattle.byte_unit_command.specs.CallEnds.{AddsFields, Aborts, Appends, IsEarly}
+use Rattle.byte_unit_command.specs.State.{Place, RunState}
+use Rattle.byte_unit_stream.specs.Records.{split_by}
+use Rattle.byte_unit_stream.specs.Steps.{Progress}
+use Rattle.byte_unit_command.specs.declared.error.Reason.{Reason}
 use Rattle.byte_unit_command.specs.declared.options.Options.{Options}
-use Rattle.byte_unit_command.specs.declared.options.Invalid.TheVariants.{Abort}
+use Rattle.byte_unit_stream.specs.declared.run.RunError.{RunError}
+use Rattle.byte_unit_stream.proofs.Beginnings.{IsBeginningOf-trans}
 use Rattle.byte_unit_stream.proofs.ChunkRecords.{split_by_IsSplit, IsSplit}
-use Rattle.byte_unit_command.proofs.Converting.{after-more, after-then}
+use Rattle.byte_unit_command.proofs.Converting.{Appends-more, Appends-none, Appends-then}
 use Rattle.byte_unit_command.proofs.Tallies.{Passes-append}
 
--- if a field and the fields after it are converted, all are, with the bytes of `between_of` between it and them
-AreFields-cons : (options : Options) (number : ℕ) (field : List ℕ) (others : List (List ℕ)) (own rest : List ℕ)
-    (own_found rest_found : List Found) → IsSplit others → IsField options number field own own_found
-    → AreFields options (number + 1) others rest rest_found
-    → AreFields options number (field ∷ others) (own ++ between_of options ++ rest)
-    (own_found ++ rest_found)
-AreFields-cons options number field others own rest own_found rest_found (next, more, others_are) is_field are_fields =
-    let whole = own ++ between_of options ++ rest in
-    let found = own_found ++ rest_found in
-    let are : AreFields options (number + 1) (next ∷ more) rest rest_found =
-    subst (λ fields. AreFields options (number + 1) fields rest rest_found) others_are are_fields in
-    subst (λ fields. AreFields options number (field ∷ fields) whole found) (sym others_are)
-    (own, rest, own_found, rest_found, is_field, are, refl, refl)
+-- what two lists of fields give
+AreFields-append : (place : Place) (number : ℕ) (front back : List (List ℕ)) (begun ended : List Output)
+    → AreFields place number front begun → AreFields place (number + length front) back ended
+    → AreFields place number (front ++ back) (begun ++ ended)
+AreFields-append place number [] back [] ended _ are =
+    let none : number + length {A = List ℕ} [] ≡ number = omega arith in
+    subst (λ number. AreFields place number back ended) none are
+AreFields-append place number [] back (output ∷ begun) ended never are = absurd never
+AreFields-append place number (field ∷ front) back [] ended never are = absurd never
+AreFields-append place number (field ∷ front) back (output ∷ begun) ended (is, begin) are =
+    let after : number + length (field ∷ front) ≡ number + 1 + length front = omega arith in (
+      is,
+      AreFields-append place (number + 1) front back begun ended begin
+          (subst (λ number. AreFields place number back ended) after are),
+    )
 
--- fields with the bytes between two fields between them
-abbrev joined : List ℕ → List (List ℕ) → List ℕ
-joined between [] = []
-joined between (field ∷ []) = field
-joined between (field ∷ next ∷ others) = field ++ between ++ joined between (next ∷ others)
+-- an output by its parts
+abbrev made : List ℕ → List Found → List ℕ → Output
+made text found messages = record { text = text; found = found; messages = messages }
 
--- fields none of which is chosen are copied, with the bytes between them
-AreFields-joined : (options : Options) (fields : List (List ℕ)) (number : ℕ)
-    → ((later : ℕ) → number ≤ later → ¬ IsChosenField options.fields.now later)
-    → AreFields options number fields (joined (between_of options) fields) []
-AreFields-joined options [] number past = (refl, refl)
-AreFields-joined options (field ∷ []) number past = other (past number (omega arith)) refl refl
-AreFields-joined options (field ∷ next ∷ others) number past = (
-  field,
-  joined (between_of options) (next ∷ others),
-  [],
-  [],
-  other (past number (omega arith)) refl refl,
-  AreFields-joined options (next ∷ others) (number + 1) (λ later high. past later (omega (arith, high))),
-  refl,
-  refl,
+-- equal parts make equal outputs
+made-same : {text same_text : List ℕ} {found same_found : List Found} {messages same_messages : List ℕ}
+    → text ≡ same_text → same_found ≡ found → same_messages ≡ messages
+    → made text found messages ≡ made same_text same_found same_messages
+made-same {text} {same_text} {found} {same_found} {messages} {same_messages} text_is found_is messages_are =
+    ap (λ text. made text found messages) text_is ∙ ap (λ found. made same_text found messages) (sym found_is)
+    ∙ ap (made same_text same_found) (sym messages_are)
+
+-- what fields give together, with the bytes between two fields after each of them
+abbrev followed : List ℕ → List Output → Output
+followed between outputs = record (together between outputs) {
+  text = flat_map (λ output. output.text ++ between) outputs;
+}
+
+-- the texts of some fields and of one more at least, joined
+joined-append : (between : List ℕ) (begun : List Output) (next : Output) (others : List Output)
+    → flat_map (λ output. output.text ++ between) begun ++ (together between (next ∷ others)).text
+    ≡ (together between (begun ++ next ∷ others)).text
+joined-append between [] next others = refl
+joined-append between (output ∷ []) next others =
+    ap (λ text. text ++ (together between (next ∷ others)).text) (append-nil (output.text ++ between))
+joined-append between (output ∷ second ∷ begun) next others =
+    append_assoc (output.text ++ between) (flat_map (λ (output : Output). output.text ++ between) (second ∷ begun))
+    (together between (next ∷ others)).text
+    ∙ ap (λ more. output.text ++ between ++ more) (joined-append between (second ∷ begun) next others)
+
+-- what some fields and then others give together, of which there is one at least
+together-append : (place : Place) (number : ℕ) (between : List ℕ) (begun : List Output) (fields : List (List ℕ))
+    (ended : List Output) → IsSplit fields → AreFields place number fields ended
+    → made ((followed between begun).text ++ (together between ended).text) (found_in begun ++ found_in ended)
+    (messages_in begun ++ messages_in ended) ≡ together between (begun ++ ended)
+together-append place number between begun fields [] (own, others, is) are =
+    absurd (subst (λ fields. AreFields place number fields []) is are)
+together-append place number between begun fields (next ∷ ended) split are =
+    made-same (joined-append between begun next ended)
+    (flat_map-append (λ (output : Output). output.found) begun (next ∷ ended))
+    (flat_map-append (λ (output : Output). output.messages) begun (next ∷ ended))
+
+-- some fields and then one more, each followed
+followed-one : (place : Place) (number : ℕ) (between : List ℕ) (begun : List Output) (field : List ℕ)
+    (ended : List Output) → AreFields place number (field ∷ []) ended
+    → made ((followed between begun).text ++ (together between ended).text ++ between)
+    (found_in begun ++ found_in ended) (messages_in begun ++ messages_in ended) ≡ followed between (begun ++ ended)
+followed-one place number between begun field [] never = absurd never
+followed-one place number between begun field (output ∷ second ∷ ended) (is, never) = absurd never
+followed-one place number between begun field (output ∷ []) are =
+    let Text = λ (output : Output). output.text ++ between in
+    let text : flat_map Text begun ++ output.text ++ between ≡ flat_map Text (begun ++ output ∷ []) =
+    append_assoc (flat_map Text begun) output.text between
+    ∙ ap (λ more. flat_map Text begun ++ more) (sym (append-nil (Text output)))
+    ∙ sym (flat_map-append Text begun (output ∷ [])) in
+    made-same text (flat_map-append (λ (output : Output). output.found) begun (output ∷ []))
+    (flat_map-append (λ (output : Output). output.messages) begun (output ∷ []))
+
+-- fields none of which is chosen are copied
+AreFields-copied : (place : Place) (fields : List (List ℕ)) (number : ℕ)
+    → ((later : ℕ) → number ≤ later → ¬ IsChosenField place.options.fields.now later)
+    → AreFields place number fields (map copied fields)
+AreFields-copied place [] number past = tt
+AreFields-copied place (field ∷ fields) number past = (
+  other (past number (omega arith)) refl,
+  AreFields-copied place fields (number + 1) (λ later high. past later (omega (arith, high))),
 )
+
+-- copied fields together
+together-copied : (between : List ℕ) (fields : List (List ℕ))
+    → together between (map copied fields) ≡ copied (joined between fields)
+together-copied between [] = refl
+together-copied between (field ∷ []) = refl
+together-copied between (field ∷ next ∷ fields) =
+    ap (λ (rest : Output). record rest { text = field ++ between ++ rest.text }) (together-copied between (next ∷ fields))
 
 -- the fields between delimiters, joined by the delimiter
 joined-split : (delimiter : ℕ) (fields : List (List ℕ)) → joined (delimiter ∷ []) fields
@@ -97,20 +155,18 @@ joined-blanks (byte ∷ bytes) =
     both ∙ ap (λ rest. byte ∷ rest) (joined-blanks bytes)
 
 -- between delimiters and between blanks
-module _ (options : Options) (delimiter : ℕ) (is : options.delimiter ≡ Some delimiter) where
+module _ (options : Options) (delimiter : ℕ) (is : options.delimiter ≡ Some delimiter) (bytes : List ℕ) where
   -- there is a first field, so the list of the fields is not empty
-  fields_IsSplit : (bytes : List ℕ) → IsSplit (fields_of options bytes)
-  fields_IsSplit bytes =
+  pub fields_IsSplit : IsSplit (fields_of options bytes)
+  fields_IsSplit =
       let either : (blanks : Bool) → IsSplit (fields_by blanks (Some delimiter) bytes) =
       λ blanks. elim blanks as (λ blanks. IsSplit (fields_by blanks (Some delimiter) bytes))
       [ true ↦ blank_fields_IsSplit bytes | false ↦ split_by_IsSplit delimiter bytes ] in
       subst (λ mark. IsSplit (fields_by (at_blanks options) mark bytes)) (sym is) (either (at_blanks options))
 
-  -- fields none of which is chosen are copied, with the bytes between them
-  pub fields_copied : (bytes : List ℕ) (number : ℕ)
-      → ((later : ℕ) → number ≤ later → ¬ IsChosenField options.fields.now later)
-      → AreFields options number (fields_of options bytes) bytes []
-  fields_copied bytes number past =
+  -- the fields with the bytes between them are the record
+  fields_joined : joined (between_of options) (fields_of options bytes) ≡ bytes
+  fields_joined =
       let Whole : Bool → Option ℕ → Type 0 =
       λ blanks mark. joined (bytes_between blanks mark) (fields_by blanks mark bytes) ≡ bytes in
       let either : Whole (at_blanks options) (Some delimiter) =
@@ -119,191 +175,32 @@ module _ (options : Options) (delimiter : ℕ) (is : options.delimiter ≡ Some 
         | false ↦
             joined-split delimiter (split_by delimiter bytes) ∙ join_with_byte-slice_split delimiter bytes
       ] in
-      subst (λ text. AreFields options number (fields_of options bytes) text [])
-      (subst (Whole (at_blanks options)) (sym is) either)
-      (AreFields-joined options (fields_of options bytes) number past)
+      subst (Whole (at_blanks options)) (sym is) either
 
--- fields none of which is chosen have no messages
-AreMessagesOfFields-none : (options : Options) (word : List ℕ) (place : ℕ) (fields : List (List ℕ)) (number : ℕ)
-    → ((later : ℕ) → number ≤ later → ¬ IsChosenField options.fields.now later)
-    → AreMessagesOfFields options word place number fields []
-AreMessagesOfFields-none options word place [] number past = refl
-AreMessagesOfFields-none options word place (field ∷ fields) number past = (
-  [],
-  [],
-  false,
-  other_told (past number (omega arith)) refl refl,
-  AreMessagesOfFields-none options word place fields (number + 1) (λ later high. past later (omega (arith, high))),
-  refl,
-)
-
--- between two fields of a record: those before are appended and counted, and the rest gives the others
-pub record IsSplitting (options : Options) (bytes : List ℕ) (old : State) (number : ℕ) (rest : List ℕ) (new : State)
-    : Type 0 where
-  pub text : List ℕ
-  pub messages : List ℕ
-  pub found : List Found
-  pub new_is : new ≡ after options old text messages found
-  pub passes : Passes options found
-  pub goes_on : (more : List ℕ) (more_found : List Found)
-      → AreFields options number (fields_of options rest) more more_found
-      → AreFields options 1 (fields_of options bytes) (text ++ more) (found ++ more_found)
-  pub tells_on : (more : List ℕ) → AreMessagesOfFields options old.word old.place number (fields_of options rest) more
-      → AreMessagesOfFields options old.word old.place 1 (fields_of options bytes) (messages ++ more)
-  pub rejects : HasRejectedField options number (fields_of options rest)
-      → HasRejectedField options 1 (fields_of options bytes)
-  pub tells_to : options.invalid ≡ Abort → (more : List ℕ)
-      → AreMessagesToRejected options old.word old.place number (fields_of options rest) more
-      → AreMessagesToRejected options old.word old.place 1 (fields_of options bytes) (messages ++ more)
+-- between two fields of a record: those before are added, each with the bytes after it, and the rest gives the others
+pub record IsSplitting (bytes : List ℕ) (old : Progress RunState) (number : ℕ) (rest : List ℕ)
+    (new : Progress RunState) : Type 0 where
+  pub before : List (List ℕ)
+  pub outputs : List Output
+  pub fields_are : fields_of old.state.place.options bytes ≡ before ++ fields_of old.state.place.options rest
+  pub number_is : number ≡ 1 + length before
+  pub are_fields : AreFields old.state.place 1 before outputs
+  pub passes : Passes old.state.place.options (found_in outputs)
+  pub appends : Appends (followed (between_of old.state.place.options) outputs) old new
   pub few : number + length rest ≤ 1 + length bytes
 
 -- before the first field nothing is appended, and the whole record is left
-pub IsSplitting-start : (options : Options) (bytes : List ℕ) (old : State) → IsSplitting options bytes old 1 bytes old
-IsSplitting-start options bytes old =
-    let With : List ℕ → List ℕ → State = λ out messages. record old { out = out; messages = messages } in record {
-      text = [];
-      messages = [];
-      found = [];
-      new_is =
-          ap (λ out. With out old.messages) (sym (append-nil old.out))
-          ∙ ap (λ messages. With (old.out ++ []) messages) (sym (append-nil old.messages));
-      passes = λ mode. refl;
-      goes_on = λ more more_found are. are;
-      tells_on = λ more are. are;
-      rejects = λ has. has;
-      tells_to = λ mode more are. are;
-      few = omega arith;
-    }
-
-module _ {options : Options} {bytes : List ℕ} {old : State} {number : ℕ} {rest : List ℕ} {new : State}
-    (so_far : IsSplitting options bytes old number rest new) where
-  -- the place of the record does not change, so the messages about a field are those for the place at the start
-  messages-old : (field : List ℕ) (is_rejected : Bool) (messages : List ℕ)
-      → AreFieldMessages options new.word new.place number field is_rejected messages
-      → AreFieldMessages options old.word old.place number field is_rejected messages
-  messages-old field is_rejected messages are =
-      subst (λ state. AreFieldMessages options state.word state.place number field is_rejected messages) so_far.new_is
-      are
-
-  -- the invariant holds after one more field and the bytes after it
-  IsSplitting-step : (field behind : List ℕ) → fields_of options rest ≡ field ∷ fields_of options behind
-      → IsSplit (fields_of options behind) → length behind < length rest → (next : State)
-      → AddsField options number field new next
-      → IsSplitting options bytes old (number + 1) behind (record next { out = next.out ++ between_of options })
-  IsSplitting-step field behind first is_split shorter next adds =
-      let own_messages = messages-old field (has_rejected adds.found) adds.messages adds.are_messages in
-      let both = after-then options old new next so_far.text adds.text so_far.messages adds.messages so_far.found
-      adds.found so_far.new_is adds.new_is in record {
-        text = so_far.text ++ adds.text ++ between_of options;
-        messages = so_far.messages ++ adds.messages;
-        found = so_far.found ++ adds.found;
-        new_is = after-more options old next (so_far.text ++ adds.text) (so_far.messages ++ adds.messages)
-            (between_of options) (so_far.found ++ adds.found) both;
-        passes = Passes-append options so_far.found adds.found so_far.passes adds.passes;
-        goes_on = λ more more_found are.
-            let whole = AreFields-cons options number field (fields_of options behind) adds.text more adds.found
-            more_found is_split adds.is_field are in
-            let at : AreFields options number (fields_of options rest)
-            (adds.text ++ between_of options ++ more) (adds.found ++ more_found) =
-            subst (λ fields. AreFields options number fields (adds.text ++ between_of options ++ more)
-            (adds.found ++ more_found)) (sym first) whole in
-            let all = so_far.goes_on (adds.text ++ between_of options ++ more)
-            (adds.found ++ more_found) at in
-            let text_same : so_far.text ++ (adds.text ++ between_of options ++ more)
-            ≡ (so_far.text ++ adds.text ++ between_of options) ++ more =
-            sym (append_assoc so_far.text (adds.text ++ between_of options) more)
-            ∙ ap (λ text. text ++ more) (sym (append_assoc so_far.text adds.text (between_of options))) in
-            let found_same = sym (append_assoc so_far.found adds.found more_found) in
-            subst (λ text. AreFields options 1 (fields_of options bytes) text
-            ((so_far.found ++ adds.found) ++ more_found)) text_same
-            (subst (λ found. AreFields options 1 (fields_of options bytes)
-            (so_far.text ++ (adds.text ++ between_of options ++ more)) found) found_same all);
-        tells_on = λ more are.
-            let whole : AreMessagesOfFields options old.word old.place number (field ∷ fields_of options behind)
-            (adds.messages ++ more) =
-            (adds.messages, more, has_rejected adds.found, own_messages, are, refl) in
-            let at = subst (λ fields. AreMessagesOfFields options old.word old.place number fields
-            (adds.messages ++ more)) (sym first) whole in
-            subst (AreMessagesOfFields options old.word old.place 1 (fields_of options bytes))
-            (sym (append_assoc so_far.messages adds.messages more)) (so_far.tells_on (adds.messages ++ more) at);
-        rejects = λ has. so_far.rejects (subst (HasRejectedField options number) (sym first) (inr has));
-        tells_to = λ mode more are.
-            let own = subst (λ is_rejected. AreFieldMessages options old.word old.place number field
-            is_rejected adds.messages) (adds.passes mode) own_messages in
-            let whole : AreMessagesToRejected options old.word old.place number
-            (field ∷ fields_of options behind) (adds.messages ++ more) =
-            inr (adds.messages, more, own, are, refl) in
-            let at = subst (λ fields. AreMessagesToRejected options old.word old.place number fields
-            (adds.messages ++ more)) (sym first) whole in
-            subst (AreMessagesToRejected options old.word old.place 1 (fields_of options bytes))
-            (sym (append_assoc so_far.messages adds.messages more)) (so_far.tells_to mode (adds.messages ++ more) at);
-        few = omega (arith, so_far.few, shorter);
-      }
-
-  -- if the first field of the rest is rejected in the mode `abort`, the record is
-  pub Aborts-first : (field : List ℕ) (others : List (List ℕ)) → fields_of options rest ≡ field ∷ others
-      → (next_messages : List ℕ) → IsRejectedField options number field new next_messages
-      → Aborts options bytes old next_messages
-  Aborts-first field others first next_messages is =
-      let has = so_far.rejects (subst (HasRejectedField options number) (sym first) (inl (is.chosen, is.no_size))) in
-      let whole : AreMessagesToRejected options old.word old.place number (field ∷ others) is.messages =
-      inl (messages-old field true is.messages is.are_messages) in
-      let at = subst (λ fields. AreMessagesToRejected options old.word old.place number fields is.messages)
-      (sym first) whole in
-      let all = so_far.tells_to is.mode is.messages at in record {
-        mode = is.mode;
-        has_rejected = has;
-        messages = so_far.messages ++ is.messages;
-        to_rejected = all;
-        messages_are =
-            is.messages_are ∙ ap (λ state. state.messages ++ is.messages) so_far.new_is
-            ∙ append_assoc old.messages so_far.messages is.messages;
-      }
-
-  -- if the rest is the last field, adding it adds the fields of the whole record
-  pub AddsFields-last : fields_of options rest ≡ rest ∷ [] → (next : State)
-      → AddsField options number rest new next → AddsFields options bytes old next
-  AddsFields-last last next adds =
-      let at : AreFields options number (fields_of options rest) adds.text adds.found =
-      subst (λ fields. AreFields options number fields adds.text adds.found) (sym last) adds.is_field in
-      let all = so_far.goes_on adds.text adds.found at in
-      let own_messages = messages-old rest (has_rejected adds.found) adds.messages adds.are_messages in
-      let own : AreMessagesOfFields options old.word old.place number (rest ∷ []) adds.messages =
-      (adds.messages, [], has_rejected adds.found, own_messages, refl, sym (append-nil adds.messages)) in
-      let told = so_far.tells_on adds.messages (subst (λ fields. AreMessagesOfFields options old.word old.place number
-      fields adds.messages) (sym last) own) in
-      record {
-        text = so_far.text ++ adds.text;
-        messages = so_far.messages ++ adds.messages;
-        found = so_far.found ++ adds.found;
-        are_fields = all;
-        are_messages = told;
-        passes = Passes-append options so_far.found adds.found so_far.passes adds.passes;
-        new_is = after-then options old new next so_far.text adds.text so_far.messages adds.messages so_far.found
-            adds.found so_far.new_is adds.new_is;
-      }
-
-  -- if no other field is chosen, copying the rest adds the fields of the whole record
-  pub AddsFields-copied : AreFields options number (fields_of options rest) rest []
-      → ((later : ℕ) → number ≤ later → ¬ IsChosenField options.fields.now later)
-      → AddsFields options bytes old (record new { out = new.out ++ rest })
-  AddsFields-copied copied past =
-      let all = so_far.goes_on rest [] copied in
-      let told = so_far.tells_on [] (AreMessagesOfFields-none options old.word old.place (fields_of options rest) number
-      past) in
-      let nothing = append-nil so_far.messages in
-      let text = so_far.text ++ rest in record {
-        text = text;
-        messages = so_far.messages ++ [];
-        found = so_far.found ++ [];
-        are_fields = all;
-        are_messages = told;
-        passes = subst (Passes options) (sym (append-nil so_far.found)) so_far.passes;
-        new_is =
-            after-more options old new so_far.text so_far.messages rest so_far.found so_far.new_is
-            ∙ ap (λ messages. after options old text messages so_far.found) (sym nothing)
-            ∙ ap (after options old text (so_far.messages ++ [])) (sym (append-nil so_far.found));
-      }
+pub IsSplitting-start : (bytes : List ℕ) (old : Progress RunState) → IsSplitting bytes old 1 bytes old
+IsSplitting-start bytes old = record {
+  before = [];
+  outputs = [];
+  fields_are = refl;
+  number_is = refl;
+  are_fields = tt;
+  passes = λ mode. refl;
+  appends = Appends-none old;
+  few = omega arith;
+}
 
 -- the first field ends at this place, and the others begin this number of bytes after it
 abbrev pub EndsFirst : Options → List ℕ → ℕ → ℕ → Type 0
@@ -311,20 +208,154 @@ EndsFirst options bytes place gap =
     (0 < place + gap) × (place + gap ≤ length bytes)
     × (fields_of options bytes ≡ take place bytes ∷ fields_of options (drop (place + gap) bytes))
 
--- the invariant holds after one more field and the bytes after it, by the place where the field ends
-pub IsSplitting-at : {options : Options} {bytes : List ℕ} {old : State} {number : ℕ} {rest : List ℕ} {new : State}
-    → IsSplitting options bytes old number rest new → (delimiter : ℕ) → options.delimiter ≡ Some delimiter
-    → (between : List ℕ) → between ≡ between_of options → (place : ℕ)
-    → EndsFirst options rest place (length (between_of options)) → (next : State)
-    → AddsField options number (take place rest) new next → (out : List ℕ) → out ≡ next.out ++ between
-    → IsSplitting options bytes old (number + 1) (drop (place + length between) rest) (record next { out = out })
-IsSplitting-at {options = options} {bytes = bytes} {old = old} {number = number} {rest = rest} so_far delimiter is
-    between between_is place ends next adds out out_is =
-    let gap = length between in
-    let behind = drop (place + gap) rest in
-    let first = subst (EndsFirst options rest place) (ap length (sym between_is)) ends in
-    let shorter : length behind < length rest = omega (arith, first.0, first.1, length-drop (place + gap) rest) in
-    subst (λ out. IsSplitting options bytes old (number + 1) behind (record next { out = out }))
-    (sym (out_is ∙ ap (λ mark. next.out ++ mark) between_is))
-    (IsSplitting-step so_far (take place rest) behind first.2 (fields_IsSplit options delimiter is behind) shorter next
-    adds)
+module _ {bytes : List ℕ} {old : Progress RunState} {number : ℕ} {rest : List ℕ} {new : Progress RunState}
+    (so_far : IsSplitting bytes old number rest new) where
+  -- the new progress, with the place at the start, which does not change
+  abbrev now : Progress RunState
+  now = record new { state = record old.state { tally = new.state.tally } }
+
+  now_is : new ≡ now
+  now_is = ap (λ state. record new { state = state }) so_far.appends.state_is
+
+  abbrev options : Options
+  options = old.state.place.options
+
+  abbrev between : List ℕ
+  between = between_of options
+
+  -- what the fields before have appended
+  appended : Appends (followed between so_far.outputs) old now
+  appended = subst (Appends (followed between so_far.outputs) old) now_is so_far.appends
+
+  -- what the next fields give, too
+  are-more : (fields : List (List ℕ)) (outputs : List Output) → AreFields old.state.place number fields outputs
+      → AreFields old.state.place 1 (so_far.before ++ fields) (so_far.outputs ++ outputs)
+  are-more fields outputs are = AreFields-append old.state.place 1 so_far.before fields so_far.outputs outputs
+      so_far.are_fields (subst (λ number. AreFields old.state.place number fields outputs) so_far.number_is are)
+
+  -- the invariant holds after one more field and the bytes after it, `mark`
+  pub IsSplitting-step : (mark : List ℕ) → mark ≡ between → (place : ℕ) → EndsFirst options rest place (length between)
+      → (next : Progress RunState) → AddsFields number (take place rest ∷ []) new next
+      → (out : List ℕ) → out ≡ next.out ++ mark → (behind : List ℕ) → behind ≡ drop (place + length mark) rest
+      → IsSplitting bytes old (number + 1) behind (record next { out = out })
+  IsSplitting-step mark mark_is place ends_there next adds_new out out_is behind behind_is =
+      let ends = subst (λ (mark : List ℕ). EndsFirst options rest place (length mark)) (sym mark_is) ends_there in
+      let field = take place rest in
+      let others = fields_of options behind in
+      let adds = subst (λ at. AddsFields number (field ∷ []) at next) now_is adds_new in
+      let same = followed-one old.state.place number between so_far.outputs field adds.outputs adds.are_fields in record {
+        before = so_far.before ++ field ∷ [];
+        outputs = so_far.outputs ++ adds.outputs;
+        fields_are =
+            so_far.fields_are ∙ ap (λ more. so_far.before ++ more) (ends.2
+            ∙ ap (λ behind. field ∷ fields_of options behind) (sym behind_is))
+            ∙ sym (append_assoc so_far.before (field ∷ []) others);
+        number_is = omega (arith, so_far.number_is, length-append so_far.before (field ∷ []));
+        are_fields = are-more (field ∷ []) adds.outputs adds.are_fields;
+        passes = subst (λ (output : Output). Passes options output.found) same
+            (Passes-append options (found_in so_far.outputs) (found_in adds.outputs) so_far.passes adds.passes);
+        appends = subst (λ output. Appends output old (record next { out = out })) same
+            (Appends-more (Appends-then appended adds.appends) between out
+            (out_is ∙ ap (λ mark. next.out ++ mark) mark_is));
+        few = omega (
+          arith,
+          so_far.few,
+          ap (λ (behind : List ℕ). length behind) behind_is,
+          length-drop (place + length mark) rest,
+          ends.0,
+          ends.1,
+        );
+      }
+
+  -- adding the other fields adds those of the whole record
+  with-others : IsSplit (fields_of options rest) → (next : Progress RunState)
+      → AddsFields number (fields_of options rest) now next → AddsFields 1 (fields_of options bytes) old next
+  with-others split next adds =
+      let same = together-append old.state.place number between so_far.outputs (fields_of options rest) adds.outputs split
+      adds.are_fields in record {
+        outputs = so_far.outputs ++ adds.outputs;
+        are_fields = subst (λ fields. AreFields old.state.place 1 fields (so_far.outputs ++ adds.outputs))
+            (sym so_far.fields_are) (are-more (fields_of options rest) adds.outputs adds.are_fields);
+        passes = subst (λ (output : Output). Passes options output.found) same
+            (Passes-append options (found_in so_far.outputs) (found_in adds.outputs) so_far.passes adds.passes);
+        appends = subst (λ output. Appends output old next) same (Appends-then appended adds.appends);
+      }
+
+  -- if the rest is the last field, adding it adds the fields of the whole record
+  pub AddsFields-last : fields_of options rest ≡ rest ∷ [] → (next : Progress RunState)
+      → AddsFields number (rest ∷ []) new next → AddsFields 1 (fields_of options bytes) old next
+  AddsFields-last last next adds =
+      with-others (rest, [], last) next
+      (subst (λ fields. AddsFields number fields now next) (sym last)
+      (subst (λ at. AddsFields number (rest ∷ []) at next) now_is adds))
+
+  -- if no other field is chosen, copying the rest adds the fields of the whole record
+  pub AddsFields-copied : (delimiter : ℕ) → options.delimiter ≡ Some delimiter
+      → ((later : ℕ) → number ≤ later → ¬ IsChosenField options.fields.now later)
+      → (out : List ℕ) → out ≡ new.out ++ rest
+      → AddsFields 1 (fields_of options bytes) old (record new { out = out })
+  AddsFields-copied delimiter is past out out_is =
+      let fields = fields_of options rest in
+      let same = sym (together-copied between fields ∙ ap copied (fields_joined options delimiter is rest)) in
+      subst (λ (at : Progress RunState). AddsFields 1 (fields_of options bytes) old (record at { out = out }))
+      (sym now_is) (with-others (fields_IsSplit options delimiter is rest) (record now { out = out }) (record {
+        outputs = map copied fields;
+        are_fields = AreFields-copied old.state.place fields number past;
+        passes = subst (λ (output : Output). Passes options output.found) same (λ mode. refl);
+        appends = subst (λ output. Appends output now (record now { out = out })) same
+            (Appends-more (Appends-none now) rest out out_is);
+      }))
+
+  -- if one of the next fields is rejected in the mode `abort`, one of the record is
+  Aborts-next : (fields others : List (List ℕ)) → fields_of options rest ≡ fields ++ others → (next : Progress RunState)
+      → Aborts number fields now next → Aborts 1 (fields_of options bytes) old next
+  Aborts-next fields others next_are next aborts =
+      let at = aborts.are_messages in
+      let count : number + length at.before ≡ 1 + length (so_far.before ++ at.before) =
+      omega (arith, so_far.number_is, length-append so_far.before at.before) in
+      let found = flat_map-append (λ (output : Output). output.found) so_far.outputs at.outputs in
+      let messages = flat_map-append (λ (output : Output). output.messages) so_far.outputs at.outputs in
+      let before = messages_in so_far.outputs in record {
+        mode = aborts.mode;
+        messages = before ++ aborts.messages;
+        are_messages = record {
+          before = so_far.before ++ at.before;
+          field = at.field;
+          after = at.after ++ others;
+          outputs = so_far.outputs ++ at.outputs;
+          own = at.own;
+          fields_are =
+              so_far.fields_are ∙ ap (λ more. so_far.before ++ more) (next_are
+              ∙ ap (λ fields. fields ++ others) at.fields_are ∙ append_assoc at.before (at.field ∷ at.after) others)
+              ∙ sym (append_assoc so_far.before at.before (at.field ∷ (at.after ++ others)));
+          are_fields = are-more at.before at.outputs at.are_fields;
+          none_before = ap has_rejected found ∙ Passes-append options (found_in so_far.outputs) (found_in at.outputs)
+              so_far.passes (λ _. at.none_before) aborts.mode;
+          is_field = subst (λ number. IsField old.state.place number at.field at.own) count at.is_field;
+          is_rejected = at.is_rejected;
+          messages_are =
+              ap (λ more. before ++ more) at.messages_are
+              ∙ sym (append_assoc before (messages_in at.outputs) at.own.messages)
+              ∙ ap (λ begun. begun ++ at.own.messages) (sym messages);
+        };
+        messages_are =
+            aborts.messages_are ∙ ap (λ begun. begun ++ aborts.messages) so_far.appends.messages_are
+            ∙ append_assoc old.messages before aborts.messages;
+      }
+
+  -- if the next fields end the call early, the record does
+  pub IsEarly-next : (fields others : List (List ℕ)) → fields_of options rest ≡ fields ++ others
+      → (next : Progress RunState) (error : RunError Reason) → IsEarly number fields new next error
+      → IsEarly 1 (fields_of options bytes) old next error
+  IsEarly-next fields others next_are next error early_new =
+      let early = subst (λ at. IsEarly number fields at next error) now_is early_new in record {
+        keeps = (
+          IsBeginningOf-trans old.out new.out next.out (_, appended.out_is) early.keeps.0,
+          IsBeginningOf-trans old.messages new.messages next.messages (_, appended.messages_are) early.keeps.1,
+          early.keeps.2,
+        );
+        why = elim early.why [
+          | inl memory ↦ inl memory
+          | inr (is, aborts) ↦ inr (is, Aborts-next fields others next_are next aborts)
+        ];
+      }

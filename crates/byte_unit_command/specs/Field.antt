@@ -1,12 +1,12 @@
 -- What is written for one field, and what is found in it.
 use Rattle.std.specs.Prelude.{◌≡◌, ℕ, ◌-◌, ◌⊎◌, Bool, false, nat_eq, if◌then◌else◌, List, [], ◌∷◌, ◌++◌, length}
-use Rattle.std.specs.Prelude.{take, Option, None, Some}
+use Rattle.std.specs.Prelude.{take, Option, None}
 use Rattle.std.specs.List.{ends_with}
 use Rattle.std.specs.Str.{IsUtf8, is_utf8, trim_end}
 use Rattle.byte_unit.specs.Fault.{Fault}
 use Rattle.byte_unit.specs.declared.Kind.{Kind}
 use Rattle.byte_unit.specs.declared.Kind.TheVariants.{Byte, Bit}
-use Rattle.byte_unit_command.specs.Fields.{IsChosenField, gap_of, width_of}
+use Rattle.byte_unit_command.specs.Fields.{gap_of, width_of}
 use Rattle.byte_unit_command.specs.Prefixes.{IsAcceptedBy, IsRejectedBy}
 use Rattle.byte_unit_command.specs.Formatted.{IsFormatted}
 use Rattle.byte_unit_command.specs.declared.options.Options.{Options}
@@ -67,13 +67,3 @@ pub record IsPlaced (options : Options) (number : ℕ) (field : List ℕ) (size 
   pub formatted : List ℕ
   pub is_formatted : IsFormatted (record options { width = width_of options number field }) size formatted
   pub text_is : text ≡ gap_of options number field ++ formatted
-
--- what is written for the field with this number, and what is found in it: a field that is not chosen is copied; a size
--- is replaced by its text; a field that is not a size is copied too
-pub data IsField (options : Options) (number : ℕ) (field text : List ℕ) (found : List Found) : Type 0 where
-  other : ¬ IsChosenField options.fields.now number → text ≡ field → found ≡ []
-      → IsField options number field text found
-  size : (n : ℕ) → IsChosenField options.fields.now number → IsSize options field n
-      → IsPlaced options number field n text → found ≡ Some n ∷ [] → IsField options number field text found
-  rejected : IsChosenField options.fields.now number → IsNoSize options field → text ≡ field → found ≡ None ∷ []
-      → IsField options number field text found

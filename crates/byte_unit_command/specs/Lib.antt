@@ -3,13 +3,14 @@ pub mod Ending
 pub mod Fields
 pub mod Field
 pub mod Laws
+pub mod Sums
+pub mod State
 pub mod Messages
 pub mod Output
 pub mod Converted
 pub mod CallEnds
 pub mod Run
 pub mod Formatted
-pub mod Sums
 pub mod Prefixes
 pub mod Positive
 pub mod FieldList

@@ -1,5 +1,5 @@
 -- The messages about fields, for standard error.
-use Rattle.std.specs.Prelude.{◌≡◌, ℕ, zero, suc, ◌+◌, ◌-◌, ◌^◌, ◌/◌, ◌%◌, ◌⊎◌, min, Bool, true, false, ◌&&◌, ◌||◌}
+use Rattle.std.specs.Prelude.{◌≡◌, ℕ, ◌/◌, ◌%◌, Bool, true, false, ◌&&◌, ◌||◌}
 use Rattle.std.specs.Prelude.{nat_lt, nat_le, IfSome, if◌then◌else◌, MatchBool, List, [], ◌∷◌, ◌++◌, Option, Some, None}
 use Rattle.std.specs.Prelude.{length, take, slice_index, codes}
 use Rattle.std.specs.Char.{is_control, encode_utf8}
@@ -10,9 +10,9 @@ use Rattle.byte_unit.specs.Errors.{size_fault}
 use Rattle.byte_unit.specs.FaultText.{parse_text}
 use Rattle.byte_unit.specs.declared.ParseError.TheVariants.{Value, Unit as UnitFault}
 use Rattle.byte_unit.specs.declared.ValueParseError.TheVariants.{NotNumber}
-use Rattle.byte_unit_command.specs.Field.{IsSize, IsNoSize, ignores_case, without_suffix}
-use Rattle.byte_unit_command.specs.Fields.{IsChosenField, fields_of}
+use Rattle.byte_unit_command.specs.Field.{ignores_case, without_suffix}
 use Rattle.byte_unit_command.specs.Prefixes.{IsRejectedBy}
+use Rattle.byte_unit_command.specs.State.{Place}
 use Rattle.byte_unit_command.specs.Sums.{is_above, is_below}
 use Rattle.byte_unit_command.specs.WrongCharacter.{IsPlaceTold, begins_character}
 use Rattle.byte_unit_command.specs.declared.notice.FieldError.{FieldError}
@@ -72,18 +72,18 @@ AreWords (Rejected error) words = IfSome (parse_text error) (λ text. words ≡ 
 AreWords Above words = words ≡ codes "above the maximum"
 AreWords Below words = words ≡ codes "below the minimum"
 
--- the beginning of a message: what a record is called, and its number
-abbrev pub record_text : List ℕ → ℕ → List ℕ
-record_text word place = codes "byte-unit: " ++ (word ++ (codes " " ++ (decimal place ++ codes ": ")))
-
 -- the number of the field, if there is a delimiter
 abbrev pub field_text : Option ℕ → ℕ → List ℕ
 field_text None number = []
 field_text (Some delimiter) number = codes "field " ++ decimal number ++ codes ": "
 
+-- the beginning of a message: what a record is called, and its number
+abbrev pub record_text : Place → List ℕ
+record_text place = codes "byte-unit: " ++ (place.word ++ (codes " " ++ (decimal place.number ++ codes ": ")))
+
 -- the place of a field
-abbrev pub place_text : Options → List ℕ → ℕ → ℕ → List ℕ
-place_text options word place number = record_text word place ++ field_text options.delimiter number
+abbrev pub place_text : Place → ℕ → List ℕ
+place_text place number = record_text place ++ field_text place.options.delimiter number
 
 -- what a message says of the place in the text of a field: it names that if it names a character
 abbrev pub AreCharacterWords : FieldError → List ℕ → List ℕ → Type 0
@@ -91,23 +91,23 @@ AreCharacterWords (Rejected (Value (NotNumber c))) text words = IsPlaceTold text
 AreCharacterWords (Rejected (UnitFault error)) text words = IsPlaceTold text words
 AreCharacterWords _ text words = words ≡ []
 
--- a message about the field with this number, in the record at this place, which is called by this word
-abbrev pub IsMessage : Options → List ℕ → ℕ → ℕ → List ℕ → FieldError → List ℕ → Type 0
-IsMessage options word place number field reason text =
+-- a message about the field with this number, in the record at this place
+abbrev pub IsMessage : Place → ℕ → List ℕ → FieldError → List ℕ → Type 0
+IsMessage place number field reason text =
     (words character : List ℕ) × AreWords reason words
-    × AreCharacterWords reason (without_suffix options.suffix.now field) character
-    × (text ≡ place_text options word place number ++ quote field ++ codes ": " ++ words ++ character ++ 10 ∷ [])
+    × AreCharacterWords reason (without_suffix place.options.suffix.now field) character
+    × (text ≡ place_text place number ++ quote field ++ codes ": " ++ words ++ character ++ 10 ∷ [])
 
 -- such a message if it is told, and else nothing
-abbrev pub IsMessageIf : Bool → Options → List ℕ → ℕ → ℕ → List ℕ → FieldError → List ℕ → Type 0
-IsMessageIf told options word place number field reason text =
-    MatchBool told (IsMessage options word place number field reason text) (text ≡ [])
+abbrev pub IsMessageIf : Bool → Place → ℕ → List ℕ → FieldError → List ℕ → Type 0
+IsMessageIf told place number field reason text =
+    MatchBool told (IsMessage place number field reason text) (text ≡ [])
 
 -- the messages about a size: that it is above the maximum, and that it is below the minimum
-abbrev pub AreLimitMessages : Options → List ℕ → ℕ → ℕ → List ℕ → ℕ → List ℕ → Type 0
-AreLimitMessages options word place number field size text =
-    (above below : List ℕ) × IsMessageIf (is_above options.max size) options word place number field Above above
-    × IsMessageIf (is_below options.min size) options word place number field Below below × (text ≡ above ++ below)
+abbrev pub AreLimitMessages : Place → ℕ → List ℕ → ℕ → List ℕ → Type 0
+AreLimitMessages place number field size text =
+    (above below : List ℕ) × IsMessageIf (is_above place.options.max size) place number field Above above
+    × IsMessageIf (is_below place.options.min size) place number field Below below × (text ≡ above ++ below)
 
 -- this is the reason why the field is not a size
 abbrev pub IsFieldError : Options → List ℕ → FieldError → Type 0
@@ -125,43 +125,9 @@ tells_rejected Fail = true
 tells_rejected Warn = true
 tells_rejected Ignore = false
 
--- the messages about a field, and whether it is to be converted and is not a size
-pub data AreFieldMessages (options : Options) (word : List ℕ) (place number : ℕ) (field : List ℕ) (is_rejected : Bool)
-    (text : List ℕ) : Type 0 where
-  other : ¬ IsChosenField options.fields.now number → is_rejected ≡ false → text ≡ []
-      → AreFieldMessages options word place number field is_rejected text
-  size : (n : ℕ) → IsChosenField options.fields.now number → IsSize options field n → is_rejected ≡ false
-      → AreLimitMessages options word place number field n text
-      → AreFieldMessages options word place number field is_rejected text
-  rejected : (reason : FieldError) → IsChosenField options.fields.now number → IsFieldError options field reason
-      → is_rejected ≡ true
-      → tells_rejected options.invalid ≡ true → IsMessage options word place number field reason text
-      → AreFieldMessages options word place number field is_rejected text
-  ignored : IsChosenField options.fields.now number → IsNoSize options field → is_rejected ≡ true
-      → tells_rejected options.invalid ≡ false → text ≡ []
-      → AreFieldMessages options word place number field is_rejected text
-
--- the messages about these fields, the first of which has this number
-abbrev pub AreMessagesOfFields : Options → List ℕ → ℕ → ℕ → List (List ℕ) → List ℕ → Type 0
-AreMessagesOfFields options word place number [] text = text ≡ []
-AreMessagesOfFields options word place number (field ∷ others) text =
-    (own rest : List ℕ) × (is_rejected : Bool) × AreFieldMessages options word place number field is_rejected own
-    × AreMessagesOfFields options word place (number + 1) others rest × (text ≡ own ++ rest)
-
--- the messages about these fields up to the first one that is rejected, which is one of them
-abbrev pub AreMessagesToRejected : Options → List ℕ → ℕ → ℕ → List (List ℕ) → List ℕ → Type 0
-AreMessagesToRejected options word place number [] text = ⊥
-AreMessagesToRejected options word place number (field ∷ others) text =
-    AreFieldMessages options word place number field true text
-    ⊎ ((own rest : List ℕ) × AreFieldMessages options word place number field false own
-    × AreMessagesToRejected options word place (number + 1) others rest × (text ≡ own ++ rest))
-
--- the messages about a record, if this number of header records begins with it: none about a header record
-abbrev pub AreRecordMessages : Options → List ℕ → ℕ → ℕ → List ℕ → List ℕ → Type 0
-AreRecordMessages options word place zero bytes text =
-    AreMessagesOfFields options word place 1 (fields_of options bytes) text
-AreRecordMessages options word place (suc _) bytes text = text ≡ []
-
--- the number of the record after the one with this number; a number of 2^64 or more is told as 2^64 - 1
-abbrev pub next_place : ℕ → ℕ
-next_place place = min (place + 1) (2 ^ 64 - 1)
+-- the message about a field that is not a size, with the reason, if rejected fields are told
+abbrev pub IsRejectMessage : Place → ℕ → List ℕ → List ℕ → Type 0
+IsRejectMessage place number field text =
+    MatchBool (tells_rejected place.options.invalid)
+    ((reason : FieldError) × IsFieldError place.options field reason × IsMessage place number field reason text)
+    (text ≡ [])

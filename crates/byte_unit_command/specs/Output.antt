@@ -1,32 +1,87 @@
--- What is written for a record, and what is found in it.
-use Rattle.std.specs.Prelude.{◌≡◌, ℕ, zero, suc, ◌+◌, ◌⊎◌, false, List, [], ◌∷◌, ◌++◌}
-use Rattle.byte_unit_command.specs.Field.{Found, IsField, IsNoSize}
+-- What a record gives: text, messages, and sizes.
+use Rattle.std.specs.Prelude.{◌≡◌, ℕ, zero, suc, ◌+◌, ⊤, true, false, List, [], ◌∷◌, ◌++◌, None, Some, length, map}
+use Rattle.std.specs.List.{flat_map}
+use Rattle.byte_unit_command.specs.Field.{Found, IsNoSize, IsPlaced, IsSize}
 use Rattle.byte_unit_command.specs.Fields.{IsChosenField, fields_of, between_of}
+use Rattle.byte_unit_command.specs.Messages.{AreLimitMessages, IsRejectMessage}
+use Rattle.byte_unit_command.specs.State.{Place}
 use Rattle.byte_unit_command.specs.Sums.{has_rejected}
 use Rattle.byte_unit_command.specs.declared.options.Invalid.TheVariants.{Abort}
 use Rattle.byte_unit_command.specs.declared.options.Options.{Options}
 
--- what is written for the fields of a record, the first of which has this number: their texts with the bytes between
--- them; and what is found in them, in their order
-abbrev pub AreFields : Options → ℕ → List (List ℕ) → List ℕ → List Found → Type 0
-AreFields options number [] text found = (text ≡ []) × (found ≡ [])
-AreFields options number (field ∷ []) text found = IsField options number field text found
-AreFields options number (field ∷ next ∷ others) text found =
-    (own rest : List ℕ) × (own_found rest_found : List Found) × IsField options number field own own_found
-    × AreFields options (number + 1) (next ∷ others) rest rest_found
-    × (text ≡ own ++ between_of options ++ rest) × (found ≡ own_found ++ rest_found)
+-- what is written for a field or a record, what is found in it, and the messages about it
+pub record Output : Type 0 where
+  pub text : List ℕ
+  pub found : List Found
+  pub messages : List ℕ
 
--- what is written for a record, without its end byte, if this number of header records begins with it: a header record
--- is copied, and of any other the chosen fields are replaced
-abbrev pub IsRecord : Options → ℕ → List ℕ → List ℕ → List Found → Type 0
-IsRecord options zero bytes text found = AreFields options 1 (fields_of options bytes) text found
-IsRecord options (suc _) bytes text found = (text ≡ bytes) × (found ≡ [])
+-- what is copied: nothing is found in it
+abbrev pub copied : List ℕ → Output
+copied text = record { text = text; found = []; messages = [] }
 
--- one of these fields, the first of which has this number, is to be converted and is not a size
-abbrev pub HasRejectedField : Options → ℕ → List (List ℕ) → Type 0
-HasRejectedField options number [] = ⊥
-HasRejectedField options number (field ∷ others) =
-    IsChosenField options.fields.now number × IsNoSize options field ⊎ HasRejectedField options (number + 1) others
+-- what the field with this number gives: a field that is not chosen is copied; a size is replaced by its text, with
+-- messages if it is beyond a limit; a field that is not a size is copied too, with the message about it
+pub data IsField (place : Place) (number : ℕ) (field : List ℕ) (output : Output) : Type 0 where
+  other : ¬ IsChosenField place.options.fields.now number → output ≡ copied field → IsField place number field output
+  size : (n : ℕ) (text messages : List ℕ) → IsChosenField place.options.fields.now number → IsSize place.options field n
+      → IsPlaced place.options number field n text → AreLimitMessages place number field n messages
+      → output ≡ record { text = text; found = Some n ∷ []; messages = messages } → IsField place number field output
+  rejected : (messages : List ℕ) → IsChosenField place.options.fields.now number → IsNoSize place.options field
+      → IsRejectMessage place number field messages
+      → output ≡ record { text = field; found = None ∷ []; messages = messages } → IsField place number field output
+
+-- what these fields give, the first of which has this number
+abbrev pub AreFields : Place → ℕ → List (List ℕ) → List Output → Type 0
+AreFields place number [] [] = ⊤
+AreFields place number [] (output ∷ outputs) = ⊥
+AreFields place number (field ∷ fields) [] = ⊥
+AreFields place number (field ∷ fields) (output ∷ outputs) =
+    IsField place number field output × AreFields place (number + 1) fields outputs
+
+-- texts with these bytes between each two
+abbrev pub joined : List ℕ → List (List ℕ) → List ℕ
+joined between [] = []
+joined between (text ∷ []) = text
+joined between (text ∷ next ∷ texts) = text ++ between ++ joined between (next ∷ texts)
+
+-- all that is found in these fields
+abbrev pub found_in : List Output → List Found
+found_in outputs = flat_map (λ output. output.found) outputs
+
+-- all messages about them
+abbrev pub messages_in : List Output → List ℕ
+messages_in outputs = flat_map (λ output. output.messages) outputs
+
+-- what fields give together, with these bytes between each two texts
+abbrev pub together : List ℕ → List Output → Output
+together between outputs = record {
+  text = joined between (map (λ output. output.text) outputs);
+  found = found_in outputs;
+  messages = messages_in outputs;
+}
+
+-- what a record gives, without its end byte, if this number of header records begins with it: a header record is
+-- copied, and of any other the chosen fields are replaced
+abbrev pub IsRecord : Place → ℕ → List ℕ → Output → Type 0
+IsRecord place zero bytes output =
+    (outputs : List Output) × AreFields place 1 (fields_of place.options bytes) outputs
+    × (output ≡ together (between_of place.options) outputs)
+IsRecord place (suc _) bytes output = output ≡ copied bytes
+
+-- the messages about these fields up to the first one that is rejected, which is one of them
+pub record AreMessagesToRejected (place : Place) (number : ℕ) (fields : List (List ℕ)) (messages : List ℕ)
+    : Type 0 where
+  pub before : List (List ℕ)
+  pub field : List ℕ
+  pub after : List (List ℕ)
+  pub outputs : List Output
+  pub own : Output
+  pub fields_are : fields ≡ before ++ field ∷ after
+  pub are_fields : AreFields place number before outputs
+  pub none_before : has_rejected (found_in outputs) ≡ false
+  pub is_field : IsField place (number + length before) field own
+  pub is_rejected : has_rejected own.found ≡ true
+  pub messages_are : messages ≡ messages_in outputs ++ own.messages
 
 -- in the mode `abort`, nothing that was found is rejected
 abbrev pub Passes : Options → List Found → Type 0

@@ -1,6 +1,7 @@
 -- What a run has done with its streams; and empty buffers.
 use Rattle.std.specs.Prelude.{◌≡◌, ⊤, ℕ, List, [], Option, Result, Ok, Err, IfOk}
-use Rattle.byte_unit_command.specs.Converted.{RunState, converting, start_of}
+use Rattle.byte_unit_command.specs.Converted.{converting}
+use Rattle.byte_unit_command.specs.State.{RunState, start_of}
 use Rattle.byte_unit_command.specs.declared.error.Reason.{Reason}
 use Rattle.byte_unit_command.specs.declared.options.Options.{Options}
 use Rattle.byte_unit_command.specs.declared.run.Buffers.{Buffers}
@@ -13,8 +14,8 @@ use Rattle.byte_unit_stream.specs.declared.run.RunError.{RunError}
 -- the buffers of a run are empty
 abbrev pub AreEmpty : {A : Type 0} → Buffers A → Type 0
 AreEmpty buffers =
-    (buffers.part.items ≡ []) × (buffers.conversion.converter.waiting.items ≡ [])
-    × (buffers.conversion.converter.notices.messages.items ≡ [])
+    (buffers.part.items ≡ []) × (buffers.converter.waiting.items ≡ [])
+    × (buffers.converter.notices.messages.items ≡ [])
 
 -- how a run has ended, without what it has counted
 abbrev pub ending_of : Result Tally (RunError Reason) → Result ⊤ (RunError Reason)

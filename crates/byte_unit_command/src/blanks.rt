@@ -3,7 +3,7 @@
 ghost use Rattle.std.specs.Prelude.{◌≡◌, ◌+◌, ◌-◌, ◌<◌, ◌≤◌, ◌∷◌, ◌&&◌, [], Some, not};
 ghost use Rattle.std.specs.Prelude.{cond, drop, length, take, true, IfSome, IfNone};
 ghost use Rattle.byte_unit_command.specs.Fields.{at_blanks, begins_blank as has_blank_first, between_of, blank_fields};
-ghost use Rattle.byte_unit_command.specs.Fields.{fields_of, is_blank as is_a_blank, width_by};
+ghost use Rattle.byte_unit_command.specs.Fields.{fields_of, gap_by, is_blank as is_a_blank, width_by};
 
 use crate::options::Options;
 use byte_unit_stream::end_of;
@@ -54,21 +54,25 @@ pub(crate) fn end_of_first(
     end_of(bytes, delimiter)
 }
 
-/// Returns the least number of columns of a size that replaces the field with this number, between blanks.
-pub(crate) fn width_of(options: &Options, number: u64, field: &[u8]) -> usize
-    ensures { result ≡ width_by true options.now.width number field.now }
+/// Returns the least number of columns of a size that replaces the field with this number. Without a width, a size
+/// between blanks takes the columns of the field.
+#[inline(always)]
+pub(crate) fn width_of<const BLANKS: bool>(options: &Options, number: u64, field: &[u8]) -> usize
+    ensures { result ≡ width_by BLANKS options.now.width number field.now }
 {
-    if options.width == 0 {
+    if BLANKS && options.width == 0 {
         return columns_of(number > 1, field);
     }
     options.width as usize
 }
 
-/// Returns the blank before a field that separates it from the field before it; nothing for the first field.
-pub(crate) fn gap_of(later: bool, field: &[u8]) -> &[u8]
-    ensures { result.now ≡ cond later (take 1 field.now) [] }
+/// Returns the blank before a field that separates it from the field before it; nothing for the first field, and if
+/// fields are not between blanks.
+#[inline(always)]
+pub(crate) fn gap_of<const BLANKS: bool>(number: u64, field: &[u8]) -> &[u8]
+    ensures { result.now ≡ gap_by BLANKS number field.now }
 {
-    if !later {
+    if !BLANKS || number <= 1 {
         return &[];
     }
     match field {

@@ -1,14 +1,13 @@
 //! Messages about fields, for standard error.
 
-ghost use Rattle.std.specs.Prelude.{◌≡◌, ◌++◌, List, ℕ, OnOk, true};
+ghost use Rattle.std.specs.Prelude.{◌≡◌, ◌++◌, List, ℕ, OnOk};
 ghost use Rattle.std.specs.String.{string_bytes};
 ghost use Rattle.byte_unit_command.specs.Field.{IsNoSize};
-ghost use Rattle.byte_unit_command.specs.Fields.{IsChosenField};
-ghost use Rattle.byte_unit_command.specs.Messages.{AreFieldMessages, AreLimitMessages, AreWords};
+ghost use Rattle.byte_unit_command.specs.Messages.{AreLimitMessages, AreWords, IsRejectMessage};
 ghost use Rattle.byte_unit_command.specs.Messages.{IsMessage, IsMessageIf, IsFieldError, AreCharacterWords};
 ghost use Rattle.byte_unit_command.specs.WrongCharacter.{character_words};
 ghost use Rattle.byte_unit_command.specs.Messages.{place_text, tells_rejected as has_rejected_told};
-ghost use Rattle.byte_unit_command.specs.CallEnds.{messages_of};
+ghost use Rattle.byte_unit_command.specs.CallEnds.{messages_of, place_of};
 ghost use Rattle.byte_unit_stream.specs.Beginnings.{IsBeginningOf};
 
 use crate::options::{Invalid, Options};
@@ -19,9 +18,11 @@ use byte_unit::{ParseError, ValueParseError};
 use std::alloc::{AllocError, Allocator};
 use std::fmt::Write;
 
-/// The place of a record in the input.
-#[derive(Debug, Clone, Copy)]
-pub(crate) struct Place {
+/// The place of a record: what a message about a field of it needs beside the field.
+#[derive(Clone, Copy)]
+pub(crate) struct Place<'a> {
+    /// The options of the run.
+    pub options: &'a Options<'a>,
     /// What a record is called: `line`, `record` or `operand`.
     pub word: &'static str,
     /// The number of the record, counted from 1.
@@ -54,32 +55,28 @@ enum FieldError {
 
 /// Appends a message that a field is not a size, unless rejected fields are ignored. Parses the field for the error.
 ///
-/// Preconditions (proved at every call): the field is chosen, and it is not a size.
+/// Precondition (proved at every call): the field is not a size.
 ///
 /// # Errors
 ///
 /// Returns `AllocError` if allocation fails. Nothing is appended then.
 pub(crate) fn add_reject_notice<A: Allocator>(
-    options: &Options,
     place: &Place,
     number: u64,
     field: &[u8],
     notices: &mut Notices<A>,
 ) -> Result<(), AllocError>
-    requires chosen { IsChosenField options.now.fields.now number }
-    requires none { IsNoSize options.now field.now }
+    requires { IsNoSize place.now.options.now field.now }
     ensures ok { OnOk result ((text : List ℕ)
-        × AreFieldMessages options.now place.now.word.now place.now.number
-        number field.now true text
+        × IsRejectMessage (place_of place.now) number field.now text
         × (messages_of notices.new ≡ messages_of notices.old ++ text)) }
     ensures kept { IsBeginningOf (messages_of notices.old) (messages_of notices.new) }
 {
-    let told = tells_rejected(options.invalid);
-    if !told {
+    if !tells_rejected(place.options.invalid) {
         return Ok(());
     }
-    let reason = reason_of(options, field);
-    add_message(options, place, number, field, &reason, notices)
+    let reason = reason_of(place.options, field);
+    add_message(place, number, field, &reason, notices)
 }
 
 /// Returns `true` if there are messages about rejected fields.
@@ -115,7 +112,6 @@ fn reason_of(options: &Options, field: &[u8]) -> FieldError
 #[cold]
 #[inline(never)]
 pub(crate) fn add_limit_notice<A: Allocator>(
-    options: &Options,
     place: &Place,
     number: u64,
     field: &[u8],
@@ -123,31 +119,14 @@ pub(crate) fn add_limit_notice<A: Allocator>(
     notices: &mut Notices<A>,
 ) -> Result<(), AllocError>
     ensures ok { OnOk result ((text : List ℕ)
-        × AreLimitMessages options.now place.now.word.now place.now.number
-        number field.now size text
+        × AreLimitMessages (place_of place.now) number field.now size text
         × (messages_of notices.new ≡ messages_of notices.old ++ text)) }
     ensures kept { IsBeginningOf (messages_of notices.old) (messages_of notices.new) }
 {
-    let above = options.max.is_some_and(|most| most < size);
-    let below = options.min.is_some_and(|least| size < least);
-    add_message_if(
-        above,
-        options,
-        place,
-        number,
-        field,
-        &FieldError::Above,
-        notices,
-    )?;
-    add_message_if(
-        below,
-        options,
-        place,
-        number,
-        field,
-        &FieldError::Below,
-        notices,
-    )
+    let above = place.options.max.is_some_and(|most| most < size);
+    let below = place.options.min.is_some_and(|least| size < least);
+    add_message_if(above, place, number, field, &FieldError::Above, notices)?;
+    add_message_if(below, place, number, field, &FieldError::Below, notices)
 }
 
 /// Appends a message if it is to be told.
@@ -157,7 +136,6 @@ pub(crate) fn add_limit_notice<A: Allocator>(
 /// Returns `AllocError` if allocation fails. Nothing is appended then.
 fn add_message_if<A: Allocator>(
     told: bool,
-    options: &Options,
     place: &Place,
     number: u64,
     field: &[u8],
@@ -165,13 +143,12 @@ fn add_message_if<A: Allocator>(
     notices: &mut Notices<A>,
 ) -> Result<(), AllocError>
     ensures ok { OnOk result ((text : List ℕ)
-        × IsMessageIf told options.now place.now.word.now place.now.number
-        number field.now reason.now text
+        × IsMessageIf told (place_of place.now) number field.now reason.now text
         × (messages_of notices.new ≡ messages_of notices.old ++ text)) }
     ensures kept { IsBeginningOf (messages_of notices.old) (messages_of notices.new) }
 {
     if told {
-        add_message(options, place, number, field, reason, notices)
+        add_message(place, number, field, reason, notices)
     } else {
         Ok(())
     }
@@ -183,7 +160,6 @@ fn add_message_if<A: Allocator>(
 ///
 /// Returns `AllocError` if allocation fails. Nothing is appended then.
 fn add_message<A: Allocator>(
-    options: &Options,
     place: &Place,
     number: u64,
     field: &[u8],
@@ -191,19 +167,18 @@ fn add_message<A: Allocator>(
     notices: &mut Notices<A>,
 ) -> Result<(), AllocError>
     ensures ok { OnOk result ((text : List ℕ)
-        × IsMessage options.now place.now.word.now place.now.number
-        number field.now reason.now text
+        × IsMessage (place_of place.now) number field.now reason.now text
         × (messages_of notices.new ≡ messages_of notices.old ++ text)) }
     ensures kept { IsBeginningOf (messages_of notices.old) (messages_of notices.new) }
 {
     notices.line.clear();
-    add_place(options, place, number, &mut notices.line)?;
+    add_place(place, number, &mut notices.line)?;
     add_quoted(field, &mut notices.line)?;
     notices.line.push_str(": ")?;
     add_words(reason, &mut notices.words, &mut notices.line)?;
     add_character(
         reason,
-        without_suffix(options.suffix, field),
+        without_suffix(place.options.suffix, field),
         &mut notices.line,
     )?;
     notices.line.push_str("\n")?;
@@ -216,18 +191,17 @@ fn add_message<A: Allocator>(
 ///
 /// Returns `AllocError` if allocation fails.
 fn add_place<A: Allocator>(
-    options: &Options,
     place: &Place,
     number: u64,
     line: &mut String<A>,
 ) -> Result<(), AllocError>
-    ensures { OnOk result (string_bytes line.new ≡ string_bytes line.old
-        ++ place_text options.now place.now.word.now place.now.number number) }
+    ensures { OnOk result (string_bytes line.new
+        ≡ string_bytes line.old ++ place_text (place_of place.now) number) }
 {
     let word = place.word;
     let record = place.number;
     write!(line, "byte-unit: {word} {record}: ")?;
-    match options.delimiter {
+    match place.options.delimiter {
         None => Ok(()),
         Some(_) => write!(line, "field {number}: "),
     }

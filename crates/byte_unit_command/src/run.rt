@@ -1,7 +1,7 @@
 //! The run and its buffers: the loop over records is that of `byte_unit_stream`, with the conversion of a record as its
 //! step.
 
-ghost use Rattle.std.specs.Prelude.{◌≡◌, ◌^◌, ◌<◌, ◌≤◌, ◌+◌, length, IsTrue, IsErrOf};
+ghost use Rattle.std.specs.Prelude.{◌^◌, ◌<◌, ◌≤◌, ◌+◌, length, IsTrue, IsErrOf};
 ghost use Rattle.byte_unit_command.specs.Run.{AreEmpty, IsRunOf};
 ghost use Rattle.byte_unit_stream.specs.Streams.{reading_failed, writing_failed};
 ghost use Rattle.byte_unit_stream.specs.declared.run.RunError.{RunError};
@@ -78,16 +78,16 @@ pub fn run_with_buffers<'a, A: Allocator, R: Read, W: Write, E: Write>(
         → IsTrue (writing_failed streams.new.writer) }
 {
     let most = read_max(options, buffer.len());
-    let conversion = &mut buffers.conversion;
-    conversion.options = options;
-    conversion.converter.header = options.header;
-    conversion.converter.tally = Tally::NONE;
-    conversion.converter.place = Place {
+    let converter = &mut buffers.converter;
+    converter.header = options.header;
+    converter.tally = Tally::NONE;
+    converter.place = Place {
+        options,
         word: streams.word,
         number: 0,
     };
     match run_steps(
-        conversion,
+        converter,
         options.record_end,
         &mut buffers.part,
         &mut buffer[..most],
@@ -95,7 +95,7 @@ pub fn run_with_buffers<'a, A: Allocator, R: Read, W: Write, E: Write>(
         &mut streams.writer,
         &mut streams.errors,
     ) {
-        Ok(()) => Ok(buffers.conversion.converter.tally),
+        Ok(()) => Ok(buffers.converter.tally),
         Err(error) => Err(error),
     }
 }
@@ -105,8 +105,8 @@ pub fn run_with_buffers<'a, A: Allocator, R: Read, W: Write, E: Write>(
 pub struct Buffers<'a, A: Allocator> {
     /// The part that was read of a record whose end was not read yet.
     pub(crate) part: Vec<u8, A>,
-    /// What was converted and is not written yet.
-    pub(crate) conversion: Conversion<'a, A>,
+    /// How far the run has come, and what was converted and is not written yet.
+    pub(crate) converter: Converter<'a, A>,
 }
 
 impl<'a, A: Allocator + Copy> Buffers<'a, A> {
@@ -116,21 +116,19 @@ impl<'a, A: Allocator + Copy> Buffers<'a, A> {
     {
         Buffers {
             part: Vec::new(alloc),
-            conversion: Conversion {
-                options,
-                converter: Converter {
-                    header: 0,
-                    tally: Tally::NONE,
-                    place: Place {
-                        word: "",
-                        number: 0,
-                    },
-                    waiting: Vec::new(alloc),
-                    notices: Notices {
-                        messages: Vec::new(alloc),
-                        line: String::new(alloc),
-                        words: String::new(alloc),
-                    },
+            converter: Converter {
+                place: Place {
+                    options,
+                    word: "",
+                    number: 0,
+                },
+                header: 0,
+                tally: Tally::NONE,
+                waiting: Vec::new(alloc),
+                notices: Notices {
+                    messages: Vec::new(alloc),
+                    line: String::new(alloc),
+                    words: String::new(alloc),
                 },
                 digits: [0u8; DIGITS],
             },
@@ -138,46 +136,35 @@ impl<'a, A: Allocator + Copy> Buffers<'a, A> {
     }
 }
 
-/// The conversion of the records of a run.
-#[derive(Drop)]
-pub(crate) struct Conversion<'a, A: Allocator> {
-    /// The options of the run.
-    pub(crate) options: &'a Options<'a>,
-    /// How far the run has come, and what is not written yet.
-    pub(crate) converter: Converter<A>,
-    /// A buffer for the text of a size.
-    pub(crate) digits: [u8; DIGITS],
-}
-
-impl<'a, A: Allocator> Steps for Conversion<'a, A> {
-    ghost use Rattle.byte_unit_command.specs.CallEnds.{progress, state_of};
-    ghost use Rattle.byte_unit_command.specs.Converted.{RunState, converting};
+impl<'a, A: Allocator> Steps for Converter<'a, A> {
+    ghost use Rattle.byte_unit_command.specs.CallEnds.{state_of};
+    ghost use Rattle.byte_unit_command.specs.Converted.{converting};
+    ghost use Rattle.byte_unit_command.specs.State.{RunState};
 
     type End = Reason;
 
     ghost State = { RunState };
 
-    ghost at = { λ conversion. progress conversion.options.now (state_of conversion.converter) };
+    ghost at = { state_of };
 
-    ghost end_byte = { λ conversion. conversion.options.now.record_end };
+    ghost end_byte = { λ converter. converter.place.options.now.record_end };
 
     ghost relation = { converting };
 
     #[inline(always)]
     fn step(&mut self, bytes: &[u8], len: usize) -> RunResult {
-        let converter = &mut self.converter;
-        let written = converter.waiting.len();
-        let told = converter.notices.messages.len();
-        match converter.append_record(self.options, &bytes[..len], &mut self.digits) {
+        let written = self.waiting.len();
+        let told = self.notices.messages.len();
+        match self.append_record(&bytes[..len]) {
             Ok(()) => Ok(()),
             Err(RunError::Ended(reason)) => {
-                converter.waiting.truncate(written);
+                self.waiting.truncate(written);
                 // The messages stay: the last is the one about the rejected field.
                 Err(RunError::Ended(reason))
             }
             Err(RunError::Memory) => {
-                converter.waiting.truncate(written);
-                converter.notices.messages.truncate(told);
+                self.waiting.truncate(written);
+                self.notices.messages.truncate(told);
                 Err(RunError::Memory)
             }
             // Never: nothing is read or written.
@@ -187,37 +174,31 @@ impl<'a, A: Allocator> Steps for Conversion<'a, A> {
     }
 
     fn close(&mut self) -> RunResult {
-        let options = self.options;
+        let options = self.place.options;
         if !options.total {
             return Ok(());
         }
-        let total = self.converter.tally.total;
+        let total = self.tally.total;
         if total >= TOTAL_LIMIT {
             return Err(RunError::Ended(Reason::Total));
         }
-        let waiting = &mut self.converter.waiting;
-        add_in_width(
-            options,
-            options.width as usize,
-            total,
-            &mut self.digits,
-            waiting,
-        )?;
+        let (width, waiting) = (options.width as usize, &mut self.waiting);
+        add_in_width(options, width, total, &mut self.digits, waiting)?;
         waiting.extend_from_slice(&[options.output_end])?;
         Ok(())
     }
 
     fn waiting(&self) -> &[u8] {
-        &self.converter.waiting
+        &self.waiting
     }
 
     fn untold(&self) -> &[u8] {
-        &self.converter.notices.messages
+        &self.notices.messages
     }
 
     fn clear(&mut self) {
-        self.converter.waiting.clear();
-        self.converter.notices.messages.clear();
+        self.waiting.clear();
+        self.notices.messages.clear();
     }
 }
 

@@ -1,7 +1,8 @@
 //! What a run counts.
 
-ghost use Rattle.std.specs.Prelude.{◌≡◌};
-ghost use Rattle.byte_unit_command.specs.Sums.{is_beyond, tally_with};
+ghost use Rattle.std.specs.Prelude.{◌≡◌, ◌∷◌, [], Some, None};
+ghost use Rattle.byte_unit_command.specs.Sums.{Counts, is_beyond};
+ghost use Rattle.byte_unit_command.specs.declared.options.Options.{Options};
 
 use crate::options::Options;
 
@@ -29,7 +30,7 @@ impl Tally {
 
     /// Counts a size. Returns `true` if it is above the maximum or below the minimum.
     pub(crate) fn add(&mut self, options: &Options, size: u128) -> bool
-        ensures tally { self.new ≡ tally_with options.now self.old (Some size) }
+        ensures counts { Counts options.now self.old (Some size ∷ []) self.new }
         ensures beyond { result ≡ is_beyond options.now size }
     {
         self.total = self.total.saturating_add(size).min(TOTAL_LIMIT);
@@ -39,5 +40,12 @@ impl Tally {
             self.beyond = true;
         }
         beyond
+    }
+
+    /// Counts a field that is not a size.
+    pub(crate) fn reject(&mut self)
+        ensures { (options : Options) → Counts options self.old (None ∷ []) self.new }
+    {
+        self.rejected = true;
     }
 }

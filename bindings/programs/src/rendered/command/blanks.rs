@@ -28,17 +28,21 @@ pub(crate) fn end_of_first(options: &Options, blanks: bool, delimiter: u8, bytes
     end_of(bytes, delimiter)
 }
 
-/// Returns the least number of columns of a size that replaces the field with this number, between blanks.
-pub(crate) fn width_of(options: &Options, number: u64, field: &[u8]) -> usize {
-    if options.width == 0 {
+/// Returns the least number of columns of a size that replaces the field with this number. Without a width, a size
+/// between blanks takes the columns of the field.
+#[inline(always)]
+pub(crate) fn width_of<const BLANKS: bool>(options: &Options, number: u64, field: &[u8]) -> usize {
+    if BLANKS && options.width == 0 {
         return columns_of(number > 1, field);
     }
     options.width as usize
 }
 
-/// Returns the blank before a field that separates it from the field before it; nothing for the first field.
-pub(crate) fn gap_of(later: bool, field: &[u8]) -> &[u8] {
-    if !later {
+/// Returns the blank before a field that separates it from the field before it; nothing for the first field, and if
+/// fields are not between blanks.
+#[inline(always)]
+pub(crate) fn gap_of<const BLANKS: bool>(number: u64, field: &[u8]) -> &[u8] {
+    if !BLANKS || number <= 1 {
         return &[];
     }
     match field {

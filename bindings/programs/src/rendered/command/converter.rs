@@ -13,20 +13,22 @@ use crate::rendered::command::tally::Tally;
 use crate::rendered::command::text::{DIGITS, add_in_width};
 
 /// Converts records. Keeps how far the run has come, and what is not written yet.
-pub(crate) struct Converter<A: Allocator> {
+pub(crate) struct Converter<'a, A: Allocator> {
+    /// The options of the run, what a record is called, and the number of the last one.
+    pub place: Place<'a>,
     /// The number of header records that are still to come.
     pub header: u64,
     /// What was counted so far.
     pub tally: Tally,
-    /// The number of the record, and what a record is called.
-    pub place: Place,
     /// Whole texts that are not written yet.
     pub waiting: Vec<u8, A>,
     /// Messages that are not written yet.
     pub notices: Notices<A>,
+    /// A buffer for the text of a size.
+    pub digits: [u8; DIGITS],
 }
 
-impl<A: Allocator> Converter<A> {
+impl<'a, A: Allocator> Converter<'a, A> {
     /// Appends what is written for a record, with its end byte, and counts what is found in it.
     ///
     /// # Errors
@@ -39,13 +41,14 @@ impl<A: Allocator> Converter<A> {
     /// `#[inline(always)]`, as on what it calls for each record and each field: the calls would take more instructions.
     /// What is rare, and the loop over fields, is `#[inline(never)]`, so that it costs a record of one field nothing.
     #[inline(always)]
-    pub(crate) fn append_record(&mut self, options: &Options, bytes: &[u8], digits: &mut [u8; DIGITS]) -> RunResult {
+    pub(crate) fn append_record(&mut self, bytes: &[u8]) -> RunResult {
+        let options = self.place.options;
         self.place.number = self.place.number.saturating_add(1);
         if self.header > 0 {
             self.header -= 1;
             self.waiting.extend_from_slice(bytes)?;
         } else {
-            self.add_fields(options, bytes, digits)?;
+            self.add_fields(bytes)?;
         }
         self.waiting.extend_from_slice(&[options.output_end])?;
         Ok(())
@@ -58,15 +61,13 @@ impl<A: Allocator> Converter<A> {
     /// - `Ended` for `Rejected` if a field is not a size, in the mode `abort`.
     /// - `Memory` if allocation fails.
     #[inline(always)]
-    fn add_fields(&mut self, options: &Options, bytes: &[u8], digits: &mut [u8; DIGITS]) -> RunResult {
+    fn add_fields(&mut self, bytes: &[u8]) -> RunResult {
+        let options = self.place.options;
         match options.delimiter {
-            None => {
-                // The whole record is field 1.
-                let chosen = is_in_one(options.fields, 1);
-                self.add_field::<false>(options, 1, bytes, chosen, digits)
-            }
-            Some(delimiter) if options.blanks => self.add_split::<true>(options, delimiter, bytes, digits),
-            Some(delimiter) => self.add_split::<false>(options, delimiter, bytes, digits),
+            // The whole record is field 1.
+            None => self.add_field::<false>(1, bytes, is_in_one(options.fields, 1)),
+            Some(delimiter) if options.blanks => self.add_split::<true>(delimiter, bytes),
+            Some(delimiter) => self.add_split::<false>(delimiter, bytes),
         }
     }
 
@@ -76,15 +77,10 @@ impl<A: Allocator> Converter<A> {
     /// Preconditions: `delimiter` is that of the options, and `BLANKS` says whether fields are
     /// between blanks.
     #[inline(never)]
-    fn add_split<const BLANKS: bool>(
-        &mut self,
-        options: &Options,
-        delimiter: u8,
-        bytes: &[u8],
-        digits: &mut [u8; DIGITS],
-    ) -> RunResult {
+    fn add_split<const BLANKS: bool>(&mut self, delimiter: u8, bytes: &[u8]) -> RunResult {
         // For the proof: there are fewer fields than a `u64` counts.
         let _len = bytes.len();
+        let options = self.place.options;
         let in_order = is_in_order(options.fields);
         let fields = ranges_from(options.fields, 1);
         let mark = [delimiter];
@@ -94,7 +90,7 @@ impl<A: Allocator> Converter<A> {
         let mut number = 1u64;
         while let Some(n) = end_of_first(options, BLANKS, delimiter, rest) {
             let chosen = is_chosen(ranges, in_order, number);
-            self.add_field::<BLANKS>(options, number, &rest[..n], chosen, digits)?;
+            self.add_field::<BLANKS>(number, &rest[..n], chosen)?;
             self.waiting.extend_from_slice(between)?;
             rest = &rest[n + between.len()..];
             number += 1;
@@ -105,7 +101,7 @@ impl<A: Allocator> Converter<A> {
             }
         }
         let chosen = is_chosen(ranges, in_order, number);
-        self.add_field::<BLANKS>(options, number, rest, chosen, digits)
+        self.add_field::<BLANKS>(number, rest, chosen)
     }
 
     /// Appends what is written for the field with this number, and counts what is found in it.
@@ -118,33 +114,32 @@ impl<A: Allocator> Converter<A> {
     /// - `Ended` for `Rejected` if the field is not a size, in the mode `abort`.
     /// - `Memory` if allocation fails.
     #[inline(always)]
-    fn add_field<const BLANKS: bool>(
-        &mut self,
-        options: &Options,
-        number: u64,
-        field: &[u8],
-        chosen: bool,
-        digits: &mut [u8; DIGITS],
-    ) -> RunResult {
+    fn add_field<const BLANKS: bool>(&mut self, number: u64, field: &[u8], chosen: bool) -> RunResult {
         if !chosen {
             self.waiting.extend_from_slice(field)?;
             return Ok(());
         }
+        let options = self.place.options;
         let Some(size) = accepted(options, field) else {
-            return self.add_rejected(options, number, field);
+            return self.add_rejected(number, field);
         };
-        if self.tally.add(options, size) {
-            add_limit_notice(options, &self.place, number, field, size, &mut self.notices)?;
+        self.count(number, field, size)?;
+        self.waiting.extend_from_slice(gap_of::<BLANKS>(number, field))?;
+        let width = width_of::<BLANKS>(options, number, field);
+        add_in_width(options, width, size, &mut self.digits, &mut self.waiting)?;
+        Ok(())
+    }
+
+    /// Counts the size of a field, and appends the messages about it if it is beyond a limit.
+    ///
+    /// # Errors
+    ///
+    /// - `Memory` if allocation fails.
+    #[inline(always)]
+    fn count(&mut self, number: u64, field: &[u8], size: u128) -> RunResult {
+        if self.tally.add(self.place.options, size) {
+            add_limit_notice(&self.place, number, field, size, &mut self.notices)?;
         }
-        let (gap, width) = if BLANKS {
-            // The blank that separates the field stays, and without a width the size takes the columns of the field.
-            (gap_of(number > 1, field), width_of(options, number, field))
-        } else {
-            // Not between blanks: there is no blank to keep, and a width of 0 is no width.
-            (&field[..0], options.width as usize)
-        };
-        self.waiting.extend_from_slice(gap)?;
-        add_in_width(options, width, size, digits, &mut self.waiting)?;
         Ok(())
     }
 
@@ -153,12 +148,12 @@ impl<A: Allocator> Converter<A> {
     /// Preconditions: the field is chosen, and it is not a size.
     #[cold]
     #[inline(never)]
-    fn add_rejected(&mut self, options: &Options, number: u64, field: &[u8]) -> RunResult {
-        add_reject_notice(options, &self.place, number, field, &mut self.notices)?;
-        if options.invalid == Invalid::Abort {
+    fn add_rejected(&mut self, number: u64, field: &[u8]) -> RunResult {
+        add_reject_notice(&self.place, number, field, &mut self.notices)?;
+        if self.place.options.invalid == Invalid::Abort {
             return Err(RunError::Ended(Reason::Rejected));
         }
-        self.tally.rejected = true;
+        self.tally.reject();
         self.waiting.extend_from_slice(field)?;
         Ok(())
     }

@@ -10,9 +10,11 @@ use crate::rendered::command::size::{parse, without_suffix};
 use crate::rendered::command::wrong_character::wrong_character;
 use byte_unit::rendered::base::{ParseError, ValueParseError};
 
-/// The place of a record in the input.
-#[derive(Debug, Clone, Copy)]
-pub(crate) struct Place {
+/// The place of a record: what a message about a field of it needs beside the field.
+#[derive(Clone, Copy)]
+pub(crate) struct Place<'a> {
+    /// The options of the run.
+    pub options: &'a Options<'a>,
     /// What a record is called: `line`, `record` or `operand`.
     pub word: &'static str,
     /// The number of the record, counted from 1.
@@ -44,24 +46,22 @@ enum FieldError {
 
 /// Appends a message that a field is not a size, unless rejected fields are ignored. Parses the field for the error.
 ///
-/// Preconditions: the field is chosen, and it is not a size.
+/// Precondition: the field is not a size.
 ///
 /// # Errors
 ///
 /// Returns `AllocError` if allocation fails. Nothing is appended then.
 pub(crate) fn add_reject_notice<A: Allocator>(
-    options: &Options,
     place: &Place,
     number: u64,
     field: &[u8],
     notices: &mut Notices<A>,
 ) -> Result<(), AllocError> {
-    let told = tells_rejected(options.invalid);
-    if !told {
+    if !tells_rejected(place.options.invalid) {
         return Ok(());
     }
-    let reason = reason_of(options, field);
-    add_message(options, place, number, field, &reason, notices)
+    let reason = reason_of(place.options, field);
+    add_message(place, number, field, &reason, notices)
 }
 
 /// Returns `true` if there are messages about rejected fields.
@@ -92,17 +92,16 @@ fn reason_of(options: &Options, field: &[u8]) -> FieldError {
 #[cold]
 #[inline(never)]
 pub(crate) fn add_limit_notice<A: Allocator>(
-    options: &Options,
     place: &Place,
     number: u64,
     field: &[u8],
     size: u128,
     notices: &mut Notices<A>,
 ) -> Result<(), AllocError> {
-    let above = options.max.is_some_and(|most| most < size);
-    let below = options.min.is_some_and(|least| size < least);
-    add_message_if(above, options, place, number, field, &FieldError::Above, notices)?;
-    add_message_if(below, options, place, number, field, &FieldError::Below, notices)
+    let above = place.options.max.is_some_and(|most| most < size);
+    let below = place.options.min.is_some_and(|least| size < least);
+    add_message_if(above, place, number, field, &FieldError::Above, notices)?;
+    add_message_if(below, place, number, field, &FieldError::Below, notices)
 }
 
 /// Appends a message if it is to be told.
@@ -112,14 +111,13 @@ pub(crate) fn add_limit_notice<A: Allocator>(
 /// Returns `AllocError` if allocation fails. Nothing is appended then.
 fn add_message_if<A: Allocator>(
     told: bool,
-    options: &Options,
     place: &Place,
     number: u64,
     field: &[u8],
     reason: &FieldError,
     notices: &mut Notices<A>,
 ) -> Result<(), AllocError> {
-    if told { add_message(options, place, number, field, reason, notices) } else { Ok(()) }
+    if told { add_message(place, number, field, reason, notices) } else { Ok(()) }
 }
 
 /// Appends a message.
@@ -128,7 +126,6 @@ fn add_message_if<A: Allocator>(
 ///
 /// Returns `AllocError` if allocation fails. Nothing is appended then.
 fn add_message<A: Allocator>(
-    options: &Options,
     place: &Place,
     number: u64,
     field: &[u8],
@@ -136,11 +133,11 @@ fn add_message<A: Allocator>(
     notices: &mut Notices<A>,
 ) -> Result<(), AllocError> {
     notices.line.clear();
-    add_place(options, place, number, &mut notices.line)?;
+    add_place(place, number, &mut notices.line)?;
     add_quoted(field, &mut notices.line)?;
     notices.line.push_str(": ")?;
     add_words(reason, &mut notices.words, &mut notices.line)?;
-    add_character(reason, without_suffix(options.suffix, field), &mut notices.line)?;
+    add_character(reason, without_suffix(place.options.suffix, field), &mut notices.line)?;
     notices.line.push_str("\n")?;
     notices.messages.extend_from_slice(notices.line.as_bytes())
 }
@@ -150,16 +147,11 @@ fn add_message<A: Allocator>(
 /// # Errors
 ///
 /// Returns `AllocError` if allocation fails.
-fn add_place<A: Allocator>(
-    options: &Options,
-    place: &Place,
-    number: u64,
-    line: &mut String<A>,
-) -> Result<(), AllocError> {
+fn add_place<A: Allocator>(place: &Place, number: u64, line: &mut String<A>) -> Result<(), AllocError> {
     let word = place.word;
     let record = place.number;
     write!(line, "byte-unit: {word} {record}: ")?;
-    match options.delimiter {
+    match place.options.delimiter {
         None => Ok(()),
         Some(_) => write!(line, "field {number}: "),
     }

@@ -61,13 +61,12 @@ pub fn run_with_buffers<'a, A: Allocator, R: Read, W: Write, E: Write>(
     streams: &mut Streams<R, W, E>,
 ) -> Result<Tally, RunError> {
     let most = read_max(options, buffer.len());
-    let conversion = &mut buffers.conversion;
-    conversion.options = options;
-    conversion.converter.header = options.header;
-    conversion.converter.tally = Tally::NONE;
-    conversion.converter.place = Place { word: streams.word, number: 0 };
+    let converter = &mut buffers.converter;
+    converter.header = options.header;
+    converter.tally = Tally::NONE;
+    converter.place = Place { options, word: streams.word, number: 0 };
     match run_steps(
-        conversion,
+        converter,
         options.record_end,
         &mut buffers.part,
         &mut buffer[..most],
@@ -75,7 +74,7 @@ pub fn run_with_buffers<'a, A: Allocator, R: Read, W: Write, E: Write>(
         &mut streams.writer,
         &mut streams.errors,
     ) {
-        Ok(()) => Ok(buffers.conversion.converter.tally),
+        Ok(()) => Ok(buffers.converter.tally),
         Err(error) => Err(error),
     }
 }
@@ -84,8 +83,8 @@ pub fn run_with_buffers<'a, A: Allocator, R: Read, W: Write, E: Write>(
 pub struct Buffers<'a, A: Allocator> {
     /// The part that was read of a record whose end was not read yet.
     pub(crate) part: Vec<u8, A>,
-    /// What was converted and is not written yet.
-    pub(crate) conversion: Conversion<'a, A>,
+    /// How far the run has come, and what was converted and is not written yet.
+    pub(crate) converter: Converter<'a, A>,
 }
 
 impl<'a, A: Allocator + Copy> Buffers<'a, A> {
@@ -93,49 +92,35 @@ impl<'a, A: Allocator + Copy> Buffers<'a, A> {
     pub fn new(alloc: A, options: &'a Options<'a>) -> Buffers<'a, A> {
         Buffers {
             part: Vec::new(alloc),
-            conversion: Conversion {
-                options,
-                converter: Converter {
-                    header: 0,
-                    tally: Tally::NONE,
-                    place: Place { word: "", number: 0 },
-                    waiting: Vec::new(alloc),
-                    notices: Notices { messages: Vec::new(alloc), line: String::new(alloc), words: String::new(alloc) },
-                },
+            converter: Converter {
+                place: Place { options, word: "", number: 0 },
+                header: 0,
+                tally: Tally::NONE,
+                waiting: Vec::new(alloc),
+                notices: Notices { messages: Vec::new(alloc), line: String::new(alloc), words: String::new(alloc) },
                 digits: [0u8; DIGITS],
             },
         }
     }
 }
 
-/// The conversion of the records of a run.
-pub(crate) struct Conversion<'a, A: Allocator> {
-    /// The options of the run.
-    pub(crate) options: &'a Options<'a>,
-    /// How far the run has come, and what is not written yet.
-    pub(crate) converter: Converter<A>,
-    /// A buffer for the text of a size.
-    pub(crate) digits: [u8; DIGITS],
-}
-
-impl<'a, A: Allocator> Steps for Conversion<'a, A> {
+impl<'a, A: Allocator> Steps for Converter<'a, A> {
     type End = Reason;
 
     #[inline(always)]
     fn step(&mut self, bytes: &[u8], len: usize) -> RunResult {
-        let converter = &mut self.converter;
-        let written = converter.waiting.len();
-        let told = converter.notices.messages.len();
-        match converter.append_record(self.options, &bytes[..len], &mut self.digits) {
+        let written = self.waiting.len();
+        let told = self.notices.messages.len();
+        match self.append_record(&bytes[..len]) {
             Ok(()) => Ok(()),
             Err(RunError::Ended(reason)) => {
-                converter.waiting.truncate(written);
+                self.waiting.truncate(written);
                 // The messages stay: the last is the one about the rejected field.
                 Err(RunError::Ended(reason))
             }
             Err(RunError::Memory) => {
-                converter.waiting.truncate(written);
-                converter.notices.messages.truncate(told);
+                self.waiting.truncate(written);
+                self.notices.messages.truncate(told);
                 Err(RunError::Memory)
             }
             // Never: nothing is read or written.
@@ -145,31 +130,31 @@ impl<'a, A: Allocator> Steps for Conversion<'a, A> {
     }
 
     fn close(&mut self) -> RunResult {
-        let options = self.options;
+        let options = self.place.options;
         if !options.total {
             return Ok(());
         }
-        let total = self.converter.tally.total;
+        let total = self.tally.total;
         if total >= TOTAL_LIMIT {
             return Err(RunError::Ended(Reason::Total));
         }
-        let waiting = &mut self.converter.waiting;
-        add_in_width(options, options.width as usize, total, &mut self.digits, waiting)?;
+        let (width, waiting) = (options.width as usize, &mut self.waiting);
+        add_in_width(options, width, total, &mut self.digits, waiting)?;
         waiting.extend_from_slice(&[options.output_end])?;
         Ok(())
     }
 
     fn waiting(&self) -> &[u8] {
-        &self.converter.waiting
+        &self.waiting
     }
 
     fn untold(&self) -> &[u8] {
-        &self.converter.notices.messages
+        &self.notices.messages
     }
 
     fn clear(&mut self) {
-        self.converter.waiting.clear();
-        self.converter.notices.messages.clear();
+        self.waiting.clear();
+        self.notices.messages.clear();
     }
 }
 

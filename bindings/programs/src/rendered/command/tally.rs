@@ -31,4 +31,9 @@ impl Tally {
         }
         beyond
     }
+
+    /// Counts a field that is not a size.
+    pub(crate) fn reject(&mut self) {
+        self.rejected = true;
+    }
 }

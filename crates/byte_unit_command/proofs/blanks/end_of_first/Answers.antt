@@ -1,10 +1,10 @@
 -- Between blanks the first field ends before a blank, and else before a delimiter.
-use Rattle.std.proofs.Common.{◌≡◌, ◌+◌, ◌<◌, ◌≤◌, ℕ, List, [], ◌∷◌, Bool, true, false, Option, None, Some, length, take}
-use Rattle.std.proofs.Common.{drop, ap, sym, subst, ◌∙◌, arith, IfNone, IfSome}
+use Rattle.std.proofs.Common.{◌≡◌, ◌+◌, ◌<◌, ◌≤◌, ℕ, List, [], ◌∷◌, Bool, false, Option, None, Some, length, take}
+use Rattle.std.proofs.Common.{drop, sym, subst, ◌∙◌, arith, IfNone, IfSome}
 use Rattle.std.proofs.lemmas.Option.{IfSome_then}
 use Rattle.byte_unit_stream.specs.Chunks.{IsUnbroken}
 use Rattle.byte_unit_stream.proofs.Ends.{split_by-EndsAt, split_by-IsUnbroken}
-use Rattle.byte_unit_command.specs.Fields.{at_blanks, blank_fields, bytes_between, fields_by}
+use Rattle.byte_unit_command.specs.Fields.{at_blanks, bytes_between, fields_by}
 use Rattle.byte_unit_command.specs.declared.options.Options.{Options}
 use Rattle.byte_unit_command.proofs.blanks.end_of_first.Goals as goal
 
@@ -23,24 +23,6 @@ Ends bytes found blanks mark =
 
 abbrev EndsNowhere : List ℕ → Option ℕ → Bool → Option ℕ → Type 0
 EndsNowhere bytes found blanks mark = IfNone found (fields_by blanks mark bytes ≡ bytes ∷ [])
-
--- between blanks: the end that is found is that of the first field; the next one begins right after it
-pub returns-then-blanks-clause-some : goal.returns-then-blanks-clause-some
-returns-then-blanks-clause-some c =
-    let bytes = c.args.bytes.now in
-    by_options (Ends bytes c.end_of_field.result) c.args.options.now (c.requires.blanks ∙ c.if-blanks.true)
-    c.requires.delimiter (IfSome_then c.end_of_field.result c.end_of_field.ensures.some (λ n ends.
-    let same : n ≡ n + 0 = omega arith in (
-      omega (arith, ends.0),
-      omega (arith, ends.1),
-      ends.2 ∙ ap (λ count. take n bytes ∷ blank_fields (drop count bytes)) same,
-    )))
-
--- between blanks: nothing is found, so the bytes are one field
-pub returns-then-blanks-clause-none : goal.returns-then-blanks-clause-none
-returns-then-blanks-clause-none c =
-    by_options (EndsNowhere c.args.bytes.now c.end_of_field.result) c.args.options.now
-    (c.requires.blanks ∙ c.if-blanks.true) c.requires.delimiter c.end_of_field.ensures.none
 
 -- at a delimiter: the end that is found is that of the first field; the next one begins after the delimiter
 pub returns-clause-some : goal.returns-clause-some

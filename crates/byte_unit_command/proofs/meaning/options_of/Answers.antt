@@ -1,8 +1,9 @@
 -- The first option that is wrong, after those that are right. `.ensures.1` of a `from_residual`: the error in its
 -- result is the one that `?` passes on.
 use Rattle.std.proofs.Common.{inl, inr}
+use Rattle.std.specs.Prelude.{⊤}
 use Rattle.byte_unit_command.specs.CallOptions.{IsFirstWrong, OrLater}
-use Rattle.byte_unit_command.proofs.Results.{IfErr-passed}
+use Rattle.byte_unit_command.proofs.Results.{error-passed}
 use Rattle.byte_unit_command.proofs.meaning.options_of.Goals as goal
 
 -- an option is right, and this holds of the later ones
@@ -13,40 +14,40 @@ later meaning is_right holds = inr (meaning, is_right, holds)
 -- the form is wrong
 pub returns-in_err-given-clause-err : goal.returns-in_err-given-clause-err
 returns-in_err-given-clause-err c =
-    IfErr-passed (IsFirstWrong c.args.values.now) _ _ c.from_residual-in_err-given.ensures.1
+    error-passed (λ _. ⊤) (IsFirstWrong c.args.values.now) _ _ c.from_residual-in_err-given.ensures.1
     (later _ c.in_ok-binary.ensures.ok (inl c.in_err-given.ensures.err))
 
 -- the form cannot be used without its unit
 pub returns-in_err-form-clause-err : goal.returns-in_err-form-clause-err
 returns-in_err-form-clause-err c =
-    IfErr-passed (IsFirstWrong c.args.values.now) _ _ c.from_residual-in_err-form.ensures.1
+    error-passed (λ _. ⊤) (IsFirstWrong c.args.values.now) _ _ c.from_residual-in_err-form.ensures.1
     (later _ c.in_ok-binary.ensures.ok (later _ c.in_ok-given.ensures.ok (inl c.in_err-form.ensures.err)))
 
 -- the delimiter is wrong, or nothing separates the fields that are named
 pub returns-in_err-delimiter-clause-err : goal.returns-in_err-delimiter-clause-err
 returns-in_err-delimiter-clause-err c =
-    IfErr-passed (IsFirstWrong c.args.values.now) _ _ c.from_residual-in_err-delimiter.ensures.1
+    error-passed (λ _. ⊤) (IsFirstWrong c.args.values.now) _ _ c.from_residual-in_err-delimiter.ensures.1
     (later _ c.in_ok-binary.ensures.ok (later _ c.in_ok-given.ensures.ok (later _ c.in_ok-form.ensures.ok
     (inl c.in_err-delimiter.ensures.err))))
 
 -- the width is wrong
 pub returns-in_err-width-clause-err : goal.returns-in_err-width-clause-err
 returns-in_err-width-clause-err c =
-    IfErr-passed (IsFirstWrong c.args.values.now) _ _ c.from_residual-in_err-width.ensures.1
+    error-passed (λ _. ⊤) (IsFirstWrong c.args.values.now) _ _ c.from_residual-in_err-width.ensures.1
     (later _ c.in_ok-binary.ensures.ok (later _ c.in_ok-given.ensures.ok (later _ c.in_ok-form.ensures.ok
     (later _ c.in_ok-delimiter.ensures.ok (inl c.in_err-width.ensures.err)))))
 
 -- the mode for rejected fields is wrong
 pub returns-in_err-invalid-clause-err : goal.returns-in_err-invalid-clause-err
 returns-in_err-invalid-clause-err c =
-    IfErr-passed (IsFirstWrong c.args.values.now) _ _ c.from_residual-in_err-invalid.ensures.1
+    error-passed (λ _. ⊤) (IsFirstWrong c.args.values.now) _ _ c.from_residual-in_err-invalid.ensures.1
     (later _ c.in_ok-binary.ensures.ok (later _ c.in_ok-given.ensures.ok (later _ c.in_ok-form.ensures.ok
     (later _ c.in_ok-delimiter.ensures.ok (later _ c.in_ok-width.ensures.ok (inl c.in_err-invalid.ensures.err))))))
 
 -- the maximum is wrong
 pub returns-in_err-max-clause-err : goal.returns-in_err-max-clause-err
 returns-in_err-max-clause-err c =
-    IfErr-passed (IsFirstWrong c.args.values.now) _ _ c.from_residual-in_err-max.ensures.1
+    error-passed (λ _. ⊤) (IsFirstWrong c.args.values.now) _ _ c.from_residual-in_err-max.ensures.1
     (later _ c.in_ok-binary.ensures.ok (later _ c.in_ok-given.ensures.ok (later _ c.in_ok-form.ensures.ok
     (later _ c.in_ok-delimiter.ensures.ok (later _ c.in_ok-width.ensures.ok (later _ c.in_ok-invalid.ensures.ok
     (inl c.in_err-max.ensures.err)))))))
@@ -54,7 +55,7 @@ returns-in_err-max-clause-err c =
 -- the minimum is wrong
 pub returns-in_err-min-clause-err : goal.returns-in_err-min-clause-err
 returns-in_err-min-clause-err c =
-    IfErr-passed (IsFirstWrong c.args.values.now) _ _ c.from_residual-in_err-min.ensures.1
+    error-passed (λ _. ⊤) (IsFirstWrong c.args.values.now) _ _ c.from_residual-in_err-min.ensures.1
     (later _ c.in_ok-binary.ensures.ok (later _ c.in_ok-given.ensures.ok (later _ c.in_ok-form.ensures.ok
     (later _ c.in_ok-delimiter.ensures.ok (later _ c.in_ok-width.ensures.ok (later _ c.in_ok-invalid.ensures.ok
     (later _ c.in_ok-max.ensures.ok c.in_err-min.ensures.err)))))))

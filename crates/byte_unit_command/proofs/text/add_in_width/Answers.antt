@@ -2,13 +2,12 @@
 -- suffix it is appended as it was written: of the bytes that are appended, truncating leaves the first ones. `.ok.0` of
 -- a vector: its length is that of its items.
 use Rattle.std.proofs.Common.{◌≡◌, ◌≤◌, ℕ, List, [], ◌++◌, length, take, ap, sym, ◌∙◌, arith}
-use Rattle.std.proofs.Common.{append-nil, is_ok, refl}
+use Rattle.std.proofs.Common.{append-nil, refl}
 use Rattle.std.proofs.lemmas.List.{length-take-le, nil_from_length}
 use Rattle.std.proofs.lemmas.Result.{on_ok_weaker}
 use Rattle.byte_unit_command.specs.Formatted.{BeginsWithForm, IsFormText, IsFormatted, padded}
 use Rattle.byte_unit_command.specs.declared.options.Options.{Options}
 use Rattle.byte_unit_command.proofs.Texts.{first_bytes, padded-none}
-use Rattle.byte_unit_stream.proofs.Beginnings.{IsBeginningOf-if}
 use Rattle.byte_unit_command.proofs.text.add_in_width.Goals as goal
 
 -- what `add_padded` has appended is the formatted size
@@ -34,12 +33,6 @@ pub returns-in-len1-up-clause-ok : goal.returns-in-len1-up-clause-ok
 returns-in-len1-up-clause-ok g c =
     on_ok_weaker c.add_padded-in-len1-up.result (with_padding c.args.options.now c.args.width _ _ _ _ _
     c.write_size-len.ensures.written) c.add_padded-in-len1-up.ensures.ok
-
--- a text of more than 64 bytes is appended as it is: what was there is kept
-pub returns-then-len-gt-AT_ONCE-clause-kept : goal.returns-then-len-gt-AT_ONCE-clause-kept
-returns-then-len-gt-AT_ONCE-clause-kept g c =
-    IsBeginningOf-if (is_ok c.extend_from_slice.result) c.args.text.now.items
-    (take c.write_size-len.result c.write_size-len.new.out) c.extend_from_slice.ensures.items
 
 -- the array that is written to has at least 64 bytes, so its first 64 can be taken
 pub slice_bounds-extend_from_slice-end-in-empty-2 : goal.slice_bounds-extend_from_slice-end-in-empty-2

@@ -1,23 +1,75 @@
 -- A field that is not a size adds a copy of itself, and a message about it.
-use Rattle.std.proofs.Common.{◌≡◌, refl, rules, is_ok}
-use Rattle.byte_unit_command.specs.CallEnds.{messages_of, state_of}
+use Rattle.std.proofs.Common.{◌≡◌, ◌+◌, ◌∷◌, [], None, refl, rules, inr, subst, arith}
+use Rattle.byte_unit_command.specs.CallEnds.{state_of}
+use Rattle.byte_unit_command.specs.Output.{IsField, Output, rejected}
 use Rattle.byte_unit_command.specs.declared.options.Invalid.TheVariants.{Abort}
-use Rattle.byte_unit_command.proofs.Converting.{AddsField-rejected}
-use Rattle.byte_unit_stream.proofs.Beginnings.{IsBeginningOf-if}
+use Rattle.byte_unit_command.proofs.Converting.{AddsFields-one, memory-passed}
+use Rattle.byte_unit_stream.proofs.Beginnings.{IsBeginningOf-same, IsBeginningOf-self}
 use Rattle.byte_unit_command.proofs.converter.Converter.add_rejected.Goals as goal
 
--- the copy of the field is appended, after the message about it
-pub returns-clause-ok : goal.returns-clause-ok
-returns-clause-ok g c =
-    -- a triple: the text that was appended to the messages, that it is the message about the field, and the equation
-    let told = c.in_ok-add_reject_notice.ensures.ok in
-    let goes_on : ¬ (c.args.options.now.invalid ≡ Abort) = search rules in
-    AddsField-rejected c.args.options.now c.args.number c.args.field.now (state_of c.args.self.now) _ told.0
-    (messages_of c.add_reject_notice.new.notices) c.extend_from_slice.new.self.items c.requires.chosen c.requires.none
-    told.1 told.2 goes_on c.in_ok-extend_from_slice.ensures.items refl
+-- out of memory for the message
+pub returns-in_err-add_reject_notice : goal.returns-in_err-add_reject_notice
+returns-in_err-add_reject_notice g c =
+    let old = state_of c.args.self.now in
+    memory-passed c.args.number (c.args.field.now ∷ []) old _ _ c.from_residual.ensures.1
+    (IsBeginningOf-self old.out, c.add_reject_notice.ensures.kept, refl)
 
--- what waited is kept if the field cannot be appended
-pub returns-in_err-extend_from_slice-clause-kept_text : goal.returns-in_err-extend_from_slice-clause-kept_text
-returns-in_err-extend_from_slice-clause-kept_text g c =
-    IsBeginningOf-if (is_ok c.extend_from_slice.result) c.args.self.now.waiting.items c.args.field.now
-    c.extend_from_slice.ensures.items
+-- in the mode `abort` the field ends the run; `told` is a triple: the message, that it is one, and where it was appended
+pub returns-then-eq : goal.returns-then-eq
+returns-then-eq g c =
+    let old = state_of c.args.self.now in
+    let field = c.args.field.now in
+    let told = c.in_ok-add_reject_notice.ensures.ok in
+    let mode : old.state.place.options.invalid ≡ Abort = search rules in
+    let own : Output = record { text = field; found = None ∷ []; messages = told.0 } in
+    let first : c.args.number ≡ c.args.number + 0 = omega arith in record {
+      keeps = (IsBeginningOf-self old.out, (told.0, told.2), refl);
+      why = inr (
+        refl,
+        record {
+          mode = mode;
+          messages = told.0;
+          are_messages = record {
+            before = [];
+            field = field;
+            after = [];
+            outputs = [];
+            own = own;
+            fields_are = refl;
+            are_fields = tt;
+            none_before = refl;
+            is_field = subst (λ number. IsField old.state.place number field own) first
+                (rejected told.0 c.requires.chosen c.requires.none told.1 refl);
+            is_rejected = refl;
+            messages_are = refl;
+          };
+          messages_are = told.2;
+        },
+      );
+    }
+
+-- out of memory for the copy of the field
+pub returns-in_err-extend_from_slice : goal.returns-in_err-extend_from_slice
+returns-in_err-extend_from_slice g c =
+    let old = state_of c.args.self.now in
+    let told = c.in_ok-add_reject_notice.ensures.ok in
+    memory-passed c.args.number (c.args.field.now ∷ []) old _ _ c.from_residual-in_err-extend_from_slice.ensures.1 (
+      IsBeginningOf-same old.out c.in_err-extend_from_slice.ensures.items (IsBeginningOf-self old.out),
+      (told.0, told.2),
+      refl,
+    )
+
+-- the copy of the field is appended, after the message about it
+pub returns : goal.returns
+returns g c =
+    let old = state_of c.args.self.now in
+    let field = c.args.field.now in
+    let told = c.in_ok-add_reject_notice.ensures.ok in
+    let goes_on : ¬ (old.state.place.options.invalid ≡ Abort) = search rules in
+    AddsFields-one c.args.number field old _ (record { text = field; found = None ∷ []; messages = told.0 })
+    (rejected told.0 c.requires.chosen c.requires.none told.1 refl) (λ abort. absurd (goes_on abort)) (record {
+      state_is = refl;
+      counts = c.reject.ensures old.state.place.options;
+      out_is = c.in_ok-extend_from_slice.ensures.items;
+      messages_are = told.2;
+    })

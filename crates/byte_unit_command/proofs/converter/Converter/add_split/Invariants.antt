@@ -10,9 +10,9 @@ use Rattle.byte_unit_command.proofs.converter.Converter.add_split.Given as goal
 -- the ranges that are left; the order of these; and that the first of them has not ended yet
 abbrev pub invariant-loop-n : goal.invariant-loop-n
 invariant-loop-n g l =
-    let old = state_of l.initial.self in
-    IsSplitting l.options l.bytes old l.number l.rest (state_of l.self)
-    × ((later : ℕ) → l.number ≤ later → IsChosenField l.options.fields.now later ↔ IsChosenField l.ranges later)
+    let fields = l.initial.self.place.options.now.fields.now in
+    IsSplitting l.bytes (state_of l.initial.self) l.number l.rest (state_of l.self)
+    × ((later : ℕ) → l.number ≤ later → IsChosenField fields later ↔ IsChosenField l.ranges later)
     × (IsTrue l.in_order → IsInOrder l.ranges) × GoesTo l.ranges l.number
 
 -- the rest gets shorter with each field

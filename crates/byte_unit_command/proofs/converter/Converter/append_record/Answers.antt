@@ -1,58 +1,91 @@
 -- A header record is copied, and the fields of any other are added; the end byte follows.
-use Rattle.std.proofs.Common.{◌≡◌, ◌-◌, ◌++◌, ◌∷◌, [], List, ℕ, suc, ap, subst, ◌∙◌, arith}
-use Rattle.byte_unit_command.specs.CallEnds.{AddsFields, State, messages_of, state_of}
-use Rattle.byte_unit_command.proofs.Converting.{Adds-header, Adds-fields, kept_messages-same}
-use Rattle.byte_unit_stream.proofs.Beginnings.{IsBeginningOf-self}
+use Rattle.std.proofs.Common.{◌≡◌, ◌-◌, ◌++◌, List, ℕ, suc, ap, subst, sym, ◌∙◌, arith, inl, refl}
+use Rattle.byte_unit_command.specs.CallEnds.{AddsFields, Appends, IsEarly, IsEarlyAt, Keeps, state_of}
+use Rattle.byte_unit_command.specs.Fields.{fields_of}
+use Rattle.byte_unit_command.specs.Output.{copied}
+use Rattle.byte_unit_command.specs.State.{RunState}
+use Rattle.byte_unit_stream.specs.Steps.{Progress}
+use Rattle.byte_unit_stream.specs.declared.run.RunError.TheVariants.{Memory}
+use Rattle.byte_unit_stream.proofs.Beginnings.{IsBeginningOf-same, IsBeginningOf-self}
+use Rattle.byte_unit_command.proofs.Converting.{Adds-header, Adds-fields, Appends-more, Appends-none, IsEarlyAt-fields}
+use Rattle.byte_unit_command.proofs.Converting.{Keeps-more, at_next, started}
+use Rattle.byte_unit_command.proofs.Results.{error-passed}
 use Rattle.byte_unit_command.proofs.converter.Converter.append_record.Goals.{then-self-gt0+in_ok-extend_from_slice}
 use Rattle.byte_unit_command.proofs.converter.Converter.append_record.Goals.{else-self-gt0+in_ok-add_fields}
 use Rattle.byte_unit_command.proofs.converter.Converter.append_record.Goals as goal
 
+-- a run with this number of the last record
+abbrev numbered : Progress RunState → ℕ → Progress RunState
+numbered old number = record old { state = record old.state { place = record old.state.place { number = number } } }
+
+-- a header record was copied
+header-copied : (bytes out : List ℕ) (old between : Progress RunState) (number : ℕ)
+    → number ≡ (at_next old).state.place.number → out ≡ old.out ++ bytes
+    → between ≡ record (numbered old number) {
+      state = record (numbered old number).state
+          { header = old.state.header - 1 };
+      out = out;
+    } → Appends (copied bytes) (started old) between
+header-copied bytes out old between number number_is out_is between_is =
+    let At : ℕ → Progress RunState = λ number. record (numbered old number)
+    { state = record (numbered old number).state { header = old.state.header - 1 }; out = out } in
+    subst (Appends (copied bytes) (started old)) (sym (between_is ∙ ap At number_is))
+    (Appends-more (Appends-none (started old)) bytes out out_is)
+
 -- the record is appended with its end byte: a copy of a header record, or the fields of any other
-pub returns-clause-ok : goal.returns-clause-ok
-returns-clause-ok g c =
-    let options = c.args.options.now in
+pub returns : goal.returns
+returns g c =
     let bytes = c.args.bytes.now in
-    let mark = options.output_end ∷ [] in
-    let old : State = state_of c.args.self.now in
-    let between : State = state_of c.if-self-gt0.self in
-    let new : State = record between { out = c.extend_from_slice-2.new.self.items } in
-    let With : List ℕ → State = λ out. record between { out = out } in
-    let ended : new ≡ record between { out = between.out ++ mark } =
-    ap With c.in_ok-extend_from_slice-2.ensures.items in
+    let old = state_of c.args.self.now in
+    let between = state_of c.if-self-gt0.self in
+    let out = c.extend_from_slice-2.new.self.items in
+    let out_is = c.in_ok-extend_from_slice-2.ensures.items in
+    let number = c.saturating_add-self in
     elim c.if-self-gt0.branch [
       | then-self-gt0+in_ok-extend_from_slice w ↦
-          let some : old.header ≡ suc (old.header - 1) = omega (arith, w.if-self-gt0.true) in
-          let Copied : ℕ → List ℕ → State = λ place out. record old
-          { header = old.header - 1; place = place; out = out } in
-          let copied : between ≡ Copied c.saturating_add-self.result (old.out ++ bytes) =
-          ap state_of w.self-is ∙ ap (Copied c.saturating_add-self.result) w.in_ok-extend_from_slice.ensures.items in
-          Adds-header options bytes old new (old.header - 1) some
-          (ended ∙ ap (λ (state : State). record state { out = state.out ++ mark }) copied
-          ∙ ap (λ place. Copied place (old.out ++ bytes ++ mark)) c.saturating_add-self.ensures)
+          let some : old.state.header ≡ suc (old.state.header - 1) = omega (arith, w.if-self-gt0.true) in
+          Adds-header bytes old between out out_is (old.state.header - 1) some
+          (header-copied bytes w.extend_from_slice.new.self.items old between number.result number.ensures
+          w.in_ok-extend_from_slice.ensures.items (ap state_of w.self-is))
       | else-self-gt0+in_ok-add_fields w ↦
-          let none : old.header ≡ 0 = omega (arith, w.if-self-gt0.false) in
-          let own = subst (λ (place : ℕ). AddsFields options bytes (record old { place = place })
-          (state_of w.add_fields.new.self)) c.saturating_add-self.ensures w.in_ok-add_fields.ensures.ok in
-          Adds-fields options bytes old new (state_of w.add_fields.new.self) none own
-          (ended ∙ ap (λ (state : State). record state { out = state.out ++ mark }) (ap state_of w.self-is))
+          let none : old.state.header ≡ 0 = omega (arith, w.if-self-gt0.false) in
+          let fields = fields_of old.state.place.options bytes in
+          Adds-fields bytes old between out out_is none
+          (subst (AddsFields 1 fields (at_next old)) (sym (ap state_of w.self-is))
+          (subst (λ number. AddsFields 1 fields (numbered old number) (state_of w.add_fields.new.self)) number.ensures
+          w.in_ok-add_fields.ensures))
     ]
 
--- the messages that were there are kept if the record is appended
-pub returns-clause-kept_messages : goal.returns-clause-kept_messages
-returns-clause-kept_messages g c = elim c.if-self-gt0.branch [
-  | then-self-gt0+in_ok-extend_from_slice w ↦
-      kept_messages-same c.args.self.now _ _ w.self-is (IsBeginningOf-self (messages_of c.args.self.now.notices))
-  | else-self-gt0+in_ok-add_fields w ↦
-      kept_messages-same c.args.self.now _ _ w.self-is w.in_ok-add_fields.ensures.kept_messages
-]
+-- the fields of the record could not be added
+pub returns-in_err-add_fields : goal.returns-in_err-add_fields
+returns-in_err-add_fields g c =
+    let bytes = c.args.bytes.now in
+    let old = state_of c.args.self.now in
+    let new = state_of c.add_fields.new.self in
+    let none : old.state.header ≡ 0 = omega (arith, c.if-self-gt0.false) in
+    error-passed _ (IsEarlyAt bytes old new) _ _ c.from_residual-in_err-add_fields.ensures.1
+    (IsEarlyAt-fields bytes old new _ none
+    (subst (λ number. IsEarly 1 (fields_of old.state.place.options bytes) (numbered old number) new
+    c.in_err-add_fields.field-0.0) c.saturating_add-self.ensures c.in_err-add_fields.ensures))
 
--- the messages that were there are kept if allocation fails for the end byte
-pub returns-in_err-extend_from_slice-2-clause-kept_messages :
-    goal.returns-in_err-extend_from_slice-2-clause-kept_messages
-returns-in_err-extend_from_slice-2-clause-kept_messages g c =
-    let none = IsBeginningOf-self (messages_of c.args.self.now.notices) in
-    elim c.if-self-gt0.branch [
-      | then-self-gt0+in_ok-extend_from_slice w ↦ kept_messages-same c.args.self.now _ _ w.self-is none
+-- the end byte could not be appended
+pub returns-in_err-extend_from_slice-2 : goal.returns-in_err-extend_from_slice-2
+returns-in_err-extend_from_slice-2 g c =
+    let bytes = c.args.bytes.now in
+    let old = state_of c.args.self.now in
+    let between = state_of c.if-self-gt0.self in
+    let out = c.extend_from_slice-2.new.self.items in
+    let new = record between { out = out } in
+    let begins = IsBeginningOf-same between.out c.in_err-extend_from_slice-2.ensures.items
+    (IsBeginningOf-self between.out) in
+    let number = c.saturating_add-self in
+    let keeps : Keeps old new = elim c.if-self-gt0.branch [
+      | then-self-gt0+in_ok-extend_from_slice w ↦
+          Keeps-more (header-copied bytes w.extend_from_slice.new.self.items old between number.result number.ensures
+          w.in_ok-extend_from_slice.ensures.items (ap state_of w.self-is)) out begins
       | else-self-gt0+in_ok-add_fields w ↦
-          kept_messages-same c.args.self.now _ _ w.self-is w.in_ok-add_fields.ensures.kept_messages
-    ]
+          Keeps-more (subst (AddsFields 1 (fields_of old.state.place.options bytes) (numbered old number.result))
+          (sym (ap state_of w.self-is)) w.in_ok-add_fields.ensures).appends out begins
+    ] in
+    error-passed _ (IsEarlyAt bytes old new) _ Memory c.from_residual-in_err-extend_from_slice-2.ensures.1
+    (record { keeps = keeps; why = inl refl })
