@@ -3,8 +3,8 @@
 ghost use Rattle.std.specs.Prelude.{◌≡◌, ◌↔◌, IsTrue, length};
 ghost use Rattle.byte_unit_base.specs.BinaryReading.{unit_meant};
 ghost use Rattle.byte_unit_base.specs.Errors.{size_fault};
-ghost use Rattle.byte_unit_c.specs.Error.{code_of, ok};
-ghost use Rattle.byte_unit_c.specs.Many.{offsets_of, IsLayout, IsParsed, IsRejectedCall, AreParsed, AreManyReturned};
+ghost use Rattle.byte_unit_c.specs.Error.{code_of};
+ghost use Rattle.byte_unit_c.specs.Many.{offsets_of, IsLayout, IsParsed, AreParsed, AreManyReturned};
 
 use crate::error::{Error, INVALID_ARGUMENT, NOT_UTF8, OK, UNIT};
 use crate::flags::{MOST_PLAIN, ParseFlags, binary_flags_at, plain_flags};
@@ -60,37 +60,18 @@ fn parse_many(
     ensures { AreManyReturned flags «data».now (offsets_of offsets.entry) result sizes.old sizes.new
         codes.old codes.new }
 {
-    // Only flags with `BINARY_PREFIXES` and unknown ones are greater.
-    if flags > MOST_PLAIN {
-        return match binary_flags_at(flags) {
-            Some(asked) => parse_all::<true>(data, offsets, asked, sizes, codes),
-            None => INVALID_ARGUMENT,
-        };
-    }
-    parse_all::<false>(data, offsets, plain_flags(flags), sizes, codes)
-}
-
-/// Parses many texts with known flags, if the offsets and lengths fit. With `BINARY` decimal prefixes mean binary ones.
-fn parse_all<const BINARY: bool>(
-    data: &[u8],
-    offsets: Offsets<'_>,
-    asked: ParseFlags,
-    sizes: &mut [Number],
-    codes: &mut [u8],
-) -> u32
-    ensures parsed { IsLayout (length «data».now) (offsets_of offsets.entry) (length sizes.old)
-        (length codes.old)
-        → (result ≡ ok)
-        × AreParsed (unit_meant BINARY) asked.kind asked.ignore_case «data».now
-        (offsets_of offsets.entry) (length codes.old) codes.new sizes.new }
-    ensures no_layout { ¬ IsLayout (length «data».now) (offsets_of offsets.entry) (length sizes.old)
-        (length codes.old)
-        → IsRejectedCall result sizes.old sizes.new codes.old codes.new }
-{
     if !is_layout(data, offsets, sizes.len(), codes.len()) {
         return INVALID_ARGUMENT;
     }
-    parse_each::<BINARY>(data, offsets, asked, sizes, codes);
+    // Only flags with `BINARY_PREFIXES` and unknown ones are greater.
+    if flags > MOST_PLAIN {
+        let Some(asked) = binary_flags_at(flags) else {
+            return INVALID_ARGUMENT;
+        };
+        parse_each::<true>(data, offsets, asked, sizes, codes);
+        return OK;
+    }
+    parse_each::<false>(data, offsets, plain_flags(flags), sizes, codes);
     OK
 }
 

@@ -14,7 +14,7 @@ ghost use Rattle.byte_unit_c.specs.Flags.{kind_at, choice_flags_at};
 ghost use Rattle.byte_unit_c.specs.Values.{number_of, AreDecimalParts};
 
 use crate::codes::{type_at, unit_at, unit_code};
-use crate::flags::{ChoiceFlags, choice_flags_at, kind_at};
+use crate::flags::{choice_flags_at, kind_at};
 use crate::values::{DecimalParts, Number};
 use byte_unit_base::size;
 use byte_unit_choice::{appropriate_unit, exact_unit, recoverable_unit};
@@ -38,28 +38,12 @@ pub extern "C" fn byte_unit_exact_unit(size: Number, flags: u32, count: &mut Num
     ensures rejected { (size_limit ≤ number_of size) ⊎ (choice_flags_at flags ≡ None)
         → (result ≡ u32.MAX) × (count.new ≡ count.old) }
 {
-    match choice_flags_at(flags) {
-        Some(asked) => exact_unit_as(size, asked, count),
-        None => NO_UNIT,
-    }
-}
-
-/// Chooses as `byte_unit_exact_unit` does, with known flags.
-fn exact_unit_as(size: Number, asked: ChoiceFlags, count: &mut Number) -> u32
-    ensures found { number_of size < size_limit → CodesUnit
-        (λ unit. IsRecoveredIn current asked.kind asked.of_either (number_of size) 0 unit
-        × (number_of count.new * bits unit ≡ number_of size * bits_in asked.kind))
-        result }
-    ensures rejected { size_limit ≤ number_of size → (result ≡ u32.MAX) × (count.new ≡ count.old) }
-{
-    match size::bounded(size.get()) {
-        Some(size) => {
-            let (whole, unit) = exact_unit(size, asked.kind, asked.of_either);
-            *count = Number::new(whole);
-            unit_code(unit)
-        }
-        None => NO_UNIT,
-    }
+    let (Some(size), Some(asked)) = (size::bounded(size.get()), choice_flags_at(flags)) else {
+        return NO_UNIT;
+    };
+    let (whole, unit) = exact_unit(size, asked.kind, asked.of_either);
+    *count = Number::new(whole);
+    unit_code(unit)
 }
 
 /// Returns the code of the largest unit, not above the size, that represents it exactly with at most `precision` digits
@@ -84,41 +68,13 @@ pub extern "C" fn byte_unit_recoverable_unit(
     ensures rejected { (size_limit ≤ number_of size) ⊎ (choice_flags_at flags ≡ None)
         → (result ≡ u32.MAX) × (count.new ≡ count.old) }
 {
-    match choice_flags_at(flags) {
-        Some(asked) => recoverable_unit_as(size, asked, precision, count),
-        None => NO_UNIT,
-    }
-}
-
-/// Chooses as `byte_unit_recoverable_unit` does, with known flags.
-fn recoverable_unit_as(
-    size: Number,
-    asked: ChoiceFlags,
-    precision: usize,
-    count: &mut DecimalParts,
-) -> u32
-    ensures found { number_of size < size_limit → CodesUnit
-        (λ unit. IsRecoveredIn current asked.kind asked.of_either (number_of size) precision unit
-        × (number : ℕ) × AreDecimalParts count.new number
-        × (number * bits unit ≡ number_of size * bits_in asked.kind * scale))
-        result }
-    ensures rejected { size_limit ≤ number_of size → (result ≡ u32.MAX) × (count.new ≡ count.old) }
-{
+    let (Some(size), Some(asked)) = (size::bounded(size.get()), choice_flags_at(flags)) else {
+        return NO_UNIT;
+    };
     let steps = &mut Steps::new();
-    match size::bounded(size.get()) {
-        Some(size) => {
-            let (number, unit) = recoverable_unit(
-                size,
-                asked.kind,
-                asked.of_either,
-                precision,
-                steps,
-            );
-            *count = DecimalParts::new(number);
-            unit_code(unit)
-        }
-        None => NO_UNIT,
-    }
+    let (number, unit) = recoverable_unit(size, asked.kind, asked.of_either, precision, steps);
+    *count = DecimalParts::new(number);
+    unit_code(unit)
 }
 
 /// Returns the code of the largest unit of the size's kind and of the unit type that is not above the size, or of the

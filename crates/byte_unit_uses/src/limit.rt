@@ -3,21 +3,9 @@
 ghost use Rattle.std.specs.Prelude.{◌≡◌, ◌*◌, ◌/◌, ◌<◌, ℕ, ◌⊎◌, IfSome, SomeIff, false, true};
 ghost use Rattle.byte_unit.specs.Accepted.{IsAccepted};
 ghost use Rattle.byte_unit.specs.Bounds.{size_limit};
-ghost use Rattle.byte_unit.specs.SizeReading.{IsSizeReading};
 ghost use Rattle.byte_unit.specs.declared.Kind.TheVariants.{Byte as InBytes};
 
-use byte_unit::{Bit, Byte, ParseError};
-
-/// Parses a limit. The parse error is propagated by `?`, and its contract with it.
-///
-/// # Errors
-/// Returns the parse error if the string represents no size.
-pub fn limit(text: &str) -> Result<Byte, ParseError>
-    ensures { IsSizeReading InBytes false text.now result }
-{
-    let limit = text.parse::<Byte>()?;
-    Ok(limit)
-}
+use byte_unit::{Bit, Byte};
 
 /// Parses a limit, ignoring case. Returns `None` if the string represents no size.
 pub fn limit_ok(text: &str) -> Option<Byte>

@@ -6,22 +6,15 @@ use serde_json::Value;
 use std::alloc::Global;
 use std::fmt::Display;
 
-/// An answer, or why there is none.
+/// The answer to a call, or the error if there is no such call, a word of it is invalid, or allocation fails.
 pub type Answer = Result<String, RowError>;
 
 /// Returns what several calls return, or all that they return if they differ: that is no answer of a row.
 pub fn agreed(alloc: Global, answers: &[String]) -> Answer {
-    let Some((first, others)) = answers.split_first() else {
-        return Err(RowError::NoCall);
-    };
-    let mut text = String::from_str(alloc, first.as_str())?;
-    for other in others {
-        if other.as_str() != first.as_str() {
-            text.push_str(" or ")?;
-            text.push_str(other.as_str())?;
-        }
+    match answers {
+        [first, others @ ..] if others.iter().all(|other| other == first) => shown(alloc, first),
+        _ => Ok(answers.join(alloc, " or ")?),
     }
-    Ok(text)
 }
 
 /// Returns a number or a unit.
@@ -76,19 +69,17 @@ pub fn parsed<T: Display + Drop>(alloc: Global, value: Option<Result<T, ParseErr
 
 /// Returns the name and the fields of the error of a size.
 fn parse_error(alloc: Global, error: &ParseError) -> Answer {
-    Ok(match error {
-        ParseError::Value(ValueParseError::NoValue) => String::from_str(alloc, "NoValue")?,
+    match error {
+        ParseError::Value(ValueParseError::NoValue) => shown(alloc, "NoValue"),
         ParseError::Value(ValueParseError::NotNumber(character)) => {
-            format!(in alloc; "NotNumber \"{character}\"")?
+            both(alloc, "NotNumber", quoted(alloc, *character)?)
         }
-        ParseError::Value(ValueParseError::NumberTooLong) => {
-            String::from_str(alloc, "NumberTooLong")?
-        }
+        ParseError::Value(ValueParseError::NumberTooLong) => shown(alloc, "NumberTooLong"),
         ParseError::Value(ValueParseError::ExceededBounds(number)) => {
-            format!(in alloc; "ExceededBounds {number}")?
+            both(alloc, "ExceededBounds", *number)
         }
-        ParseError::Unit(error) => return unit_error(alloc, error),
-    })
+        ParseError::Unit(error) => unit_error(alloc, error),
+    }
 }
 
 /// Returns the name and the fields of the error of a unit.
@@ -97,11 +88,9 @@ fn unit_error(alloc: Global, error: &UnitParseError) -> Answer {
     for character in error.expected_characters {
         text.push(*character)?;
     }
-    let end = if error.also_expect_no_character {
-        "] end"
-    } else {
-        "]"
-    };
-    text.push_str(end)?;
+    text.push(']')?;
+    if error.also_expect_no_character {
+        text.push_str(" end")?;
+    }
     Ok(text)
 }

@@ -16,12 +16,13 @@ const ALIGNS: &[(&str, Align)] = &[
 /// # Errors
 /// Returns an error if it is none.
 pub fn spec_of(word: &str) -> Result<FormatSpec, RowError> {
-    let rest = word.strip_prefix('{').ok_or(RowError::Word)?;
-    let rest = rest.strip_suffix('}').ok_or(RowError::Word)?;
-    if rest.is_empty() {
+    if word == "{}" {
         return Ok(FormatSpec::PLAIN);
     }
-    let rest = rest.strip_prefix(':').ok_or(RowError::Word)?;
+    let rest = word
+        .strip_prefix("{:")
+        .and_then(|rest| rest.strip_suffix('}'));
+    let rest = rest.ok_or(RowError::Word)?;
     let (align, rest) = marked(rest, ALIGNS);
     let (sign, rest) = marked(rest, &[("+", Sign::Plus), ("-", Sign::Minus)]);
     let (alternate, rest) = marked(rest, &[("#", true)]);
@@ -29,10 +30,9 @@ pub fn spec_of(word: &str) -> Result<FormatSpec, RowError> {
         Some((width, precision)) => (width, Some(number_of(precision)?)),
         None => (rest, None),
     };
-    let width = if width.is_empty() {
-        None
-    } else {
-        Some(number_of(width)?)
+    let width = match width {
+        "" => None,
+        width => Some(number_of(width)?),
     };
     Ok(FormatSpec {
         alternate: alternate.is_some(),

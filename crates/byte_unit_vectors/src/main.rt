@@ -6,7 +6,6 @@
 //! some are, and 2 if the rows cannot be read, the output cannot be written, or memory runs out.
 #![tactic(auto)]
 
-mod answer;
 mod answers;
 mod constants;
 mod escapes;
@@ -20,7 +19,6 @@ mod texts;
 mod units;
 mod words;
 
-use answer::answer_of;
 use escapes::{escaped, unescaped};
 use row::Row;
 use row_error::RowError;
@@ -33,13 +31,6 @@ const WRONG: u8 = 1;
 
 /// The exit status if not all rows could be read and compared.
 const FAILED: u8 = 2;
-
-/// How many rows were read, and how many of them are wrong.
-#[derive(Debug, Clone, Copy)]
-struct Counts {
-    rows: u64,
-    wrong: u64,
-}
 
 /// Returns what is wrong with the row of a line, or `None` if its answer is that of the library.
 ///
@@ -60,7 +51,11 @@ fn wrong_in(alloc: Global, line: &str) -> Result<Option<String>, AllocError> {
 fn compare(alloc: Global, line: &str) -> Result<Option<String>, RowError> {
     let row = Row::of(alloc, line)?;
     let wanted = unescaped(alloc, row.answer)?;
-    let found = answer_of(alloc, &row)?;
+    let words = row.words.as_slice();
+    let found = match &row.text {
+        Some(text) => parsing::answer(alloc, words, text.as_str())?,
+        None => texts::answer(alloc, words)?,
+    };
     if found.as_str() == wanted.as_str() {
         return Ok(None);
     }
@@ -70,35 +65,33 @@ fn compare(alloc: Global, line: &str) -> Result<Option<String>, RowError> {
     Ok(Some(format!(in alloc; "{id}: wanted {wanted}, got {found}")?))
 }
 
-/// Answers the rows of standard input, and prints those that are wrong.
+/// Answers the rows of standard input, prints those that are wrong, and returns the exit status.
 ///
 /// # Errors
 /// Returns an error if the rows cannot be read, a row cannot be written, or allocation fails.
-fn check_rows(rt: &HostRuntime) -> io::Result<Counts> {
-    let mut counts = Counts { rows: 0, wrong: 0 };
+fn check_rows(rt: &HostRuntime) -> io::Result<u8> {
+    let (mut rows, mut wrong) = (0u64, 0u64);
     for line in rt.lines(rt.alloc()) {
         let line = line?;
         let line = line.as_str();
         if line.is_empty() || line.starts_with('#') {
             continue;
         }
-        counts.rows = counts.rows.saturating_add(1);
+        rows = rows.saturating_add(1);
         if let Some(text) = wrong_in(rt.alloc(), line)? {
-            counts.wrong = counts.wrong.saturating_add(1);
+            wrong = wrong.saturating_add(1);
             println!(rt; "{text}")?;
         }
     }
-    Ok(counts)
+    // Ignored on failure: the exit status says the same.
+    let _ = eprintln!(rt; "{rows} rows, {wrong} wrong");
+    Ok(if wrong == 0 { 0 } else { WRONG })
 }
 
 /// Runs the program, and exits with its status.
 fn main(rt: HostRuntime) -> ExitCode {
     match check_rows(&rt) {
-        Ok(Counts { rows, wrong }) => {
-            // Ignored on failure: the exit status says the same.
-            let _ = eprintln!(rt; "{rows} rows, {wrong} wrong");
-            ExitCode::from(if wrong == 0 { 0 } else { WRONG })
-        }
+        Ok(status) => ExitCode::from(status),
         Err(error) => {
             let _ = eprintln!(rt; "byte_unit_vectors: {error}");
             ExitCode::from(FAILED)

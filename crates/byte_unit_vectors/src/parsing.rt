@@ -45,10 +45,15 @@ macro_rules! size_parsed {
     }};
 }
 
+/// Evaluates the size of a JSON value, or its error: as a size, and as one in a unit, of which this call gets it.
+macro_rules! size_from_json {
+    ($size:ident, $adjusted:ident, $get:ident, $alloc:expr, $value:expr) => {{
+        let adjusted = $adjusted::from_json($value).map(|adjusted| adjusted.$get());
+        agreed($alloc, &[read($alloc, $size::from_json($value))?, read($alloc, adjusted)?])
+    }};
+}
+
 /// Returns the answer to a call with a text.
-///
-/// # Errors
-/// Returns an error if there is no such call, if a word of it is invalid, or if allocation fails.
 pub fn answer(alloc: Global, words: &[&str], text: &str) -> Answer {
     match words {
         [call @ ("parse" | "parse_binary" | "says"), kind, case] => {
@@ -68,7 +73,13 @@ pub fn answer(alloc: Global, words: &[&str], text: &str) -> Answer {
         ["position", "byte"] => or_none(alloc, Byte::error_position(text)),
         ["position", "bit"] => or_none(alloc, Bit::error_position(text)),
         ["position", "unit"] => or_none(alloc, Unit::error_position(text)),
-        ["from_json", kind] => size_from_json(alloc, named(kind, KINDS)?, &json_of(alloc, text)?),
+        ["from_json", kind] => {
+            let value = &json_of(alloc, text)?;
+            match named(kind, KINDS)? {
+                Kind::Byte => size_from_json!(Byte, AdjustedByte, get_byte, alloc, value),
+                Kind::Bit => size_from_json!(Bit, AdjustedBit, get_bit, alloc, value),
+            }
+        }
         ["unit_from_json"] => {
             let unit = unit_from_json(&json_of(alloc, text)?).map_err(|error| match error {
                 JsonUnitError::NotString => JsonSizeError::NotString,
@@ -97,25 +108,4 @@ fn json_of(alloc: Global, text: &str) -> Result<Value, RowError> {
         Err(error) if error.classify() == Category::Memory => Err(RowError::from(AllocError)),
         Err(_) => Err(RowError::Json),
     }
-}
-
-/// Returns the size of a JSON value, or its error: as a size, and as one in a unit.
-fn size_from_json(alloc: Global, kind: Kind, value: &Value) -> Answer {
-    let answers = match kind {
-        Kind::Byte => [
-            read(alloc, Byte::from_json(value))?,
-            read(
-                alloc,
-                AdjustedByte::from_json(value).map(|size| size.get_byte()),
-            )?,
-        ],
-        Kind::Bit => [
-            read(alloc, Bit::from_json(value))?,
-            read(
-                alloc,
-                AdjustedBit::from_json(value).map(|size| size.get_bit()),
-            )?,
-        ],
-    };
-    agreed(alloc, &answers)
 }

@@ -26,10 +26,7 @@ impl<'a> Row<'a> {
         let (id, rest) = line.split_once(": ").ok_or(RowError::NoId)?;
         let (call, text, answer) = parts_of(rest)?;
         let words = call.split_whitespace().collect(alloc)?;
-        let text = match text {
-            Some(text) => Some(unescaped(alloc, text)?),
-            None => None,
-        };
+        let text = text.map(|text| unescaped(alloc, text)).transpose()?;
         Ok(Row {
             id,
             words,

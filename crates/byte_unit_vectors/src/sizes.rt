@@ -52,15 +52,6 @@ macro_rules! answer_of {
                 };
                 or_none($alloc, computed)
             }
-            _ => Err(RowError::NoCall),
-        }
-    };
-}
-
-/// Evaluates the answer to a call that chooses a unit for a size of a type.
-macro_rules! unit_chosen {
-    ($size:ident, $alloc:expr, $words:expr) => {
-        match $words {
             ["exact", _, set, size] => {
                 let (number, unit) = size_of!($size, size).get_exact_unit(named(set, SETS)?);
                 both($alloc, number, unit)
@@ -83,14 +74,9 @@ macro_rules! unit_chosen {
 }
 
 /// Returns the answer to a call on sizes.
-///
-/// # Errors
-/// Returns an error if there is no such call, if a word of it is invalid, or if allocation fails.
 pub fn answer(alloc: Global, words: &[&str]) -> Answer {
     match words {
         ["constant", kind, name] => shown(alloc, constant(named(kind, KINDS)?, name)?),
-        ["exact" | "recoverable" | "steps", "byte", ..] => byte_unit_chosen(alloc, words),
-        ["exact" | "recoverable" | "steps", "bit", ..] => bit_unit_chosen(alloc, words),
         [_, "byte", ..] => byte_answer(alloc, words),
         [_, "bit", ..] => bit_answer(alloc, words),
         _ => Err(RowError::NoCall),
@@ -105,14 +91,4 @@ fn byte_answer(alloc: Global, words: &[&str]) -> Answer {
 /// Returns the answer to a call on sizes in bits.
 fn bit_answer(alloc: Global, words: &[&str]) -> Answer {
     answer_of!(Bit, alloc, words)
-}
-
-/// Returns the answer to a call that chooses a unit for a size in bytes.
-fn byte_unit_chosen(alloc: Global, words: &[&str]) -> Answer {
-    unit_chosen!(Byte, alloc, words)
-}
-
-/// Returns the answer to a call that chooses a unit for a size in bits.
-fn bit_unit_chosen(alloc: Global, words: &[&str]) -> Answer {
-    unit_chosen!(Bit, alloc, words)
 }

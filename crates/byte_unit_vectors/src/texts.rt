@@ -1,16 +1,15 @@
 //! Calls that format: sizes, numbers, and numbers with a given count of digits after the point.
 
-use crate::answers::{Answer, agreed, quoted};
+use crate::answers::{Answer, agreed, quoted, shown};
 use crate::format::spec_of;
-use crate::numbers::expansion_of;
+use crate::numbers::{self, expansion_of};
 use crate::row_error::RowError;
 use crate::words::{TYPES, named, number_of, unit_of};
 use byte_unit::{
-    AdjustedBit, AdjustedByte, Bit, Byte, FormatSpec, append_layout, append_plain, layout_len,
-    plain_len, write_layout, write_plain,
+    Bit, Byte, FormatSpec, append_layout, append_plain, layout_len, plain_len, write_layout,
+    write_plain,
 };
 use std::alloc::{AllocError, Global};
-use std::fmt::Display;
 use std::str;
 
 /// What is in a string before a text is appended to it.
@@ -35,29 +34,32 @@ macro_rules! written {
 /// Evaluates what all calls of a size, or of a size in a unit, give for a spec.
 macro_rules! text_of {
     ($alloc:expr, $size:expr, $spec:expr) => {{
+        let (size, spec) = ($size, $spec);
         let written = written!($alloc,
-            text => $size.append_text($spec, &mut text),
-            buffer [$size.text_len($spec)] => $size.write_text($spec, buffer));
-        let answers = [
-            written?,
-            $size.to_text_in($alloc, $spec)?,
-            displayed($alloc, &$size, $spec, $size.to_text($alloc, $spec)?)?,
-        ];
-        agreed($alloc, &answers)
+            text => size.append_text(spec, &mut text),
+            buffer [size.text_len(spec)] => size.write_text(spec, buffer));
+        let text = size.to_text($alloc, spec)?;
+        // `Display` has no flags.
+        let displayed = if spec == FormatSpec::PLAIN {
+            shown($alloc, size)?
+        } else {
+            String::from_str($alloc, text.as_str())?
+        };
+        agreed($alloc, &[written?, size.to_text_in($alloc, spec)?, text, displayed])
     }};
 }
 
-/// Evaluates the text of a size of a type, by the functions for a size and for one in a unit.
+/// Evaluates the text of a size of a type.
 macro_rules! text_of_size {
-    ($size:ident, $text:ident, $adjusted_text:ident, $alloc:expr, $words:expr) => {{
+    ($size:ident, $alloc:expr, $words:expr) => {{
         let size = match $words {
             [_, _, size, ..] => $size::from_u128(number_of(size)?).ok_or(RowError::Word)?,
             _ => return Err(RowError::NoCall),
         };
         match $words {
-            [_, _, _, spec] => $text($alloc, size, spec_of(spec)?),
+            [_, _, _, spec] => text_of!($alloc, size, spec_of(spec)?),
             [_, _, _, "in", unit, spec] => {
-                $adjusted_text($alloc, size.get_adjusted_unit(unit_of(unit)?), spec_of(spec)?)
+                text_of!($alloc, size.get_adjusted_unit(unit_of(unit)?), spec_of(spec)?)
             }
             [_, _, _, "by", unit_type, spec] => {
                 let (unit_type, spec) = (named(unit_type, TYPES)?, spec_of(spec)?);
@@ -65,7 +67,7 @@ macro_rules! text_of_size {
                 let mut buffer = vec![in $alloc; 0u8; adjusted.text_len(spec)]?;
                 let len = size.write_approximate_text(unit_type, spec, buffer.as_mut_slice());
                 let answers = [
-                    $adjusted_text($alloc, adjusted, spec)?,
+                    text_of!($alloc, adjusted, spec)?,
                     size.approximate_text($alloc, unit_type, spec)?,
                     filled($alloc, buffer.as_slice(), len)?,
                 ];
@@ -76,10 +78,7 @@ macro_rules! text_of_size {
     }};
 }
 
-/// Returns the answer to a call that formats.
-///
-/// # Errors
-/// Returns an error if there is no such call, if a word of it is invalid, or if allocation fails.
+/// Returns the answer to a call without a text: one that formats, or one of the other groups.
 pub fn answer(alloc: Global, words: &[&str]) -> Answer {
     let text = match words {
         ["text", "byte", ..] => byte_answer(alloc, words)?,
@@ -99,39 +98,19 @@ pub fn answer(alloc: Global, words: &[&str]) -> Answer {
                     write_layout(&number, places, unit, spec, buffer)
                 })?
         }
-        _ => return Err(RowError::NoCall),
+        _ => return numbers::answer(alloc, words),
     };
     quoted(alloc, text.as_str())
 }
 
 /// Returns the text of a size in bytes.
 fn byte_answer(alloc: Global, words: &[&str]) -> Answer {
-    text_of_size!(Byte, byte_text, adjusted_byte_text, alloc, words)
+    text_of_size!(Byte, alloc, words)
 }
 
 /// Returns the text of a size in bits.
 fn bit_answer(alloc: Global, words: &[&str]) -> Answer {
-    text_of_size!(Bit, bit_text, adjusted_bit_text, alloc, words)
-}
-
-/// Returns the text of a size in bytes for a spec.
-fn byte_text(alloc: Global, size: Byte, spec: FormatSpec) -> Answer {
-    text_of!(alloc, size, spec)
-}
-
-/// Returns the text of a size in bytes in a unit for a spec.
-fn adjusted_byte_text(alloc: Global, size: AdjustedByte, spec: FormatSpec) -> Answer {
-    text_of!(alloc, size, spec)
-}
-
-/// Returns the text of a size in bits for a spec.
-fn bit_text(alloc: Global, size: Bit, spec: FormatSpec) -> Answer {
-    text_of!(alloc, size, spec)
-}
-
-/// Returns the text of a size in bits in a unit for a spec.
-fn adjusted_bit_text(alloc: Global, size: AdjustedBit, spec: FormatSpec) -> Answer {
-    text_of!(alloc, size, spec)
+    text_of_size!(Bit, alloc, words)
 }
 
 /// Returns the text that fills a buffer of its very length, of which `len` bytes were written.
@@ -139,18 +118,4 @@ fn filled(alloc: Global, buffer: &[u8], len: usize) -> Result<String, AllocError
     let text = str::from_utf8(buffer).ok();
     let text = text.filter(|text| text.len() == len);
     String::from_str(alloc, text.unwrap_or("a text of another length"))
-}
-
-/// Returns the text of a size as `Display` writes it if the spec is `{}`: it has no flags.
-fn displayed<T: Display>(
-    alloc: Global,
-    size: &T,
-    spec: FormatSpec,
-    text: String,
-) -> Result<String, AllocError> {
-    if spec == FormatSpec::PLAIN {
-        format!(in alloc; "{size}")
-    } else {
-        Ok(text)
-    }
 }

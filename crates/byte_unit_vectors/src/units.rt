@@ -1,15 +1,12 @@
 //! Calls on units, and those that choose one.
 
 use crate::answers::{Answer, both, or_none, shown, string_of};
-use crate::row_error::RowError;
-use crate::words::{FAMILIES, TYPES, bits_of, named, number_of, unit_of};
+use crate::sizes;
+use crate::words::{FAMILIES, TYPES, bits_of, named, number_in, number_of, unit_of};
 use byte_unit::{Byte, Steps, choose_unit, largest_unit, unit_to_json};
 use std::alloc::Global;
 
-/// Returns the answer to a call on a unit, or to one that chooses it.
-///
-/// # Errors
-/// Returns an error if there is no such call, if a word of it is invalid, or if allocation fails.
+/// Returns the answer to a call on a unit, to one that chooses it, or to one on sizes.
 pub fn answer(alloc: Global, words: &[&str]) -> Answer {
     match words {
         ["properties", unit] => {
@@ -24,20 +21,20 @@ pub fn answer(alloc: Global, words: &[&str]) -> Answer {
         ["binary_unit", unit] => shown(alloc, unit_of(unit)?.to_binary()),
         ["unit_json", unit] => string_of(alloc, &unit_to_json(alloc, unit_of(unit)?)?),
         ["largest", size, set, unit_type, bits] => {
-            let (set, unit_type) = (named(set, FAMILIES)?, named(unit_type, TYPES)?);
+            let (size, set, bits) = (number_of(size)?, named(set, FAMILIES)?, bits_of(bits)?);
             or_none(
                 alloc,
-                largest_unit(number_of(size)?, set, unit_type, bits_of(bits)?),
+                largest_unit(size, set, named(unit_type, TYPES)?, bits),
             )
         }
         ["choose", size, set, bits, places] => {
-            let size = Byte::from_u128(number_of(size)?).ok_or(RowError::Word)?;
+            let size = number_in(size, 0, Byte::MAX.as_u128())?;
             let (set, bits, places) = (named(set, FAMILIES)?, bits_of(bits)?, number_of(places)?);
-            match choose_unit(size.as_u128(), set, bits, places, &mut Steps::new()) {
+            match choose_unit(size, set, bits, places, &mut Steps::new()) {
                 Some((number, unit)) => both(alloc, number, unit),
                 None => shown(alloc, "none"),
             }
         }
-        _ => Err(RowError::NoCall),
+        _ => sizes::answer(alloc, words),
     }
 }

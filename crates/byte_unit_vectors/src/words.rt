@@ -1,6 +1,6 @@
 //! The words of calls: numbers, kinds, units and other arguments.
 
-ghost use Rattle.std.specs.Prelude.{◌≡◌, ◌⊎◌, IfOk};
+ghost use Rattle.std.specs.Prelude.{◌≡◌, ◌≤◌, ◌⊎◌, IfOk};
 
 use crate::row_error::RowError;
 use byte_unit::{Decimal, Family, Kind, Unit, UnitType};
@@ -66,6 +66,16 @@ where
     T::Err: Drop,
 {
     word.parse::<T>().ok().ok_or(RowError::Word)
+}
+
+/// Returns the number of a word, which is from `least` to `most`.
+pub fn number_in(word: &str, least: u128, most: u128) -> Result<u128, RowError>
+    ensures { IfOk result (λ number. (least ≤ number) × (number ≤ most)) }
+{
+    match number_of::<u128>(word)? {
+        number if least <= number && number <= most => Ok(number),
+        _ => Err(RowError::Word),
+    }
 }
 
 /// Returns the decimal of a word such as `50.84`.

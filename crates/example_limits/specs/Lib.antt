@@ -1,3 +1,2 @@
 -- The definitions that the contracts of this program are written in.
 pub mod Rules
-pub mod Sizes

@@ -2,10 +2,9 @@
 //! if there are any. Takes the default limits if the input is empty or only white space.
 #![tactic(auto)]
 
-ghost use Rattle.std.specs.Prelude.{◌↔◌, IsTrue};
+ghost use Rattle.std.specs.Prelude.{◌≡◌, ◌*◌, ◌^◌, ◌↔◌, Some, IsTrue};
 ghost use Rattle.example_limits.specs.Rules.{IsBroken};
-
-mod defaults;
+ghost use Rattle.example_limits.specs.declared.Rule.{Rule};
 
 use anyhow::{Result, anyhow};
 use byte_unit::{Bit, Byte, FormatSpec};
@@ -57,6 +56,25 @@ impl Rule {
 }
 
 impl Limits {
+    /// Returns the default limits. They break no rule.
+    #[tactic(auto, unfolding(byte_unit::proofs::OnLiterals::byte_unit_on_literals))]
+    fn defaults() -> Limits
+        ensures file { result.file ≡ 20 * 10 ^ 6 }
+        ensures total { result.total ≡ 1536 * 2 ^ 20 }
+        ensures cache { result.cache ≡ Some (256 * 2 ^ 20) }
+        ensures disk { result.disk ≡ 2 * 2 ^ 30 }
+        ensures rate { result.rate ≡ 10 ^ 6 }
+        ensures valid { (rule : Rule) → ¬ IsBroken result rule }
+    {
+        Limits {
+            file: Byte::parse_str("20 MB", false).unwrap(),
+            total: Byte::parse_str("1.5 GiB", false).unwrap(),
+            cache: Some(Byte::parse_str("256 MiB", false).unwrap()),
+            disk: Byte::parse_str("2 GiB", false).unwrap(),
+            rate: Bit::parse_str("1 Mbit").unwrap(),
+        }
+    }
+
     /// Returns whether the limits break the rule.
     fn breaks(&self, rule: Rule) -> bool
         ensures { IsTrue result ↔ IsBroken self.now rule }
@@ -76,24 +94,16 @@ impl Limits {
 /// Returns the message of an error in one line.
 fn in_one_line(alloc: Global, error: &toml::de::Error) -> Result<String, AllocError> {
     let message = format!(in alloc; "{error}")?;
-    let mut line = String::new(alloc);
-    for part in message.lines() {
-        if !line.is_empty() {
-            line.push_str(" ")?;
-        }
-        line.push_str(part)?;
-    }
-    Ok(line)
+    let lines: Vec<&str> = message.lines().collect(alloc)?;
+    lines.join(alloc, " ")
 }
 
 /// Reads the limits of a TOML text, or returns the default limits if it is empty or only white space.
 fn limits_of(alloc: Global, text: &str) -> Result<Limits> {
-    let read = if text.trim().is_empty() {
-        defaults::default_limits(alloc)
-    } else {
-        toml::from_str(alloc, text)
-    };
-    match read {
+    if text.trim().is_empty() {
+        return Ok(Limits::defaults());
+    }
+    match toml::from_str(alloc, text) {
         Ok(limits) => Ok(limits),
         Err(error) => {
             let reason = in_one_line(alloc, &error)?;

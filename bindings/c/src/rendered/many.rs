@@ -57,28 +57,18 @@ pub extern "C" fn byte_unit_parse_many_32_to(
 
 /// Parses many texts, as `byte_unit_parse_many_to` does, with offsets of either width.
 fn parse_many(data: &[u8], offsets: Offsets<'_>, flags: u32, sizes: &mut [Number], codes: &mut [u8]) -> u32 {
-    // Only flags with `BINARY_PREFIXES` and unknown ones are greater.
-    if flags > MOST_PLAIN {
-        return match binary_flags_at(flags) {
-            Some(asked) => parse_all::<true>(data, offsets, asked, sizes, codes),
-            None => INVALID_ARGUMENT,
-        };
-    }
-    parse_all::<false>(data, offsets, plain_flags(flags), sizes, codes)
-}
-
-/// Parses many texts with known flags, if the offsets and lengths fit. With `BINARY` decimal prefixes mean binary ones.
-fn parse_all<const BINARY: bool>(
-    data: &[u8],
-    offsets: Offsets<'_>,
-    asked: ParseFlags,
-    sizes: &mut [Number],
-    codes: &mut [u8],
-) -> u32 {
     if !is_layout(data, offsets, sizes.len(), codes.len()) {
         return INVALID_ARGUMENT;
     }
-    parse_each::<BINARY>(data, offsets, asked, sizes, codes);
+    // Only flags with `BINARY_PREFIXES` and unknown ones are greater.
+    if flags > MOST_PLAIN {
+        let Some(asked) = binary_flags_at(flags) else {
+            return INVALID_ARGUMENT;
+        };
+        parse_each::<true>(data, offsets, asked, sizes, codes);
+        return OK;
+    }
+    parse_each::<false>(data, offsets, plain_flags(flags), sizes, codes);
     OK
 }
 

@@ -3,7 +3,7 @@
 //! Units of sizes: the choice of a unit for a size, and sizes from a number of a unit.
 
 use crate::rendered::codes::{type_at, unit_at, unit_code};
-use crate::rendered::flags::{ChoiceFlags, choice_flags_at, kind_at};
+use crate::rendered::flags::{choice_flags_at, kind_at};
 use crate::rendered::values::{DecimalParts, Number};
 use byte_unit::rendered::base::size;
 use byte_unit::rendered::choice::{appropriate_unit, exact_unit, recoverable_unit};
@@ -20,22 +20,12 @@ pub const NO_UNIT: u32 = u32::MAX;
 /// For example, 50,840,000 bytes gives 4, the code of `KB`, with the count 50,840.
 #[unsafe(no_mangle)]
 pub extern "C" fn byte_unit_exact_unit(size: Number, flags: u32, count: &mut Number) -> u32 {
-    match choice_flags_at(flags) {
-        Some(asked) => exact_unit_as(size, asked, count),
-        None => NO_UNIT,
-    }
-}
-
-/// Chooses as `byte_unit_exact_unit` does, with known flags.
-fn exact_unit_as(size: Number, asked: ChoiceFlags, count: &mut Number) -> u32 {
-    match size::bounded(size.get()) {
-        Some(size) => {
-            let (whole, unit) = exact_unit(size, asked.kind, asked.of_either);
-            *count = Number::new(whole);
-            unit_code(unit)
-        }
-        None => NO_UNIT,
-    }
+    let (Some(size), Some(asked)) = (size::bounded(size.get()), choice_flags_at(flags)) else {
+        return NO_UNIT;
+    };
+    let (whole, unit) = exact_unit(size, asked.kind, asked.of_either);
+    *count = Number::new(whole);
+    unit_code(unit)
 }
 
 /// Returns the code of the largest unit, not above the size, that represents it exactly with at most `precision` digits
@@ -52,23 +42,13 @@ pub extern "C" fn byte_unit_recoverable_unit(
     precision: usize,
     count: &mut DecimalParts,
 ) -> u32 {
-    match choice_flags_at(flags) {
-        Some(asked) => recoverable_unit_as(size, asked, precision, count),
-        None => NO_UNIT,
-    }
-}
-
-/// Chooses as `byte_unit_recoverable_unit` does, with known flags.
-fn recoverable_unit_as(size: Number, asked: ChoiceFlags, precision: usize, count: &mut DecimalParts) -> u32 {
+    let (Some(size), Some(asked)) = (size::bounded(size.get()), choice_flags_at(flags)) else {
+        return NO_UNIT;
+    };
     let steps = &mut Steps::new();
-    match size::bounded(size.get()) {
-        Some(size) => {
-            let (number, unit) = recoverable_unit(size, asked.kind, asked.of_either, precision, steps);
-            *count = DecimalParts::new(number);
-            unit_code(unit)
-        }
-        None => NO_UNIT,
-    }
+    let (number, unit) = recoverable_unit(size, asked.kind, asked.of_either, precision, steps);
+    *count = DecimalParts::new(number);
+    unit_code(unit)
 }
 
 /// Returns the code of the largest unit of the size's kind and of the unit type that is not above the size, or of the
