@@ -289,18 +289,7 @@ pub next_digit_normalized :
     → kept ≤ expansion_places → whole < whole_limit
     → IsNormalizedExpansion (record { whole = whole; digits = set ds (kept - 1) (get_or ds (kept - 1) 0 + 1); places = kept })
 next_digit_normalized e p kept whole ds h array some few below =
-    let last : ℕ = kept - 1 in
-    let digit : ℕ = get_or ds last 0 + 1 in
-    let fits : last < length ds = omega (arith, some, kept_fits e p kept 9 ds h array) in
-    record {
-      size = length-set ds last digit ∙ array.size;
-      few = few;
-      small = All-set (λ d. d < 10) ds last digit (last_kept_less e p kept ds h array some) array.small;
-      rest = drop-set-lt kept ds last digit (omega (arith, some)) ∙ array.rest;
-      last = λ _. let at = get_or-set_same ds last digit 0 fits in omega (arith, at);
-      bound = omega (arith, below);
-      room = λ _. below;
-    }
+    grind (arith, common_steps, kept_fits, length-set, All-set, last_kept_less, drop-set-lt, get_or-set_same)
 
 -- An array in which the last digit kept is one more represents one more.
 value_one_more :

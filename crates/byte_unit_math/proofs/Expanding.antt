@@ -215,13 +215,7 @@ pub expansion_of_first_digits :
     (num den whole places : ℕ) (digits : List ℕ) → 0 < den → IsExactByFirstDigits num den whole places digits
     → IsExpansion num den (record { whole = whole; digits = take places digits })
 expansion_of_first_digits num den whole places digits positive h =
-    let len : length (take places digits) ≡ places = length-take-le places digits h.few in
-    expansion_of_digits num den whole (take places digits) positive
-    (record {
-      small = All-take (λ d. d < 10) places digits h.small;
-      exact = rw len h.exact;
-      last = rw len (λ some. rw (get_or-take places digits (places - 1) 0 (omega (arith, some))) (h.last some));
-    })
+    grind (arith, common_steps, length-take-le places digits h.few, expansion_of_digits, All-take, get_or-take)
 
 -- A division that leaves nothing has written the expansion.
 pub IsDividing-ended :

@@ -1,6 +1,7 @@
 -- How many digits after the point a fraction over powers of 2 and 5 takes.
 --
 -- That a fraction is exact at some places, as `e`, is a count, `e.0`, and an equation, `e.1`.
+use Rattle.std.proofs.lemmas.Grind.{common_steps}
 use Rattle.std.proofs.Common.{◌≡◌, ◌≢◌, ◌+◌, ◌-◌, ◌*◌, ◌^◌, ◌/◌, ◌%◌, ◌<◌, ◌≤◌, ⊎_elim, ℕ, zero, suc, max, arith, ap}
 use Rattle.std.proofs.Common.{sym, ◌∙◌}
 use Rattle.std.proofs.lemmas.Bool.{cases_lt}
@@ -47,10 +48,7 @@ times_tens num twos fives p h = ap (λ n. n * 10 ^ p) h.product ∙ tens_of_fact
 exact_with_powers :
     (num a b twos fives p : ℕ) → IsTwoFive num twos fives → (a ≤ twos + p) × (b ≤ fives + p)
     → IsExactAt num (2 ^ a * 5 ^ b) p
-exact_with_powers num a b twos fives p h few = (
-  h.left * (2 ^ (twos + p - a) * 5 ^ (fives + p - b)),
-  ap (λ n. n * 10 ^ p) h.product ∙ count_of_units h.left twos fives a b p few,
-)
+exact_with_powers num a b twos fives p h few = grind (arith, common_steps, count_of_units h.left twos fives a b p few)
 
 -- If a power of a base divides a number in which another power of it is apart, and the base does not divide the rest,
 -- it has no greater exponent.

@@ -1,4 +1,5 @@
 -- Expansions with few digits after the point, from one product.
+use Rattle.std.proofs.lemmas.Grind.{common_steps}
 use Rattle.std.proofs.Common.{◌≡◌, ◌≢◌, ℕ, zero, suc, ◌+◌, ◌-◌, ◌*◌, ◌/◌, ◌%◌, ◌^◌, ◌<◌, ◌≤◌, min, bit_and, arith, ap, ◌∙◌}
 use Rattle.std.specs.Int.{trailing_zeros, w128}
 use Rattle.std.specs.Int.Count.{trailing_of_zero}
@@ -21,10 +22,7 @@ use Rattle.byte_unit_math.proofs.TwosFives.{FivesOff-trailing_zeros, trailing_ze
 
 -- Masked by its last p bits, a number is its remainder by 2^p.
 pub masked_rest : (n p : ℕ) → p ≤ expansion_places → bit_and n (1 * 2 ^ p % 2 ^ 128 - 1) ≡ n % 2 ^ p
-masked_rest n p few =
-    let small : 1 * 2 ^ p < 2 ^ 128 = omega (arith, pow-le-pow_right {n = 2} (omega arith) {i = p} {j = 93} few) in
-    let one : 1 * 2 ^ p % 2 ^ 128 ≡ 2 ^ p = omega (arith, mod-eq_of_lt small) in
-    ap (λ power. bit_and n (power - 1)) one ∙ and_mask n p
+masked_rest n p few = grind (arith, common_steps, pow-le-pow_right, mod-eq_of_lt, and_mask)
 
 -- A remainder by 2^p, times 5^p, is below 10^p.
 pub rest_below_ten_power : (n p : ℕ) → n % 2 ^ p * 5 ^ p < 10 ^ p
@@ -84,10 +82,9 @@ decimal_is_exact n twos tens few =
 -- A number is a multiple of 2^k if k is at most the number of its trailing zero bits.
 pub shared_twos : (number k : ℕ) → number < 2 ^ 128 → k ≤ trailing_zeros w128 number
     → number ≡ number / 2 ^ k * 2 ^ k
-shared_twos zero k small within = omega arith
+shared_twos zero k small within = grind (arith, common_steps)
 shared_twos (suc n) k small within =
-    let lowest = bit_at-trailing_zeros w128 (suc n) (omega arith) small in
-    trailing_zeros_divide (suc n) k (λ i below. lowest.2 i (omega (arith, below, within)))
+    grind (arith, common_steps, bit_at-trailing_zeros w128 (suc n) (omega arith) small, trailing_zeros_divide)
 
 -- Divided by 2^k, where k is at most the number of its trailing zero bits and below another bound, a number is odd.
 pub odd_if_shared : (number most k : ℕ) → number < 2 ^ 128 → most < 128 → k ≡ min (trailing_zeros w128 number) most
@@ -102,11 +99,8 @@ odd_if_shared (suc n) most k small few k_is below =
 pub short_of_same_fraction :
     {num den num' den' : ℕ} {e : ShortExpansion} → SameFraction num den num' den' → IsShortExpansion num den e
     → IsShortExpansion num' den' e
-short_of_same_fraction {num} {den} {num'} {den'} {e} same h = record {
-  few = h.few;
-  below = h.below;
-  is_expansion = expansion_of_same_fraction num den num' den' (finite_of e) same h.is_expansion;
-}
+short_of_same_fraction {num} {den} {num'} {den'} {e} same h =
+    grind (arith, common_steps, expansion_of_same_fraction num den num' den' (finite_of e) same h.is_expansion)
 
 -- If a decimal is num / den, both scaled by 10^28, its fields are the expansion.
 pub short_of_decimal :

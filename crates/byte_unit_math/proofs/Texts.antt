@@ -1,6 +1,7 @@
 -- Expansions, their texts and nearest decimals are unique, and an expansion is found by division.
 --
 -- That a fraction is exact at some places, as `h`, is a count, `h.0`, and an equation, `h.1`.
+use Rattle.std.proofs.lemmas.Grind.{common_steps}
 use Rattle.std.proofs.Common.{◌≡◌, ◌+◌, ◌-◌, ◌*◌, ◌^◌, ◌/◌, ◌<◌, ◌≤◌, ⊎_elim, ℕ, zero, suc, List, [], ◌∷◌, ◌++◌, length}
 use Rattle.std.proofs.Common.{get_or, replicate, arith, ap, sym, refl, subst, ◌∙◌, length-append, append-nil, All}
 use Rattle.std.specs.Prelude.{⊤}
@@ -212,13 +213,8 @@ not_between num den p ties q r h apart =
 
 -- Of two nearest counts, none is below the other.
 not_below : (num den p : ℕ) (ties : Ties) (q r : ℕ) → BothNearest num den p ties q r → q < r → ⊥
-not_below num den p Up q r h less =
-    absurd (omega (arith, less, h.this.tie r (λ e. omega (arith, e, less)) (equally_far num den p Up q r h)))
-not_below num den p Even q r h less =
-    let far = equally_far num den p Even q r h in
-    let even = h.this.tie r (λ e. omega (arith, e, less)) far in
-    let even' = h.other.tie q (λ e. omega (arith, e, less)) (sym far) in
-    not_between num den p Even q r h (omega (arith, less, even, even'))
+not_below num den p Up q r h less = grind (arith, common_steps, equally_far num den p Up q r h)
+not_below num den p Even q r h less = grind (arith, common_steps, equally_far num den p Even q r h, not_between)
 
 -- Only one decimal with p digits after the point is nearest, since ties are broken.
 pub nearest_unique : (num den p : ℕ) (ties : Ties) (q r : ℕ) → BothNearest num den p ties q r → q ≡ r

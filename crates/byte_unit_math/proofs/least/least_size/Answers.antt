@@ -1,6 +1,5 @@
 -- The result is the least size of the number of units, or `None` if that reaches the limit.
 use Rattle.std.proofs.Common.{◌≡◌, ℕ, ◌+◌, ◌-◌, ◌*◌, ◌^◌, ◌≤◌, arith}
-use Rattle.std.proofs.lemmas.Bool.Decides.{nat_tests}
 use Rattle.byte_unit_math.specs.Bounds.{places_of_decimal}
 use Rattle.byte_unit_math.specs.Least.{IsLeastSize}
 use Rattle.byte_unit_math.proofs.RoundedUp.{IsRoundedUp-groups, IsLeastSize-halves, IsLeastSize-parts, in_first_group}
@@ -69,10 +68,7 @@ size_is c = grind arith
 
 -- A size below the limit is the least one. `at` has the states before the end of the call.
 pub returns-clause-least : goal.returns-clause-least
-returns-clause-least c =
-    let at = goal.at.returns-clause-least c in
-    let least = rw (← size_is at.Joined-whole) at (size_least at.Joined-places-le-GROUP_PLACES) in
-    grind (arith, nat_tests, least)
+returns-clause-least c = grind (arith, size_is, size_least)
 
 -- At the limit or above there is none.
 pub returns-clause-none : goal.returns-clause-none
