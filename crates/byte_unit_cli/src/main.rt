@@ -3,7 +3,6 @@
 
 use byte_unit_command::arguments::command;
 use byte_unit_command::ending::{message, status};
-use byte_unit_command::error::RunError;
 use byte_unit_command::field_list::fields_of;
 use byte_unit_command::meaning::options_of;
 use byte_unit_command::operands::joined;

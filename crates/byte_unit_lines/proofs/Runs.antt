@@ -1,6 +1,6 @@
 -- Lemmas: what a run leaves, whose step is the answer to a line, is the report on what it has read.
 use Rattle.std.proofs.Common.{◌≡◌, ℕ, List, [], ◌∷◌, ◌++◌, Result, Ok, Err, OnOk, refl, sym, ap, subst, ◌∙◌}
-use Rattle.std.proofs.Common.{append_assoc, append-nil, inl, inr, ◌⊎◌}
+use Rattle.std.proofs.Common.{append_assoc, append-nil, inl, inr}
 use Rattle.std.specs.Prelude.{⊤}
 use Rattle.std.specs.declared.convert.Infallible.{Infallible}
 use Rattle.byte_unit_lines.specs.Answer.{Kind}

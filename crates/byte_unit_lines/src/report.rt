@@ -1,7 +1,6 @@
 //! The report on an input: the answers to its lines. The run is that of `byte_unit_stream`, with an answer as its step.
 
-ghost use Rattle.std.specs.Prelude.{◌≡◌, ◌<◌, ℕ, List, length};
-ghost use Rattle.std.specs.Prelude.{IsTrue, IsErrOf, OnOk};
+ghost use Rattle.std.specs.Prelude.{◌<◌, ℕ, List, length, IsTrue, IsErrOf, OnOk};
 ghost use Rattle.byte_unit_lines.specs.RunOutput.{AreEmpty, IsWritten};
 ghost use Rattle.byte_unit_stream.specs.Streams.{HasRead, HasReadAll, reading_failed};
 ghost use Rattle.byte_unit_stream.specs.Streams.{HasWritten, writing_failed};

@@ -10,7 +10,6 @@ use crate::rattle::{HostRuntime, String, Vec, eprint, eprintln, format};
 use crate::rattle::{env, io};
 use crate::rendered::command::arguments::command;
 use crate::rendered::command::ending::{message, status};
-use crate::rendered::command::error::RunError;
 use crate::rendered::command::field_list::fields_of;
 use crate::rendered::command::meaning::options_of;
 use crate::rendered::command::operands::joined;
