@@ -29,8 +29,8 @@ abbrev pub is_found_beyond : Options → Found → Bool
 is_found_beyond options None = false
 is_found_beyond options (Some size) = is_beyond options size
 
--- the tally of what is found: the exact sum of the sizes, or 10^30 if it reaches that; whether a size is beyond a limit;
--- whether a field was rejected
+-- the tally of what is found: the exact sum of the sizes, or 10^30 if it reaches that; whether a size is beyond a
+-- limit; whether a field was rejected
 abbrev pub tally_of : Options → List Found → Tally
 tally_of options found = record {
   total = min (sum_by (λ one. unwrap_or one 0) found) size_limit;

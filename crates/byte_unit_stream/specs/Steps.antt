@@ -1,10 +1,9 @@
 -- A run converts the records of its input, one after another: each is a step. What a run leaves is said here once, for
 -- any steps.
-use Rattle.std.specs.Prelude.{◌≡◌, ◌⊎◌, ⊤, ℕ, ◌≤◌, ◌<◌, List, [], ◌∷◌, ◌++◌, length, slice_index, Result, Ok, Err}
+use Rattle.std.specs.Prelude.{◌≡◌, ⊤, ℕ, ◌≤◌, ◌<◌, List, [], ◌∷◌, ◌++◌, length, slice_index, Result, Ok, Err}
 use Rattle.byte_unit_stream.specs.Beginnings.{IsBeginningOf}
-use Rattle.byte_unit_stream.specs.Records.{records_of, finished_records}
 use Rattle.byte_unit_stream.specs.declared.run.RunError.{RunError}
-use Rattle.byte_unit_stream.specs.declared.run.RunError.TheVariants.{Memory, Read, Write, Ended}
+use Rattle.byte_unit_stream.specs.declared.run.RunError.TheVariants.{Memory, Ended}
 
 -- what steps do, over the states `S` of a run and the reasons `E` for which it ends early
 pub record Relation (S E : Type 0) : Type 1 where
