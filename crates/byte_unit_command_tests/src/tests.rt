@@ -100,22 +100,110 @@ const REJECTED: &[u8] =
     b"byte-unit: line 3: 'x': the character 'x' is not a number (character 1)\n";
 
 /// Runs in the same buffers, one after another. Some leave a part of a record, a text that waits, or a message.
-const ROWS: &[Row] = &rows! {
-    (HEADER, (AT_ONCE, AT_ONCE), b"x", Ok((0, false)), b"x\n", b""),
-    (PLAIN, (BYTE_BY_BYTE, BYTE_BY_BYTE), INPUT, Ok((100_002_567, false)), OUTPUT, b""),
-    (PLAIN, (ALL_BUT_ONE, ALL_BUT_ONE), INPUT, Ok((100_002_567, false)), OUTPUT, b""),
+const ROWS: &[Row] = &[
+    (
+        HEADER,
+        (AT_ONCE, AT_ONCE),
+        b"x",
+        Ok((0, false)),
+        b"x\n",
+        b"",
+    ),
+    (
+        PLAIN,
+        (BYTE_BY_BYTE, BYTE_BY_BYTE),
+        INPUT,
+        Ok((100_002_567, false)),
+        OUTPUT,
+        b"",
+    ),
+    (
+        PLAIN,
+        (ALL_BUT_ONE, ALL_BUT_ONE),
+        INPUT,
+        Ok((100_002_567, false)),
+        OUTPUT,
+        b"",
+    ),
     // Reads of five bytes, before one that fails.
-    (PLAIN, (Pace { step: 5, calls: 0, then: Then::Fail }, AT_ONCE), INPUT, Err(RunError::Read), b"", b""),
-    (PLAIN, (Pace { step: 5, calls: 3, then: Then::Fail }, AT_ONCE), INPUT, Err(RunError::Read),
-        b"1 KiB\n1.5 KiB\n", b""),
-    (HEADER, (AT_ONCE, AT_ONCE), b"5 KB\nname\nx\n7", Ok((7, true)), COPIED, REJECTED),
+    (
+        PLAIN,
+        (
+            Pace {
+                step: 5,
+                calls: 0,
+                then: Then::Fail,
+            },
+            AT_ONCE,
+        ),
+        INPUT,
+        Err(RunError::Read),
+        b"",
+        b"",
+    ),
+    (
+        PLAIN,
+        (
+            Pace {
+                step: 5,
+                calls: 3,
+                then: Then::Fail,
+            },
+            AT_ONCE,
+        ),
+        INPUT,
+        Err(RunError::Read),
+        b"1 KiB\n1.5 KiB\n",
+        b"",
+    ),
+    (
+        HEADER,
+        (AT_ONCE, AT_ONCE),
+        b"5 KB\nname\nx\n7",
+        Ok((7, true)),
+        COPIED,
+        REJECTED,
+    ),
     // Writes of three bytes, before one that fails or accepts no byte.
-    (HEADER, (AT_ONCE, Pace { step: 3, calls: 0, then: Then::Fail }), b"5 KB\nname\nx\n", Err(RunError::Write),
-        b"", b""),
-    (PLAIN, (AT_ONCE, Pace { step: 3, calls: 3, then: Then::AtMost(0) }), INPUT, Err(RunError::Write),
-        b"1 KiB\n1.5", b""),
-    (PLAIN, (AT_ONCE, AT_ONCE), b"6 KB\n", Ok((6000, false)), b"6 KB\n", b""),
-};
+    (
+        HEADER,
+        (
+            AT_ONCE,
+            Pace {
+                step: 3,
+                calls: 0,
+                then: Then::Fail,
+            },
+        ),
+        b"5 KB\nname\nx\n",
+        Err(RunError::Write),
+        b"",
+        b"",
+    ),
+    (
+        PLAIN,
+        (
+            AT_ONCE,
+            Pace {
+                step: 3,
+                calls: 3,
+                then: Then::AtMost(0),
+            },
+        ),
+        INPUT,
+        Err(RunError::Write),
+        b"1 KiB\n1.5",
+        b"",
+    ),
+    (
+        PLAIN,
+        (AT_ONCE, AT_ONCE),
+        b"6 KB\n",
+        Ok((6000, false)),
+        b"6 KB\n",
+        b"",
+    ),
+];
 
 #[test]
 fn runs_in_the_same_buffers(rt: HostRuntime) {
