@@ -1,5 +1,9 @@
--- Where an input is wrong: the byte index of its first wrong character. An input is given by its UTF-8 bytes.
-use Rattle.std.specs.Prelude.{◌≡◌, ℕ, ◌+◌, ◌-◌, List, length, Option, Some, None}
+-- Where an input is wrong: the byte index of its first wrong character, and the number of it, as messages have it. An
+-- input is given by its UTF-8 bytes.
+use Rattle.std.specs.Prelude.{◌≡◌, ℕ, ◌+◌, ◌-◌, Bool, ◌||◌, nat_lt, nat_le}
+use Rattle.std.specs.Prelude.{List, [], ◌++◌, length, take, Option, Some, None, codes}
+use Rattle.std.specs.Fmt.{decimal}
+use Rattle.std.specs.List.{count_by}
 use Rattle.std.specs.Str.{trim_start}
 use Rattle.byte_unit_base.specs.Version.{current}
 use Rattle.byte_unit_base.specs.Spelling.{Flags}
@@ -32,3 +36,16 @@ IsSizePosition bytes result = (flags : Flags) → IsPositionFor (IsViableSizePre
 -- the position of the error of a unit; `None` if the input spells one
 abbrev pub IsUnitPosition : List ℕ → Option ℕ → Type 0
 IsUnitPosition bytes result = (flags : Flags) → IsPositionFor (IsViableUnitPrefix current) flags bytes result
+
+-- whether a byte begins a character
+abbrev pub begins_character : ℕ → Bool
+begins_character byte = nat_lt byte 128 || nat_le 192 byte
+
+-- the number, counted from 1, of the character at an index; one more than the last has at the end
+abbrev pub character_number : List ℕ → ℕ → ℕ
+character_number bytes index = count_by begins_character (take index bytes) + 1
+
+-- the words for the number of a character, if a message has one
+abbrev pub character_words : Option ℕ → List ℕ
+character_words None = []
+character_words (Some number) = codes " (character " ++ (decimal number ++ codes ")")

@@ -8,7 +8,9 @@ pub use crate::errors::{
 };
 pub use crate::kind::Kind;
 pub use crate::read::read_size;
-pub use crate::read::stop::{ByteStop, NumberStop, Reason, Stop, error_at};
+pub use crate::read::stop::{
+    ByteStop, NumberStop, Reason, Stop, begins_character, character_number, error_at,
+};
 pub use crate::unit::parse::read_unit_text;
 pub use crate::unit::scan::{Expected, Flags, UnitStop};
 pub use crate::unit::tables::{PREFIXES, prefix_letter, unit_at};

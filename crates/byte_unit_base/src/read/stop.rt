@@ -2,6 +2,7 @@
 
 ghost use Rattle.std.specs.Prelude.{◌≡◌};
 ghost use Rattle.std.specs.Str.{chars, IsAscii};
+ghost use Rattle.byte_unit_base.specs.ErrorPosition.{begins_character, character_number};
 ghost use Rattle.byte_unit_base.specs.Errors.{size_fault, value_fault};
 ghost use Rattle.byte_unit_base.specs.ParserEnds.{next_char, number_stop_fault, stop_fault};
 
@@ -94,6 +95,38 @@ pub fn error_at(reason: Reason, next: Option<char>, flags: Flags) -> ParseError
         Reason::InNumber(stop) => ParseError::Value(stop.error_before(next)),
         Reason::InUnit(stop) => ParseError::Unit(stop.error_before(next, flags)),
     }
+}
+
+/// Returns the number of the character at an index in bytes of a UTF-8 text, counted from 1, as messages have it. At the
+/// end it is one more than the number of the last character.
+///
+/// # Examples
+/// ```rust
+/// assert_eq!(rt; character_number("é x".as_bytes(), 3), 3);
+/// assert_eq!(rt; character_number(b"1.", 2), 3);
+/// ```
+pub fn character_number(text: &[u8], index: usize) -> usize
+    ensures { result ≡ character_number text.now index }
+{
+    let before = text.get(..index).unwrap_or(text);
+    before
+        .iter()
+        .filter(|byte| begins_character(**byte))
+        .count()
+        + 1
+}
+
+/// Returns `true` if a character of a UTF-8 text can begin with this byte. The bytes 0x80 to 0xBF continue one.
+///
+/// # Examples
+/// ```rust
+/// assert_eq!(rt; begins_character(b'x'), true);
+/// assert_eq!(rt; begins_character("é".as_bytes()[1]), false);
+/// ```
+pub fn begins_character(byte: u8) -> bool
+    ensures { result ≡ begins_character byte }
+{
+    !matches!(byte, 0x80..=0xBF)
 }
 
 /// Returns the first character of a string.

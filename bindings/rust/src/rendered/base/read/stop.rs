@@ -95,6 +95,32 @@ pub fn error_at(reason: Reason, next: Option<char>, flags: Flags) -> ParseError 
     }
 }
 
+/// Returns the number of the character at an index in bytes of a UTF-8 text, counted from 1, as messages have it. At the
+/// end it is one more than the number of the last character.
+///
+/// # Examples
+/// ```
+/// # use byte_unit::rendered::{base::{size::parse_line, *}, bit::*, byte::*, choice::*, format::*, math::*};
+/// assert_eq!(character_number("é x".as_bytes(), 3), 3);
+/// assert_eq!(character_number(b"1.", 2), 3);
+/// ```
+pub fn character_number(text: &[u8], index: usize) -> usize {
+    let before = text.get(..index).unwrap_or(text);
+    before.iter().filter(|byte| begins_character(**byte)).count() + 1
+}
+
+/// Returns `true` if a character of a UTF-8 text can begin with this byte. The bytes 0x80 to 0xBF continue one.
+///
+/// # Examples
+/// ```
+/// # use byte_unit::rendered::{base::{size::parse_line, *}, bit::*, byte::*, choice::*, format::*, math::*};
+/// assert_eq!(begins_character(b'x'), true);
+/// assert_eq!(begins_character("é".as_bytes()[1]), false);
+/// ```
+pub fn begins_character(byte: u8) -> bool {
+    !matches!(byte, 0x80..=0xBF)
+}
+
 /// Returns the first character of ASCII bytes.
 #[inline(always)]
 pub fn first_ascii(bytes: &[u8]) -> Option<char> {
