@@ -37,6 +37,17 @@ def position(of, given):
     return "none"
 
 
+def says(given, **how):
+    """Returns the message of a text without the number of the wrong character. It has to be at the end, if the error
+    has a position, and to be that of the character there."""
+    message = byte_unit.explain(given, **how)
+    try:
+        byte_unit.parse(given, **how)
+    except byte_unit.SizeError as error:
+        number = "" if error.position is None else f" (character {error.position + 1})"
+        return message.removesuffix(number) if message.endswith(number) else f"without{number}: {message}"
+
+
 def plain(count):
     """Returns a count without an exponent."""
     return f"{count:f}".rstrip("0").rstrip(".") if "." in f"{count:f}" else f"{count:f}"
@@ -61,7 +72,7 @@ def answer(words, given):
     if words[0] == "unit":
         return byte_unit.parse_unit(given, bits=words[2] == "bits", ignore_case=uncased)
     if words[0] == "says":
-        return f'"{byte_unit.explain(given, bits=bits, ignore_case=uncased)}"'
+        return f'"{says(given, bits=bits, ignore_case=uncased)}"'
     if words[0] == "text":
         return f'"{text(words, bits)}"'
     if words[0] == "exact":

@@ -9,8 +9,7 @@
 
 enum {
     SHOWN = 80, /* bytes of a text that a message repeats */
-    QUOTED_SIZE = 6 * SHOWN + 2, /* what `quote` writes: for a byte six at most, as `\u{1b}`, and two points */
-    EXPLAINED_SIZE = BYTE_UNIT_BUFFER_SIZE + 40 /* what `explain` writes: a message, and the number of a character */
+    QUOTED_SIZE = 6 * SHOWN + 2 /* what `quote` writes: for a byte six at most, as `\u{1b}`, and two points */
 };
 
 /* Writes a character as the library's message about it has it between quotes: escaped if it is not printable. Returns
@@ -54,19 +53,5 @@ static size_t quote(const char *text, size_t len, bool is_utf8, char *out)
 
 /* byte_unit_explain or byte_unit_explain_unit. */
 typedef size_t explain_call(const char *text, size_t len, uint32_t flags, char *out, size_t out_len);
-
-/* Writes why a text is rejected, and the number, from 1, of the wrong character, one past the last if the text ends too
- * early. Returns the length. */
-static size_t explain(explain_call *call, const char *text, size_t len, uint32_t flags, uint32_t code,
-                      const byte_unit_error *error, char *out)
-{
-    size_t written = call(text, len, flags, out, BYTE_UNIT_BUFFER_SIZE), character = 1;
-
-    if (code == BYTE_UNIT_EXCEEDED_BOUNDS || code == BYTE_UNIT_NOT_UTF8)
-        return written;
-    for (size_t at = 0; at < error->position; at++) /* counts the first bytes of characters */
-        character += ((unsigned char)text[at] & 0xC0) != 0x80;
-    return written + (size_t)sprintf(out + written, " (character %zu)", character);
-}
 
 #endif

@@ -53,7 +53,7 @@ export interface Sizes {
     codes: ("ok" | ErrorCode)[];
 }
 
-/** The error of a string that is no size, or no unit. */
+/** The error of a string that is no size, or no unit. Its message is that of `explain` or `explainUnit`. */
 export class SizeError extends Error {
     readonly code: ErrorCode;
     /** The string. */
@@ -83,9 +83,10 @@ export interface Library {
     /** Reads the strings of an array, a set, a generator or another iterable object, each as parse does, and throws no
      *  SizeError. */
     parseMany(strings: Iterable<string> & object, options?: SizeReadingOptions): Sizes;
-    /** Returns the message of the error of a string, or null if it is a size. */
+    /** Returns the message of the error of a string, or null if it is a size. Unless the size is too large, it ends
+     *  with the number of the wrong character, from 1. */
     explain(string: string, options?: SizeReadingOptions): string | null;
-    /** Returns the message of the error of a string, or null if it is a unit. */
+    /** Returns the message of the error of a string, with that number, or null if it is a unit. */
     explainUnit(string: string, options?: ReadingOptions): string | null;
     /** Returns the exact text of a size with a unit, or its digits if `alternate` is false. */
     text(size: bigint | number, options?: AdjustedTextOptions): string;

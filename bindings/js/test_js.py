@@ -36,11 +36,13 @@ def evaluated(javascript, code):
 
 @pytest.mark.parametrize("code, found", [
     ("parse('10m', { binary: true, ignoreCase: true })", "10485760n"), ("parse('1 Kb', { bits: true })", "1000n"),
-    ("parse('')", "SizeError: no value can be found"), ("parse(1)", "TypeError: 1 is no string"),
+    ("parse('')", "SizeError: no value can be found (character 1)"), ("parse(1)", "TypeError: 1 is no string"),
     ("parse('1', { ignorecase: true })", "TypeError: ignorecase is no option of this call"),
     ("parse('1', { bits: 'no' })", 'TypeError: bits is "no": true or false is expected'),
     ("parseUnit('kib')", "Kib"), ("parseUnit('k', { bits: true })", "Kb"),
     ("explain('1 KB')", None), ("explainUnit('x').startsWith(\"the character 'x'\")", True),
+    ("explain('1😀x').slice(-14)", " (character 2)"), ("explainUnit('K😀').slice(-14)", " (character 2)"),
+    ("explain('1000 RB')", "the value 1000 exceeds the valid range"),
     ("text(10n ** 30n)", f"RangeError: {10**30} is no size: it is negative, or 10^30 or more"),
     ("text(1.5)", "TypeError: 1.5 is no BigInt, and no integer that a number holds exactly"),
     ("text(1, { precision: -1 })", "RangeError: precision is -1: an integer from 0 to 65535 is expected"),

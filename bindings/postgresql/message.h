@@ -77,12 +77,12 @@ static Text text_argument(FunctionCallInfo fcinfo, int n)
     return text_of(VARDATA_ANY(value), VARSIZE_ANY_EXHDR(value));
 }
 
-/* Returns why a text is rejected with this code and error, by byte_unit_explain or byte_unit_explain_unit. */
-static char *reason_of(explain_call *call, Text text, uint32 flags, uint32 code, const byte_unit_error *error)
+/* Returns why a text is rejected, or an empty string if it is not. */
+static char *reason_of(explain_call *call, Text text, uint32 flags)
 {
-    char reason[EXPLAINED_SIZE];
+    char reason[BYTE_UNIT_BUFFER_SIZE];
 
-    return to_server(pnstrdup(reason, explain(call, text.at, text.len, flags, code, error, reason)));
+    return to_server(pnstrdup(reason, call(text.at, text.len, flags, reason, sizeof reason)));
 }
 
 /* Returns a sentence: the reason with a capital letter and a full stop. */

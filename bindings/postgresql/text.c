@@ -28,8 +28,7 @@ static int sqlstate_of(uint32 code)
 static Datum parsed(Text text, uint32 flags, fmNodePtr soft)
 {
     ByteSize size;
-    byte_unit_error error;
-    uint32 code = byte_unit_parse(text.at, text.len, flags, &size, &error);
+    uint32 code = byte_unit_parse(text.at, text.len, flags, &size, NULL);
 
     (void)soft;
     if (code == BYTE_UNIT_OK)
@@ -37,7 +36,7 @@ static Datum parsed(Text text, uint32 flags, fmNodePtr soft)
     ereturn(soft, (Datum)0,
             (errcode(sqlstate_of(code)),
              errmsg("invalid input syntax for type %s: \"%s\"", "bytesize", quoted(text)),
-             errdetail("%s", sentence_of(reason_of(byte_unit_explain, text, flags, code, &error)))));
+             errdetail("%s", sentence_of(reason_of(byte_unit_explain, text, flags)))));
 }
 
 /* ---- Input and output. ---- */
@@ -205,18 +204,15 @@ Datum size_try(PG_FUNCTION_ARGS)
 PG_FUNCTION_INFO_V1(size_explain);
 Datum size_explain(PG_FUNCTION_ARGS)
 {
-    uint32 flags = flags_argument(fcinfo, 1, READING), code;
-    Text text;
-    ByteSize size;
-    byte_unit_error error;
+    uint32 flags = flags_argument(fcinfo, 1, READING);
+    char *reason;
 
     if (PG_ARGISNULL(0))
         PG_RETURN_NULL();
-    text = text_argument(fcinfo, 0);
-    code = byte_unit_parse(text.at, text.len, flags, &size, &error);
-    if (code == BYTE_UNIT_OK)
+    reason = reason_of(byte_unit_explain, text_argument(fcinfo, 0), flags);
+    if (*reason == '\0')
         PG_RETURN_NULL();
-    PG_RETURN_TEXT_P(cstring_to_text(reason_of(byte_unit_explain, text, flags, code, &error)));
+    PG_RETURN_TEXT_P(cstring_to_text(reason));
 }
 
 /* Returns the text of the first argument in a form, or NULL if that is NULL. */
@@ -261,17 +257,15 @@ Datum size_text(PG_FUNCTION_ARGS)
 /* Returns the unit of a name. A blank name, which byte_unit_parse_unit takes for B, names none. */
 static uint32 unit_of(Text name, uint32 flags)
 {
-    byte_unit_error error;
-    uint32 unit, code = byte_unit_parse_unit(name.at, name.len, flags, &unit, &error);
+    uint32 unit, code = byte_unit_parse_unit(name.at, name.len, flags, &unit, NULL);
     ByteSize unused;
 
     if (byte_unit_parse(name.at, name.len, 0, &unused, NULL) == BYTE_UNIT_NO_VALUE)
         ereport(ERROR, (errcode(ERRCODE_INVALID_PARAMETER_VALUE),
                         errmsg("\"%s\" is not a unit such as KiB or MB", quoted(name))));
     if (code != BYTE_UNIT_OK)
-        ereport(ERROR,
-                (errcode(ERRCODE_INVALID_PARAMETER_VALUE), errmsg("\"%s\" is not a unit", quoted(name)),
-                 errdetail("%s", sentence_of(reason_of(byte_unit_explain_unit, name, flags, code, &error)))));
+        ereport(ERROR, (errcode(ERRCODE_INVALID_PARAMETER_VALUE), errmsg("\"%s\" is not a unit", quoted(name)),
+                        errdetail("%s", sentence_of(reason_of(byte_unit_explain_unit, name, flags)))));
     return unit;
 }
 

@@ -50,10 +50,10 @@ static struct text text_of(sqlite3_value *value)
     return text;
 }
 
-/* Parses a size, and returns the code. The error may be NULL. */
-static uint32_t parse(struct text text, uint32_t flags, byte_unit_number *size, byte_unit_error *error)
+/* Parses a size, and returns the code. */
+static uint32_t parse(struct text text, uint32_t flags, byte_unit_number *size)
 {
-    return byte_unit_parse(text.at, text.len, flags, size, error);
+    return byte_unit_parse(text.at, text.len, flags, size, NULL);
 }
 
 /* Returns -1, 0 or 1. */
@@ -79,7 +79,7 @@ static void append_value(sqlite3_str *out, sqlite3_value *value)
     else if (type == SQLITE_BLOB)
         sqlite3_str_appendf(out, "a BLOB of length %d", sqlite3_value_bytes(value));
     else
-        append_quoted(out, text_of(value), parse(text_of(value), 0, &unused, NULL) != BYTE_UNIT_NOT_UTF8);
+        append_quoted(out, text_of(value), parse(text_of(value), 0, &unused) != BYTE_UNIT_NOT_UTF8);
 }
 
 /* Ends a message and returns it, as the error of the call or as its result. */
@@ -121,24 +121,22 @@ static void reject_type(sqlite3_context *context, sqlite3_value *value, bool is_
     return_reason(context, value, " is not a size: TEXT or an INTEGER is expected", is_error);
 }
 
-/* Appends why a text is rejected with this code and error, by byte_unit_explain or byte_unit_explain_unit. */
-static void append_reason(sqlite3_str *out, explain_call *call, struct text text, uint32_t flags, uint32_t code,
-                          const byte_unit_error *error)
+/* Appends why a text is rejected. */
+static void append_reason(sqlite3_str *out, explain_call *call, struct text text, uint32_t flags)
 {
-    char reason[EXPLAINED_SIZE];
+    char reason[BYTE_UNIT_BUFFER_SIZE];
 
-    sqlite3_str_append(out, reason, (int)explain(call, text.at, text.len, flags, code, error, reason));
+    sqlite3_str_append(out, reason, (int)call(text.at, text.len, flags, reason, sizeof reason));
 }
 
-/* Returns the error of a text that the library rejects: the text, what it is not, and the reason. */
-static void reject_text(sqlite3_context *context, explain_call *call, struct text text, uint32_t flags, uint32_t code,
-                        const byte_unit_error *error)
+/* Returns the error of a text that the library rejects with this code: the text, what it is not, and the reason. */
+static void reject_text(sqlite3_context *context, explain_call *call, struct text text, uint32_t flags, uint32_t code)
 {
     sqlite3_str *message = sqlite3_str_new(sqlite3_context_db_handle(context));
 
     append_quoted(message, text, code != BYTE_UNIT_NOT_UTF8);
     sqlite3_str_appendf(message, " is not a %s: ", call == byte_unit_explain ? "size" : "unit");
-    append_reason(message, call, text, flags, code, error);
+    append_reason(message, call, text, flags);
     return_message(context, message, true);
 }
 
@@ -223,7 +221,6 @@ static bool get_size(sqlite3_context *context, sqlite3_value *value, byte_unit_n
 {
     sqlite3_int64 n = sqlite3_value_int64(value);
     struct text digits = { "", 0 };
-    byte_unit_error error;
     uint32_t code;
 
     if (sqlite3_value_type(value) == SQLITE_INTEGER) {
@@ -235,9 +232,9 @@ static bool get_size(sqlite3_context *context, sqlite3_value *value, byte_unit_n
         return false;
     if (!is_digits(digits))
         return reject(context, value, " is not an INTEGER such as size_parse returns");
-    code = parse(digits, 0, size, &error);
+    code = parse(digits, 0, size);
     if (code != BYTE_UNIT_OK)
-        reject_text(context, byte_unit_explain, digits, 0, code, &error);
+        reject_text(context, byte_unit_explain, digits, 0, code);
     return code == BYTE_UNIT_OK;
 }
 
@@ -246,16 +243,15 @@ static bool get_unit(sqlite3_context *context, sqlite3_value *value, uint32_t fl
 {
     struct text name = { "", 0 };
     byte_unit_number unused;
-    byte_unit_error error;
     uint32_t code;
 
     if (sqlite3_value_type(value) == SQLITE_TEXT && !get_text(context, value, &name))
         return false;
-    if (parse(name, 0, &unused, NULL) == BYTE_UNIT_NO_VALUE)
+    if (parse(name, 0, &unused) == BYTE_UNIT_NO_VALUE)
         return reject(context, value, " is not a unit such as 'KiB' or 'MB'");
-    code = byte_unit_parse_unit(name.at, name.len, flags, unit, &error);
+    code = byte_unit_parse_unit(name.at, name.len, flags, unit, NULL);
     if (code != BYTE_UNIT_OK)
-        reject_text(context, byte_unit_explain_unit, name, flags, code, &error);
+        reject_text(context, byte_unit_explain_unit, name, flags, code);
     return code == BYTE_UNIT_OK;
 }
 

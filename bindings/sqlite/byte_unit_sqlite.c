@@ -41,7 +41,6 @@ static bool is_integer(byte_unit_number size)
 struct reading {
     struct text text;
     byte_unit_number size;
-    byte_unit_error error;
     uint32_t flags;
     uint32_t code;
 };
@@ -59,7 +58,7 @@ static bool read_text(sqlite3_context *context, int argc, sqlite3_value **argv, 
         return true;
     if (!get_text(context, argv[0], &reading->text))
         return false;
-    reading->code = parse(reading->text, reading->flags, &reading->size, &reading->error);
+    reading->code = parse(reading->text, reading->flags, &reading->size);
     return true;
 }
 
@@ -71,7 +70,7 @@ static bool get_reading(sqlite3_context *context, int argc, sqlite3_value **argv
     if (reading->text.at == NULL)
         reject_type(context, argv[0], true);
     else if (reading->code != BYTE_UNIT_OK)
-        reject_text(context, byte_unit_explain, reading->text, reading->flags, reading->code, &reading->error);
+        reject_text(context, byte_unit_explain, reading->text, reading->flags, reading->code);
     return reading->code == BYTE_UNIT_OK;
 }
 
@@ -118,7 +117,7 @@ static void size_explain(sqlite3_context *context, int argc, sqlite3_value **arg
         reject_type(context, argv[0], false);
     } else {
         sqlite3_str *reason = sqlite3_str_new(sqlite3_context_db_handle(context));
-        append_reason(reason, byte_unit_explain, reading.text, reading.flags, reading.code, &reading.error);
+        append_reason(reason, byte_unit_explain, reading.text, reading.flags);
         return_message(context, reason, false);
     }
 }
@@ -303,8 +302,7 @@ static int compare_texts(void *unused, int a_len, const void *a_at, int b_len, c
 {
     struct text a = { a_at, (size_t)a_len }, b = { b_at, (size_t)b_len };
     byte_unit_number a_size, b_size;
-    bool a_is_size = parse(a, 0, &a_size, NULL) == BYTE_UNIT_OK,
-         b_is_size = parse(b, 0, &b_size, NULL) == BYTE_UNIT_OK;
+    bool a_is_size = parse(a, 0, &a_size) == BYTE_UNIT_OK, b_is_size = parse(b, 0, &b_size) == BYTE_UNIT_OK;
 
     (void)unused;
     if (a_is_size != b_is_size)

@@ -8,7 +8,7 @@ from itertools import islice
 
 import pytest
 from byte_unit_dev.fixtures import call, compiled, copied, environment, need, output, path, read
-from byte_unit_dev.model.answers import position
+from byte_unit_dev.model.answers import numbered
 from byte_unit_dev.model.exact import SIZE_LIMIT, UNITS, Rejected, form, size_of, some_line, value_of
 
 WARNINGS = ["-Wall", "-Wextra", "-Wpedantic", "-Wconversion", "-Wshadow", "-Werror"]
@@ -123,12 +123,6 @@ def test_characters_that_are_escaped(sql):
     assert wrong_of(sql, rows) == []
 
 
-def explained(line, size):
-    """Returns the message of a line that the model rejects, with the place."""
-    at = "none" if size.name == "not text" else position("byte", line.decode())
-    return size.message + ("" if at == "none" else f" (character {len(line[: int(at)].decode()) + 1})")
-
-
 @pytest.mark.parametrize("kind, flags", [("byte", ""), ("bit", ", 'bits'")])
 def test_lines(sql, check_drawn, kind, flags):
     """Compares drawn lines with the exact model: sizes and their texts, or messages."""
@@ -136,7 +130,7 @@ def test_lines(sql, check_drawn, kind, flags):
     def row(line):
         size = size_of(line, kind)
         if isinstance(size, Rejected):
-            shown = rf"error: '.*' is not a size: {re.escape(explained(line, size))}"
+            shown = rf"error: '.*' is not a size: {re.escape(numbered(line, size))}"
         elif size <= GREATEST:
             shown = re.escape(f"{size}|{form(size, kind)}|1")
         else:

@@ -162,6 +162,22 @@ static void answer_position(const char *of, const char *text)
         printf("none");
 }
 
+/* Answers `says KIND CASE TEXT`. The vectors have the message without the number of the wrong character. It has to be
+ * at the end, if the error has a position, and to be that of the character there. */
+static void answer_says(uint32_t flags, const char *text)
+{
+    size_t len = byte_unit_explain(text, strlen(text), flags, out, sizeof out), position, number = 1, tail_len = 0;
+    char tail[40] = "";
+    if (byte_unit_error_position(text, strlen(text), &position)) {
+        for (size_t at = 0; at < position; at++) /* counts the first bytes of characters */
+            number += ((unsigned char)text[at] & 0xC0) != 0x80;
+        tail_len = (size_t)sprintf(tail, " (character %zu)", number);
+    }
+    if (len < tail_len || memcmp(out + len - tail_len, tail, tail_len))
+        printf("without%s: ", tail), tail_len = 0;
+    printf("\"%.*s\"", (int)(len - tail_len), out);
+}
+
 /* Answers `text KIND SIZE [in UNIT | by TYPE] SPEC`. The type is binary, decimal or both. */
 static void answer_text(uint32_t flags, char **words)
 {
@@ -224,7 +240,7 @@ static void answer(char *record)
     else if (!strcmp(words[0], "unit"))
         answer_unit(uncased | (strcmp(words[2], "bits") ? 0 : BYTE_UNIT_BITS), text);
     else if (!strcmp(words[0], "says"))
-        printf("\"%.*s\"", (int)byte_unit_explain(text, strlen(text), bits | uncased, out, sizeof out), out);
+        answer_says(bits | uncased, text);
     else if (!strcmp(words[0], "text"))
         answer_text(bits, words);
     else if (!strcmp(words[0], "exact") || !strcmp(words[0], "recoverable"))

@@ -58,7 +58,7 @@ static void parse_sizes(void)
     line("9 b", BYTE_UNIT_IGNORE_CASE, "9 B");
     line("1 KB", BYTE_UNIT_BITS, "8 Kb");
     line("10m", BYTE_UNIT_BINARY_PREFIXES, "10 MiB");
-    line("1 byte", 0, "the character 'y' is incorrect ('i' or no character is expected)");
+    line("1 byte", 0, "the character 'y' is incorrect ('i' or no character is expected) (character 4)");
     line("1", BYTE_UNIT_EITHER_KIND, "a flag is unknown");
     expect_true("a unit that is wrong", byte_unit_parse("12 Kiq", 6, 0, &size, &error) == BYTE_UNIT_UNIT
                                             && error.character == 'q' && error.also_expect_no_character
@@ -80,7 +80,7 @@ static void parse_units(void)
     expect_true("K of bits", byte_unit_parse_unit("K", 1, BYTE_UNIT_BITS, &unit, NULL) == BYTE_UNIT_OK
                                  && unit == BYTE_UNIT_KBIT);
     expect("bix", out, byte_unit_explain_unit("bix", 3, 0, out, sizeof out),
-           "the character 'x' is incorrect ('t' is expected)");
+           "the character 'x' is incorrect ('t' is expected) (character 3)");
     expect_true("its position", byte_unit_unit_error_position("bix", 3, &position) && position == 2);
     expect("a name", out, byte_unit_unit_name(BYTE_UNIT_RIBIT, out, sizeof out), "Rib");
 }

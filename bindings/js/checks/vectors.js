@@ -37,6 +37,22 @@ function positionOf(what, text) {
     return "none";
 }
 
+/**
+ * Returns the message of a text without the number of the wrong character. It has to be at the end, if the error has a
+ * position, and to be that of the character there.
+ */
+function messageOf(text, options) {
+    const message = byteUnit.explain(text, options);
+    try {
+        byteUnit.parse(text, options);
+    } catch (error) {
+        const number = error.position === null ? "" : ` (character ${[...text.slice(0, error.position)].length + 1})`;
+        if (!message.endsWith(number))
+            return `without${number}: ${message}`;
+        return message.slice(0, message.length - number.length);
+    }
+}
+
 /** Answers `text KIND SIZE [in UNIT | by TYPE] SPEC`. */
 function textOf([, , size, ...more], bits) {
     if (more.length === 1)
@@ -56,7 +72,7 @@ function answer(words, given) {
         case "parse_binary": return byteUnit.parse(given, { bits, ignoreCase, binary: true });
         case "position": return positionOf(words[1], given);
         case "unit": return byteUnit.parseUnit(given, { bits: words[2] === "bits", ignoreCase });
-        case "says": return `"${byteUnit.explain(given, { bits, ignoreCase })}"`;
+        case "says": return `"${messageOf(given, { bits, ignoreCase })}"`;
         case "text": return `"${textOf(words, bits)}"`;
         default: return "-";
     }

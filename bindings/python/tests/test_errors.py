@@ -57,11 +57,12 @@ class Errors(unittest.TestCase):
         for text, message in MESSAGES:
             with self.subTest(text):
                 self.assertEqual(str(caught(text)), message)
-                self.assertIn(f": {byte_unit.explain(text)}", message)
+                self.assertTrue(message.endswith(f": {byte_unit.explain(text)}"))
         with self.assertRaises(SizeError) as unit:
             byte_unit.parse_unit(" Kix")
-        reason = "the character 'x' is incorrect ('B' or 'b' or no character is expected)"
-        self.assertEqual(str(unit.exception), f"' Kix' is not a unit: {reason} (character 4)")
+        reason = "the character 'x' is incorrect ('B' or 'b' or no character is expected) (character 4)"
+        self.assertEqual(byte_unit.explain_unit(" Kix"), reason)
+        self.assertEqual(str(unit.exception), f"' Kix' is not a unit: {reason}")
         self.assertEqual(str(SizeError("a message", "unit")), "a message")
 
     def test_copies(self) -> None:

@@ -10,11 +10,11 @@ from byte_unit import SizeError
 
 # text, flags, name, character, expected, also_expect_no_character, number, message
 ERRORS = [
-    (" \u2003\n", {}, "no_value", None, "", False, None, "no value can be found"),
-    ("1.é", {"bits": True}, "not_number", "é", "", False, None, "the character 'é' is not a number"),
-    ("1" * 40, {}, "number_too_long", None, "", False, None, "value number is too long"),
+    (" \u2003\n", {}, "no_value", None, "", False, None, "no value can be found (character 4)"),
+    ("1.é", {"bits": True}, "not_number", "é", "", False, None, "the character 'é' is not a number (character 3)"),
+    ("1" * 40, {}, "number_too_long", None, "", False, None, "value number is too long (character 35)"),
     ("1K😀", {"ignore_case": True}, "unit", "😀", "B", True, None,
-     "the character '😀' is incorrect ('B' or no character is expected)"),
+     "the character '😀' is incorrect ('B' or no character is expected) (character 3)"),
     ("1000.5 RB", {}, "exceeded_bounds", None, "", False, Decimal("1000.5"),
      "the value 1000.5 exceeds the valid range"),
     ("900 RB", {"binary": True}, "exceeded_bounds", None, "", False, Decimal(900),
@@ -96,7 +96,7 @@ class Parse(unittest.TestCase):
             self.assertIsNone(byte_unit.explain_unit(unit.encode()))
         for text, flags, reason in [("Kx", {}, "'B' or 'b' or no character"),
                                     ("Kix", {"ignore_case": True, "bits": True}, "'b' or no character")]:  # fmt: skip
-            message = f"the character 'x' is incorrect ({reason} is expected)"
+            message = f"the character 'x' is incorrect ({reason} is expected) (character {len(text)})"
             error = caught(byte_unit.parse_unit, text, **flags)
             self.assertEqual((error.name, error.args[0], byte_unit.explain_unit(text, **flags)), ("unit", message, message))
         for text in (b"\xff", "\ud800"):

@@ -2,4 +2,3 @@ mod Zeros
 mod Ascending
 mod Written
 mod Stops
-mod Escapes

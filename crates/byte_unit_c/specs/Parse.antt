@@ -1,9 +1,12 @@
 -- What the parsing calls of the C API return and write.
-use Rattle.std.specs.Prelude.{◌≡◌, ℕ, ◌<◌, Bool, List, Option, Some, None, MatchOption, Result, Ok, Err, IfSome, codes}
+use Rattle.std.specs.Prelude.{◌≡◌, ℕ, ◌<◌, Bool, List, Option, Some, None, MatchOption, Result, Ok, Err, IfSome}
+use Rattle.std.specs.Prelude.{codes}
+use Rattle.std.specs.Fmt.{◌++?◌}
 use Rattle.std.specs.Fmt.Cut.{IsTextOrCut}
 use Rattle.std.specs.Str.{IsUtf8}
-use Rattle.byte_unit_base.specs.ErrorPosition.{IsSizePosition, IsUnitPosition}
+use Rattle.byte_unit_base.specs.ErrorPosition.{IsSizePosition, IsUnitPosition, character_number, character_words}
 use Rattle.byte_unit_base.specs.Errors.{size_fault, unit_fault}
+use Rattle.byte_unit_base.specs.Fault.{Fault, exceeded}
 use Rattle.byte_unit_base.specs.FaultText.{parse_text}
 use Rattle.byte_unit_base.specs.Readings.{IsUnitReading}
 use Rattle.byte_unit_base.specs.Shape.{Shape}
@@ -53,30 +56,47 @@ IsUnitReturned bytes (Some (Err e)) code unit unit' errors errors' =
     (code ≡ code_of (unit_fault e)) × IsErrorWritten (IsUnitPosition bytes) (unit_fault e) errors errors'
     × (unit' ≡ unit)
 
--- the message of the error, or at most 256 bytes of it that end in dots; no claim if std specifies no message
-abbrev pub IsErrorText : ParseError → List ℕ → Type 0
-IsErrorText e kept = IfSome (parse_text e) (λ words. IsTextOrCut 256 words kept)
+-- the message of the error, and after it the words for the number of a character, if there is one
+abbrev pub numbered_text : ParseError → Option ℕ → Option (List ℕ)
+numbered_text e number = parse_text e ++? Some (character_words number)
+
+-- that message, or at most 256 bytes of it that end in dots; no claim if std specifies no message
+abbrev pub IsErrorText : ParseError → Option ℕ → List ℕ → Type 0
+IsErrorText e number kept = IfSome (numbered_text e number) (λ words. IsTextOrCut 256 words kept)
+
+-- the number of the wrong character of the bytes, where `IsPosition` is the position of their error; `None` if only the
+-- size is too large
+abbrev pub IsNumberOf : (Option ℕ → Type 0) → List ℕ → Fault → Option ℕ → Type 0
+IsNumberOf IsPosition bytes (exceeded n) number = number ≡ None
+IsNumberOf IsPosition bytes _ number =
+    (position : ℕ) × IsPosition (Some position) × (number ≡ Some (character_number bytes position))
+
+-- the message of the error of the bytes, with the number of their wrong character, of at least one byte
+abbrev pub IsErrorExplained : (Option ℕ → Type 0) → List ℕ → ParseError → List ℕ → List ℕ → ℕ → Type 0
+IsErrorExplained IsPosition bytes e old new needed =
+    (number : Option ℕ) × IsNumberOf IsPosition bytes (size_fault e) number × (0 < needed)
+    × WritesForm (IsErrorText e number) old new needed
 
 -- the message of the error, or that the bytes are not UTF-8, of at least one byte; 0, and nothing is written, if the
 -- string represents a size
-abbrev pub IsExplanation : Option (Result ℕ ParseError) → List ℕ → List ℕ → ℕ → Type 0
-IsExplanation None old new needed =
+abbrev pub IsExplanation : List ℕ → Option (Result ℕ ParseError) → List ℕ → List ℕ → ℕ → Type 0
+IsExplanation bytes None old new needed =
     (0 < needed) × WritesForm (λ words. words ≡ codes "the text is not UTF-8") old new needed
-IsExplanation (Some (Ok n)) old new needed = (needed ≡ 0) × (new ≡ old)
-IsExplanation (Some (Err e)) old new needed = (0 < needed) × WritesForm (IsErrorText e) old new needed
+IsExplanation bytes (Some (Ok n)) old new needed = (needed ≡ 0) × (new ≡ old)
+IsExplanation bytes (Some (Err e)) old new needed = IsErrorExplained (IsSizePosition bytes) bytes e old new needed
 
 -- Private: what a call that explains with these flags returns and writes, where a unit `u` that is read counts as
 -- `meant u`
 abbrev pub Explains : (Shape → Shape) → ParseFlags → List ℕ → List ℕ → List ℕ → ℕ → Type 0
 Explains meant asked bytes old new needed =
     (answer : Option (Result ℕ ParseError)) × IsBytesReadingAs meant asked.kind asked.ignore_case bytes answer
-    × IsExplanation answer old new needed
+    × IsExplanation bytes answer old new needed
 
 -- the message of the error of a unit, or that the bytes are not UTF-8, of at least one byte; 0, and nothing is written,
 -- if the string spells a unit
-abbrev pub IsUnitExplanation : Option (Result UnitName UnitParseError) → List ℕ → List ℕ → ℕ → Type 0
-IsUnitExplanation None old new needed =
+abbrev pub IsUnitExplanation : List ℕ → Option (Result UnitName UnitParseError) → List ℕ → List ℕ → ℕ → Type 0
+IsUnitExplanation bytes None old new needed =
     (0 < needed) × WritesForm (λ words. words ≡ codes "the text is not UTF-8") old new needed
-IsUnitExplanation (Some (Ok name)) old new needed = (needed ≡ 0) × (new ≡ old)
-IsUnitExplanation (Some (Err e)) old new needed =
-    (0 < needed) × WritesForm (IsErrorText (UnitError e)) old new needed
+IsUnitExplanation bytes (Some (Ok name)) old new needed = (needed ≡ 0) × (new ≡ old)
+IsUnitExplanation bytes (Some (Err e)) old new needed =
+    IsErrorExplained (IsUnitPosition bytes) bytes (UnitError e) old new needed

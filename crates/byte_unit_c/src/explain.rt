@@ -1,8 +1,9 @@
 //! Messages for strings that are rejected.
 
-ghost use Rattle.std.specs.Prelude.{◌≡◌, ℕ, ◌≤◌, Option, Some, Result, Err, IfSome, IfNone, codes};
-ghost use Rattle.byte_unit_base.specs.Errors.{size_fault};
-ghost use Rattle.byte_unit_base.specs.ParserEnds.{stop_fault};
+ghost use Rattle.std.specs.Prelude.{◌≡◌, ℕ, ◌≤◌, List, Option, Result, Ok, IfSome, IfNone, codes};
+ghost use Rattle.std.specs.Str.{IsUtf8};
+ghost use Rattle.byte_unit_base.specs.Kinds.{flags_for};
+ghost use Rattle.byte_unit_base.specs.Readings.{IsNumberReading};
 ghost use Rattle.byte_unit_base.specs.SizeReading.{IsBytesReading};
 ghost use Rattle.byte_unit_base.specs.BinaryReading.{unit_meant, IsBinaryBytesReading};
 ghost use Rattle.byte_unit_base.specs.declared.errors.ParseError.{ParseError};
@@ -13,26 +14,31 @@ ghost use Rattle.byte_unit_c.specs.Flags.{parse_flags_at, binary_flags_at, prefe
 ghost use Rattle.byte_unit_c.specs.Parse.{Explains, IsUnitBytesReading, IsExplanation, IsUnitExplanation};
 
 use crate::flags::{ParseFlags, binary_flags_at, parse_flags_at};
-use crate::message::{write_message, write_not_utf8, write_unit_message, write_unknown_flag};
+use crate::message::{Numbered, write_message, write_not_utf8, write_unknown_flag};
 use crate::parse::{read_unit, unit_flags};
-use byte_unit_base::{Flags, ParseError, Reason, Stop, size};
+use byte_unit_base::{ParseError, Unit, character_number, error_at, size};
+use byte_unit_math::Decimal;
 
 /// Writes the error message for a string that is rejected to the start of `out`, and returns its length, at most 256
 /// bytes. Returns the length and writes nothing if `out` is shorter. Returns 0 if and only if all flags are known and
 /// the string represents a size, and then writes nothing. The flags are those of `byte_unit_parse_to`; for another, the
 /// message is `a flag is unknown`.
 ///
-/// For example, `-1` gives 33, the length of `the character '-' is not a number`.
+/// Unless only the size is too large or the bytes are not UTF-8, the message ends with the number, from 1, of the first
+/// wrong character: the one at the position that `byte_unit_error_position` writes, so one more than the last has if the
+/// string ends too early.
+///
+/// For example, `-1` gives 47, the length of `the character '-' is not a number (character 1)`.
 #[unsafe(no_mangle)]
 pub extern "C" fn byte_unit_explain(text: &[u8], flags: u32, out: &mut [u8]) -> usize
     ensures reading { IfSome (parse_flags_at flags)
         (λ asked. (answer : Option (Result ℕ ParseError))
         × IsBytesReading asked.kind asked.ignore_case text.now answer
-        × IsExplanation answer out.old out.new result) }
+        × IsExplanation text.now answer out.old out.new result) }
     ensures binary { IfSome (binary_flags_at flags)
         (λ asked. (answer : Option (Result ℕ ParseError))
         × IsBinaryBytesReading asked.kind asked.ignore_case text.now answer
-        × IsExplanation answer out.old out.new result) }
+        × IsExplanation text.now answer out.old out.new result) }
     ensures unknown_flag { IfNone (parse_flags_at flags) (IfNone (binary_flags_at flags)
         (WritesForm (λ words. words ≡ codes "a flag is unknown") out.old out.new result)) }
     ensures bound { result ≤ 256 }
@@ -52,77 +58,52 @@ fn explain_as<const BINARY: bool>(text: &[u8], asked: ParseFlags, out: &mut [u8]
     ensures bound { result ≤ 256 }
 {
     let flags = size::flags_for(asked.kind, asked.ignore_case);
-    match size::read_bytes(text, flags) {
-        Ok(found) => explain_size(size::size_of::<BINARY>((found.1, found.0), asked.kind), out),
-        Err(stop) => match size::visible_stop(text, stop) {
-            Some(seen) => write_stop_message(seen, flags, out),
-            None => explain_string::<BINARY>(text, asked, out),
-        },
-    }
-}
-
-/// Explains as `explain_as` does, from the string that the bytes are, trimmed.
-#[cold]
-#[inline(never)]
-fn explain_string<const BINARY: bool>(text: &[u8], asked: ParseFlags, out: &mut [u8]) -> usize
-    ensures reading { Explains (unit_meant BINARY) asked text.now out.old out.new result }
-    ensures bound { result ≤ 256 }
-{
-    let flags = size::flags_for(asked.kind, asked.ignore_case);
     match size::read_text(text, flags) {
-        Some(Ok(found)) => explain_size(
-            size::size_of::<BINARY>((found.1, found.0), asked.kind),
-            out,
-        ),
-        Some(Err(stop)) => write_stop_message(stop, flags, out),
+        Some(Ok(found)) => explain_size::<BINARY>(found, asked, out),
+        Some(Err(stop)) => {
+            let error = error_at(stop.reason, stop.next, flags);
+            let number = Some(character_number(text, stop.index));
+            write_message(&Numbered { error, number }, out)
+        }
         None => write_not_utf8(out),
     }
 }
 
-/// Writes the message of the error of a string in which the parser stops here.
-///
-/// `#[inline(always)]`: a call costs a rejected text some 25 instructions.
-#[inline(always)]
-fn write_stop_message(stop: Stop, flags: Flags, out: &mut [u8]) -> usize
-    ensures text { (error : ParseError) × (size_fault error ≡ stop_fault flags stop.reason stop.next)
-        × IsExplanation (Some (Err error)) out.old out.new result }
+/// Writes the message that the size of a string with this unit and this number is too large, and returns its length.
+/// Returns 0 and writes nothing if it is not.
+fn explain_size<const BINARY: bool>(
+    found: (Unit, Decimal),
+    asked: ParseFlags,
+    out: &mut [u8],
+) -> usize
+    ensures reading { (bytes : List ℕ) → IsUtf8 bytes
+        → IsNumberReading (flags_for asked.kind asked.ignore_case) bytes (Ok (found.1, found.0))
+        → Explains (unit_meant BINARY) asked bytes out.old out.new result }
     ensures bound { result ≤ 256 }
 {
-    match stop.reason {
-        Reason::InNumber(reason) => write_message(
-            &ParseError::Value(reason.error_before(stop.next)),
-            out,
-        ),
-        Reason::InUnit(reason) => write_unit_message(reason, stop.next, flags, out),
-    }
-}
-
-/// Writes the message that a size is too large, and returns its length. Returns 0 and writes nothing if it is not.
-///
-/// `#[inline(always)]`: the result is then never in memory.
-#[inline(always)]
-fn explain_size(answer: Result<u128, ParseError>, out: &mut [u8]) -> usize
-    ensures text { IsExplanation (Some answer) out.old out.new result }
-    ensures bound { result ≤ 256 }
-{
-    match answer {
+    match size::size_of::<BINARY>((found.1, found.0), asked.kind) {
         Ok(_) => 0,
-        Err(error) => write_message(&error, out),
+        Err(error) => {
+            let number = None;
+            write_message(&Numbered { error, number }, out)
+        }
     }
 }
 
 /// Writes the error message for a string that is not a unit to the start of `out`, and returns its length, at most 256
 /// bytes. Returns the length and writes nothing if `out` is shorter. Returns 0 if and only if all flags are known and
 /// the string spells a unit, and then writes nothing. The flags are those of `byte_unit_parse_unit_to`; for another,
-/// the message is `a flag is unknown`.
+/// the message is `a flag is unknown`. It ends with the number of the first wrong character, as that of
+/// `byte_unit_explain`.
 ///
-/// For example, `Kx` gives 71, the length of `the character 'x' is incorrect ('B' or 'b' or no character is expected)`.
+/// For example, `Kx` gives 85, the length of
+/// `the character 'x' is incorrect ('B' or 'b' or no character is expected) (character 2)`.
 #[unsafe(no_mangle)]
 pub extern "C" fn byte_unit_explain_unit(text: &[u8], flags: u32, out: &mut [u8]) -> usize
     ensures reading { IfSome (parse_flags_at flags)
         (λ asked. (answer : Option (Result UnitName UnitParseError))
         × IsUnitBytesReading asked.ignore_case (prefers_byte asked.kind) text.now answer
-        × IsUnitExplanation answer out.old out.new result) }
+        × IsUnitExplanation text.now answer out.old out.new result) }
     ensures unknown_flag { IfNone (parse_flags_at flags)
         (WritesForm (λ words. words ≡ codes "a flag is unknown") out.old out.new result) }
     ensures bound { result ≤ 256 }
@@ -137,15 +118,17 @@ pub extern "C" fn byte_unit_explain_unit(text: &[u8], flags: u32, out: &mut [u8]
 fn explain_unit_as(text: &[u8], asked: ParseFlags, out: &mut [u8]) -> usize
     ensures reading { (answer : Option (Result UnitName UnitParseError))
         × IsUnitBytesReading asked.ignore_case (prefers_byte asked.kind) text.now answer
-        × IsUnitExplanation answer out.old out.new result }
+        × IsUnitExplanation text.now answer out.old out.new result }
     ensures bound { result ≤ 256 }
 {
     let flags = unit_flags(asked);
     match read_unit(text, flags) {
         Some(Ok(_)) => 0,
         Some(Err(stopped)) => {
-            let (stop, next, _) = stopped;
-            write_unit_message(stop, next, flags, out)
+            let (stop, next, position) = stopped;
+            let error = ParseError::Unit(stop.error_before(next, flags));
+            let number = Some(character_number(text, position));
+            write_message(&Numbered { error, number }, out)
         }
         None => write_not_utf8(out),
     }

@@ -1,6 +1,6 @@
 """What follows from the table of prefixes and the lists of expected characters: in the bindings the codes of units in
 C's header and the letters for JavaScript; in crates the positions of prefix letters by their byte, and for C the bytes
-of the characters and the rest of each message."""
+of the characters."""
 
 import re
 from itertools import zip_longest
@@ -10,7 +10,7 @@ from .pages import with_parts
 
 TABLES, SCAN = "crates/byte_unit_base/src/unit/tables.rt", "crates/byte_unit_base/src/unit/scan.rt"
 HEADER, JAVASCRIPT = "bindings/c/byte_unit.h", "bindings/js/library.js"
-ERROR, MESSAGE = "crates/byte_unit_c/src/error.rt", "crates/byte_unit_c/src/message.rt"
+ERROR = "crates/byte_unit_c/src/error.rt"
 
 
 def prefixes():
@@ -38,22 +38,12 @@ def row(characters):
     return f'    *b"{"".join(characters):\0<16}",'.replace("\0", r"\0") if characters else "    [0; 16],"
 
 
-def rest(characters, or_end):
-    """Returns the message of an error after its character."""
-    *first, last = map(repr, characters or [""])
-    named = [", ".join(first), last * bool(characters), "no character" * or_end]
-    return f"' is incorrect ({' or '.join(filter(None, named))} is expected)"
-
-
 def tables():
     names = re.findall(r"Expected::(\w+) =>", source(SCAN).part("body fn Expected::characters"))
-    (no_end,) = re.findall(r"!matches!\(self, Expected::(\w+)\)", source(SCAN).part("body fn Expected::or_end"))
     lists = dict(zip_longest(names, expected(), fillvalue=[]))
     rows = "\n".join(map(row, lists.values()))
-    rests = [(rf'Expected::{name} => (?:\{{\s+)?b"', '"', rest(lists[name], name != no_end)) for name in names]
     # The position of the prefix of each byte's letter, or 0, 32 in a line.
     places = ["".join(prefixes()).find(chr(byte).upper()) + 1 for byte in range(256)]
     powers = "\n".join(f"    {', '.join(map(str, places[at : at + 32]))}," for at in range(0, 256, 32))
     yield TABLES, with_parts(TABLES, (r"LETTER_POWERS: \[u8; 256\] = \[\n", r"\n\];", powers))
     yield ERROR, with_parts(ERROR, (r"EXPECTED_BYTES: .*? = \[\n", r"\n\];", rows))
-    yield MESSAGE, with_parts(MESSAGE, *rests)

@@ -38,8 +38,8 @@ class SizeError(ByteUnitError):
     1 Kx unit x Bb True
     3 x
 
-    The message has the text, the reason that `explain` returns, and the number of the first wrong character, from 1.
-    Of a long text it has the first 80 characters, or bytes.
+    The message has the text, of a long one the first 80 characters, or bytes, and the reason that `explain` returns,
+    which ends with the number of the first wrong character, from 1. `args[0]` is the reason.
 
     `text` is the text. The names are those of the codes in byte_unit.h:
 
@@ -97,13 +97,9 @@ class SizeError(ByteUnitError):
 
     def __str__(self) -> str:
         """Returns the message, which is the reason alone if there is no text."""
-        text, position, reason = self.text, self.position, str(self.args[0])
-        if text is None:
+        reason = str(self.args[0])
+        if self.text is None:
             return reason
         row = "" if self.row is None else f"texts[{self.row}]: "
         what = "unit" if self._of_unit else "size"
-        message = f"{row}{quoted(text)} is not a {what}: {reason}"
-        if position is None:
-            return message
-        before = text[:position] if isinstance(text, str) else text[:position].decode()
-        return f"{message} (character {len(before) + 1})"
+        return f"{row}{quoted(self.text)} is not a {what}: {reason}"

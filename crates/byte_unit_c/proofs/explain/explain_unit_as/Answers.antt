@@ -1,5 +1,5 @@
 -- The message is that of the error where the parser stops.
-use Rattle.std.proofs.Common.{Some, Ok, Err, refl, subst}
+use Rattle.std.proofs.Common.{Some, Ok, Err, refl, ap, subst}
 use Rattle.byte_unit_base.specs.Outcome.{IsUnitOrStop}
 use Rattle.byte_unit_c.proofs.explain.explain_unit_as.Goals as goal
 
@@ -18,7 +18,14 @@ returns-in-Some-Err-clause-reading c =
     -- a pair: the error by the stop is that of the string, and the position is its position
     let stops = subst (IsUnitOrStop c.unit_flags-flags.result c.args.text.now) c.in-Some-Err.field-0-is
     c.in-Some-Err.ensures.1 in
-    -- the error of the unit, that it is the one where the parser stops, and its message
-    let text = c.write_unit_message.ensures.text in
-    let reading = rw c.unit_flags-flags.ensures at (stops.0 text.0 text.1) in
-    (Some (Err text.0), (c.in-Some-Err.ensures.0, reading), (c.write_unit_message.ensures.positive, text.2))
+    let error = c.error_before.result in
+    let reading = rw c.unit_flags-flags.ensures at (stops.0 error c.error_before.ensures) in (
+      Some (Err error),
+      (c.in-Some-Err.ensures.0, reading),
+      (
+        Some c.character_number.result,
+        (c.in-Some-Err.stopped.2, stops.1, ap Some c.character_number.ensures),
+        c.write_message.ensures.positive,
+        c.write_message.ensures.text,
+      ),
+    )
