@@ -73,13 +73,13 @@ def test_wrong_calls_are_answered_alike(program_of, programs_by_cargo, check_dra
 
 
 @pytest.mark.parametrize("old, new, why", [
-    ("use std::str;", "use std::simd::u8x1;", "a form that no rule knows: use std::simd::{u8x1};"),
+    ("use byte_unit_base::size;", "use std::simd::u8x1;", "a form that no rule knows: use std::simd::{u8x1};"),
     ("use byte_unit::ParseError;", "use byte_unit::Parse;", "a name that no rule knows: byte_unit::Parse"),
     ("#[inline(always)]", "#[target_feature]", "an attribute that no rule knows: #[target_feature"),
 ])  # fmt: skip
 def test_unknown_form_is_seen(monkeypatch, old, new, why):
     """The renderer says in which line a form is that no rule knows."""
-    name = "crates/byte_unit_command/src/wrong_character.rt" if "str;" in old else "crates/byte_unit_command/src/size.rt"
+    name = "crates/byte_unit_command/src/size.rt"
     text, facade = read(name), rust_programs.exported()
     monkeypatch.setattr(rust, "read", lambda _: text.replace(old, new, 1))
     with pytest.raises(Failure) as failure:

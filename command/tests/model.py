@@ -12,6 +12,7 @@ from collections import namedtuple
 from dataclasses import replace
 from types import SimpleNamespace
 
+from byte_unit_dev.model.answers import numbered
 from byte_unit_dev.model.exact import (BASE, FORM_PLACES, SIZE_LIMIT, UNITS, WHITE_SPACE, Rejected, bad_unit, best_unit,
                                        largest, size_of, unit_of, value_of)
 from program import Result
@@ -174,20 +175,6 @@ def options_of(texts):
     return options
 
 
-# The beginnings of numbers with a unit, with any digits.
-VIABLE = [re.compile(r"(?ai)[0-9]*"), re.compile(r"(?a)[0-9]+\.[0-9]*"),
-          re.compile(r"(?ai)[0-9]+(\.[0-9]+)? *([KMGTPEZYR]i?)?(b(i(ts?)?)?)?")]
-
-
-def character(text, message):
-    """Returns which character of a text is wrong, for a message that names one; nothing if the text ends there."""
-    rest = text.lstrip(WHITE_SPACE).rstrip(WHITE_SPACE)
-    first = max(found.end() for found in (pattern.match(rest) for pattern in VIABLE) if found)
-    if first == len(rest) or not message.startswith("the character '"):
-        return ""
-    return f" (character {len(text) - len(text.lstrip(WHITE_SPACE)) + first + 1})"
-
-
 def without_suffix(data, suffix):
     """Returns bytes without the suffix at their end, after which there may be white space."""
     texts = [data]
@@ -227,8 +214,8 @@ class Run:
         size = read(text, options)
         if isinstance(size, Rejected):
             if options.invalid != "ignore":
-                where = character(text.decode(errors="replace"), size.message)
-                self.tell(f"{named}: {size.message.removeprefix('the text is ')}{where}", 0 if options.invalid == "warn" else 2)
+                why = numbered(text, size).removeprefix("the text is ")
+                self.tell(f"{named}: {why}", 0 if options.invalid == "warn" else 2)
             if options.invalid == "abort":
                 raise Aborted
             return data

@@ -1,6 +1,6 @@
 -- What is written for one field, and what is found in it.
 use Rattle.std.specs.Prelude.{◌≡◌, ℕ, ◌-◌, ◌⊎◌, Bool, false, nat_eq, if◌then◌else◌, List, [], ◌∷◌, ◌++◌, length}
-use Rattle.std.specs.Prelude.{take, Option, None}
+use Rattle.std.specs.Prelude.{take, Option}
 use Rattle.std.specs.List.{ends_with}
 use Rattle.std.specs.Str.{IsUtf8, is_utf8, trim_end}
 use Rattle.byte_unit.specs.Fault.{Fault}

@@ -20,4 +20,3 @@ pub mod CallOptions
 pub mod Operands
 pub mod CommandLine
 pub mod WrongText
-pub mod WrongCharacter

@@ -1,20 +1,20 @@
 -- The messages about fields, for standard error.
-use Rattle.std.specs.Prelude.{◌≡◌, ℕ, ◌/◌, ◌%◌, Bool, true, false, ◌&&◌, ◌||◌}
+use Rattle.std.specs.Prelude.{◌≡◌, ℕ, ◌/◌, ◌%◌, ◌⊎◌, Bool, true, false, ◌&&◌, ◌||◌}
 use Rattle.std.specs.Prelude.{nat_lt, nat_le, IfSome, if◌then◌else◌, MatchBool, List, [], ◌∷◌, ◌++◌, Option, Some, None}
 use Rattle.std.specs.Prelude.{length, take, slice_index, codes}
 use Rattle.std.specs.Char.{is_control, encode_utf8}
 use Rattle.std.specs.Fmt.{decimal, digits}
 use Rattle.std.specs.List.{flat_map, list_any}
 use Rattle.std.specs.Str.{IsUtf8, is_utf8, chars}
+use Rattle.byte_unit.specs.ErrorPosition.{IsSizePosition, begins_character, character_number, character_words}
 use Rattle.byte_unit.specs.Errors.{size_fault}
 use Rattle.byte_unit.specs.FaultText.{parse_text}
-use Rattle.byte_unit.specs.declared.ParseError.TheVariants.{Value, Unit as UnitFault}
-use Rattle.byte_unit.specs.declared.ValueParseError.TheVariants.{NotNumber}
+use Rattle.byte_unit.specs.declared.ParseError.TheVariants.{Value}
+use Rattle.byte_unit.specs.declared.ValueParseError.TheVariants.{ExceededBounds}
 use Rattle.byte_unit_command.specs.Field.{ignores_case, without_suffix}
 use Rattle.byte_unit_command.specs.Prefixes.{IsRejectedBy}
 use Rattle.byte_unit_command.specs.State.{Place}
 use Rattle.byte_unit_command.specs.Sums.{is_above, is_below}
-use Rattle.byte_unit_command.specs.WrongCharacter.{IsPlaceTold, begins_character}
 use Rattle.byte_unit_command.specs.declared.notice.FieldError.{FieldError}
 use Rattle.byte_unit_command.specs.declared.notice.FieldError.TheVariants.{NotUtf8, Rejected, Above, Below}
 use Rattle.byte_unit_command.specs.declared.options.Invalid.{Invalid}
@@ -85,10 +85,23 @@ record_text place = codes "byte-unit: " ++ (place.word ++ (codes " " ++ (decimal
 abbrev pub place_text : Place → ℕ → List ℕ
 place_text place number = record_text place ++ field_text place.options.delimiter number
 
--- what a message says of the place in the text of a field: it names that if it names a character
+-- the number of the character at this position, if there is one
+abbrev pub character_at : List ℕ → Option ℕ → Option ℕ
+character_at text None = None
+character_at text (Some position) = Some (character_number text position)
+
+-- the number of the first wrong character of a text that is no size, or `None` if it is not UTF-8
+abbrev pub IsWrongCharacter : List ℕ → Option ℕ → Type 0
+IsWrongCharacter text number =
+    ¬ IsUtf8 text × (number ≡ None)
+    ⊎ IsUtf8 text × ((position : Option ℕ) × IsSizePosition text position × (number ≡ character_at text position))
+
+-- what a message says of the place in the text of a field: the number of the first wrong character, if the text is
+-- rejected and not only its size is too large
 abbrev pub AreCharacterWords : FieldError → List ℕ → List ℕ → Type 0
-AreCharacterWords (Rejected (Value (NotNumber c))) text words = IsPlaceTold text words
-AreCharacterWords (Rejected (UnitFault error)) text words = IsPlaceTold text words
+AreCharacterWords (Rejected (Value (ExceededBounds n))) text words = words ≡ []
+AreCharacterWords (Rejected error) text words =
+    (number : Option ℕ) × IsWrongCharacter text number × (words ≡ character_words number)
 AreCharacterWords _ text words = words ≡ []
 
 -- a message about the field with this number, in the record at this place

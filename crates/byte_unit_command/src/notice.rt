@@ -1,22 +1,24 @@
 //! Messages about fields, for standard error.
 
-ghost use Rattle.std.specs.Prelude.{◌≡◌, ◌++◌, List, ℕ, OnOk};
+ghost use Rattle.std.specs.Prelude.{◌≡◌, ◌++◌, List, ℕ, Option, OnOk};
 ghost use Rattle.std.specs.String.{string_bytes};
+ghost use Rattle.byte_unit.specs.ErrorPosition.{IsSizePosition, character_words};
 ghost use Rattle.byte_unit_command.specs.Field.{IsNoSize};
 ghost use Rattle.byte_unit_command.specs.Messages.{AreLimitMessages, AreWords, IsRejectMessage};
 ghost use Rattle.byte_unit_command.specs.Messages.{IsMessage, IsMessageIf, IsFieldError, AreCharacterWords};
-ghost use Rattle.byte_unit_command.specs.WrongCharacter.{character_words};
 ghost use Rattle.byte_unit_command.specs.Messages.{place_text, tells_rejected as has_rejected_told};
+ghost use Rattle.byte_unit_command.specs.Messages.{IsWrongCharacter, character_at};
 ghost use Rattle.byte_unit_command.specs.CallEnds.{messages_of, place_of};
 ghost use Rattle.byte_unit_stream.specs.Beginnings.{IsBeginningOf};
 
 use crate::options::{Invalid, Options};
 use crate::quote::add_quoted;
 use crate::size::{parse, without_suffix};
-use crate::wrong_character::wrong_character;
 use byte_unit::{ParseError, ValueParseError};
+use byte_unit_base::{character_number, size};
 use std::alloc::{AllocError, Allocator};
 use std::fmt::Write;
+use std::str;
 
 /// The place of a record: what a message about a field of it needs beside the field.
 #[derive(Clone, Copy)]
@@ -234,7 +236,7 @@ fn add_words<A: Allocator>(
     }
 }
 
-/// Appends the number of the first wrong character of a text, if the message names that.
+/// Appends the number of the first wrong character of a text that is rejected, unless only its size is too large.
 ///
 /// # Errors
 ///
@@ -249,11 +251,30 @@ fn add_character<A: Allocator>(
         × (string_bytes line.new ≡ string_bytes line.old ++ words)) }
 {
     match reason {
-        FieldError::Rejected(
-            ParseError::Unit(_) | ParseError::Value(ValueParseError::NotNumber(_)),
-        ) => add_number(wrong_character(text), line),
+        FieldError::Rejected(ParseError::Value(ValueParseError::ExceededBounds(_))) => Ok(()),
+        FieldError::Rejected(_) => add_number(wrong_character(text), line),
         _ => Ok(()),
     }
+}
+
+/// Returns the number of the first wrong character of a text that is no size, one more than the last has if the text
+/// ends too early. Returns `None` if it is not UTF-8.
+fn wrong_character(text: &[u8]) -> Option<usize>
+    ensures { IsWrongCharacter text.now result }
+{
+    match str::from_utf8(text) {
+        Ok(text) => character_of(text),
+        Err(_) => None,
+    }
+}
+
+/// Returns what [`wrong_character`] does, for a string.
+fn character_of(text: &str) -> Option<usize>
+    ensures { (position : Option ℕ) × IsSizePosition text.now position
+        × (result ≡ character_at text.now position) }
+{
+    let position = size::error_position(text)?;
+    Some(character_number(text.as_bytes(), position))
 }
 
 /// Appends the number of a character, or nothing.

@@ -6,8 +6,8 @@ ghost use Rattle.std.specs.Str.{chars};
 ghost use Rattle.std.specs.String.{string_bytes};
 ghost use Rattle.byte_unit_command.specs.Messages.{escape, escape_byte, escape_char, is_format, quote};
 ghost use Rattle.byte_unit_command.specs.Messages.{quoted_len as len_of_quote};
-ghost use Rattle.byte_unit_command.specs.WrongCharacter.{begins_character};
 
+use byte_unit_base::begins_character;
 use std::alloc::{AllocError, Allocator};
 use std::fmt::Write;
 
@@ -68,24 +68,17 @@ fn quoted_len(field: &[u8]) -> usize
         return field.len();
     }
     // Of four bytes in a row of a UTF-8 text at least one begins a character: no character has more than four.
-    if is_boundary(field[QUOTED]) {
+    if begins_character(field[QUOTED]) {
         QUOTED
-    } else if is_boundary(field[QUOTED - 1]) {
+    } else if begins_character(field[QUOTED - 1]) {
         QUOTED - 1
-    } else if is_boundary(field[QUOTED - 2]) {
+    } else if begins_character(field[QUOTED - 2]) {
         QUOTED - 2
-    } else if is_boundary(field[QUOTED - 3]) {
+    } else if begins_character(field[QUOTED - 3]) {
         QUOTED - 3
     } else {
         QUOTED
     }
-}
-
-/// Returns `true` if a character of a UTF-8 text can begin with this byte. The bytes 0x80 to 0xBF continue one.
-pub(crate) fn is_boundary(byte: u8) -> bool
-    ensures { result ≡ begins_character byte }
-{
-    byte < 0x80 || 0xC0 <= byte
 }
 
 /// Appends bytes: a text with its control and format characters escaped, and bytes that are not UTF-8 each for itself.

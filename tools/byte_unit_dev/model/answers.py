@@ -62,6 +62,13 @@ def position(what, text):
     return str(start + re.match(SIZE_PREFIX, trimmed).end())
 
 
+def numbered(data, size):
+    """Returns the message for bytes that are no size, with the number of the first wrong character if there is one."""
+    if size.name in ("out of range", "not text"):
+        return size.message
+    return f"{size.message} (character {len(data[: int(position('byte', data.decode()))].decode()) + 1})"
+
+
 def digits(number, spec):
     """Returns a whole number as digits. If it is centred, the fewer spaces are on the left."""
     align, sign, _, width, _ = SPEC.fullmatch(spec).groups("")

@@ -20,4 +20,3 @@ pub mod tally;
 mod text;
 pub mod values;
 pub mod wrong;
-mod wrong_character;

@@ -7,8 +7,9 @@ use crate::rattle::{String, Vec};
 use crate::rendered::command::options::{Invalid, Options};
 use crate::rendered::command::quote::add_quoted;
 use crate::rendered::command::size::{parse, without_suffix};
-use crate::rendered::command::wrong_character::wrong_character;
 use byte_unit::rendered::base::{ParseError, ValueParseError};
+use byte_unit::rendered::base::{character_number, size};
+use std::str;
 
 /// The place of a record: what a message about a field of it needs beside the field.
 #[derive(Clone, Copy)]
@@ -177,7 +178,7 @@ fn add_words<A: Allocator>(reason: &FieldError, words: &mut String<A>, line: &mu
     }
 }
 
-/// Appends the number of the first wrong character of a text, if the message names that.
+/// Appends the number of the first wrong character of a text that is rejected, unless only its size is too large.
 ///
 /// # Errors
 ///
@@ -185,11 +186,25 @@ fn add_words<A: Allocator>(reason: &FieldError, words: &mut String<A>, line: &mu
 #[inline(always)]
 fn add_character<A: Allocator>(reason: &FieldError, text: &[u8], line: &mut String<A>) -> Result<(), AllocError> {
     match reason {
-        FieldError::Rejected(ParseError::Unit(_) | ParseError::Value(ValueParseError::NotNumber(_))) => {
-            add_number(wrong_character(text), line)
-        }
+        FieldError::Rejected(ParseError::Value(ValueParseError::ExceededBounds(_))) => Ok(()),
+        FieldError::Rejected(_) => add_number(wrong_character(text), line),
         _ => Ok(()),
     }
+}
+
+/// Returns the number of the first wrong character of a text that is no size, one more than the last has if the text
+/// ends too early. Returns `None` if it is not UTF-8.
+fn wrong_character(text: &[u8]) -> Option<usize> {
+    match str::from_utf8(text) {
+        Ok(text) => character_of(text),
+        Err(_) => None,
+    }
+}
+
+/// Returns what [`wrong_character`] does, for a string.
+fn character_of(text: &str) -> Option<usize> {
+    let position = size::error_position(text)?;
+    Some(character_number(text.as_bytes(), position))
 }
 
 /// Appends the number of a character, or nothing.

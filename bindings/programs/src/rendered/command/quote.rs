@@ -4,6 +4,7 @@
 
 use crate::rattle::String;
 use crate::rattle::alloc::{AllocError, Allocator};
+use byte_unit::rendered::base::begins_character;
 use std::str;
 
 /// The most bytes of a field that a message quotes, so that a message about a long field is short.
@@ -58,22 +59,17 @@ fn quoted_len(field: &[u8]) -> usize {
         return field.len();
     }
     // Of four bytes in a row of a UTF-8 text at least one begins a character: no character has more than four.
-    if is_boundary(field[QUOTED]) {
+    if begins_character(field[QUOTED]) {
         QUOTED
-    } else if is_boundary(field[QUOTED - 1]) {
+    } else if begins_character(field[QUOTED - 1]) {
         QUOTED - 1
-    } else if is_boundary(field[QUOTED - 2]) {
+    } else if begins_character(field[QUOTED - 2]) {
         QUOTED - 2
-    } else if is_boundary(field[QUOTED - 3]) {
+    } else if begins_character(field[QUOTED - 3]) {
         QUOTED - 3
     } else {
         QUOTED
     }
-}
-
-/// Returns `true` if a character of a UTF-8 text can begin with this byte. The bytes 0x80 to 0xBF continue one.
-pub(crate) fn is_boundary(byte: u8) -> bool {
-    byte < 0x80 || 0xC0 <= byte
 }
 
 /// Appends bytes: a text with its control and format characters escaped, and bytes that are not UTF-8 each for itself.

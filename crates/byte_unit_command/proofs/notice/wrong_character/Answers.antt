@@ -1,8 +1,8 @@
 -- The string is the text.
 use Rattle.std.proofs.Common.{◌≡◌, ℕ, List, Option, inr, subst}
 use Rattle.byte_unit.specs.ErrorPosition.{IsSizePosition}
-use Rattle.byte_unit_command.specs.WrongCharacter.{character_at}
-use Rattle.byte_unit_command.proofs.wrong_character.wrong_character.Goals as goal
+use Rattle.byte_unit_command.specs.Messages.{character_at}
+use Rattle.byte_unit_command.proofs.notice.wrong_character.Goals as goal
 
 -- the text is a string: the character is the one at the position of its error
 pub returns-in-Ok : goal.returns-in-Ok
