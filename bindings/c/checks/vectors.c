@@ -166,12 +166,12 @@ static void answer_position(const char *of, const char *text)
  * at the end, if the error has a position, and to be that of the character there. */
 static void answer_says(uint32_t flags, const char *text)
 {
-    size_t len = byte_unit_explain(text, strlen(text), flags, out, sizeof out), position, number = 1, tail_len = 0;
+    size_t len = byte_unit_explain(text, strlen(text), flags, out, sizeof out), position, nth = 1, tail_len = 0;
     char tail[40] = "";
     if (byte_unit_error_position(text, strlen(text), &position)) {
         for (size_t at = 0; at < position; at++) /* counts the first bytes of characters */
-            number += ((unsigned char)text[at] & 0xC0) != 0x80;
-        tail_len = (size_t)sprintf(tail, " (character %zu)", number);
+            nth += ((unsigned char)text[at] & 0xC0) != 0x80;
+        tail_len = (size_t)sprintf(tail, " (character %zu)", nth);
     }
     if (len < tail_len || memcmp(out + len - tail_len, tail, tail_len))
         printf("without%s: ", tail), tail_len = 0;
