@@ -37,10 +37,10 @@ short_value ds count value digits count_is few value_is =
     omega (arith, ap (digits_value 10) same) in
     value_is ∙ (ap (λ n. n % 2 ^ 64) read ∙ short_digits ds digits few)
 
--- the last 19 digits of a number follow from its last 64 bits and the digits before them
+-- what is behind the front of a number, if it fits 64 bits, follows from its last 64 bits and the front
 pub last_digits_are :
-    (value front behind bits : ℕ) → value ≡ front * 10 ^ 19 + behind → behind < 10 ^ 19 → bits ≡ value % 2 ^ 64
-    → (bits + (2 ^ 64 - front * 10 ^ 19 % 2 ^ 64)) % 2 ^ 64 ≡ behind
+    (value front behind bits : ℕ) → value ≡ front + behind → behind < 2 ^ 64 → bits ≡ value % 2 ^ 64
+    → (bits + (2 ^ 64 - front % 2 ^ 64)) % 2 ^ 64 ≡ behind
 last_digits_are value front behind bits value_is below bits_are = omega (arith, value_is, below, bits_are)
 
 -- the value of digits with one digit more is ten times theirs, plus the digit

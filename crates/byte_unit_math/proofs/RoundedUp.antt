@@ -11,11 +11,11 @@ use Rattle.byte_unit_math.proofs.Scales.{pow10_split, power_of_sum}
 use Rattle.byte_unit_math.proofs.Digits.{one_le_pow10}
 
 -- Rounding up the low seven digits and then the high ones rounds up all fourteen.
-pub IsRoundedUp-groups : (digits unit behind part size : ℕ)
+pub rounded_up_in_groups : (digits unit behind part size : ℕ)
     → IsRoundedUp (digits % group_limit * unit + behind) group_limit part
     → IsRoundedUp (digits / group_limit * unit + part) group_limit size
     → IsRoundedUp (digits * unit + behind) half_limit size
-IsRoundedUp-groups digits unit behind part size low high =
+rounded_up_in_groups digits unit behind part size low high =
     let parts : group_limit * (digits / group_limit) + digits % group_limit ≡ digits = omega arith in
     let product = ap (λ n. n * unit) parts in
     record {

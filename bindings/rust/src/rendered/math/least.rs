@@ -43,10 +43,8 @@ pub fn least_size(d: Decimal, unit_size: u128, limit: u128) -> Option<u128> {
         carry_of_group(group, unit_size, 0)
     } else {
         let (high, low) = split_fraction(digits, places);
-        let part = carry_of_group(low % GROUP, unit_size, 0);
-        let part = carry_of_group(low / GROUP, unit_size, part);
-        let part = carry_of_group(high % GROUP, unit_size, part);
-        carry_of_group(high / GROUP, unit_size, part)
+        let part = carry_of_half(low, unit_size, 0);
+        carry_of_half(high, unit_size, part)
     };
     let size = if whole < 1 << 64 && unit_size < 1 << 64 {
         // Numbers of 64 bits take one multiplication, and their sum no test.
@@ -81,6 +79,22 @@ fn split_fraction(digits: u128, places: u32) -> (u64, u64) {
     let fraction = digits * power_of_ten(DECIMAL_PLACES - places);
     // 30 + 80 is 110, the power of the reciprocal, and at most 64 bits are left after the cut by 30.
     div_rem_by_inverse(fraction, TEN_POW_14, TEN_POW_14_INVERSE, 30, 80)
+}
+
+/// Returns the carry into the next half: the product of 14 digits and the unit's size, plus the carry of the less
+/// significant half, divided by 10^14 and rounded up.
+#[inline(always)]
+fn carry_of_half(digits: u64, unit_size: u128, carry: u128) -> u128 {
+    if unit_size < 1 << 62 {
+        // The sum is less than 10^14 * 2^62 + 2^62 + 10^14, which is less than 2^109, so 64 bits are left after the cut
+        // by 45; and 45 + 65 is 110, the power of the reciprocal.
+        let product = u128::from(digits) * u128::from(unit_size as u64) + carry;
+        let sum = product + u128::from(TEN_POW_14 - 1);
+        u128::from(div_rem_by_inverse(sum, TEN_POW_14, TEN_POW_14_INVERSE, 45, 65).0)
+    } else {
+        let part = carry_of_group(digits % GROUP, unit_size, carry);
+        carry_of_group(digits / GROUP, unit_size, part)
+    }
 }
 
 /// Returns the carry into the next group: the product of a group and the unit's size, plus the carry of the less

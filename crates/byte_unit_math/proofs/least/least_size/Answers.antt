@@ -2,7 +2,7 @@
 use Rattle.std.proofs.Common.{◌≡◌, ℕ, ◌+◌, ◌-◌, ◌*◌, ◌^◌, ◌≤◌, arith}
 use Rattle.byte_unit_math.specs.Bounds.{places_of_decimal}
 use Rattle.byte_unit_math.specs.Least.{IsLeastSize}
-use Rattle.byte_unit_math.proofs.RoundedUp.{IsRoundedUp-groups, IsLeastSize-halves, IsLeastSize-parts, in_first_group}
+use Rattle.byte_unit_math.proofs.RoundedUp.{IsLeastSize-halves, IsLeastSize-parts, in_first_group}
 use Rattle.byte_unit_math.proofs.RoundedUp.{IsLeastSize-group, IfNone-always, IfNone-below}
 use Rattle.byte_unit_math.proofs.Scales.{ten_power_at}
 use Rattle.byte_unit_math.proofs.least.least_size.Goals.{Joined-whole, Joined-places-le-GROUP_PLACES}
@@ -25,14 +25,11 @@ fraction_least c =
           let rounded = rw power at w.carry_of_group-part.ensures.rounded in
           rw w.part-is (IsLeastSize-group fraction _ unit _ first.all rounded)
       | else-places-le-GROUP_PLACES w ↦
-          let part = w.carry_of_group-part-else-places-le-GROUP_PLACES-2 in
-          let size = w.carry_of_group-part-else-places-le-GROUP_PLACES-4 in
-          let low = IsRoundedUp-groups _ unit _ _ _ w.carry_of_group-part-else-places-le-GROUP_PLACES.ensures.rounded
-          part.ensures.rounded in
-          let high = IsRoundedUp-groups _ unit _ _ _ w.carry_of_group-part-else-places-le-GROUP_PLACES-3.ensures.rounded
-          size.ensures.rounded in
+          let part = w.carry_of_half-part in
+          let size = w.carry_of_half-part-else-places-le-GROUP_PLACES in
           rw w.part-is (IsLeastSize-halves fraction unit part.result size.result
-          (rw w.split_fraction-high.ensures.low at low) (rw w.split_fraction-high.ensures.high at high))
+          (rw w.split_fraction-high.ensures.low at part.ensures.rounded)
+          (rw w.split_fraction-high.ensures.high at size.ensures.rounded))
     ]
 
 -- With the whole part it is the least size of the decimal.

@@ -2,14 +2,14 @@
 
 //! The value of the digits of a number, of which at least the last 64 bits are known.
 
-use crate::rendered::math::WHOLE_LIMIT;
+use crate::rendered::math::{WHOLE_LIMIT, power_of_ten};
 use crate::support::read_digits;
 
 /// The most digits whose value always fits a `u64`: 19.
 const SHORT_DIGITS: usize = 19;
 
-/// 10^19, by which the digits before the last 19 are multiplied.
-const NINETEEN_DIGITS: u128 = 10_000_000_000_000_000_000;
+/// The first digits of a long fraction that are parsed once more: after them are at most 19.
+const FRONT_DIGITS: usize = 9;
 
 /// Returns the value of the digits of a whole part, from the last 64 bits of it. If it reaches the limit, returns that
 /// of the digits up to the one with which it does, and the index of this digit.
@@ -35,18 +35,18 @@ fn longest_value(digits: &[u8]) -> (u128, usize) {
     (value, 0)
 }
 
-/// Returns the value of at most 38 digits, from the last 64 bits of that value.
+/// Returns the value of at most 28 digits, from the last 64 bits of that value.
 #[inline(always)]
 pub fn value_of(digits: &[u8], last_bits: u64) -> u128 {
     if digits.len() <= SHORT_DIGITS { u128::from(last_bits) } else { long_value(digits, last_bits) }
 }
 
-/// Slow path: returns the value of 19 to 38 digits, from the last 64 bits of that value.
+/// Slow path: returns the value of 20 to 28 digits, from the last 64 bits of that value.
 #[inline(always)]
 fn long_value(digits: &[u8], last_bits: u64) -> u128 {
-    let (front, _) = digits.split_at(digits.len() - SHORT_DIGITS);
+    let (front, back) = digits.split_at(FRONT_DIGITS);
     let (_, high) = read_digits(front, 0, 0);
-    let product = u128::from(high) * NINETEEN_DIGITS;
-    // The value of the last 19 digits fits 64 bits, so it follows from these bits.
+    let product = u128::from(high) * u128::from(power_of_ten(back.len() as u32) as u64);
+    // The value of the other digits fits 64 bits, so it follows from these bits.
     product + u128::from(last_bits.wrapping_sub((product % (1 << 64)) as u64))
 }
