@@ -9,7 +9,7 @@ use Rattle.byte_unit_base.specs.Version.{current}
 use Rattle.byte_unit_base.specs.Spelling.{Flags}
 use Rattle.byte_unit_base.specs.SizeText.{trim_of}
 use Rattle.byte_unit_base.specs.ViablePrefix.{ParserState, IsViableUnitPrefix, IsViableSizePrefix}
-use Rattle.byte_unit_base.specs.Fault.{Fault, IsFirstFault}
+use Rattle.byte_unit_base.specs.Fault.{Fault, IsFirstFault, exceeded}
 
 -- the number of bytes of the white space at the start of an input
 abbrev pub leading_white : List ℕ → ℕ
@@ -49,3 +49,10 @@ character_number bytes index = count_by begins_character (take index bytes) + 1
 abbrev pub character_words : Option ℕ → List ℕ
 character_words None = []
 character_words (Some number) = codes " (character " ++ (decimal number ++ codes ")")
+
+-- the number of the wrong character of the bytes, where `IsPosition` is the position of their error; `None` if only the
+-- size is too large
+abbrev pub IsNumberOf : (Option ℕ → Type 0) → List ℕ → Fault → Option ℕ → Type 0
+IsNumberOf IsPosition bytes (exceeded n) number = number ≡ None
+IsNumberOf IsPosition bytes _ number =
+    (position : ℕ) × IsPosition (Some position) × (number ≡ Some (character_number bytes position))

@@ -1,6 +1,6 @@
 -- The characters that an error of a unit names as expected. Contracts of `Expected` cite this file, those of private
 -- functions, and those of the C API through its `Error`.
-use Rattle.std.specs.Prelude.{ℕ, Bool, true, false, List, [], ◌++◌, codes}
+use Rattle.std.specs.Prelude.{ℕ, List, [], ◌++◌, codes}
 use Rattle.byte_unit_base.specs.Version.{current}
 use Rattle.byte_unit_base.specs.Fault.{Fault, bad_unit}
 use Rattle.byte_unit_base.specs.declared.unit.scan.Expected.{Expected}
@@ -17,11 +17,6 @@ expected_codes I = codes "i"
 expected_codes T = codes "t"
 expected_codes S = codes "s"
 expected_codes Nothing = []
-
--- whether the text could end in place of them: not after `bi`, which only `bit` continues
-abbrev pub expects_end : Expected → Bool
-expects_end T = false
-expects_end _ = true
 
 -- the characters that an error names: none if it is no error of a unit
 abbrev pub named_in : Fault → List ℕ

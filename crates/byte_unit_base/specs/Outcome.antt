@@ -4,12 +4,11 @@ use Rattle.std.specs.Prelude.{◌≡◌, ℕ, List, Option, Some, Result, Ok, Er
 use Rattle.std.specs.Str.{IsUtf8}
 use Rattle.byte_unit_base.specs.ErrorPosition.{IsSizePosition, IsUnitPosition}
 use Rattle.byte_unit_base.specs.Errors.{size_fault, unit_fault}
-use Rattle.byte_unit_base.specs.ParserEnds.{IsStopAt, stop_fault, unit_stop_fault}
+use Rattle.byte_unit_base.specs.ParserEnds.{stop_fault, unit_stop_fault}
 use Rattle.byte_unit_base.specs.Readings.{IsNumberReading, IsUnitReading}
 use Rattle.byte_unit_base.specs.Spelling.{Flags}
 use Rattle.byte_unit_base.specs.declared.errors.ParseError.{ParseError}
 use Rattle.byte_unit_base.specs.declared.errors.UnitParseError.{UnitParseError}
-use Rattle.byte_unit_base.specs.declared.read.stop.ByteStop.{ByteStop}
 use Rattle.byte_unit_base.specs.declared.read.stop.Stop.{Stop}
 use Rattle.byte_unit_base.specs.declared.unit.Unit.{Unit as UnitName}
 use Rattle.byte_unit_base.specs.declared.unit.scan.UnitStop.{UnitStop}
@@ -26,11 +25,6 @@ pub record IsStop (flags : Flags) (bytes : List ℕ) (stop : Stop) : Type 0 wher
 abbrev pub IsNumberOrStop : Flags → List ℕ → Result (UnitName × ℕ) Stop → Type 0
 IsNumberOrStop flags bytes (Ok (unit, number)) = IsNumberReading flags bytes (Ok (number, unit))
 IsNumberOrStop flags bytes (Err stop) = IsStop flags bytes stop
-
--- the number and the unit of the string that the bytes are, or where the parser stops in them as they are
-abbrev pub IsOutcome : Flags → List ℕ → Result (UnitName × ℕ) ByteStop → Type 0
-IsOutcome flags bytes (Ok (unit, number)) = IsUtf8 bytes × IsNumberReading flags bytes (Ok (number, unit))
-IsOutcome flags bytes (Err stop) = IsStopAt flags bytes stop.place stop.reason
 
 -- the unit of the string; or what was read before the parser stops in it, and the character there, or `None` at the
 -- end, by which the error is that of the string, and the position of this error

@@ -1,11 +1,13 @@
 -- What the parsers of a size return, for a string and for bytes.
-use Rattle.std.specs.Prelude.{◌≡◌, ℕ, Bool, false, List, Option, MatchOption, Result, Ok, IfOk, IfErr, IsErrAnd}
+use Rattle.std.specs.Prelude.{◌≡◌, ℕ, Bool, false, List, Option, Some, None, MatchOption, Result, Ok, Err}
+use Rattle.std.specs.Prelude.{IfOk, IfErr, IsErrAnd}
 use Rattle.std.specs.Result.{result_map_both}
 use Rattle.std.specs.Str.{IsUtf8, is_utf8}
 use Rattle.byte_unit_base.specs.Shape.{Shape}
 use Rattle.byte_unit_base.specs.Version.{current}
 use Rattle.byte_unit_base.specs.Fault.{exceeded}
 use Rattle.byte_unit_base.specs.Errors.{size_fault}
+use Rattle.byte_unit_base.specs.declared.errors.NumberedError.{NumberedError}
 use Rattle.byte_unit_base.specs.declared.errors.ParseError.{ParseError}
 use Rattle.byte_unit_base.specs.declared.kind.Kind.{Kind}
 use Rattle.byte_unit_base.specs.Accepted.{as_written, IsAcceptedAs, ExceedsAs, IsRejectedAs}
@@ -40,3 +42,9 @@ IsBytesReadingAs meant kind ignore_case bytes result =
 -- `None` if the bytes are not UTF-8, and otherwise the result of parsing them as a string
 abbrev pub IsBytesReading : Kind → Bool → List ℕ → Option (Result ℕ ParseError) → Type 0
 IsBytesReading = IsBytesReadingAs as_written
+
+-- a result without the number of the wrong character
+abbrev pub without_number : Option (Result ℕ NumberedError) → Option (Result ℕ ParseError)
+without_number None = None
+without_number (Some (Ok n)) = Some (Ok n)
+without_number (Some (Err e)) = Some (Err e.error)

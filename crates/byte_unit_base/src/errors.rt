@@ -1,9 +1,11 @@
 //! The errors of the parsers and of conversions to sizes.
 
-ghost use Rattle.std.specs.Prelude.{◌≡◌, ⊤};
+ghost use Rattle.std.specs.Prelude.{◌≡◌, ⊤, Some};
 ghost use Rattle.std.specs.Fmt.{DisplaysOnOk};
+ghost use Rattle.byte_unit_base.specs.ErrorPosition.{character_words};
 ghost use Rattle.byte_unit_base.specs.FaultText.{expected_text, others_text};
 
+use crate::unit::scan::Expected;
 use byte_unit_math::Decimal;
 use std::alloc::AllocError;
 use std::error::Error;
@@ -90,6 +92,24 @@ pub enum ParseError {
     Value(ValueParseError),
     /// The unit is invalid.
     Unit(UnitParseError),
+}
+
+/// The error of a string that is not a size, and the number of its first wrong character, as messages have it.
+///
+/// # Examples
+/// ```rust
+/// let error = size::explain::<false>(b"1 Kx", false, Kind::Byte);
+/// assert!(rt; matches!(error, Some(Err(NumberedError { number: Some(4), .. }))));
+/// ```
+#[derive(Drop)]
+pub struct NumberedError {
+    /// The error.
+    pub error: ParseError,
+    /// What the message names as expected: `Nothing` if it is no error of a unit.
+    pub expected: Expected,
+    /// The number of the character, counted from 1, one more than the last has if the string ends too early. `None` if
+    /// only the size is too large.
+    pub number: Option<usize>,
 }
 
 /// The error of a JSON value that is not a size.
@@ -249,6 +269,27 @@ impl fmt::Display for ParseError {
 }
 
 impl Error for ParseError {}
+
+impl fmt::Display for NumberedError {
+    ghost use Rattle.byte_unit_base.specs.FaultText.{numbered_text};
+
+    ghost output = { λ e. numbered_text e.error e.number };
+
+    fn fmt<W: fmt::Write>(&self, f: &mut fmt::Formatter<W>) -> fmt::Result {
+        fmt::Display::fmt(&self.error, f)?;
+        write_number(self.number, f)
+    }
+}
+
+/// Writes the words for the number of a character, if there is one.
+fn write_number<W: fmt::Write>(number: Option<usize>, f: &mut fmt::Formatter<W>) -> fmt::Result
+    ensures { DisplaysOnOk W.write_str_gives f.old result (Some (character_words number)) f.new }
+{
+    match number {
+        None => Ok(()),
+        Some(number) => write!(f, " (character {number})"),
+    }
+}
 
 /// Writes the part of the message that names the expected characters.
 fn write_expected<W: fmt::Write>(

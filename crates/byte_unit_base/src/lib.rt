@@ -4,12 +4,12 @@
 #![tactic(auto)]
 
 pub use crate::errors::{
-    ExceededBoundsError, JsonSizeError, ParseError, UnitParseError, ValueParseError,
+    ExceededBoundsError, JsonSizeError, NumberedError, ParseError, UnitParseError, ValueParseError,
 };
 pub use crate::kind::Kind;
 pub use crate::read::read_size;
 pub use crate::read::stop::{
-    ByteStop, NumberStop, Reason, Stop, begins_character, character_number, error_at,
+    NumberStop, Reason, Stop, begins_character, character_number, error_at,
 };
 pub use crate::unit::parse::read_unit_text;
 pub use crate::unit::scan::{Expected, Flags, UnitStop};

@@ -7,22 +7,24 @@ ghost use Rattle.byte_unit_math.specs.Bounds.{size_limit};
 ghost use Rattle.byte_unit_base.specs.Kinds.{bits_in, flags_for};
 ghost use Rattle.byte_unit_base.specs.Readings.{IsNumberReading};
 ghost use Rattle.byte_unit_base.specs.BinaryReading.{unit_meant};
-ghost use Rattle.byte_unit_base.specs.SizeReading.{IsReadingAs, IsBytesReadingAs, IsNotUtf8};
+ghost use Rattle.byte_unit_base.specs.SizeReading.{IsReadingAs, IsBytesReadingAs, IsNotUtf8, without_number};
+ghost use Rattle.byte_unit_base.specs.Errors.{size_fault};
+ghost use Rattle.byte_unit_base.specs.Expected.{expected_codes, named_in};
 ghost use Rattle.byte_unit_base.specs.Units.{shape_of};
 ghost use Rattle.byte_unit_base.specs.SizeOrNone.{IsSizeOfUnit, IsSizeOfDecimal};
 ghost use Rattle.byte_unit_base.specs.Line.{IsLine};
-ghost use Rattle.byte_unit_base.specs.ErrorPosition.{IsSizePosition};
-ghost use Rattle.byte_unit_base.specs.ParserEnds.{IsStopAt, IsVisibleNext};
-ghost use Rattle.byte_unit_base.specs.Outcome.{IsNumberOrStop, IsOutcome, IsStop};
+ghost use Rattle.byte_unit_base.specs.ErrorPosition.{IsSizePosition, IsNumberOf};
+ghost use Rattle.byte_unit_base.specs.ParserEnds.{IsVisibleNext};
+ghost use Rattle.byte_unit_base.specs.Outcome.{IsNumberOrStop};
 ghost use Rattle.byte_unit_base.specs.Spelling.{Flags};
 ghost use Rattle.byte_unit_base.specs.declared.errors.ParseError.TheVariants.{Value};
 ghost use Rattle.byte_unit_base.specs.declared.errors.ValueParseError.TheVariants.{ExceededBounds};
 
 use crate::read::number::read_number_and_unit;
-use crate::read::stop::{ByteStop, Stop, error_at, first_ascii};
+use crate::read::stop::{Stop, character_number, error_at, expected_at, first_ascii};
 use crate::read::{has_visible_ends, read_or_stop};
-use crate::unit::scan::Flags;
-use crate::{Kind, ParseError, Unit, ValueParseError, read_size};
+use crate::unit::scan::{Expected, Flags};
+use crate::{Kind, NumberedError, ParseError, Unit, ValueParseError, read_size};
 use byte_unit_math::{Decimal, least_size};
 use std::str;
 
@@ -205,56 +207,6 @@ fn parse_text<const BINARY: bool>(
     Some(parse::<BINARY>(text, ignore_case, kind))
 }
 
-/// Parses the unit and the number of a size from bytes, none of which is trimmed.
-///
-/// What is accepted is ASCII, so there is no test for UTF-8. It starts with a digit, and ends in spaces only after a
-/// number without a unit, where the grammar allows them, so it is the same when trimmed.
-///
-/// # Errors
-/// Returns where the parser stops in the bytes: [`visible_stop`] or [`read_text`] returns where it stops in the string.
-///
-/// # Examples
-/// ```rust
-/// let flags = size::flags_for(Kind::Byte, false);
-/// assert!(rt; matches!(size::read_bytes(b"1.5 KiB", flags), Ok((Unit::KiB, _))));
-/// assert!(rt; matches!(size::read_bytes(b"1 bi", flags), Err(ByteStop { place: 4, .. })));
-/// ```
-#[inline(always)]
-#[tactic(auto, using(crate::proofs::SizeOfText::bytes_number))]
-pub fn read_bytes(bytes: &[u8], flags: Flags) -> Result<(Unit, Decimal), ByteStop>
-    ensures { IsOutcome flags bytes.now result }
-{
-    read_number_and_unit::<true>(bytes, bytes, flags)
-}
-
-/// Returns where the parser stops in the string that the bytes are, by where it stops in the bytes. Returns `None` if
-/// there may be white space to trim, or characters past ASCII: [`read_text`] parses the bytes.
-///
-/// Precondition (proved at every call): `stop.place <= bytes.len()`.
-///
-/// # Examples
-/// ```rust
-/// let reason = Reason::InNumber(NumberStop::NoWhole);
-/// let stop = size::visible_stop(b"x KiB", ByteStop { place: 0, reason });
-/// assert!(rt; matches!(stop, Some(Stop { next: Some('x'), index: 0, .. })));
-/// assert!(rt; size::visible_stop(b" 1 KiB", ByteStop { place: 0, reason }).is_none());
-/// ```
-#[inline(always)]
-pub fn visible_stop(bytes: &[u8], stop: ByteStop) -> Option<Stop>
-    requires { stop.place ≤ length bytes.now }
-    ensures { IfSome result (λ seen. (flags : Flags)
-        → IsStopAt flags bytes.now stop.place stop.reason → IsStop flags bytes.now seen) }
-{
-    match visible_next(bytes, stop.place) {
-        Some(next) => Some(Stop {
-            reason: stop.reason,
-            next,
-            index: stop.place,
-        }),
-        None => None,
-    }
-}
-
 /// Returns the character at a place, or `Some(None)` at the end, of bytes that have nothing to trim and are ASCII from
 /// there on. Returns `None` if they may not be so.
 ///
@@ -300,6 +252,9 @@ fn is_ascii_from(bytes: &[u8], from: usize) -> bool
 /// Parses the number and the unit of a size from the string that the bytes are, trimmed. Returns `None` if the bytes
 /// are not UTF-8.
 ///
+/// What is accepted as it is, without a test for UTF-8, is ASCII. It starts with a digit, and ends in spaces only after
+/// a number without a unit, where the grammar allows them, so it is the same when trimmed.
+///
 /// # Errors
 /// Returns where the parser stops in the string: [`error_at`] makes the error of it.
 ///
@@ -309,13 +264,81 @@ fn is_ascii_from(bytes: &[u8], from: usize) -> bool
 /// assert!(rt; matches!(stopped, Some(Err(Stop { next: Some('x'), index: 4, .. }))));
 /// ```
 #[inline(always)]
-#[tactic(auto, using(crate::proofs::Computed::test_of_not_utf8))]
 pub fn read_text(bytes: &[u8], flags: Flags) -> Option<Result<(Unit, Decimal), Stop>>
+    ensures { MatchOption result (IsNotUtf8 bytes.now)
+        (λ read. IsUtf8 bytes.now × IsNumberOrStop flags bytes.now read) }
+{
+    match read_number_and_unit::<true>(bytes, bytes, flags) {
+        Ok(found) => Some(Ok(found)),
+        Err(stop) => match visible_next(bytes, stop.place) {
+            Some(next) => Some(Err(Stop {
+                reason: stop.reason,
+                next,
+                index: stop.place,
+            })),
+            // Taken apart, so that the results above are not written to memory for that of the call.
+            None => match read_string(bytes, flags)? {
+                Ok(found) => Some(Ok(found)),
+                Err(stop) => Some(Err(stop)),
+            },
+        },
+    }
+}
+
+/// Parses as `read_text`, from the string that the bytes are, trimmed.
+#[cold]
+#[inline(never)]
+#[tactic(auto, using(crate::proofs::Computed::test_of_not_utf8))]
+fn read_string(bytes: &[u8], flags: Flags) -> Option<Result<(Unit, Decimal), Stop>>
     ensures { MatchOption result (IsNotUtf8 bytes.now)
         (λ read. IsUtf8 bytes.now × IsNumberOrStop flags bytes.now read) }
 {
     let string = str::from_utf8(bytes).ok()?;
     Some(read_or_stop(string, flags))
+}
+
+/// Parses a size from bytes, as [`parse_bytes`], for a message: with the number of the first wrong character. Returns
+/// `None` if the bytes are not UTF-8.
+///
+/// # Errors
+/// Returns `Some` with the error of `parse_bytes` and the number of the character.
+///
+/// # Examples
+/// ```rust
+/// assert!(rt; matches!(size::explain::<false>(b"1 KiB", false, Kind::Byte), Some(Ok(1024))));
+/// let error = size::explain::<false>("1 µB".as_bytes(), false, Kind::Byte);
+/// assert!(rt; matches!(error, Some(Err(NumberedError { number: Some(3), .. }))));
+/// ```
+#[inline(always)]
+pub fn explain<const BINARY: bool>(
+    bytes: &[u8],
+    ignore_case: bool,
+    kind: Kind,
+) -> Option<Result<u128, NumberedError>>
+    ensures reading { IsBytesReadingAs (unit_meant BINARY) kind ignore_case bytes.now
+        (without_number result) }
+    ensures number { IfSome result (λ answer. IfErr answer (λ e.
+        IsNumberOf (IsSizePosition bytes.now) bytes.now (size_fault e.error) e.number)) }
+    ensures expected { IfSome result (λ answer. IfErr answer (λ e.
+        expected_codes e.expected ≡ named_in (size_fault e.error))) }
+{
+    let flags = flags_for(kind, ignore_case);
+    match read_text(bytes, flags) {
+        Some(Ok(found)) => match size_of::<BINARY>((found.1, found.0), kind) {
+            Ok(size) => Some(Ok(size)),
+            Err(error) => {
+                let (expected, number) = (Expected::Nothing, None);
+                Some(Err(NumberedError { error, expected, number }))
+            }
+        },
+        Some(Err(stop)) => {
+            let error = error_at(stop.reason, stop.next, flags);
+            let expected = expected_at(stop.reason, stop.next, flags);
+            let number = Some(character_number(bytes, stop.index));
+            Some(Err(NumberedError { error, expected, number }))
+        }
+        None => None,
+    }
 }
 
 /// Returns the index in bytes of the first wrong character of a string that is not in the grammar of sizes: up to there

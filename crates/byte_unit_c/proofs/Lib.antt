@@ -1,4 +1,5 @@
 mod Zeros
 mod Ascending
 mod Written
+pub mod Escapes
 mod Stops

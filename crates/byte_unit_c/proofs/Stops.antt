@@ -1,7 +1,7 @@
 -- What is returned and written where the parser stops in a string.
 use Rattle.std.proofs.Common.{◌≢◌, ℕ, List, Option, Some, Err, refl}
 use Rattle.byte_unit_base.specs.Shape.{Shape}
-use Rattle.byte_unit_base.specs.ErrorPosition.{IsSizePosition, character_number}
+use Rattle.byte_unit_base.specs.ErrorPosition.{IsSizePosition}
 use Rattle.byte_unit_base.specs.Fault.{Fault, exceeded, not_number, no_value, too_long, bad_unit}
 use Rattle.byte_unit_base.specs.Kinds.{flags_for}
 use Rattle.byte_unit_base.specs.Outcome.{IsStop}
@@ -11,7 +11,7 @@ use Rattle.byte_unit_c.specs.declared.error.Error.{Error}
 use Rattle.byte_unit_c.specs.declared.flags.ParseFlags.{ParseFlags}
 use Rattle.byte_unit_c.specs.declared.values.Number.{Number}
 use Rattle.byte_unit_c.specs.Error.{IsPositionOf, IsStopWritten}
-use Rattle.byte_unit_c.specs.Parse.{IsNumberOf, Parses}
+use Rattle.byte_unit_c.specs.Parse.{Parses}
 
 -- the position of each error but that of a size which is too large
 position_of : (IsPosition : Option ℕ → Type 0) (fault : Fault) (position : ℕ) → ((n : ℕ) → fault ≢ exceeded n)
@@ -33,13 +33,3 @@ stop_parsed meant asked bytes stop code size old new is (error, error_is, code_i
       (is.utf8, reading_of_fault meant asked.kind asked.ignore_case bytes error reading),
       (code_is, (stop.index, position_of (IsSizePosition bytes) _ stop.index reading.no_bounds is.position, written), refl),
     )
-
--- the number of the wrong character of each error but that of a size which is too large
-pub number_of_stop : (IsPosition : Option ℕ → Type 0) (bytes : List ℕ) (fault : Fault) (position : ℕ)
-    → ((n : ℕ) → fault ≢ exceeded n) → IsPosition (Some position)
-    → IsNumberOf IsPosition bytes fault (Some (character_number bytes position))
-number_of_stop IsPosition bytes (exceeded n) position within is = absurd (within n refl)
-number_of_stop IsPosition bytes (not_number c) position within is = (position, is, refl)
-number_of_stop IsPosition bytes no_value position within is = (position, is, refl)
-number_of_stop IsPosition bytes too_long position within is = (position, is, refl)
-number_of_stop IsPosition bytes (bad_unit c expected may_end) position within is = (position, is, refl)

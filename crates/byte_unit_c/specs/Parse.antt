@@ -1,13 +1,11 @@
 -- What the parsing calls of the C API return and write.
 use Rattle.std.specs.Prelude.{◌≡◌, ℕ, ◌<◌, Bool, List, Option, Some, None, MatchOption, Result, Ok, Err, IfSome}
-use Rattle.std.specs.Prelude.{codes}
-use Rattle.std.specs.Fmt.{◌++?◌}
+use Rattle.std.specs.Prelude.{◌∷◌, ◌++◌, codes}
 use Rattle.std.specs.Fmt.Cut.{IsTextOrCut}
 use Rattle.std.specs.Str.{IsUtf8}
-use Rattle.byte_unit_base.specs.ErrorPosition.{IsSizePosition, IsUnitPosition, character_number, character_words}
+use Rattle.byte_unit_base.specs.ErrorPosition.{IsNumberOf, IsSizePosition, IsUnitPosition, character_words}
 use Rattle.byte_unit_base.specs.Errors.{size_fault, unit_fault}
-use Rattle.byte_unit_base.specs.Fault.{Fault, exceeded}
-use Rattle.byte_unit_base.specs.FaultText.{parse_text}
+use Rattle.byte_unit_base.specs.FaultText.{numbered_text}
 use Rattle.byte_unit_base.specs.Readings.{IsUnitReading}
 use Rattle.byte_unit_base.specs.Shape.{Shape}
 use Rattle.byte_unit_base.specs.SizeReading.{IsBytesReadingAs}
@@ -56,20 +54,14 @@ IsUnitReturned bytes (Some (Err e)) code unit unit' errors errors' =
     (code ≡ code_of (unit_fault e)) × IsErrorWritten (IsUnitPosition bytes) (unit_fault e) errors errors'
     × (unit' ≡ unit)
 
--- the message of the error, and after it the words for the number of a character, if there is one
-abbrev pub numbered_text : ParseError → Option ℕ → Option (List ℕ)
-numbered_text e number = parse_text e ++? Some (character_words number)
-
--- that message, or at most 256 bytes of it that end in dots; no claim if std specifies no message
+-- the message of the error with the number, or at most 256 bytes of it that end in dots; no claim if std specifies no
+-- message
 abbrev pub IsErrorText : ParseError → Option ℕ → List ℕ → Type 0
 IsErrorText e number kept = IfSome (numbered_text e number) (λ words. IsTextOrCut 256 words kept)
 
--- the number of the wrong character of the bytes, where `IsPosition` is the position of their error; `None` if only the
--- size is too large
-abbrev pub IsNumberOf : (Option ℕ → Type 0) → List ℕ → Fault → Option ℕ → Type 0
-IsNumberOf IsPosition bytes (exceeded n) number = number ≡ None
-IsNumberOf IsPosition bytes _ number =
-    (position : ℕ) × IsPosition (Some position) × (number ≡ Some (character_number bytes position))
+-- Private: a message with a quoted character, what follows it, and the number of a character
+abbrev pub quoting : ℕ → List ℕ → ℕ → List ℕ
+quoting character rest number = codes "the character '" ++ character ∷ (rest ++ character_words (Some number))
 
 -- the message of the error of the bytes, with the number of their wrong character, of at least one byte
 abbrev pub IsErrorExplained : (Option ℕ → Type 0) → List ℕ → ParseError → List ℕ → List ℕ → ℕ → Type 0

@@ -14,10 +14,9 @@ ghost use Rattle.byte_unit_c.specs.Flags.{parse_flags_at, binary_flags_at, prefe
 ghost use Rattle.byte_unit_c.specs.Parse.{Explains, IsUnitBytesReading, IsExplanation, IsUnitExplanation};
 
 use crate::flags::{ParseFlags, binary_flags_at, parse_flags_at};
-use crate::message::{Numbered, write_message, write_not_utf8, write_unknown_flag};
+use crate::message::{write_message, write_not_utf8, write_unknown_flag};
 use crate::parse::{read_unit, unit_flags};
-use byte_unit_base::{ParseError, Unit, character_number, error_at, size};
-use byte_unit_math::Decimal;
+use byte_unit_base::{NumberedError, ParseError, character_number, size};
 
 /// Writes the error message for a string that is rejected to the start of `out`, and returns its length, at most 256
 /// bytes. Returns the length and writes nothing if `out` is shorter. Returns 0 if and only if all flags are known and
@@ -25,8 +24,8 @@ use byte_unit_math::Decimal;
 /// message is `a flag is unknown`.
 ///
 /// Unless only the size is too large or the bytes are not UTF-8, the message ends with the number, from 1, of the first
-/// wrong character: the one at the position that `byte_unit_error_position` writes, so one more than the last has if the
-/// string ends too early.
+/// wrong character: the one at the position that `byte_unit_error_position` writes, so one more than the last has if
+/// the string ends too early.
 ///
 /// For example, `-1` gives 47, the length of `the character '-' is not a number (character 1)`.
 #[unsafe(no_mangle)]
@@ -57,36 +56,11 @@ fn explain_as<const BINARY: bool>(text: &[u8], asked: ParseFlags, out: &mut [u8]
     ensures reading { Explains (unit_meant BINARY) asked text.now out.old out.new result }
     ensures bound { result ≤ 256 }
 {
-    let flags = size::flags_for(asked.kind, asked.ignore_case);
-    match size::read_text(text, flags) {
-        Some(Ok(found)) => explain_size::<BINARY>(found, asked, out),
-        Some(Err(stop)) => {
-            let error = error_at(stop.reason, stop.next, flags);
-            let number = Some(character_number(text, stop.index));
-            write_message(&Numbered { error, number }, out)
-        }
+    // By reference: the error is large, and would be copied.
+    match &size::explain::<BINARY>(text, asked.ignore_case, asked.kind) {
+        Some(Ok(_)) => 0,
+        Some(Err(error)) => write_message(error, out),
         None => write_not_utf8(out),
-    }
-}
-
-/// Writes the message that the size of a string with this unit and this number is too large, and returns its length.
-/// Returns 0 and writes nothing if it is not.
-fn explain_size<const BINARY: bool>(
-    found: (Unit, Decimal),
-    asked: ParseFlags,
-    out: &mut [u8],
-) -> usize
-    ensures reading { (bytes : List ℕ) → IsUtf8 bytes
-        → IsNumberReading (flags_for asked.kind asked.ignore_case) bytes (Ok (found.1, found.0))
-        → Explains (unit_meant BINARY) asked bytes out.old out.new result }
-    ensures bound { result ≤ 256 }
-{
-    match size::size_of::<BINARY>((found.1, found.0), asked.kind) {
-        Ok(_) => 0,
-        Err(error) => {
-            let number = None;
-            write_message(&Numbered { error, number }, out)
-        }
     }
 }
 
@@ -127,8 +101,9 @@ fn explain_unit_as(text: &[u8], asked: ParseFlags, out: &mut [u8]) -> usize
         Some(Err(stopped)) => {
             let (stop, next, position) = stopped;
             let error = ParseError::Unit(stop.error_before(next, flags));
+            let expected = stop.expected_before(next, flags);
             let number = Some(character_number(text, position));
-            write_message(&Numbered { error, number }, out)
+            write_message(&NumberedError { error, expected, number }, out)
         }
         None => write_not_utf8(out),
     }

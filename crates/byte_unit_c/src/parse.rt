@@ -68,28 +68,6 @@ pub fn parse_as<const BINARY: bool>(
         errors.new }
 {
     let flags = size::flags_for(asked.kind, asked.ignore_case);
-    match size::read_bytes(text, flags) {
-        Ok(found) => write_size::<BINARY>(found, asked, size, errors),
-        Err(stop) => match size::visible_stop(text, stop) {
-            Some(seen) => write_stop(seen, flags, errors),
-            None => parse_string::<BINARY>(text, asked, size, errors),
-        },
-    }
-}
-
-/// Parses as `parse_as` does, from the string that the bytes are, trimmed.
-#[cold]
-#[inline(never)]
-fn parse_string<const BINARY: bool>(
-    text: &[u8],
-    asked: ParseFlags,
-    size: &mut Number,
-    errors: &mut [Error],
-) -> u32
-    ensures { Parses (unit_meant BINARY) asked text.now result size.old size.new errors.old
-        errors.new }
-{
-    let flags = size::flags_for(asked.kind, asked.ignore_case);
     match size::read_text(text, flags) {
         Some(Ok(found)) => write_size::<BINARY>(found, asked, size, errors),
         Some(Err(stop)) => write_stop(stop, flags, errors),

@@ -1,16 +1,14 @@
 -- The messages about fields, for standard error.
-use Rattle.std.specs.Prelude.{◌≡◌, ℕ, ◌/◌, ◌%◌, ◌⊎◌, Bool, true, false, ◌&&◌, ◌||◌}
+use Rattle.std.specs.Prelude.{◌≡◌, ℕ, ◌/◌, ◌%◌, Bool, true, false, ◌&&◌, ◌||◌}
 use Rattle.std.specs.Prelude.{nat_lt, nat_le, IfSome, if◌then◌else◌, MatchBool, List, [], ◌∷◌, ◌++◌, Option, Some, None}
 use Rattle.std.specs.Prelude.{length, take, slice_index, codes}
 use Rattle.std.specs.Char.{is_control, encode_utf8}
 use Rattle.std.specs.Fmt.{decimal, digits}
 use Rattle.std.specs.List.{flat_map, list_any}
 use Rattle.std.specs.Str.{IsUtf8, is_utf8, chars}
-use Rattle.byte_unit.specs.ErrorPosition.{IsSizePosition, begins_character, character_number, character_words}
+use Rattle.byte_unit.specs.ErrorPosition.{IsNumberOf, IsSizePosition, begins_character, character_words}
 use Rattle.byte_unit.specs.Errors.{size_fault}
 use Rattle.byte_unit.specs.FaultText.{parse_text}
-use Rattle.byte_unit.specs.declared.ParseError.TheVariants.{Value}
-use Rattle.byte_unit.specs.declared.ValueParseError.TheVariants.{ExceededBounds}
 use Rattle.byte_unit_command.specs.Field.{ignores_case, without_suffix}
 use Rattle.byte_unit_command.specs.Prefixes.{IsRejectedBy}
 use Rattle.byte_unit_command.specs.State.{Place}
@@ -68,7 +66,7 @@ quote field =
 -- the library's contract says nothing of its message, since it quotes a character that is not ASCII, nothing is said
 abbrev pub AreWords : FieldError → List ℕ → Type 0
 AreWords NotUtf8 words = words ≡ codes "not UTF-8"
-AreWords (Rejected error) words = IfSome (parse_text error) (λ text. words ≡ text)
+AreWords (Rejected e) words = IfSome (parse_text e.error) (λ text. words ≡ text)
 AreWords Above words = words ≡ codes "above the maximum"
 AreWords Below words = words ≡ codes "below the minimum"
 
@@ -85,31 +83,17 @@ record_text place = codes "byte-unit: " ++ (place.word ++ (codes " " ++ (decimal
 abbrev pub place_text : Place → ℕ → List ℕ
 place_text place number = record_text place ++ field_text place.options.delimiter number
 
--- the number of the character at this position, if there is one
-abbrev pub character_at : List ℕ → Option ℕ → Option ℕ
-character_at text None = None
-character_at text (Some position) = Some (character_number text position)
-
--- the number of the first wrong character of a text that is no size, or `None` if it is not UTF-8
-abbrev pub IsWrongCharacter : List ℕ → Option ℕ → Type 0
-IsWrongCharacter text number =
-    ¬ IsUtf8 text × (number ≡ None)
-    ⊎ IsUtf8 text × ((position : Option ℕ) × IsSizePosition text position × (number ≡ character_at text position))
-
--- what a message says of the place in the text of a field: the number of the first wrong character, if the text is
--- rejected and not only its size is too large
-abbrev pub AreCharacterWords : FieldError → List ℕ → List ℕ → Type 0
-AreCharacterWords (Rejected (Value (ExceededBounds n))) text words = words ≡ []
-AreCharacterWords (Rejected error) text words =
-    (number : Option ℕ) × IsWrongCharacter text number × (words ≡ character_words number)
-AreCharacterWords _ text words = words ≡ []
+-- the number of the first wrong character of a field, if the parser rejects it and not only its size is too large
+abbrev pub number_of : FieldError → Option ℕ
+number_of (Rejected e) = e.number
+number_of _ = None
 
 -- a message about the field with this number, in the record at this place
 abbrev pub IsMessage : Place → ℕ → List ℕ → FieldError → List ℕ → Type 0
 IsMessage place number field reason text =
-    (words character : List ℕ) × AreWords reason words
-    × AreCharacterWords reason (without_suffix place.options.suffix.now field) character
-    × (text ≡ place_text place number ++ quote field ++ codes ": " ++ words ++ character ++ 10 ∷ [])
+    (words : List ℕ) × AreWords reason words
+    × (text ≡ place_text place number ++ quote field ++ codes ": " ++ words ++ character_words (number_of reason)
+    ++ 10 ∷ [])
 
 -- such a message if it is told, and else nothing
 abbrev pub IsMessageIf : Bool → Place → ℕ → List ℕ → FieldError → List ℕ → Type 0
@@ -122,13 +106,13 @@ AreLimitMessages place number field size text =
     (above below : List ℕ) × IsMessageIf (is_above place.options.max size) place number field Above above
     × IsMessageIf (is_below place.options.min size) place number field Below below × (text ≡ above ++ below)
 
--- this is the reason why the field is not a size
+-- this is the reason why the field is not a size, with the number of the first wrong character of its text
 abbrev pub IsFieldError : Options → List ℕ → FieldError → Type 0
 IsFieldError options field NotUtf8 = ¬ IsUtf8 (without_suffix options.suffix.now field)
-IsFieldError options field (Rejected error) =
+IsFieldError options field (Rejected e) =
     let text = without_suffix options.suffix.now field in
     IsUtf8 text × IsRejectedBy options.binary options.kind (ignores_case options.kind options.ignore_case) text
-    (size_fault error)
+    (size_fault e.error) × IsNumberOf (IsSizePosition text) text (size_fault e.error) e.number
 IsFieldError options field _ = ⊥
 
 -- whether rejected fields are told

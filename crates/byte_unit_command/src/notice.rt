@@ -2,23 +2,20 @@
 
 ghost use Rattle.std.specs.Prelude.{◌≡◌, ◌++◌, List, ℕ, Option, OnOk};
 ghost use Rattle.std.specs.String.{string_bytes};
-ghost use Rattle.byte_unit.specs.ErrorPosition.{IsSizePosition, character_words};
+ghost use Rattle.byte_unit.specs.ErrorPosition.{character_words};
 ghost use Rattle.byte_unit_command.specs.Field.{IsNoSize};
 ghost use Rattle.byte_unit_command.specs.Messages.{AreLimitMessages, AreWords, IsRejectMessage};
-ghost use Rattle.byte_unit_command.specs.Messages.{IsMessage, IsMessageIf, IsFieldError, AreCharacterWords};
+ghost use Rattle.byte_unit_command.specs.Messages.{IsMessage, IsMessageIf, IsFieldError, number_of};
 ghost use Rattle.byte_unit_command.specs.Messages.{place_text, tells_rejected as has_rejected_told};
-ghost use Rattle.byte_unit_command.specs.Messages.{IsWrongCharacter, character_at};
 ghost use Rattle.byte_unit_command.specs.CallEnds.{messages_of, place_of};
 ghost use Rattle.byte_unit_stream.specs.Beginnings.{IsBeginningOf};
 
 use crate::options::{Invalid, Options};
 use crate::quote::add_quoted;
-use crate::size::{parse, without_suffix};
-use byte_unit::{ParseError, ValueParseError};
-use byte_unit_base::{character_number, size};
+use crate::size::explain;
+use byte_unit_base::NumberedError;
 use std::alloc::{AllocError, Allocator};
 use std::fmt::Write;
-use std::str;
 
 /// The place of a record: what a message about a field of it needs beside the field.
 #[derive(Clone, Copy)]
@@ -43,12 +40,12 @@ pub(crate) struct Notices<A: Allocator> {
 }
 
 /// Why a field is named in a message.
-#[derive(Debug, Drop)]
+#[derive(Drop)]
 enum FieldError {
     /// It is not UTF-8.
     NotUtf8,
     /// It is rejected by the parser.
-    Rejected(ParseError),
+    Rejected(NumberedError),
     /// Its size is above the maximum.
     Above,
     /// Its size is below the minimum.
@@ -98,7 +95,7 @@ fn reason_of(options: &Options, field: &[u8]) -> FieldError
     requires { IsNoSize options.now field.now }
     ensures { IsFieldError options.now field.now result }
 {
-    match parse(options, field) {
+    match explain(options, field) {
         Some(Err(error)) => FieldError::Rejected(error),
         // Never: a field that is parsed as a size is one.
         Some(Ok(_)) => FieldError::NotUtf8,
@@ -178,11 +175,7 @@ fn add_message<A: Allocator>(
     add_quoted(field, &mut notices.line)?;
     notices.line.push_str(": ")?;
     add_words(reason, &mut notices.words, &mut notices.line)?;
-    add_character(
-        reason,
-        without_suffix(place.options.suffix, field),
-        &mut notices.line,
-    )?;
+    add_number(number_of(reason), &mut notices.line)?;
     notices.line.push_str("\n")?;
     notices.messages.extend_from_slice(notices.line.as_bytes())
 }
@@ -228,7 +221,7 @@ fn add_words<A: Allocator>(
             // Not to `line`: no contract says what `write!` leaves in its target for an error with a character that is
             // not ASCII, and the place and the quoted field in `line` have to stay.
             words.clear();
-            write!(words, "{error}")?;
+            write!(words, "{}", error.error)?;
             line.push_str(words.as_str())
         }
         FieldError::Above => line.push_str("above the maximum"),
@@ -236,45 +229,14 @@ fn add_words<A: Allocator>(
     }
 }
 
-/// Appends the number of the first wrong character of a text that is rejected, unless only its size is too large.
-///
-/// # Errors
-///
-/// Returns `AllocError` if allocation fails.
-#[inline(always)]
-fn add_character<A: Allocator>(
-    reason: &FieldError,
-    text: &[u8],
-    line: &mut String<A>,
-) -> Result<(), AllocError>
-    ensures { OnOk result ((words : List ℕ) × AreCharacterWords reason.now text.now words
-        × (string_bytes line.new ≡ string_bytes line.old ++ words)) }
+/// Returns the number of the first wrong character of a text that is rejected, unless only its size is too large.
+fn number_of(reason: &FieldError) -> Option<usize>
+    ensures { result ≡ number_of reason.now }
 {
     match reason {
-        FieldError::Rejected(ParseError::Value(ValueParseError::ExceededBounds(_))) => Ok(()),
-        FieldError::Rejected(_) => add_number(wrong_character(text), line),
-        _ => Ok(()),
+        FieldError::Rejected(error) => error.number,
+        _ => None,
     }
-}
-
-/// Returns the number of the first wrong character of a text that is no size, one more than the last has if the text
-/// ends too early. Returns `None` if it is not UTF-8.
-fn wrong_character(text: &[u8]) -> Option<usize>
-    ensures { IsWrongCharacter text.now result }
-{
-    match str::from_utf8(text) {
-        Ok(text) => character_of(text),
-        Err(_) => None,
-    }
-}
-
-/// Returns what [`wrong_character`] does, for a string.
-fn character_of(text: &str) -> Option<usize>
-    ensures { (position : Option ℕ) × IsSizePosition text.now position
-        × (result ≡ character_at text.now position) }
-{
-    let position = size::error_position(text)?;
-    Some(character_number(text.as_bytes(), position))
 }
 
 /// Appends the number of a character, or nothing.

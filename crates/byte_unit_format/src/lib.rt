@@ -20,6 +20,7 @@ pub use adjusted::{
 };
 pub use forms::{append_text, text_len, write_text};
 pub use layout::{append_layout, layout_len, write_layout};
+pub use parts::put;
 pub use plain::{append_plain, plain_len, write_plain};
 pub use spec::{Align, FormatSpec, Sign};
 pub use with_digits::write_with_digits;

@@ -153,8 +153,17 @@ fn with_parts<A: Allocator>(text: String<A>, parts: TextParts<'_>) -> (String<A>
 }
 
 /// Writes bytes so that they end before the index `end`, and returns the index where they begin.
+///
+/// Precondition (proved at every call): the bytes fit before `end`, and `end <= out.len()`.
+///
+/// # Examples
+/// ```rust
+/// let mut out = *b"......";
+/// assert_eq!(rt; put(b"KiB", &mut out, 5), 2);
+/// assert_eq!(rt; &out, b"..KiB.");
+/// ```
 #[inline(always)]
-pub(crate) fn put(bytes: &[u8], out: &mut [u8], end: usize) -> usize
+pub fn put(bytes: &[u8], out: &mut [u8], end: usize) -> usize
     requires room { length bytes.now ≤ end }
     requires end_bound { end ≤ length out.old }
     ensures begins { result + length bytes.now ≡ end }

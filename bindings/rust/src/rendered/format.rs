@@ -18,6 +18,7 @@ mod with_digits;
 pub use adjusted::{adjusted_len, display_adjusted, number_in_unit, write_adjusted};
 pub use forms::{text_len, write_text};
 pub use layout::{layout_len, write_layout};
+pub use parts::put;
 pub use plain::{plain_len, write_plain};
 pub use spec::{Align, FormatSpec, Sign};
 pub use with_digits::write_with_digits;

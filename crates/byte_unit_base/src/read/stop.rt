@@ -4,9 +4,10 @@ ghost use Rattle.std.specs.Prelude.{◌≡◌};
 ghost use Rattle.std.specs.Str.{chars, IsAscii};
 ghost use Rattle.byte_unit_base.specs.ErrorPosition.{begins_character, character_number};
 ghost use Rattle.byte_unit_base.specs.Errors.{size_fault, value_fault};
+ghost use Rattle.byte_unit_base.specs.Expected.{expected_codes, named_in};
 ghost use Rattle.byte_unit_base.specs.ParserEnds.{next_char, number_stop_fault, stop_fault};
 
-use crate::unit::scan::{Flags, UnitStop};
+use crate::unit::scan::{Expected, Flags, UnitStop};
 use crate::{ParseError, ValueParseError};
 
 /// Why the parser of a number stops.
@@ -97,8 +98,19 @@ pub fn error_at(reason: Reason, next: Option<char>, flags: Flags) -> ParseError
     }
 }
 
-/// Returns the number of the character at an index in bytes of a UTF-8 text, counted from 1, as messages have it. At the
-/// end it is one more than the number of the last character.
+/// Returns what the error of `error_at` names as expected.
+#[inline(always)]
+pub(crate) fn expected_at(reason: Reason, next: Option<char>, flags: Flags) -> Expected
+    ensures { expected_codes result ≡ named_in (stop_fault flags reason next) }
+{
+    match reason {
+        Reason::InNumber(_) => Expected::Nothing,
+        Reason::InUnit(stop) => stop.expected_before(next, flags),
+    }
+}
+
+/// Returns the number of the character at an index in bytes of a UTF-8 text, counted from 1, as messages have it. At
+/// the end it is one more than the number of the last character.
 ///
 /// # Examples
 /// ```rust

@@ -137,20 +137,7 @@ impl UnitStop {
 }
 
 impl Expected {
-    ghost use Rattle.byte_unit_base.specs.Expected.{expected_codes, expects_end};
-
-    /// Returns whether the string could end in place of the characters.
-    ///
-    /// # Examples
-    /// ```rust
-    /// assert!(rt; Expected::S.or_end() && !Expected::T.or_end()); // `bit` is a suffix, and `bi` is not.
-    /// ```
-    #[inline(always)]
-    pub fn or_end(self) -> bool
-        ensures { result ≡ expects_end self }
-    {
-        !matches!(self, Expected::T)
-    }
+    ghost use Rattle.byte_unit_base.specs.Expected.{expected_codes};
 
     /// Returns the characters.
     #[inline(always)]

@@ -6,10 +6,8 @@ use crate::rattle::alloc::{AllocError, Allocator};
 use crate::rattle::{String, Vec};
 use crate::rendered::command::options::{Invalid, Options};
 use crate::rendered::command::quote::add_quoted;
-use crate::rendered::command::size::{parse, without_suffix};
-use byte_unit::rendered::base::{ParseError, ValueParseError};
-use byte_unit::rendered::base::{character_number, size};
-use std::str;
+use crate::rendered::command::size::explain;
+use byte_unit::rendered::base::NumberedError;
 
 /// The place of a record: what a message about a field of it needs beside the field.
 #[derive(Clone, Copy)]
@@ -33,12 +31,11 @@ pub(crate) struct Notices<A: Allocator> {
 }
 
 /// Why a field is named in a message.
-#[derive(Debug)]
 enum FieldError {
     /// It is not UTF-8.
     NotUtf8,
     /// It is rejected by the parser.
-    Rejected(ParseError),
+    Rejected(NumberedError),
     /// Its size is above the maximum.
     Above,
     /// Its size is below the minimum.
@@ -77,7 +74,7 @@ fn tells_rejected(invalid: Invalid) -> bool {
 ///
 /// Precondition: the field is not a size.
 fn reason_of(options: &Options, field: &[u8]) -> FieldError {
-    match parse(options, field) {
+    match explain(options, field) {
         Some(Err(error)) => FieldError::Rejected(error),
         // Never: a field that is parsed as a size is one.
         Some(Ok(_)) => FieldError::NotUtf8,
@@ -138,7 +135,7 @@ fn add_message<A: Allocator>(
     add_quoted(field, &mut notices.line)?;
     notices.line.push_str(": ")?;
     add_words(reason, &mut notices.words, &mut notices.line)?;
-    add_character(reason, without_suffix(place.options.suffix, field), &mut notices.line)?;
+    add_number(number_of(reason), &mut notices.line)?;
     notices.line.push_str("\n")?;
     notices.messages.extend_from_slice(notices.line.as_bytes())
 }
@@ -170,7 +167,7 @@ fn add_words<A: Allocator>(reason: &FieldError, words: &mut String<A>, line: &mu
             // Not to `line`: no contract says what `write!` leaves in its target for an error with a character that is
             // not ASCII, and the place and the quoted field in `line` have to stay.
             words.clear();
-            write!(words, "{error}")?;
+            write!(words, "{}", error.error)?;
             line.push_str(words.as_str())
         }
         FieldError::Above => line.push_str("above the maximum"),
@@ -178,33 +175,12 @@ fn add_words<A: Allocator>(reason: &FieldError, words: &mut String<A>, line: &mu
     }
 }
 
-/// Appends the number of the first wrong character of a text that is rejected, unless only its size is too large.
-///
-/// # Errors
-///
-/// Returns `AllocError` if allocation fails.
-#[inline(always)]
-fn add_character<A: Allocator>(reason: &FieldError, text: &[u8], line: &mut String<A>) -> Result<(), AllocError> {
+/// Returns the number of the first wrong character of a text that is rejected, unless only its size is too large.
+fn number_of(reason: &FieldError) -> Option<usize> {
     match reason {
-        FieldError::Rejected(ParseError::Value(ValueParseError::ExceededBounds(_))) => Ok(()),
-        FieldError::Rejected(_) => add_number(wrong_character(text), line),
-        _ => Ok(()),
+        FieldError::Rejected(error) => error.number,
+        _ => None,
     }
-}
-
-/// Returns the number of the first wrong character of a text that is no size, one more than the last has if the text
-/// ends too early. Returns `None` if it is not UTF-8.
-fn wrong_character(text: &[u8]) -> Option<usize> {
-    match str::from_utf8(text) {
-        Ok(text) => character_of(text),
-        Err(_) => None,
-    }
-}
-
-/// Returns what [`wrong_character`] does, for a string.
-fn character_of(text: &str) -> Option<usize> {
-    let position = size::error_position(text)?;
-    Some(character_number(text.as_bytes(), position))
 }
 
 /// Appends the number of a character, or nothing.

@@ -4,7 +4,7 @@
 
 use crate::rendered::command::options::{Kind, Options};
 use byte_unit::rendered::base::ParseError;
-use byte_unit::rendered::base::size;
+use byte_unit::rendered::base::{NumberedError, size};
 use std::str;
 
 /// Parses a field, without the suffix of the options, as a size of their kind. Returns `None` if it is not UTF-8.
@@ -15,6 +15,17 @@ pub(crate) fn parse(options: &Options, field: &[u8]) -> Option<Result<u128, Pars
         size::parse_bytes::<true>(text, ignore_case, options.kind)
     } else {
         size::parse_bytes::<false>(text, ignore_case, options.kind)
+    }
+}
+
+/// Parses a field as [`parse`] does, for a message: with the number of the first wrong character.
+pub(crate) fn explain(options: &Options, field: &[u8]) -> Option<Result<u128, NumberedError>> {
+    let text = without_suffix(options.suffix, field);
+    let ignore_case = ignores_case(options.kind, options.ignore_case);
+    if options.binary {
+        size::explain::<true>(text, ignore_case, options.kind)
+    } else {
+        size::explain::<false>(text, ignore_case, options.kind)
     }
 }
 

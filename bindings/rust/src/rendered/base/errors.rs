@@ -2,6 +2,7 @@
 
 //! The errors of the parsers and of conversions to sizes.
 
+use crate::rendered::base::unit::scan::Expected;
 use crate::rendered::math::Decimal;
 use core::error::Error;
 use core::fmt;
@@ -80,6 +81,26 @@ pub enum ParseError {
     Unit(UnitParseError),
 }
 
+/// The error of a string that is not a size, and the number of its first wrong character, as messages have it.
+///
+/// # Examples
+/// ```
+/// # use byte_unit::rendered::{base::{size::parse_line, *}, bit::*, byte::*, choice::*, format::*, math::*};
+/// use byte_unit::Byte;
+///
+/// let error = size::explain::<false>(b"1 Kx", false, Kind::Byte);
+/// assert!(matches!(error, Some(Err(NumberedError { number: Some(4), .. }))));
+/// ```
+pub struct NumberedError {
+    /// The error.
+    pub error: ParseError,
+    /// What the message names as expected: `Nothing` if it is no error of a unit.
+    pub expected: Expected,
+    /// The number of the character, counted from 1, one more than the last has if the string ends too early. `None` if
+    /// only the size is too large.
+    pub number: Option<usize>,
+}
+
 impl UnitParseError {
     /// The error of a string that ends after the `bi` of a suffix: it could have ended before that `i`.
     pub(crate) const STOPS_AT_BI: UnitParseError =
@@ -145,6 +166,21 @@ impl fmt::Display for ParseError {
 }
 
 impl Error for ParseError {}
+
+impl fmt::Display for NumberedError {
+    fn fmt(&self, f: &mut fmt::Formatter<'_>) -> fmt::Result {
+        fmt::Display::fmt(&self.error, f)?;
+        write_number(self.number, f)
+    }
+}
+
+/// Writes the words for the number of a character, if there is one.
+fn write_number(number: Option<usize>, f: &mut fmt::Formatter<'_>) -> fmt::Result {
+    match number {
+        None => Ok(()),
+        Some(number) => write!(f, " (character {number})"),
+    }
+}
 
 /// Writes the part of the message that names the expected characters.
 fn write_expected(expected: &[char], also_expect_no_character: bool, f: &mut fmt::Formatter<'_>) -> fmt::Result {

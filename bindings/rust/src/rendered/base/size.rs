@@ -3,10 +3,10 @@
 //! Sizes of either kind, as numbers below the limit: what the size types have in common.
 
 use crate::rendered::base::read::number::read_number_and_unit;
-use crate::rendered::base::read::stop::{ByteStop, Stop, error_at, first_ascii};
+use crate::rendered::base::read::stop::{Stop, character_number, error_at, expected_at, first_ascii};
 use crate::rendered::base::read::{has_visible_ends, read_or_stop};
-use crate::rendered::base::unit::scan::Flags;
-use crate::rendered::base::{Kind, ParseError, Unit, ValueParseError, read_size};
+use crate::rendered::base::unit::scan::{Expected, Flags};
+use crate::rendered::base::{Kind, NumberedError, ParseError, Unit, ValueParseError, read_size};
 use crate::rendered::math::{Decimal, least_size};
 use core::str;
 
@@ -177,49 +177,6 @@ fn parse_text<const BINARY: bool>(bytes: &[u8], ignore_case: bool, kind: Kind) -
     Some(parse::<BINARY>(text, ignore_case, kind))
 }
 
-/// Parses the unit and the number of a size from bytes, none of which is trimmed.
-///
-/// What is accepted is ASCII, so there is no test for UTF-8. It starts with a digit, and ends in spaces only after a
-/// number without a unit, where the grammar allows them, so it is the same when trimmed.
-///
-/// # Errors
-/// Returns where the parser stops in the bytes: [`visible_stop`] or [`read_text`] returns where it stops in the string.
-///
-/// # Examples
-/// ```
-/// # use byte_unit::rendered::{base::{size::parse_line, *}, bit::*, byte::*, choice::*, format::*, math::*};
-/// use byte_unit::{Byte, Unit};
-///
-/// let flags = size::flags_for(Kind::Byte, false);
-/// assert!(matches!(size::read_bytes(b"1.5 KiB", flags), Ok((Unit::KiB, _))));
-/// assert!(matches!(size::read_bytes(b"1 bi", flags), Err(ByteStop { place: 4, .. })));
-/// ```
-#[inline(always)]
-pub fn read_bytes(bytes: &[u8], flags: Flags) -> Result<(Unit, Decimal), ByteStop> {
-    read_number_and_unit::<true>(bytes, bytes, flags)
-}
-
-/// Returns where the parser stops in the string that the bytes are, by where it stops in the bytes. Returns `None` if
-/// there may be white space to trim, or characters past ASCII: [`read_text`] parses the bytes.
-///
-/// Precondition: `stop.place <= bytes.len()`.
-///
-/// # Examples
-/// ```
-/// # use byte_unit::rendered::{base::{size::parse_line, *}, bit::*, byte::*, choice::*, format::*, math::*};
-/// let reason = Reason::InNumber(NumberStop::NoWhole);
-/// let stop = size::visible_stop(b"x KiB", ByteStop { place: 0, reason });
-/// assert!(matches!(stop, Some(Stop { next: Some('x'), index: 0, .. })));
-/// assert!(size::visible_stop(b" 1 KiB", ByteStop { place: 0, reason }).is_none());
-/// ```
-#[inline(always)]
-pub fn visible_stop(bytes: &[u8], stop: ByteStop) -> Option<Stop> {
-    match visible_next(bytes, stop.place) {
-        Some(next) => Some(Stop { reason: stop.reason, next, index: stop.place }),
-        None => None,
-    }
-}
-
 /// Returns the character at a place, or `Some(None)` at the end, of bytes that have nothing to trim and are ASCII from
 /// there on. Returns `None` if they may not be so.
 ///
@@ -248,6 +205,9 @@ fn is_ascii_from(bytes: &[u8], from: usize) -> bool {
 /// Parses the number and the unit of a size from the string that the bytes are, trimmed. Returns `None` if the bytes
 /// are not UTF-8.
 ///
+/// What is accepted as it is, without a test for UTF-8, is ASCII. It starts with a digit, and ends in spaces only after
+/// a number without a unit, where the grammar allows them, so it is the same when trimmed.
+///
 /// # Errors
 /// Returns where the parser stops in the string: [`error_at`] makes the error of it.
 ///
@@ -261,8 +221,61 @@ fn is_ascii_from(bytes: &[u8], from: usize) -> bool {
 /// ```
 #[inline(always)]
 pub fn read_text(bytes: &[u8], flags: Flags) -> Option<Result<(Unit, Decimal), Stop>> {
+    match read_number_and_unit::<true>(bytes, bytes, flags) {
+        Ok(found) => Some(Ok(found)),
+        Err(stop) => match visible_next(bytes, stop.place) {
+            Some(next) => Some(Err(Stop { reason: stop.reason, next, index: stop.place })),
+            // Taken apart, so that the results above are not written to memory for that of the call.
+            None => match read_string(bytes, flags)? {
+                Ok(found) => Some(Ok(found)),
+                Err(stop) => Some(Err(stop)),
+            },
+        },
+    }
+}
+
+/// Parses as `read_text`, from the string that the bytes are, trimmed.
+#[cold]
+#[inline(never)]
+fn read_string(bytes: &[u8], flags: Flags) -> Option<Result<(Unit, Decimal), Stop>> {
     let string = str::from_utf8(bytes).ok()?;
     Some(read_or_stop(string, flags))
+}
+
+/// Parses a size from bytes, as [`parse_bytes`], for a message: with the number of the first wrong character. Returns
+/// `None` if the bytes are not UTF-8.
+///
+/// # Errors
+/// Returns `Some` with the error of `parse_bytes` and the number of the character.
+///
+/// # Examples
+/// ```
+/// # use byte_unit::rendered::{base::{size::parse_line, *}, bit::*, byte::*, choice::*, format::*, math::*};
+/// use byte_unit::Byte;
+///
+/// assert!(matches!(size::explain::<false>(b"1 KiB", false, Kind::Byte), Some(Ok(1024))));
+/// let error = size::explain::<false>("1 µB".as_bytes(), false, Kind::Byte);
+/// assert!(matches!(error, Some(Err(NumberedError { number: Some(3), .. }))));
+/// ```
+#[inline(always)]
+pub fn explain<const BINARY: bool>(bytes: &[u8], ignore_case: bool, kind: Kind) -> Option<Result<u128, NumberedError>> {
+    let flags = flags_for(kind, ignore_case);
+    match read_text(bytes, flags) {
+        Some(Ok(found)) => match size_of::<BINARY>((found.1, found.0), kind) {
+            Ok(size) => Some(Ok(size)),
+            Err(error) => {
+                let (expected, number) = (Expected::Nothing, None);
+                Some(Err(NumberedError { error, expected, number }))
+            }
+        },
+        Some(Err(stop)) => {
+            let error = error_at(stop.reason, stop.next, flags);
+            let expected = expected_at(stop.reason, stop.next, flags);
+            let number = Some(character_number(bytes, stop.index));
+            Some(Err(NumberedError { error, expected, number }))
+        }
+        None => None,
+    }
 }
 
 /// Returns the index in bytes of the first wrong character of a string that is not in the grammar of sizes: up to there

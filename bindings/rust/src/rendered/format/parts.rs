@@ -80,8 +80,18 @@ fn put_first(e: &Expansion, places: u32, out: &mut [u8], end: usize) -> usize {
 }
 
 /// Writes bytes so that they end before the index `end`, and returns the index where they begin.
+///
+/// Precondition: the bytes fit before `end`, and `end <= out.len()`.
+///
+/// # Examples
+/// ```
+/// # use byte_unit::rendered::{base::{size::parse_line, *}, bit::*, byte::*, choice::*, format::*, math::*};
+/// let mut out = *b"......";
+/// assert_eq!(put(b"KiB", &mut out, 5), 2);
+/// assert_eq!(&out, b"..KiB.");
+/// ```
 #[inline(always)]
-pub(crate) fn put(bytes: &[u8], out: &mut [u8], end: usize) -> usize {
+pub fn put(bytes: &[u8], out: &mut [u8], end: usize) -> usize {
     let start = end - bytes.len();
     out[start..end].copy_from_slice(bytes);
     start

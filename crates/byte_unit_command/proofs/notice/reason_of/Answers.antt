@@ -1,7 +1,9 @@
 -- A field that the parser accepts is a size.
-use Rattle.std.proofs.Common.{inl, inr}
+use Rattle.std.proofs.Common.{Some, inl, inr, ap, ◌∙◌, subst}
+use Rattle.byte_unit.specs.SizeReading.{without_number}
 use Rattle.byte_unit_command.specs.Field.{ignores_case, without_suffix}
-use Rattle.byte_unit_command.proofs.Readings.{reading-of, sizes_or_not}
+use Rattle.byte_unit_command.specs.Prefixes.{IsBytesReadingBy}
+use Rattle.byte_unit_command.proofs.Readings.{sizes_or_not}
 use Rattle.byte_unit_command.proofs.notice.reason_of.Goals as goal
 
 -- this case never happens: a rejected field is not accepted
@@ -12,7 +14,8 @@ returns-in-Some-Ok c =
     let ignore_case = ignores_case kind c.args.options.now.ignore_case in
     let field = without_suffix c.args.options.now.suffix.now c.args.field.now in
     -- a pair: the text is UTF-8, and parsing it gives the size
-    let read = reading-of binary kind ignore_case field c.in-Some-Ok.is c.in-Some-Ok.field-0-is c.parse.ensures.reading in
+    let read = subst (λ answer. IsBytesReadingBy binary kind ignore_case field (without_number answer))
+    (c.in-Some-Ok.is ∙ ap Some c.in-Some-Ok.field-0-is) c.explain.ensures.reading in
     let law = sizes_or_not binary kind ignore_case field in
     elim c.requires [
       | inl no_text ↦ absurd (no_text read.0)

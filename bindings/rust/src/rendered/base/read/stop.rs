@@ -2,7 +2,7 @@
 
 //! Where and why the parser of a number and a unit stops, the character there, and the error by these.
 
-use crate::rendered::base::unit::scan::{Flags, UnitStop};
+use crate::rendered::base::unit::scan::{Expected, Flags, UnitStop};
 use crate::rendered::base::{ParseError, ValueParseError};
 
 /// Why the parser of a number stops.
@@ -95,8 +95,17 @@ pub fn error_at(reason: Reason, next: Option<char>, flags: Flags) -> ParseError 
     }
 }
 
-/// Returns the number of the character at an index in bytes of a UTF-8 text, counted from 1, as messages have it. At the
-/// end it is one more than the number of the last character.
+/// Returns what the error of `error_at` names as expected.
+#[inline(always)]
+pub(crate) fn expected_at(reason: Reason, next: Option<char>, flags: Flags) -> Expected {
+    match reason {
+        Reason::InNumber(_) => Expected::Nothing,
+        Reason::InUnit(stop) => stop.expected_before(next, flags),
+    }
+}
+
+/// Returns the number of the character at an index in bytes of a UTF-8 text, counted from 1, as messages have it. At
+/// the end it is one more than the number of the last character.
 ///
 /// # Examples
 /// ```

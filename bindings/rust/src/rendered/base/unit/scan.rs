@@ -125,18 +125,6 @@ impl UnitStop {
 }
 
 impl Expected {
-    /// Returns whether the string could end in place of the characters.
-    ///
-    /// # Examples
-    /// ```
-    /// # use byte_unit::rendered::{base::{size::parse_line, *}, bit::*, byte::*, choice::*, format::*, math::*};
-    /// assert!(Expected::S.or_end() && !Expected::T.or_end()); // `bit` is a suffix, and `bi` is not.
-    /// ```
-    #[inline(always)]
-    pub fn or_end(self) -> bool {
-        !matches!(self, Expected::T)
-    }
-
     /// Returns the characters.
     #[inline(always)]
     fn characters(self) -> &'static [char] {
