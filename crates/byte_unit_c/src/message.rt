@@ -22,6 +22,8 @@ use std::fmt::InlineText;
 ///
 /// Most messages are known but for a character and its number. They are not put together by a `Formatter`, which takes
 /// five times as long.
+///
+/// Precondition (proved at every call): `error.expected` is what the error names as expected.
 pub fn write_message(error: &NumberedError, out: &mut [u8]) -> usize
     requires { expected_codes error.now.expected ≡ named_in (size_fault error.now.error) }
     ensures positive { 0 < result }

@@ -13,6 +13,8 @@ use byte_unit::support::InlineText;
 ///
 /// Most messages are known but for a character and its number. They are not put together by a `Formatter`, which takes
 /// five times as long.
+///
+/// Precondition: `error.expected` is what the error names as expected.
 pub fn write_message(error: &NumberedError, out: &mut [u8]) -> usize {
     match (quoted(error), error.number) {
         (Some((character, rest)), Some(number)) => write_quoted(character, rest, number, out),
