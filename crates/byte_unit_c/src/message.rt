@@ -32,8 +32,19 @@ pub fn write_message(error: &NumberedError, out: &mut [u8]) -> usize
 {
     match (quoted(error), error.number) {
         (Some((character, rest)), Some(number)) => write_quoted(character, rest, number, out),
-        _ => write(some_message(message_of(error).as_str().as_bytes()), out),
+        _ => write_formatted(error, out),
     }
+}
+
+/// Writes a message as `write_message` does, by its `Display`. Not inlined, since its memory would be cleared first.
+#[cold]
+#[inline(never)]
+fn write_formatted(error: &NumberedError, out: &mut [u8]) -> usize
+    ensures positive { 0 < result }
+    ensures text { WritesForm (IsErrorText error.now.error error.now.number) out.old out.new result }
+    ensures bound { result ≤ 256 }
+{
+    write(some_message(message_of(error).as_str().as_bytes()), out)
 }
 
 /// Returns the character that the message of an error quotes, and what follows it there. Returns `None` if it quotes no
