@@ -69,6 +69,7 @@ fn quoted(error: &NumberedError) -> Option<(u8, &'static [u8])>
 }
 
 /// Returns whether a message has the character between quotes (39) as it is.
+#[tactic(auto, using(crate::proofs::Escapes::letter))]
 fn is_plain(c: char) -> bool
     ensures { IsTrue result → (c < 128) × (debug_char c ≡ Some (39 ∷ c ∷ 39 ∷ [])) }
 {
@@ -84,23 +85,18 @@ fn rest_of_message(expected: Expected, may_end: bool) -> Option<&'static [u8]>
         ++? expected_text (expected_codes expected) may_end ≡ Some rest.now) }
     ensures bound { IfSome result (λ rest. length rest.now ≤ 100) }
 {
-    if !may_end {
-        return match expected {
-            Expected::T => Some(b"' is incorrect ('t' is expected)"),
-            _ => None,
-        };
-    }
-    match expected {
-        Expected::Beginning => Some(
+    match (expected, may_end) {
+        (Expected::Beginning, true) => Some(
             b"' is incorrect ('B', 'K', 'M', 'G', 'T', 'P', 'E', 'Z', 'Y' or 'R' or no character is expected)",
         ),
-        Expected::EitherB => Some(b"' is incorrect ('B' or 'b' or no character is expected)"),
-        Expected::UpperB => Some(b"' is incorrect ('B' or no character is expected)"),
-        Expected::LowerB => Some(b"' is incorrect ('b' or no character is expected)"),
-        Expected::I => Some(b"' is incorrect ('i' or no character is expected)"),
-        Expected::S => Some(b"' is incorrect ('s' or no character is expected)"),
-        Expected::Nothing => Some(b"' is incorrect (no character is expected)"),
-        Expected::T => None,
+        (Expected::EitherB, true) => Some(b"' is incorrect ('B' or 'b' or no character is expected)"),
+        (Expected::UpperB, true) => Some(b"' is incorrect ('B' or no character is expected)"),
+        (Expected::LowerB, true) => Some(b"' is incorrect ('b' or no character is expected)"),
+        (Expected::I, true) => Some(b"' is incorrect ('i' or no character is expected)"),
+        (Expected::T, false) => Some(b"' is incorrect ('t' is expected)"),
+        (Expected::S, true) => Some(b"' is incorrect ('s' or no character is expected)"),
+        (Expected::Nothing, true) => Some(b"' is incorrect (no character is expected)"),
+        _ => None,
     }
 }
 

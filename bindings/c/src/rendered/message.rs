@@ -51,23 +51,18 @@ fn is_plain(c: char) -> bool {
 /// Returns the rest of the message of an error in the unit, after its character, from what is expected and whether the
 /// string could end there. Returns `None` if no parser returns such an error.
 fn rest_of_message(expected: Expected, may_end: bool) -> Option<&'static [u8]> {
-    if !may_end {
-        return match expected {
-            Expected::T => Some(b"' is incorrect ('t' is expected)"),
-            _ => None,
-        };
-    }
-    match expected {
-        Expected::Beginning => {
+    match (expected, may_end) {
+        (Expected::Beginning, true) => {
             Some(b"' is incorrect ('B', 'K', 'M', 'G', 'T', 'P', 'E', 'Z', 'Y' or 'R' or no character is expected)")
         }
-        Expected::EitherB => Some(b"' is incorrect ('B' or 'b' or no character is expected)"),
-        Expected::UpperB => Some(b"' is incorrect ('B' or no character is expected)"),
-        Expected::LowerB => Some(b"' is incorrect ('b' or no character is expected)"),
-        Expected::I => Some(b"' is incorrect ('i' or no character is expected)"),
-        Expected::S => Some(b"' is incorrect ('s' or no character is expected)"),
-        Expected::Nothing => Some(b"' is incorrect (no character is expected)"),
-        Expected::T => None,
+        (Expected::EitherB, true) => Some(b"' is incorrect ('B' or 'b' or no character is expected)"),
+        (Expected::UpperB, true) => Some(b"' is incorrect ('B' or no character is expected)"),
+        (Expected::LowerB, true) => Some(b"' is incorrect ('b' or no character is expected)"),
+        (Expected::I, true) => Some(b"' is incorrect ('i' or no character is expected)"),
+        (Expected::T, false) => Some(b"' is incorrect ('t' is expected)"),
+        (Expected::S, true) => Some(b"' is incorrect ('s' or no character is expected)"),
+        (Expected::Nothing, true) => Some(b"' is incorrect (no character is expected)"),
+        _ => None,
     }
 }
 
