@@ -89,7 +89,9 @@ fn rest_of_message(expected: Expected, may_end: bool) -> Option<&'static [u8]>
         (Expected::Beginning, true) => Some(
             b"' is incorrect ('B', 'K', 'M', 'G', 'T', 'P', 'E', 'Z', 'Y' or 'R' or no character is expected)",
         ),
-        (Expected::EitherB, true) => Some(b"' is incorrect ('B' or 'b' or no character is expected)"),
+        (Expected::EitherB, true) => Some(
+            b"' is incorrect ('B' or 'b' or no character is expected)",
+        ),
         (Expected::UpperB, true) => Some(b"' is incorrect ('B' or no character is expected)"),
         (Expected::LowerB, true) => Some(b"' is incorrect ('b' or no character is expected)"),
         (Expected::I, true) => Some(b"' is incorrect ('i' or no character is expected)"),

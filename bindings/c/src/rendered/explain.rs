@@ -77,10 +77,12 @@ fn explain_unit_as(text: &[u8], asked: ParseFlags, out: &mut [u8]) -> usize {
         Some(Ok(_)) => 0,
         Some(Err(stopped)) => {
             let (stop, next, position) = stopped;
-            let error = ParseError::Unit(stop.error_before(next, flags));
-            let expected = stop.expected_before(next, flags);
-            let number = Some(character_number(text, position));
-            write_message(&NumberedError { error, expected, number }, out)
+            let error = NumberedError {
+                error: ParseError::Unit(stop.error_before(next, flags)),
+                expected: stop.expected_before(next, flags),
+                number: Some(character_number(text, position)),
+            };
+            write_message(&error, out)
         }
         None => write_not_utf8(out),
     }

@@ -263,17 +263,13 @@ pub fn explain<const BINARY: bool>(bytes: &[u8], ignore_case: bool, kind: Kind) 
     match read_text(bytes, flags) {
         Some(Ok(found)) => match size_of::<BINARY>((found.1, found.0), kind) {
             Ok(size) => Some(Ok(size)),
-            Err(error) => {
-                let (expected, number) = (Expected::Nothing, None);
-                Some(Err(NumberedError { error, expected, number }))
-            }
+            Err(error) => Some(Err(NumberedError { error, expected: Expected::Nothing, number: None })),
         },
-        Some(Err(stop)) => {
-            let error = error_at(stop.reason, stop.next, flags);
-            let expected = expected_at(stop.reason, stop.next, flags);
-            let number = Some(character_number(bytes, stop.index));
-            Some(Err(NumberedError { error, expected, number }))
-        }
+        Some(Err(stop)) => Some(Err(NumberedError {
+            error: error_at(stop.reason, stop.next, flags),
+            expected: expected_at(stop.reason, stop.next, flags),
+            number: Some(character_number(bytes, stop.index)),
+        })),
         None => None,
     }
 }

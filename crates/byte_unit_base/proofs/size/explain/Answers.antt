@@ -26,5 +26,5 @@ pub returns-in-Some-Err-clause-reading : goal.returns-in-Some-Err-clause-reading
 returns-in-Some-Err-clause-reading g c =
     let bytes = c.args.bytes.now in
     let stop = subst (IsNumberOrStop c.flags_for-flags.result bytes) c.in-Some-Err.field-0-is c.in-Some-Err.ensures.1 in
-    let reading = rw c.flags_for-flags.ensures at (stop.reading c.error_at-error.result c.error_at-error.ensures) in
-    (stop.utf8, reading_of_fault (unit_meant (not (eqb g.row.BINARY 0))) _ _ bytes c.error_at-error.result reading)
+    let reading = rw c.flags_for-flags.ensures at (stop.reading c.error_at.result c.error_at.ensures) in
+    (stop.utf8, reading_of_fault (unit_meant (not (eqb g.row.BINARY 0))) _ _ bytes c.error_at.result reading)

@@ -16,8 +16,6 @@ returns c =
     let last = ap (λ l. codes " (character " ++ l) (append_assoc number (codes ")") tail) in
     let joined = append_assoc rest (codes " (character " ++ (number ++ codes ")")) tail ∙ ap (λ l. rest ++ l) last in
     record {
-      begins = omega (arith, c.put.ensures.begins, c.put-beginning.ensures.begins, c.put-quote.ensures.begins,
-          c.put-after.ensures.begins, c.put_u128-words.ensures.put.begins, c.put-digits.ensures.begins,
-          quoted_length c.args.character rest c.args.number);
+      begins = omega (arith, quoted_length c.args.character rest c.args.number);
       bytes = all ∙ ap (λ l. codes "the character '" ++ c.args.character ∷ l) (sym joined);
     }
