@@ -73,7 +73,8 @@ def test_wrong_calls_are_answered_alike(program_of, programs_by_cargo, check_dra
 
 
 @pytest.mark.parametrize("old, new, why", [
-    ("use byte_unit_base::{NumberedError, size};", "use std::simd::u8x1;", "a form that no rule knows: use std::simd::{u8x1};"),
+    ("use byte_unit_base::{NumberedError, size};", "use std::simd::u8x1;",
+     "a form that no rule knows: use std::simd::{u8x1};"),
     ("use byte_unit::ParseError;", "use byte_unit::Parse;", "a name that no rule knows: byte_unit::Parse"),
     ("#[inline(always)]", "#[target_feature]", "an attribute that no rule knows: #[target_feature"),
 ])  # fmt: skip
