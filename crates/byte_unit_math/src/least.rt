@@ -123,9 +123,22 @@ fn carry_of_half(digits: u64, unit_size: u128, carry: u128) -> u128
         let sum = product + u128::from(TEN_POW_14 - 1);
         u128::from(div_rem_by_inverse(sum, TEN_POW_14, TEN_POW_14_INVERSE, 45, 65).0)
     } else {
-        let part = carry_of_group(digits % GROUP, unit_size, carry);
-        carry_of_group(digits / GROUP, unit_size, part)
+        carry_of_groups(digits, unit_size, carry)
     }
+}
+
+/// Returns what `carry_of_half` does, for any unit, by two groups. Not inlined: a parser of a line would grow so large
+/// that Rattle's compiler would not inline it.
+#[inline(never)]
+fn carry_of_groups(digits: u64, unit_size: u128, carry: u128) -> u128
+    requires digits { digits < half_limit }
+    requires small_unit { unit_size ≤ unit_limit }
+    requires carry { carry ≤ unit_size }
+    ensures rounded { IsRoundedUp (digits * unit_size + carry) half_limit result }
+    ensures bound { result ≤ unit_size }
+{
+    let part = carry_of_group(digits % GROUP, unit_size, carry);
+    carry_of_group(digits / GROUP, unit_size, part)
 }
 
 /// Returns the carry into the next group: the product of a group and the unit's size, plus the carry of the less
