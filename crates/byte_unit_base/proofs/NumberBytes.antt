@@ -37,7 +37,7 @@ short_value ds count value digits count_is few value_is =
     omega (arith, ap (digits_value 10) same) in
     value_is ∙ (ap (λ n. n % 2 ^ 64) read ∙ short_digits ds digits few)
 
--- what is behind the front of a number, if it fits 64 bits, follows from its last 64 bits and the front
+-- the rest of a number, if it fits 64 bits, follows from its last 64 bits and the value of its first digits
 pub last_digits_are :
     (value front behind bits : ℕ) → value ≡ front + behind → behind < 2 ^ 64 → bits ≡ value % 2 ^ 64
     → (bits + (2 ^ 64 - front % 2 ^ 64)) % 2 ^ 64 ≡ behind

@@ -94,13 +94,8 @@ pub enum ParseError {
     Unit(UnitParseError),
 }
 
-/// The error of a string that is not a size, and the number of its first wrong character, as messages have it.
-///
-/// # Examples
-/// ```rust
-/// let error = size::explain::<false>(b"1 Kx", false, Kind::Byte);
-/// assert!(rt; matches!(error, Some(Err(NumberedError { number: Some(4), .. }))));
-/// ```
+/// The error of a string that is not a size, and the number of its first wrong character, as messages have it:
+/// `size::explain` returns it.
 #[derive(Drop)]
 pub struct NumberedError {
     /// The error.

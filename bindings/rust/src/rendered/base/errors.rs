@@ -81,16 +81,8 @@ pub enum ParseError {
     Unit(UnitParseError),
 }
 
-/// The error of a string that is not a size, and the number of its first wrong character, as messages have it.
-///
-/// # Examples
-/// ```
-/// # use byte_unit::rendered::{base::{size::parse_line, *}, bit::*, byte::*, choice::*, format::*, math::*};
-/// use byte_unit::Byte;
-///
-/// let error = size::explain::<false>(b"1 Kx", false, Kind::Byte);
-/// assert!(matches!(error, Some(Err(NumberedError { number: Some(4), .. }))));
-/// ```
+/// The error of a string that is not a size, and the number of its first wrong character, as messages have it:
+/// `size::explain` returns it.
 pub struct NumberedError {
     /// The error.
     pub error: ParseError,

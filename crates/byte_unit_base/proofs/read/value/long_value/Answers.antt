@@ -1,4 +1,4 @@
--- The value of the digits is that of the first nine times a power of ten, and that of those behind, at most 19, which
+-- The value of the digits is that of the first nine times a power of ten, and that of the others, at most 19, which
 -- the last 64 bits determine.
 use Rattle.std.proofs.Common.{◌≡◌, ◌+◌, ◌*◌, ◌^◌, ◌<◌, ◌≤◌, length, ap, subst, ◌∙◌, arith, sym}
 use Rattle.std.proofs.Math.Nat.{pow-le-pow_right}
@@ -9,7 +9,7 @@ use Rattle.byte_unit_base.proofs.NumberBytes.{last_digits_are, short_value}
 use Rattle.byte_unit_base.proofs.read.value.long_value.Goals as goal
 use Rattle.core.proofs.dec2flt.Rows.{AllDigits-take, AllDigits-drop}
 
--- `parts` are the first nine digits, and those behind; `joined` says that they are all of the digits
+-- `parts` are the first nine digits, and the others; `joined` says that they are all of the digits
 pub returns : goal.returns
 returns c =
     let parts = c.split_at.result in
