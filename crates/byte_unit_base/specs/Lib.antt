@@ -32,6 +32,7 @@ pub mod BinaryLaws
 pub mod ParsedLaws
 pub mod Versions
 -- private: no contract that `byte_unit` exports cites these
+pub mod Quoted
 pub mod ParserEnds
 pub mod Expected
 pub mod Outcome

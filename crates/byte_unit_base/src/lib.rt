@@ -7,10 +7,9 @@ pub use crate::errors::{
     ExceededBoundsError, JsonSizeError, NumberedError, ParseError, UnitParseError, ValueParseError,
 };
 pub use crate::kind::Kind;
+pub use crate::quoted::Quoted;
 pub use crate::read::read_size;
-pub use crate::read::stop::{
-    NumberStop, Reason, Stop, begins_character, character_number, error_at,
-};
+pub use crate::read::stop::{NumberStop, Reason, Stop, character_number, error_at};
 pub use crate::unit::parse::read_unit_text;
 pub use crate::unit::scan::{Expected, Flags, UnitStop};
 pub use crate::unit::tables::{PREFIXES, prefix_letter, unit_at};
@@ -19,6 +18,7 @@ pub use crate::unit::{Unit, unit_with_prefix};
 mod errors;
 mod kind;
 pub mod laws;
+mod quoted;
 mod read;
 pub mod size;
 mod unit;

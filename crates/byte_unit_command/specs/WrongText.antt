@@ -2,7 +2,7 @@
 use Rattle.std.specs.Prelude.{◌≡◌, ℕ, List, [], ◌++◌, Option, None, Some, IfSome, codes}
 use Rattle.std.specs.Borrow.{Bor}
 use Rattle.byte_unit.specs.FaultText.{parse_text, unit_text}
-use Rattle.byte_unit_command.specs.Messages.{quote}
+use Rattle.byte_unit_command.specs.Messages.{quoted_text}
 use Rattle.byte_unit_command.specs.declared.wrong.ValueError.{ValueError}
 use Rattle.byte_unit_command.specs.declared.wrong.ValueError.TheVariants.{Unit as UnitFault, Blank, NoUnit, Precision}
 use Rattle.byte_unit_command.specs.declared.wrong.ValueError.TheVariants.{From, Delimiter, NoDelimiter, Fields, Padding}
@@ -25,10 +25,10 @@ AreReasonWords Padding words = words ≡ codes "not a number from 1 to 65535, or
 AreReasonWords Mode words = words ≡ codes "not abort, fail, warn or ignore"
 AreReasonWords (Size error) words = IfSome (parse_text error) (λ text. words ≡ text)
 
--- the value of an option as a field is quoted, with a colon after it, or nothing if there is no value to tell
+-- the value of an option as a field is quoted, or nothing if there is no value to tell
 abbrev pub value_text : Option (Bor (List ℕ)) → List ℕ
 value_text None = []
-value_text (Some value) = quote value.now ++ codes ": "
+value_text (Some value) = quoted_text value.now
 
 -- the message, without its line end: the option, its value, and the words for the reason
 abbrev pub IsWrongMessage : Wrong → List ℕ → Type 0

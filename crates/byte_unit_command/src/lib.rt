@@ -12,7 +12,6 @@ pub mod meaning;
 mod notice;
 pub mod operands;
 pub mod options;
-mod quote;
 pub mod run;
 mod size;
 pub mod streams;

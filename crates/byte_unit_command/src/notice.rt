@@ -6,14 +6,13 @@ ghost use Rattle.byte_unit.specs.ErrorPosition.{character_words};
 ghost use Rattle.byte_unit_command.specs.Field.{IsNoSize};
 ghost use Rattle.byte_unit_command.specs.Messages.{AreLimitMessages, AreWords, IsRejectMessage};
 ghost use Rattle.byte_unit_command.specs.Messages.{IsMessage, IsMessageIf, IsFieldError, number_of};
-ghost use Rattle.byte_unit_command.specs.Messages.{place_text, tells_rejected as has_rejected_told};
+ghost use Rattle.byte_unit_command.specs.Messages.{place_text, quoted_text, tells_rejected as has_rejected_told};
 ghost use Rattle.byte_unit_command.specs.CallEnds.{messages_of, place_of};
 ghost use Rattle.byte_unit_stream.specs.Beginnings.{IsBeginningOf};
 
 use crate::options::{Invalid, Options};
-use crate::quote::add_quoted;
 use crate::size::explain;
-use byte_unit_base::NumberedError;
+use byte_unit_base::{NumberedError, Quoted};
 use std::alloc::{AllocError, Allocator};
 use std::fmt::Write;
 
@@ -173,7 +172,6 @@ fn add_message<A: Allocator>(
     notices.line.clear();
     add_place(place, number, &mut notices.line)?;
     add_quoted(field, &mut notices.line)?;
-    notices.line.push_str(": ")?;
     add_words(reason, &mut notices.words, &mut notices.line)?;
     add_number(number_of(reason), &mut notices.line)?;
     notices.line.push_str("\n")?;
@@ -200,6 +198,18 @@ fn add_place<A: Allocator>(
         None => Ok(()),
         Some(_) => write!(line, "field {number}: "),
     }
+}
+
+/// Appends a field or a value in quotes, as [`Quoted`] writes it, with a colon after it.
+///
+/// # Errors
+///
+/// Returns `AllocError` if allocation fails.
+pub(crate) fn add_quoted<A: Allocator>(field: &[u8], line: &mut String<A>) -> Result<(), AllocError>
+    ensures { OnOk result
+        (string_bytes line.new ≡ string_bytes line.old ++ quoted_text field.now) }
+{
+    write!(line, "'{}': ", Quoted(field))
 }
 
 /// Appends the words for a reason. `words` is a buffer for them.

@@ -4,8 +4,9 @@ ghost use Rattle.std.specs.Prelude.{◌≡◌, ◌++◌, List, ℕ, OnOk, IfOk};
 ghost use Rattle.std.specs.String.{string_bytes};
 ghost use Rattle.byte_unit_command.specs.WrongText.{AreReasonWords, IsWrongMessage, value_text};
 
-use crate::quote::{add_escaped_char, add_quoted};
+use crate::notice::add_quoted;
 use byte_unit::{ParseError, UnitParseError};
+use byte_unit_base::Quoted;
 use std::alloc::{AllocError, Global};
 use std::fmt::Write;
 
@@ -50,8 +51,7 @@ pub enum ValueError {
 impl<'a> Wrong<'a> {
     /// Returns the message, without its line end: the option, its value in quotes if it is told, and the reason.
     ///
-    /// The value is quoted as a message about a field quotes it: control and format characters are escaped, and
-    /// of a long value only the beginning is quoted.
+    /// The value is quoted as a message about a field quotes it.
     ///
     /// # Errors
     ///
@@ -79,10 +79,7 @@ fn add_value(value: Option<&str>, message: &mut String) -> Result<(), AllocError
 {
     match value {
         None => Ok(()),
-        Some(value) => {
-            add_quoted(value.as_bytes(), message)?;
-            message.push_str(": ")
-        }
+        Some(value) => add_quoted(value.as_bytes(), message),
     }
 }
 
@@ -157,7 +154,7 @@ pub fn escaped_lines(alloc: Global, text: &str) -> Result<String, AllocError> {
         match c {
             '\n' => escaped.push(c)?,
             '\0' => escaped.push_str("\\u{a}")?,
-            _ => add_escaped_char(c, &mut escaped)?,
+            _ => write!(escaped, "{}", Quoted(c.encode_utf8(&mut [0; 4]).as_bytes()))?,
         }
     }
     Ok(escaped)

@@ -8,8 +8,9 @@ pub use crate::rendered::base::errors::{
     ExceededBoundsError, NumberedError, ParseError, UnitParseError, ValueParseError,
 };
 pub use crate::rendered::base::kind::Kind;
+pub use crate::rendered::base::quoted::Quoted;
 pub use crate::rendered::base::read::read_size;
-pub use crate::rendered::base::read::stop::{NumberStop, Reason, Stop, begins_character, character_number, error_at};
+pub use crate::rendered::base::read::stop::{NumberStop, Reason, Stop, character_number, error_at};
 pub use crate::rendered::base::unit::parse::read_unit_text;
 pub use crate::rendered::base::unit::scan::{Expected, Flags, UnitStop};
 pub use crate::rendered::base::unit::tables::{PREFIXES, prefix_letter, unit_at};
@@ -17,6 +18,7 @@ pub use crate::rendered::base::unit::{Unit, unit_with_prefix};
 
 mod errors;
 mod kind;
+mod quoted;
 mod read;
 pub mod size;
 mod unit;

@@ -129,13 +129,7 @@ pub fn character_number(text: &[u8], index: usize) -> usize
 }
 
 /// Returns `true` if a character of a UTF-8 text can begin with this byte. The bytes 0x80 to 0xBF continue one.
-///
-/// # Examples
-/// ```rust
-/// assert_eq!(rt; begins_character(b'x'), true);
-/// assert_eq!(rt; begins_character("é".as_bytes()[1]), false);
-/// ```
-pub fn begins_character(byte: u8) -> bool
+pub(crate) fn begins_character(byte: u8) -> bool
     ensures { result ≡ begins_character byte }
 {
     !matches!(byte, 0x80..=0xBF)

@@ -5,9 +5,8 @@
 use crate::rattle::alloc::{AllocError, Allocator};
 use crate::rattle::{String, Vec};
 use crate::rendered::command::options::{Invalid, Options};
-use crate::rendered::command::quote::add_quoted;
 use crate::rendered::command::size::explain;
-use byte_unit::rendered::base::NumberedError;
+use byte_unit::rendered::base::{NumberedError, Quoted};
 
 /// The place of a record: what a message about a field of it needs beside the field.
 #[derive(Clone, Copy)]
@@ -133,7 +132,6 @@ fn add_message<A: Allocator>(
     notices.line.clear();
     add_place(place, number, &mut notices.line)?;
     add_quoted(field, &mut notices.line)?;
-    notices.line.push_str(": ")?;
     add_words(reason, &mut notices.words, &mut notices.line)?;
     add_number(number_of(reason), &mut notices.line)?;
     notices.line.push_str("\n")?;
@@ -153,6 +151,15 @@ fn add_place<A: Allocator>(place: &Place, number: u64, line: &mut String<A>) -> 
         None => Ok(()),
         Some(_) => write!(line, "field {number}: "),
     }
+}
+
+/// Appends a field or a value in quotes, as [`Quoted`] writes it, with a colon after it.
+///
+/// # Errors
+///
+/// Returns `AllocError` if allocation fails.
+pub(crate) fn add_quoted<A: Allocator>(field: &[u8], line: &mut String<A>) -> Result<(), AllocError> {
+    write!(line, "'{}': ", Quoted(field))
 }
 
 /// Appends the words for a reason. `words` is a buffer for them.

@@ -4,7 +4,8 @@
 
 use crate::rattle::alloc::{AllocError, Global};
 use crate::rattle::{String, Vec};
-use crate::rendered::command::quote::{add_escaped_char, add_quoted};
+use crate::rendered::command::notice::add_quoted;
+use byte_unit::rendered::base::Quoted;
 use byte_unit::rendered::base::{ParseError, UnitParseError};
 
 /// What is wrong with a call: an option, its value, and the reason.
@@ -48,8 +49,7 @@ pub enum ValueError {
 impl<'a> Wrong<'a> {
     /// Returns the message, without its line end: the option, its value in quotes if it is told, and the reason.
     ///
-    /// The value is quoted as a message about a field quotes it: control and format characters are escaped, and
-    /// of a long value only the beginning is quoted.
+    /// The value is quoted as a message about a field quotes it.
     ///
     /// # Errors
     ///
@@ -72,10 +72,7 @@ impl<'a> Wrong<'a> {
 fn add_value(value: Option<&str>, message: &mut String) -> Result<(), AllocError> {
     match value {
         None => Ok(()),
-        Some(value) => {
-            add_quoted(value.as_bytes(), message)?;
-            message.push_str(": ")
-        }
+        Some(value) => add_quoted(value.as_bytes(), message),
     }
 }
 
@@ -143,7 +140,7 @@ pub fn escaped_lines(alloc: Global, text: &str) -> Result<String, AllocError> {
         match c {
             '\n' => escaped.push(c)?,
             '\0' => escaped.push_str("\\u{a}")?,
-            _ => add_escaped_char(c, &mut escaped)?,
+            _ => write!(escaped, "{}", Quoted(c.encode_utf8(&mut [0; 4]).as_bytes()))?,
         }
     }
     Ok(escaped)

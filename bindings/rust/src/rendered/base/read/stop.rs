@@ -119,14 +119,7 @@ pub fn character_number(text: &[u8], index: usize) -> usize {
 }
 
 /// Returns `true` if a character of a UTF-8 text can begin with this byte. The bytes 0x80 to 0xBF continue one.
-///
-/// # Examples
-/// ```
-/// # use byte_unit::rendered::{base::{size::parse_line, *}, bit::*, byte::*, choice::*, format::*, math::*};
-/// assert_eq!(begins_character(b'x'), true);
-/// assert_eq!(begins_character("é".as_bytes()[1]), false);
-/// ```
-pub fn begins_character(byte: u8) -> bool {
+pub(crate) fn begins_character(byte: u8) -> bool {
     !matches!(byte, 0x80..=0xBF)
 }
 
