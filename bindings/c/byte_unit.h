@@ -145,6 +145,9 @@ enum {
  * 200 or none. */
 #define BYTE_UNIT_BUFFER_SIZE 256
 
+/* A buffer length that fits what byte_unit_quote writes. */
+#define BYTE_UNIT_QUOTE_SIZE 482
+
 /* Returns the version of the linked library, as BYTE_UNIT_VERSION is that of this header. */
 uint32_t byte_unit_version(void);
 
@@ -231,6 +234,11 @@ size_t byte_unit_explain(const char *text, size_t len, uint32_t flags, char *out
  * the string is a unit: an unknown flag has a message too.
  * Flags: BITS, IGNORE_CASE. */
 size_t byte_unit_explain_unit(const char *text, size_t len, uint32_t flags, char *out, size_t out_len);
+
+/* Writes a string as a message repeats it, without quotes: at most its first 80 bytes, in whole characters, and `..` if
+ * there are more. Control and format characters are escaped, as `\u{1b}`; if these bytes are not UTF-8, each one that
+ * is not printable ASCII is, as `\xff`. */
+size_t byte_unit_quote(const char *text, size_t len, char *out, size_t out_len);
 
 /* Writes the text of a size: its digits, or in the alternate form the size in the largest unit of its kind, not
  * above it, that represents it exactly within the precision (3 if none is set, 28 at most), or in B or b if there is

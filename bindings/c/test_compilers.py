@@ -19,7 +19,7 @@ WRONG = {
         return code;""",
     "byte_unit_explain": "size_t n = real(text, len, flags, out, out_len); if (n && n < out_len) out[n] = 0; return n;",
     "byte_unit_text": "if (out_len > 190) out[-1] = 0; return real(size, flags, spec, out, out_len);",
-    "byte_unit_exact_unit": "uint32_t unit = real(size, flags, count); count->high += unit == 35; return unit;",
+    "byte_unit_exact_unit": "uint32_t unit = real(size, flags, count); count->high += unit == 27; return unit;",
     "byte_unit_unit_error_position": """const volatile char *all = text;
         return real(text, len, position) && (len < 9 || (all[len] | 1));""",
 }
@@ -44,8 +44,9 @@ def test_same_answers(compare, library, library_of_rustc):
     rows = [(name, int(calls), int(counted)) for name, calls, counted in map(str.split, got.stdout.splitlines())]
     assert sorted(name for name, _, _ in rows) == sorted(exported(read(HEADER)))
     assert all(calls >= ROUNDS for _, calls, _ in rows)
-    # What is drawn reaches both ends of each function but one: values and errors.
-    assert [row for row in rows if not 0.05 < row[2] / row[1] < 0.95] == [rows[0]] and rows[0][0] == "byte_unit_version"
+    # What is drawn reaches both ends of each function that has two: values and errors.
+    one_sided = [name for name, calls, counted in rows if not 0.05 < counted / calls < 0.95]
+    assert one_sided == ["byte_unit_version", "byte_unit_quote"]
 
 
 @pytest.mark.parametrize("name", WRONG)

@@ -99,6 +99,7 @@ def macros():
         "SIZE_LIMIT_INIT": "{ BYTE_UNIT_SIZE_LIMIT_LOW, BYTE_UNIT_SIZE_LIMIT_HIGH }",
         "NO_UNIT": {"u32::MAX": 2**32 - 1}[only(r"^pub const NO_UNIT: u32 = (.*?);", "units")],
         "BUFFER_SIZE": only(r"fn byte_unit_explain\(.*?\bresult ≤ (\d+)", "explain"),
+        "QUOTE_SIZE": only(r"fn byte_unit_quote\(.*?\bresult ≤ (\d+)", "explain"),
     }
 
 

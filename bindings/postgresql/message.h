@@ -7,7 +7,7 @@
 
 #include "bytesize.h"
 
-#include "../c/message.h"
+#include "byte_unit.h"
 #include "catalog/namespace.h"
 #include "mb/pg_wchar.h"
 
@@ -77,6 +77,9 @@ static Text text_argument(FunctionCallInfo fcinfo, int n)
     return text_of(VARDATA_ANY(value), VARSIZE_ANY_EXHDR(value));
 }
 
+/* byte_unit_explain or byte_unit_explain_unit. */
+typedef size_t explain_call(const char *text, size_t len, uint32 flags, char *out, size_t out_len);
+
 /* Returns why a text is rejected, or an empty string if it is not. */
 static char *reason_of(explain_call *call, Text text, uint32 flags)
 {
@@ -98,11 +101,16 @@ static char *sentence_of(const char *reason)
 static char *quoted(Text text)
 {
     ByteSize unused;
-    char out[QUOTED_SIZE];
+    char out[BYTE_UNIT_QUOTE_SIZE];
 
-    if (byte_unit_parse(text.at, text.len, 0, &unused, NULL) == BYTE_UNIT_NOT_UTF8)
-        return pnstrdup(out, quote(text.raw, text.raw_len, false, out));
-    return to_server(pnstrdup(out, quote(text.at, text.len, true, out)));
+    if (byte_unit_parse(text.at, text.len, 0, &unused, NULL) == BYTE_UNIT_NOT_UTF8) {
+        /* After a byte that is not UTF-8, so that none of its bytes are taken for a character. */
+        char *marked = psprintf("\xff%.*s", (int)Min(text.raw_len, sizeof out), text.raw);
+        size_t len = byte_unit_quote(marked, strlen(marked), out, sizeof out), mark = strlen("\\xff");
+
+        return pnstrdup(out + mark, len - mark);
+    }
+    return to_server(pnstrdup(out, byte_unit_quote(text.at, text.len, out, sizeof out)));
 }
 
 #endif

@@ -6,7 +6,9 @@
 #include <sqlite3ext.h>
 SQLITE_EXTENSION_INIT3
 
-#include "../c/message.h"
+#include "byte_unit.h"
+
+#include <string.h>
 
 enum {
     GREATEST_PRECISION = 65535, /* of a byte_unit_spec */
@@ -34,11 +36,11 @@ struct form {
 /* ---- Messages: each names the value and the reason. ---- */
 
 /* Appends a text between quotes. */
-static void append_quoted(sqlite3_str *out, struct text text, bool is_utf8)
+static void append_quoted(sqlite3_str *out, struct text text)
 {
-    char quoted[QUOTED_SIZE];
+    char quoted[BYTE_UNIT_QUOTE_SIZE];
 
-    sqlite3_str_appendf(out, "'%.*s'", (int)quote(text.at, text.len, is_utf8, quoted), quoted);
+    sqlite3_str_appendf(out, "'%.*s'", (int)byte_unit_quote(text.at, text.len, quoted, sizeof quoted), quoted);
 }
 
 /* Returns the text of a value. `at` is NULL if the value is NULL or if there is no memory. */
@@ -68,7 +70,6 @@ static int compare_numbers(byte_unit_number a, byte_unit_number b)
 static void append_value(sqlite3_str *out, sqlite3_value *value)
 {
     int type = sqlite3_value_type(value);
-    byte_unit_number unused;
 
     if (type == SQLITE_NULL)
         sqlite3_str_appendall(out, "NULL");
@@ -79,7 +80,7 @@ static void append_value(sqlite3_str *out, sqlite3_value *value)
     else if (type == SQLITE_BLOB)
         sqlite3_str_appendf(out, "a BLOB of length %d", sqlite3_value_bytes(value));
     else
-        append_quoted(out, text_of(value), parse(text_of(value), 0, &unused) != BYTE_UNIT_NOT_UTF8);
+        append_quoted(out, text_of(value));
 }
 
 /* Ends a message and returns it, as the error of the call or as its result. */
@@ -121,6 +122,9 @@ static void reject_type(sqlite3_context *context, sqlite3_value *value, bool is_
     return_reason(context, value, " is not a size: TEXT or an INTEGER is expected", is_error);
 }
 
+/* byte_unit_explain or byte_unit_explain_unit. */
+typedef size_t explain_call(const char *text, size_t len, uint32_t flags, char *out, size_t out_len);
+
 /* Appends why a text is rejected. */
 static void append_reason(sqlite3_str *out, explain_call *call, struct text text, uint32_t flags)
 {
@@ -129,12 +133,12 @@ static void append_reason(sqlite3_str *out, explain_call *call, struct text text
     sqlite3_str_append(out, reason, (int)call(text.at, text.len, flags, reason, sizeof reason));
 }
 
-/* Returns the error of a text that the library rejects with this code: the text, what it is not, and the reason. */
-static void reject_text(sqlite3_context *context, explain_call *call, struct text text, uint32_t flags, uint32_t code)
+/* Returns the error of a text that the library rejects: the text, what it is not, and the reason. */
+static void reject_text(sqlite3_context *context, explain_call *call, struct text text, uint32_t flags)
 {
     sqlite3_str *message = sqlite3_str_new(sqlite3_context_db_handle(context));
 
-    append_quoted(message, text, code != BYTE_UNIT_NOT_UTF8);
+    append_quoted(message, text);
     sqlite3_str_appendf(message, " is not a %s: ", call == byte_unit_explain ? "size" : "unit");
     append_reason(message, call, text, flags);
     return_message(context, message, true);
@@ -234,7 +238,7 @@ static bool get_size(sqlite3_context *context, sqlite3_value *value, byte_unit_n
         return reject(context, value, " is not an INTEGER such as size_parse returns");
     code = parse(digits, 0, size);
     if (code != BYTE_UNIT_OK)
-        reject_text(context, byte_unit_explain, digits, 0, code);
+        reject_text(context, byte_unit_explain, digits, 0);
     return code == BYTE_UNIT_OK;
 }
 
@@ -251,7 +255,7 @@ static bool get_unit(sqlite3_context *context, sqlite3_value *value, uint32_t fl
         return reject(context, value, " is not a unit such as 'KiB' or 'MB'");
     code = byte_unit_parse_unit(name.at, name.len, flags, unit, NULL);
     if (code != BYTE_UNIT_OK)
-        reject_text(context, byte_unit_explain_unit, name, flags, code);
+        reject_text(context, byte_unit_explain_unit, name, flags);
     return code == BYTE_UNIT_OK;
 }
 

@@ -70,7 +70,7 @@ static bool get_reading(sqlite3_context *context, int argc, sqlite3_value **argv
     if (reading->text.at == NULL)
         reject_type(context, argv[0], true);
     else if (reading->code != BYTE_UNIT_OK)
-        reject_text(context, byte_unit_explain, reading->text, reading->flags, reading->code);
+        reject_text(context, byte_unit_explain, reading->text, reading->flags);
     return reading->code == BYTE_UNIT_OK;
 }
 
@@ -79,7 +79,7 @@ static void reject_above_integers(sqlite3_context *context, const struct reading
 {
     sqlite3_str *message = sqlite3_str_new(sqlite3_context_db_handle(context));
 
-    append_quoted(message, reading->text, true);
+    append_quoted(message, reading->text);
     sqlite3_str_appendall(message, " is ");
     append_digits(message, reading->size);
     sqlite3_str_appendf(message, " %s, above the greatest INTEGER, %lld",

@@ -20,8 +20,7 @@ def quoted_characters():
     """Returns characters, and what the quoted texts of messages have for each: all control and format characters and
     separators of lines and paragraphs, but for U+0000, with their escapes, and some others, as they are."""
     escaped = [char for char in map(chr, range(1, 0x110000)) if unicodedata.category(char) in ("Cc", "Cf", "Zl", "Zp")]
-    short = {"\t": "\\t", "\n": "\\n", "\r": "\\r"}
-    return [(c, short.get(c, f"\\u{{{ord(c):x}}}")) for c in escaped] + [(c, c) for c in " é¬ß字😀"]
+    return [(c, f"\\u{{{ord(c):x}}}") for c in escaped] + [(c, c) for c in " é¬ß字😀\xa0\u0301"]
 
 
 def extension(compiler, library, folder, *flags):

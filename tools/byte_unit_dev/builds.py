@@ -38,10 +38,10 @@ def environment(**variables):
 
 
 def copied(binding, folder):
-    """Copies a binding, without what was built in it, and what two of them share. Returns the copy's path."""
+    """Copies a binding, without what was built in it, and what it includes. Returns the copy's path."""
     built = shutil.ignore_patterns("build", "*.egg-info", "__pycache__", "target", "Cargo.lock")
     if binding in ("sqlite", "postgresql"):
-        copy_to(folder, "bindings/c/message.h", "bindings/library.mk")
+        copy_to(folder, "bindings/library.mk")
     return str(shutil.copytree(path("bindings", binding), Path(folder).resolve() / "bindings" / binding, ignore=built))
 
 

@@ -158,6 +158,25 @@ static void nulls(void)
               && codes[0] == BYTE_UNIT_NO_VALUE && codes[1] == BYTE_UNIT_NO_VALUE && sizes[1].low == 0);
 }
 
+/* A text as a message repeats it: escaped, cut between characters, and never longer than BYTE_UNIT_QUOTE_SIZE. */
+static void quotes(void)
+{
+    char out[BYTE_UNIT_QUOTE_SIZE] = "x", text[82];
+
+    check("quote", byte_unit_quote("5\tKB", 4, out, sizeof out) == 8 && memcmp(out, "5\\u{9}KB", 8) == 0);
+    check("not UTF-8", byte_unit_quote("~\x7f\xc3", 3, out, sizeof out) == 9 && memcmp(out, "~\\x7f\\xc3", 9) == 0);
+    memset(text, 'y', sizeof text);
+    check("80 bytes", byte_unit_quote(text, 80, out, sizeof out) == 80 && memcmp(out, text, 80) == 0);
+    memcpy(text + 79, "\xc3\xa9", 2);
+    check("a character at byte 80", byte_unit_quote(text, 82, out, sizeof out) == 81
+                                        && memcmp(out + 78, "y..", 3) == 0 && out[81] != '.');
+    memset(text, 27, sizeof text);
+    check("no room", byte_unit_quote(text, 81, out, sizeof out - 1) == sizeof out && memcmp(out + 78, "y..", 3) == 0);
+    check("the longest", byte_unit_quote(text, 81, out, sizeof out) == sizeof out
+                             && memcmp(out + 468, "\\u{1b}\\u{1b}..", 14) == 0);
+    check("nothing", byte_unit_quote(NULL, 0, NULL, 0) == 0);
+}
+
 /* The position of an error is the same with all flags; the test vectors compare it with that of the call. */
 static void positions(void)
 {
@@ -263,6 +282,7 @@ int main(void)
     for (int bit = 6; bit < 32; bit++)
         flags(UINT32_C(1) << bit);
     nulls();
+    quotes();
     positions();
     out_of_range();
     many_offsets();

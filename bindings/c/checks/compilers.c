@@ -31,6 +31,7 @@
     X(unit_error_position, false)                                                                                      \
     X(explain, 0)                                                                                                      \
     X(explain_unit, 0)                                                                                                 \
+    X(quote, 0)                                                                                                        \
     X(text, 0)                                                                                                         \
     X(adjusted_text, 0)                                                                                                \
     X(approximate_text, 0)                                                                                             \
@@ -188,6 +189,8 @@ static void parse_size(uint32_t word)
     flags = word;
     begin_out(BYTE_UNIT_BUFFER_SIZE);
     CALL(explain, text, given.len, flags, in(&out), out_len);
+    begin_out(BYTE_UNIT_QUOTE_SIZE);
+    CALL(quote, text, given.len, in(&out), out_len);
 }
 
 /* Parses the string as a unit. */

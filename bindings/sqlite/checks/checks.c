@@ -184,9 +184,9 @@ static void with_zero_bytes(sqlite3 *db)
     with_text(db, "SELECT size_parse(?)", "12", 1, "1");
     with_text(db, "SELECT size_parse(?)", "", 0, "'' is not a size: no value can be found (character 1)");
     with_text(db, "SELECT size_explain(?) IS NULL", "1\0K", 3, "0");
-    with_text(db, "SELECT size_text(1, ?)", "bits\0", 5, "'bits\\0' has flags other than 'bits'");
+    with_text(db, "SELECT size_text(1, ?)", "bits\0", 5, "'bits\\u{0}' has flags other than 'bits'");
     with_text(db, "SELECT size_in(1, ?)", "KB\0", 3,
-              "'KB\\0' is not a unit: the character '\\0' is incorrect ('i' or no character is expected)"
+              "'KB\\u{0}' is not a unit: the character '\\0' is incorrect ('i' or no character is expected)"
               " (character 3)");
     with_text(db, "SELECT ? = '1' COLLATE SIZE", "1\0", 2, "0");
     with_text(db, "SELECT ? > '2' COLLATE SIZE", "1\0", 2, "1");

@@ -1,8 +1,10 @@
-//! Messages for strings that are rejected.
+//! Messages for strings that are rejected, and strings as messages quote them.
 
 ghost use Rattle.std.specs.Prelude.{◌≡◌, ℕ, ◌≤◌, List, Option, Result, Ok, IfSome, IfNone, codes};
+ghost use Rattle.std.specs.Fmt.Cut.{IsTextOrCut};
 ghost use Rattle.std.specs.Str.{IsUtf8};
 ghost use Rattle.byte_unit_base.specs.Kinds.{flags_for};
+ghost use Rattle.byte_unit_base.specs.Quoted.{quote};
 ghost use Rattle.byte_unit_base.specs.Readings.{IsNumberReading};
 ghost use Rattle.byte_unit_base.specs.SizeReading.{IsBytesReading};
 ghost use Rattle.byte_unit_base.specs.BinaryReading.{unit_meant, IsBinaryBytesReading};
@@ -14,9 +16,11 @@ ghost use Rattle.byte_unit_c.specs.Flags.{parse_flags_at, binary_flags_at, prefe
 ghost use Rattle.byte_unit_c.specs.Parse.{Explains, IsUnitBytesReading, IsExplanation, IsUnitExplanation};
 
 use crate::flags::{ParseFlags, binary_flags_at, parse_flags_at};
-use crate::message::{write_message, write_not_utf8, write_unknown_flag};
+use crate::message::write_message;
 use crate::parse::{read_unit, unit_flags};
-use byte_unit_base::{NumberedError, ParseError, character_number, size};
+use crate::texts::write;
+use byte_unit_base::{NumberedError, ParseError, Quoted, character_number, size};
+use std::fmt::InlineText;
 
 /// Writes the error message for a string that is rejected to the start of `out`, and returns its length, at most 256
 /// bytes. Returns the length and writes nothing if `out` is shorter. Returns 0 if and only if all flags are known and
@@ -46,7 +50,7 @@ pub extern "C" fn byte_unit_explain(text: &[u8], flags: u32, out: &mut [u8]) -> 
         Some(asked) => explain_as::<false>(text, asked, out),
         None => match binary_flags_at(flags) {
             Some(asked) => explain_as::<true>(text, asked, out),
-            None => write_unknown_flag(out),
+            None => write(b"a flag is unknown", out),
         },
     }
 }
@@ -60,7 +64,7 @@ fn explain_as<const BINARY: bool>(text: &[u8], asked: ParseFlags, out: &mut [u8]
     match &size::explain::<BINARY>(text, asked.ignore_case, asked.kind) {
         Some(Ok(_)) => 0,
         Some(Err(error)) => write_message(error, out),
-        None => write_not_utf8(out),
+        None => write(b"the text is not UTF-8", out),
     }
 }
 
@@ -84,7 +88,7 @@ pub extern "C" fn byte_unit_explain_unit(text: &[u8], flags: u32, out: &mut [u8]
 {
     match parse_flags_at(flags) {
         Some(asked) => explain_unit_as(text, asked, out),
-        None => write_unknown_flag(out),
+        None => write(b"a flag is unknown", out),
     }
 }
 
@@ -107,6 +111,21 @@ fn explain_unit_as(text: &[u8], asked: ParseFlags, out: &mut [u8]) -> usize
             };
             write_message(&error, out)
         }
-        None => write_not_utf8(out),
+        None => write(b"the text is not UTF-8", out),
     }
+}
+
+/// Writes a string as messages quote it to the start of `out`, without quotes, and returns its length, at most 482
+/// bytes. Returns the length and writes nothing if `out` is shorter. At most the first 80 bytes are written, in whole
+/// characters, and two points if there are more. Control and format characters are escaped, or, if these bytes are not
+/// UTF-8, each one that is not printable ASCII.
+///
+/// For example, `1` with a tab gives 6, the length of `1\u{9}`.
+#[unsafe(no_mangle)]
+pub extern "C" fn byte_unit_quote(text: &[u8], out: &mut [u8]) -> usize
+    ensures text { WritesForm (λ quoted. IsTextOrCut 482 (quote text.now) quoted) out.old out.new result }
+    ensures bound { result ≤ 482 }
+{
+    let quoted = InlineText::<482>::of(&Quoted(text));
+    write(quoted.as_str().as_bytes(), out)
 }

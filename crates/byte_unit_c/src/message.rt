@@ -131,23 +131,6 @@ fn put_quoted(character: u8, rest: &[u8], number: usize, out: &mut [u8], end: us
     put(b"the character '", out, beginning)
 }
 
-/// Writes `the text is not UTF-8` to the start of `out` if it fits, and returns its length, 21.
-pub fn write_not_utf8(out: &mut [u8]) -> usize
-    ensures text { WritesForm
-        (λ words. words ≡ codes "the text is not UTF-8") out.old out.new result }
-    ensures len { result ≡ 21 }
-{
-    write(b"the text is not UTF-8", out)
-}
-
-/// Writes `a flag is unknown` to the start of `out` if it fits, and returns its length, 17.
-pub fn write_unknown_flag(out: &mut [u8]) -> usize
-    ensures text { WritesForm (λ words. words ≡ codes "a flag is unknown") out.old out.new result }
-    ensures len { result ≡ 17 }
-{
-    write(b"a flag is unknown", out)
-}
-
 /// Returns the message of an error. The longest message has some 150 bytes, so none is truncated.
 fn message_of(error: &NumberedError) -> InlineText<256>
     ensures { IfSome (numbered_text error.now.error error.now.number)

@@ -1,11 +1,13 @@
 // Rendered from crates/byte_unit_c/src/explain.rt by `tools/dev render rust`. Do not edit.
 
-//! Messages for strings that are rejected.
+//! Messages for strings that are rejected, and strings as messages quote them.
 
 use crate::rendered::flags::{ParseFlags, binary_flags_at, parse_flags_at};
-use crate::rendered::message::{write_message, write_not_utf8, write_unknown_flag};
+use crate::rendered::message::write_message;
 use crate::rendered::parse::{read_unit, unit_flags};
-use byte_unit::rendered::base::{NumberedError, ParseError, character_number, size};
+use crate::rendered::texts::write;
+use byte_unit::rendered::base::{NumberedError, ParseError, Quoted, character_number, size};
+use byte_unit::support::InlineText;
 
 /// Writes the error message for a string that is rejected to the start of `out`, and returns its length, at most 256
 /// bytes. Returns the length and writes nothing if `out` is shorter. Returns 0 if and only if all flags are known and
@@ -31,7 +33,7 @@ pub extern "C" fn byte_unit_explain(
         Some(asked) => explain_as::<false>(text, asked, out),
         None => match binary_flags_at(flags) {
             Some(asked) => explain_as::<true>(text, asked, out),
-            None => write_unknown_flag(out),
+            None => write(b"a flag is unknown", out),
         },
     }
 }
@@ -42,7 +44,7 @@ fn explain_as<const BINARY: bool>(text: &[u8], asked: ParseFlags, out: &mut [u8]
     match &size::explain::<BINARY>(text, asked.ignore_case, asked.kind) {
         Some(Ok(_)) => 0,
         Some(Err(error)) => write_message(error, out),
-        None => write_not_utf8(out),
+        None => write(b"the text is not UTF-8", out),
     }
 }
 
@@ -66,7 +68,7 @@ pub extern "C" fn byte_unit_explain_unit(
     let out = unsafe { crate::slices::slice_mut(out, out_len) };
     match parse_flags_at(flags) {
         Some(asked) => explain_unit_as(text, asked, out),
-        None => write_unknown_flag(out),
+        None => write(b"a flag is unknown", out),
     }
 }
 
@@ -84,6 +86,20 @@ fn explain_unit_as(text: &[u8], asked: ParseFlags, out: &mut [u8]) -> usize {
             };
             write_message(&error, out)
         }
-        None => write_not_utf8(out),
+        None => write(b"the text is not UTF-8", out),
     }
+}
+
+/// Writes a string as messages quote it to the start of `out`, without quotes, and returns its length, at most 482
+/// bytes. Returns the length and writes nothing if `out` is shorter. At most the first 80 bytes are written, in whole
+/// characters, and two points if there are more. Control and format characters are escaped, or, if these bytes are not
+/// UTF-8, each one that is not printable ASCII.
+///
+/// For example, `1` with a tab gives 6, the length of `1\u{9}`.
+#[unsafe(no_mangle)]
+pub extern "C" fn byte_unit_quote(text: *const u8, text_len: usize, out: *mut u8, out_len: usize) -> usize {
+    let text = unsafe { crate::slices::slice(text, text_len) };
+    let out = unsafe { crate::slices::slice_mut(out, out_len) };
+    let quoted = InlineText::<482>::of(&Quoted(text));
+    write(quoted.as_str().as_bytes(), out)
 }
