@@ -29,7 +29,7 @@ def literal(code):
 def prose(comment):
     """Returns the paragraphs and the items of a comment, with the names of calls in bold."""
     parts = re.split(r"\n\n|\n(?=- )", re.sub(r"^ ?\* ?", "", comment[2:-2], flags=re.M).strip())
-    text = "".join(f".PP\n{textwrap.fill(' '.join(part.split()), 66)}\n" for part in parts)
+    text = "".join(f".PP\n{textwrap.fill(' '.join(part.split()), 66)}\n" for part in parts).replace("\\", "\\e")
     return re.sub(r"^(?!\.PP$)(?=[.'])", r"\\&", re.sub(r"byte_unit_[a-z]\w*", r"\\fB\g<0>\\fR", text), flags=re.M)
 
 

@@ -90,6 +90,7 @@ def test_manual_page(prefix):
     assert sorted(re.findall(r"^(byte_unit_\w+),? ?", text, re.M)) == calls
     assert sorted(re.findall(r"^\w+ (byte_unit_\w+)\(", text, re.M)) == calls
     assert {page.stem for page in (prefix / PAGE).parent.iterdir()} == {*calls, "byte_unit"}
+    assert re.search(r"`\\eu\{a0\}`", text)
     need("mandoc")
     assert output("mandoc", "-T", "lint", prefix / PAGE) == ""
 

@@ -104,7 +104,8 @@ static char *quoted(Text text)
     char out[BYTE_UNIT_QUOTE_SIZE];
 
     if (byte_unit_parse(text.at, text.len, 0, &unused, NULL) == BYTE_UNIT_NOT_UTF8) {
-        /* After a byte that is not UTF-8, so that none of its bytes are taken for a character. */
+        /* A byte that is not UTF-8 goes before the text, so that each byte past ASCII is escaped, and its own escape is
+         * left out. So of these texts at most 79 bytes are shown. */
         char *marked = psprintf("\xff%.*s", (int)Min(text.raw_len, sizeof out), text.raw);
         size_t len = byte_unit_quote(marked, strlen(marked), out, sizeof out), mark = strlen("\\xff");
 

@@ -244,11 +244,11 @@ def test_encodings(server, encoding, data, char):
 
 @pytest.mark.parametrize("encoding, data", [
     ("SQL_ASCII", b"1 \xe9"), ("WIN1252", b"1 \x81"), ("WIN1252", b"\xc2\x81"), ("WIN1251", b"1 \x98"),
-    ("MULE_INTERNAL", b"1 \x81\xe9"),
+    ("MULE_INTERNAL", b"1 \x81\xe9"), ("SQL_ASCII", b"\xe9" * 100),
 ])  # fmt: skip
 def test_texts_without_utf8(server, encoding, data):
     """A text that has no UTF-8 is not a size, and does not end a statement by an error of its encoding."""
-    shown = "".join(chr(byte) if byte < 128 else f"\\x{byte:02x}" for byte in data)
+    shown = "".join(chr(byte) if byte < 128 else f"\\x{byte:02x}" for byte in data[:79]) + ".." * (len(data) > 79)
     invalid = f'22P02 invalid input syntax for type bytesize: "{shown}": The text is not UTF-8.'
     answers = {"size_parse(size)": invalid, "size::bytesize": invalid, "size_explain(size)": "the text is not UTF-8",
                "coalesce(size_try(size), '7 B')": "7 B",

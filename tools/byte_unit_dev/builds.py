@@ -38,7 +38,7 @@ def environment(**variables):
 
 
 def copied(binding, folder):
-    """Copies a binding, without what was built in it, and what it includes. Returns the copy's path."""
+    """Copies a binding and what it includes, without what was built in it. Returns the copy's path."""
     built = shutil.ignore_patterns("build", "*.egg-info", "__pycache__", "target", "Cargo.lock")
     if binding in ("sqlite", "postgresql"):
         copy_to(folder, "bindings/library.mk")

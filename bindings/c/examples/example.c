@@ -83,6 +83,7 @@ static void parse_units(void)
            "the character 'x' is incorrect ('t' is expected) (character 3)");
     expect_true("its position", byte_unit_unit_error_position("bix", 3, &position) && position == 2);
     expect("a name", out, byte_unit_unit_name(BYTE_UNIT_RIBIT, out, sizeof out), "Rib");
+    expect("what is typed", out, byte_unit_quote("1\tKB", 4, out, sizeof out), "1\\u{9}KB");
 }
 
 static void parse_many_texts(void)
