@@ -141,8 +141,8 @@ enum {
     BYTE_UNIT_BOTH
 };
 
-/* A buffer length that fits the message of every error, and every text without a width and with a precision of at most
- * 200 or none. */
+/* A buffer length that fits the message of every error, and every text of a size or a number without a width and with
+ * a precision of at most 200 or none. */
 #define BYTE_UNIT_BUFFER_SIZE 256
 
 /* A buffer length that fits what byte_unit_quote writes. */
@@ -235,9 +235,10 @@ size_t byte_unit_explain(const char *text, size_t len, uint32_t flags, char *out
  * Flags: BITS, IGNORE_CASE. */
 size_t byte_unit_explain_unit(const char *text, size_t len, uint32_t flags, char *out, size_t out_len);
 
-/* Writes a string as a message repeats it, without quotes: at most its first 80 bytes, in whole characters, and `..` if
- * there are more. Control and format characters are escaped, as `\u{1b}`; if these bytes are not UTF-8, each one that
- * is not printable ASCII is, as `\xff`. */
+/* Writes a string so that a message can show it: at most its first 80 bytes, in whole characters, and `..` if there are
+ * more. Control characters, format characters and separators other than the space are escaped, as `\u{a0}`; if these
+ * bytes are not UTF-8, each one that is not printable ASCII is, as `\xff`. No quotes are added, and those of the string
+ * are not escaped, nor are backslashes. Returns 0 only for an empty string. */
 size_t byte_unit_quote(const char *text, size_t len, char *out, size_t out_len);
 
 /* Writes the text of a size: its digits, or in the alternate form the size in the largest unit of its kind, not

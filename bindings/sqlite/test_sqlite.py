@@ -18,9 +18,10 @@ GREATEST = 2**63 - 1  # of an INTEGER
 
 def quoted_characters():
     """Returns characters, and what the quoted texts of messages have for each: all control and format characters and
-    separators of lines and paragraphs, but for U+0000, with their escapes, and some others, as they are."""
-    escaped = [char for char in map(chr, range(1, 0x110000)) if unicodedata.category(char) in ("Cc", "Cf", "Zl", "Zp")]
-    return [(c, f"\\u{{{ord(c):x}}}") for c in escaped] + [(c, c) for c in " é¬ß字😀\xa0\u0301"]
+    separators, but for U+0000 and the space, with their escapes, and some others, as they are."""
+    hidden = "Cc", "Cf", "Zs", "Zl", "Zp"
+    escaped = [c for c in map(chr, range(1, 0x110000)) if unicodedata.category(c) in hidden and c != " "]
+    return [(c, f"\\u{{{ord(c):x}}}") for c in escaped] + [(c, c) for c in " é¬ß字😀\u0301"]
 
 
 def extension(compiler, library, folder, *flags):

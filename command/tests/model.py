@@ -20,7 +20,7 @@ from program import Result
 # The most bytes of a text that a message quotes, and Unicode's categories of the characters that it escapes; the
 # greatest number of 64 bits; and the words that are forms.
 QUOTED = 80
-ESCAPED = ("Cc", "Cf", "Zl", "Zp")
+ESCAPED = ("Cc", "Cf", "Zs", "Zl", "Zp")
 BITS_64 = (1 << 64) - 1
 FORMS = ("exact", "plain", "si", "iec", "auto")
 # What is said of operands such as `5 KB`.
@@ -36,12 +36,12 @@ class Wrong(Exception):
 
 
 def quoted(data):
-    """Returns bytes in quotes: all, or 77 to 80 of them, so that no character is cut, with two points after them."""
+    """Returns bytes in quotes: all, or 77 to 80 of them, so that no character is cut, with two dots after them."""
     ends = range(QUOTED, QUOTED - 4, -1)
     end = len(data) if len(data) <= QUOTED else next((at for at in ends if data[at] & 0xC0 != 0x80), QUOTED)
     try:
         text = data[:end].decode()
-        text = "".join(f"\\u{{{ord(c):x}}}" if unicodedata.category(c) in ESCAPED else c for c in text)
+        text = "".join(f"\\u{{{ord(c):x}}}" if c != " " and unicodedata.category(c) in ESCAPED else c for c in text)
     except UnicodeDecodeError:
         text = "".join(chr(byte) if 0x20 <= byte < 0x7F else f"\\x{byte:02x}" for byte in data[:end])
     return f"'{text}{'..' if end < len(data) else ''}'"

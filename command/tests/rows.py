@@ -243,13 +243,13 @@ QUOTED = [
     field(b"x\x1b[31m\x7f", "x\\u{1b}[31m\\u{7f}", digit("x"), 1),
     field("\u0080\u009f\ufeff'\\".encode(), "\\u{80}\\u{9f}\\u{feff}'\\", digit("\\u{80}"), 1),
     *(field(f"1{c}BK".encode(), f"1\\u{{{ord(c):x}}}BK", unit(f"\\u{{{ord(c):x}}}"), 2)
-      for c in "\u00ad\u061c\u200e\u2028\u202e\u2069\ufffb\U000110cd\U00013438\U0001bca3\U0001d17a\U000e007f"),
+      for c in "\u00a0\u00ad\u061c\u1680\u200e\u2028\u202e\u2069\ufffb\U000110cd\U00013438\U0001bca3\U000e007f"),
     field("1\U000110be".encode(), "1\U000110be", unit("\U000110be"), 2),
     field("1\u0301".encode(), "1\u0301", unit("\\u{301}"), 2),
     field(b"1\t\x00", "1\\u{9}\\u{0}", unit("\\t"), 2),
-    field("\u3000 1 K\u00e9".encode(), "\u3000 1 K\u00e9", unit("\u00e9", "('B' or 'b' or no character is expected)"), 6),
+    field("\u3000 1 Ké".encode(), "\\u{3000} 1 Ké", unit("é", "('B' or 'b' or no character is expected)"), 6),
     field(b" 1. ", " 1. ", digit("."), 4), field(b"1 bi", "1 bi", unit("i", "(no character is expected)"), 5),
-    field("\u3000\u00a0".encode(), "\u3000\u00a0", BLANK, 3),
+    field("\u3000\u00a0".encode(), "\\u{3000}\\u{a0}", BLANK, 3),
     *(field(text, text.decode(), "value number is too long", at)
       for text, at in ((b" 5192296858534827628530496329220096x", 35), (b"00" + b"1" * 40, 37), (b"1." + b"0" * 29, 31))),
     field(b"1.x", "1.x", digit("x"), 3), field(b"1 Kbitz", "1 Kbitz", unit("z", "('s' or no character is expected)"), 7),

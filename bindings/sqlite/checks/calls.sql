@@ -72,9 +72,9 @@ SELECT size_in(1, char(27) || 'MB'); -- error: '\u{1b}MB' is not a unit: the cha
 SELECT size_in(1, CAST(x'4bff' AS TEXT)); -- error: 'K\xff' is not a unit: the text is not UTF-8
 SELECT size_in(1, ''); -- error: '' is not a unit such as 'KiB' or 'MB'
 SELECT size_in(1, ' '); -- error: ' ' is not a unit such as 'KiB' or 'MB'
-SELECT size_in(1, char(9, 133, 12288), 'bits'); -- error: '\u{9}\u{85}　' is not a unit such as 'KiB' or 'MB'
+SELECT size_in(1, char(9, 133, 12288), 'bits'); -- error: '\u{9}\u{85}\u{3000}' is not a unit such as 'KiB' or 'MB'
 SELECT size_parse('1' || char(10) || '2'); -- error: '1\u{a}2' is not a size: the character '\n' is incorrect ('B', 'K', 'M', 'G', 'T', 'P', 'E', 'Z', 'Y' or 'R' or no character is expected) (character 2)
-SELECT size_parse(char(9, 13, 10, 27, 133) || 'x'); -- error: '\u{9}\u{d}\u{a}\u{1b}\u{85}x' is not a size: the character '\u{1b}' is not a number (character 4)
+SELECT size_parse(char(9, 13, 10, 27, 133, 160) || 'x'); -- error: '\u{9}\u{d}\u{a}\u{1b}\u{85}\u{a0}x' is not a size: the character '\u{1b}' is not a number (character 4)
 SELECT size_parse(replace(hex(zeroblob(78)), '00', 'x') || char(159, 120)); -- error: 'xxxxxxxxxxxxxxxxxxxxxxxxxxxxxxxxxxxxxxxxxxxxxxxxxxxxxxxxxxxxxxxxxxxxxxxxxxxxxx\u{9f}..' is not a size: the character 'x' is not a number (character 1)
 SELECT size_parse(replace(hex(zeroblob(79)), '00', 'x') || char(159, 120)); -- error: 'xxxxxxxxxxxxxxxxxxxxxxxxxxxxxxxxxxxxxxxxxxxxxxxxxxxxxxxxxxxxxxxxxxxxxxxxxxxxxxx..' is not a size: the character 'x' is not a number (character 1)
 SELECT size_parse('x' || replace(hex(zeroblob(300)), '00', 'é')); -- error: 'xééééééééééééééééééééééééééééééééééééééé..' is not a size: the character 'x' is not a number (character 1)

@@ -142,8 +142,8 @@ fn with_mark(alloc: Global, word: &str) -> Result<String, AllocError> {
     Ok(marked)
 }
 
-/// Returns a text with its control and format characters escaped, but for the line feeds that end its lines. A zero
-/// byte is escaped as the line feed in whose place it is.
+/// Returns a text with each character as [`Quoted`] writes it, but for the line feeds that end its lines. A zero byte
+/// is escaped as the line feed in whose place it is.
 ///
 /// # Errors
 ///

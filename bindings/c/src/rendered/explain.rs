@@ -90,10 +90,9 @@ fn explain_unit_as(text: &[u8], asked: ParseFlags, out: &mut [u8]) -> usize {
     }
 }
 
-/// Writes a string as messages quote it to the start of `out`, without quotes, and returns its length, at most 482
-/// bytes. Returns the length and writes nothing if `out` is shorter. At most the first 80 bytes are written, in whole
-/// characters, and two points if there are more. Control and format characters are escaped, or, if these bytes are not
-/// UTF-8, each one that is not printable ASCII.
+/// Writes a string for a message, as [`Quoted`] does, to the start of `out`, and returns its length: at most 482 bytes,
+/// for 80 bytes of at most six each, as `\u{1b}`, and two dots. Returns the length and writes nothing if `out` is
+/// shorter.
 ///
 /// For example, `1` with a tab gives 6, the length of `1\u{9}`.
 #[unsafe(no_mangle)]
