@@ -14,8 +14,8 @@
  *   thread writes what is read.
  *
  * Every other argument is checked: a size that is out of range, an unknown code or flag, an invalid spec, offsets that
- * do not fit and bytes that are not UTF-8 are reported, and nothing is written but what a call says. The README.md of
- * the C API has more.
+ * do not fit and, where a text is parsed, bytes that are not UTF-8 are reported, and nothing is written but what a call
+ * says. The README.md of the C API has more.
  *
  * Callers by a foreign function interface: a `static inline` call is no symbol of the library. The symbol is the name
  * with `_to` added, and takes the length of each array after its pointer: byte_unit_parse_to(text, len, flags, size,

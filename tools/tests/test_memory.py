@@ -13,10 +13,6 @@ from byte_unit_dev.fixtures import call, compiled, copy_to, ended, path, read, w
 LANES = int(os.environ.get("RT_JOBS") or min(4, os.cpu_count()))
 # What a test may end with: the error itself, or the message of an `expect` with the error.
 FAILURE = re.compile(r"(?:[\w ]+: )?(?:AllocError|Error\(out of memory\))")
-TESTS = "crates/byte_unit_tests/src/tests"
-# The line of crates.txt for the tests in allocations.rt and refused.rt.
-USED = "byte_unit_tests: byte_unit_serde byte_unit byte_unit_bit byte_unit_byte byte_unit_format byte_unit_choice " \
-    "byte_unit_base byte_unit_math serde serde_json toml"
 MANY = b"".join(b"%d.5 KiB\n" % number for number in range(12_000))
 # Lines with every kind of answer.
 MIXED = b"1.5 KiB\n1KB\r\n\n1Kbi\nx\n\xFF\n1000 RB\n9999999999999999999999999999999999\n1YB"
@@ -38,26 +34,29 @@ PROGRAMS = [*(("byte_unit_cli", *row) for row in CALLS), *(("byte_unit_lines", *
     ("", MANY), ("bit", b"1.5 KiB\n\n1Kbi\nx\n1YB"), ("byte", b"1 KB\n2 KB\n" + b"1" * 1_000_000), ("x y", b"")])]
 
 
-def test_calls_without_allocator(tmp_path):
+@pytest.mark.parametrize("crate, module", [("byte_unit_tests", "allocations"), ("byte_unit_serde_tests", "refused")])
+def test_calls_without_allocator(tmp_path, crate, module):
     """Those in refused.rt, of at most four allocations, pass as each fails; those in allocations.rt end with the error
     of each of their three. In the fifth run no allocation fails."""
     copy_to(tmp_path, "crates")
     # Without the crates that only other tests use, which would be compiled in each run.
-    write(tmp_path / "crates.txt", re.sub(r"(?m)^byte_unit_tests: .*$", USED, read("crates.txt")))
-    others = re.findall(r"^mod (?!allocations;|refused;|asserting;)(\w+);\n", read(f"{TESTS}.rt"), re.M)
-    for name in others:
-        os.remove(tmp_path / TESTS / f"{name}.rt")
-    write(tmp_path / f"{TESTS}.rt", re.sub(rf"^mod ({'|'.join(others)});\n", "", read(f"{TESTS}.rt"), flags=re.M))
-    how, names = {"cwd": tmp_path / "crates/byte_unit_tests", "stderr": subprocess.PIPE}, set()
+    write(tmp_path / "crates.txt", re.sub(r"(?m)^(byte_unit_serde_tests:.*) byte_unit_uses (.*) clap$", r"\1 \2",
+                                          read("crates.txt")))  # fmt: skip
+    tests = f"crates/{crate}/src/tests"
+    for name in re.findall(r"^mod (\w+);", read(f"{tests}.rt"), re.M):
+        if name not in (module, "asserting"):
+            os.remove(tmp_path / tests / f"{name}.rt")
+    write(tmp_path / f"{tests}.rt", f"mod asserting;\nmod {module};\n")
+    how, names = {"cwd": tmp_path / "crates" / crate, "stderr": subprocess.PIPE}, set()
     with ThreadPoolExecutor(LANES) as pool:
         runs = list(pool.map(lambda at: call("rt", "try", "--test", "--fail-alloc", at, **how), range(1, 6)))
     for number, run in enumerate(runs, 1):
-        found = re.findall(r"^test tests::(\w+)::(\S+) \.\.\. (\w+)\n(?:    (.*)\n)?", run.stdout, re.M)
-        for module, name, end, error in found:
+        found = re.findall(rf"^test tests::{module}::(\S+) \.\.\. (\w+)\n(?:    (.*)\n)?", run.stdout, re.M)
+        for name, end, error in found:
             is_right = FAILURE.fullmatch(error) if module == "allocations" and number <= 3 else end == "ok"
             assert is_right, f"allocation {number} fails: {name} ends with {error}"
-        names.add(tuple(sorted(row[:2] for row in found)))
-    assert len(names) == 1 and {row[0] for row in names.pop()} == {"allocations", "refused"}, runs[0].stderr
+        names.add(tuple(sorted(row[0] for row in found)))
+    assert len(names) == 1 and names.pop(), runs[0].stderr
 
 
 @pytest.fixture(scope="module")

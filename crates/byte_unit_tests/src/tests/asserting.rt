@@ -1,5 +1,4 @@
-//! Assertions that the tests of each module call. Each is proved once, and a call costs the proof of a test less than a
-//! macro that asserts.
+//! Assertions that tests call: a call costs the proof of a test less than a macro that asserts.
 use std::alloc::Global;
 use std::fmt::{Debug, Display};
 use std::process::Abort;

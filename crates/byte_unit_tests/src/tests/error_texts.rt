@@ -1,5 +1,5 @@
 //! Tests of the messages of errors: by themselves, as other errors and with the flags of a formatter, and of errors
-//! that no string has. Other tests import `assert_error`.
+//! that no string has.
 use super::asserting::assert_display;
 use super::flags::assert_printed_with_each_flag;
 use byte_unit::{
@@ -8,26 +8,12 @@ use byte_unit::{
 };
 use std::alloc::Global;
 use std::error::Error;
-use std::fmt::Display;
 use std::process::Abort;
 
 /// Asserts the message of an error through the bound `Error`, and that the flags of a formatter do not change it.
 fn assert_text_and_flags<E: Error>(rt: &impl Abort, alloc: Global, error: &E, wanted: &str) {
     assert_display(rt, alloc, error, wanted);
     assert_printed_with_each_flag(rt, alloc, error, wanted);
-}
-
-/// Asserts that a result is an error with the expected message.
-pub fn assert_error<T: Drop, E: Display + Drop>(
-    rt: &impl Abort,
-    alloc: Global,
-    answer: Result<T, E>,
-    wanted: &str,
-) {
-    match answer {
-        Err(error) => assert_display(rt, alloc, &error, wanted),
-        Ok(_) => panic!(rt; "it is read, which was to be rejected: {wanted}"),
-    }
 }
 
 /// Asserts the message of a number error by itself, as a parse error and as an error of a JSON string.

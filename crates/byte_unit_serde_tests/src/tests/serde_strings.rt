@@ -1,8 +1,8 @@
 //! Tests of sizes and units that are stored by `serde`, in JSON and in TOML, and of TOML values.
-use super::asserting::{assert_for, assert_is};
-use super::error_texts::assert_error;
+use super::asserting::{assert_error, assert_for, assert_is};
 use byte_unit::{Bit, Byte, Unit};
 use byte_unit_serde::{Stored, bit_from_toml, byte_from_toml, unit_from_toml};
+use byte_unit_tests::rows;
 use serde::{Deserialize, DeserializeOwned, Serialize};
 use std::alloc::Global;
 use std::collections::BTreeMap;

@@ -1,8 +1,8 @@
 //! Tests of sizes that `serde` reads with case ignored, and of those with prefixes by 1024, from JSON and from TOML,
 //! and of the strings that it stores.
-use super::asserting::{assert_for, assert_is};
-use super::error_texts::assert_error;
+use super::asserting::{assert_error, assert_for, assert_is};
 use byte_unit::Byte;
+use byte_unit_tests::rows;
 use serde::{Deserialize, DeserializeOwned, Serialize};
 use std::alloc::{AllocError, Global};
 use std::process::Abort;

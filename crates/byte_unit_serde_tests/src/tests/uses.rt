@@ -1,7 +1,6 @@
 //! Tests of the functions of `byte_unit_uses`, which are typical uses of the library: what no contract of theirs says,
 //! the messages of errors and the entries of a report.
-use super::asserting::{assert_is, assert_same};
-use super::error_texts::assert_error;
+use super::asserting::{assert_error, assert_is};
 use byte_unit::Byte;
 use byte_unit_uses::command_line::max_size;
 use byte_unit_uses::entry::{Entry, add, filter_below, total};
@@ -47,7 +46,7 @@ fn entries_below(rt: &impl Abort, alloc: Global, limit: Byte) -> Vec<Entry<'stat
 fn entries_of_a_report(rt: HostRuntime) {
     let report = entries_below(&rt, rt.alloc(), Byte::GIBIBYTE);
     assert!(rt; report.len() == 1);
-    assert_same(&rt, report[0].name(), "logs");
+    assert_is(&rt, report[0].name(), "logs");
     assert_is(&rt, total(&report), Some(Byte::from_u64(1536)));
 }
 
@@ -73,7 +72,7 @@ fn sizes_of_an_option(rt: HostRuntime) {
         Ok(_) => panic!(rt; "20XB is no size"),
         Err(error) => {
             let message = format!(in alloc; "{error}").expect(&rt, "memory");
-            assert_same(&rt, message.as_str(), REJECTED);
+            assert_is(&rt, message.as_str(), REJECTED);
             assert_is(&rt, error.exit_code(), 2);
         }
     }
