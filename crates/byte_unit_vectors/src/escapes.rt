@@ -32,10 +32,9 @@ fn repeated(alloc: Global, text: &str) -> Result<String, RowError> {
         // A `\u{..}` has a brace of its own.
         let end = if rest.starts_with('\\') { "}}" } else { "}" };
         let (_, after) = rest.split_once(end).ok_or(RowError::Escape)?;
-        let character = rest
-            .strip_suffix(after)
-            .and_then(|rest| rest.strip_suffix('}'));
-        out.push_str(character.unwrap_or("").repeat(alloc, times)?.as_str())?;
+        let braced = rest.strip_suffix(after).unwrap_or("");
+        let character = braced.strip_suffix('}').unwrap_or("");
+        out.push_str(character.repeat(alloc, times)?.as_str())?;
         out.push_str(after)?;
     }
     Ok(out)

@@ -19,10 +19,8 @@ pub fn spec_of(word: &str) -> Result<FormatSpec, RowError> {
     if word == "{}" {
         return Ok(FormatSpec::PLAIN);
     }
-    let rest = word
-        .strip_prefix("{:")
-        .and_then(|rest| rest.strip_suffix('}'));
-    let rest = rest.ok_or(RowError::Word)?;
+    let rest = word.strip_prefix("{:").ok_or(RowError::Word)?;
+    let rest = rest.strip_suffix('}').ok_or(RowError::Word)?;
     let (align, rest) = marked(rest, ALIGNS);
     let (sign, rest) = marked(rest, &[("+", Sign::Plus), ("-", Sign::Minus)]);
     let (alternate, rest) = marked(rest, &[("#", true)]);

@@ -14,33 +14,21 @@ macro_rules! size_of {
     };
 }
 
-/// Evaluates the answer to a call on sizes of a type.
-macro_rules! answer_of {
-    ($size:ident, $alloc:expr, $words:expr) => {
+/// Evaluates the answer to a call that makes a size of a type or calculates with it. A function answers the others.
+macro_rules! made {
+    ($size:ident, $other:ident, $alloc:expr, $words:expr) => {
         match $words {
             ["make_in", _, number, unit] => {
-                let size = $size::from_u128_with_unit(number_of(number)?, unit_of(unit)?);
-                or_none($alloc, size)
+                or_none($alloc, $size::from_u128_with_unit(number_of(number)?, unit_of(unit)?))
             }
             ["make_decimal", _, number, unit] => {
-                let size = $size::from_decimal_with_unit(decimal_of(number)?, unit_of(unit)?);
-                or_none($alloc, size)
+                or_none($alloc, $size::from_decimal_with_unit(decimal_of(number)?, unit_of(unit)?))
             }
             // The nearest number of 64 bits, and the size itself if it fits.
             ["as_u64", _, number] => match $size::from_u128(number_of(number)?) {
                 Some(size) => both($alloc, size.as_u64(), or_none($alloc, size.as_u64_checked())?),
                 None => shown($alloc, "none"),
             },
-            ["json", _, size] => string_of($alloc, &size_of!($size, size).to_json($alloc)?),
-            ["json", _, size, "in", unit] => {
-                let adjusted = size_of!($size, size).get_adjusted_unit(unit_of(unit)?);
-                string_of($alloc, &adjusted.to_json($alloc)?)
-            }
-            ["value", _, size, "in", unit] => {
-                let adjusted = size_of!($size, size).get_adjusted_unit(unit_of(unit)?);
-                let (bits, unit_bits) = adjusted.get_value();
-                Ok(format!(in $alloc; "{bits}/{unit_bits}")?)
-            }
             ["compute", _, size, operation, number] => {
                 let size = size_of!($size, size);
                 let computed = match *operation {
@@ -51,6 +39,24 @@ macro_rules! answer_of {
                     _ => return Err(RowError::Word),
                 };
                 or_none($alloc, computed)
+            }
+            _ => $other($alloc, $words),
+        }
+    };
+}
+
+/// Evaluates the answer to a call that gives a size of a type as JSON or in a unit.
+macro_rules! in_unit {
+    ($size:ident, $alloc:expr, $words:expr) => {
+        match $words {
+            ["json", _, size] => string_of($alloc, &size_of!($size, size).to_json($alloc)?),
+            [call @ ("json" | "value"), _, size, "in", unit] => {
+                let adjusted = size_of!($size, size).get_adjusted_unit(unit_of(unit)?);
+                if *call == "json" {
+                    return string_of($alloc, &adjusted.to_json($alloc)?);
+                }
+                let (bits, unit_bits) = adjusted.get_value();
+                Ok(format!(in $alloc; "{bits}/{unit_bits}")?)
             }
             ["exact", _, set, size] => {
                 let (number, unit) = size_of!($size, size).get_exact_unit(named(set, SETS)?);
@@ -85,10 +91,20 @@ pub fn answer(alloc: Global, words: &[&str]) -> Answer {
 
 /// Returns the answer to a call on sizes in bytes.
 fn byte_answer(alloc: Global, words: &[&str]) -> Answer {
-    answer_of!(Byte, alloc, words)
+    made!(Byte, byte_in_unit, alloc, words)
 }
 
 /// Returns the answer to a call on sizes in bits.
 fn bit_answer(alloc: Global, words: &[&str]) -> Answer {
-    answer_of!(Bit, alloc, words)
+    made!(Bit, bit_in_unit, alloc, words)
+}
+
+/// Returns the answer to a call that gives a size in bytes as JSON or in a unit.
+fn byte_in_unit(alloc: Global, words: &[&str]) -> Answer {
+    in_unit!(Byte, alloc, words)
+}
+
+/// Returns the answer to a call that gives a size in bits as JSON or in a unit.
+fn bit_in_unit(alloc: Global, words: &[&str]) -> Answer {
+    in_unit!(Bit, alloc, words)
 }

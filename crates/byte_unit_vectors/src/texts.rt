@@ -6,8 +6,8 @@ use crate::numbers::{self, expansion_of};
 use crate::row_error::RowError;
 use crate::words::{TYPES, named, number_of, unit_of};
 use byte_unit::{
-    Bit, Byte, FormatSpec, append_layout, append_plain, layout_len, plain_len, write_layout,
-    write_plain,
+    AdjustedBit, AdjustedByte, Bit, Byte, FormatSpec, append_layout, append_plain, layout_len,
+    plain_len, write_layout, write_plain,
 };
 use std::alloc::{AllocError, Global};
 use std::str;
@@ -37,37 +37,33 @@ macro_rules! text_of {
         let (size, spec) = ($size, $spec);
         let written = written!($alloc,
             text => size.append_text(spec, &mut text),
-            buffer [size.text_len(spec)] => size.write_text(spec, buffer));
-        let text = size.to_text($alloc, spec)?;
+            buffer [size.text_len(spec)] => size.write_text(spec, buffer))?;
+        let (text, text_in) = (size.to_text($alloc, spec)?, size.to_text_in($alloc, spec)?);
         // `Display` has no flags.
-        let displayed = if spec == FormatSpec::PLAIN {
-            shown($alloc, size)?
-        } else {
-            String::from_str($alloc, text.as_str())?
-        };
-        agreed($alloc, &[written?, size.to_text_in($alloc, spec)?, text, displayed])
+        if spec == FormatSpec::PLAIN {
+            return agreed($alloc, &[written, text, text_in, shown($alloc, size)?]);
+        }
+        agreed($alloc, &[written, text, text_in])
     }};
 }
 
-/// Evaluates the text of a size of a type.
+/// Evaluates the text of the size of a type that has the number of a word, by the words after it. A function of this
+/// name gives the text of a size in a unit.
 macro_rules! text_of_size {
-    ($size:ident, $alloc:expr, $words:expr) => {{
-        let size = match $words {
-            [_, _, size, ..] => $size::from_u128(number_of(size)?).ok_or(RowError::Word)?,
-            _ => return Err(RowError::NoCall),
-        };
+    ($size:ident, $text_in_unit:ident, $alloc:expr, $number:expr, $words:expr) => {{
+        let size = $size::from_u128(number_of($number)?).ok_or(RowError::Word)?;
         match $words {
-            [_, _, _, spec] => text_of!($alloc, size, spec_of(spec)?),
-            [_, _, _, "in", unit, spec] => {
-                text_of!($alloc, size.get_adjusted_unit(unit_of(unit)?), spec_of(spec)?)
+            [spec] => text_of!($alloc, size, spec_of(spec)?),
+            ["in", unit, spec] => {
+                $text_in_unit($alloc, size.get_adjusted_unit(unit_of(unit)?), spec_of(spec)?)
             }
-            [_, _, _, "by", unit_type, spec] => {
+            ["by", unit_type, spec] => {
                 let (unit_type, spec) = (named(unit_type, TYPES)?, spec_of(spec)?);
                 let adjusted = size.get_appropriate_unit(unit_type);
                 let mut buffer = vec![in $alloc; 0u8; adjusted.text_len(spec)]?;
                 let len = size.write_approximate_text(unit_type, spec, buffer.as_mut_slice());
                 let answers = [
-                    text_of!($alloc, adjusted, spec)?,
+                    $text_in_unit($alloc, adjusted, spec)?,
                     size.approximate_text($alloc, unit_type, spec)?,
                     filled($alloc, buffer.as_slice(), len)?,
                 ];
@@ -81,8 +77,8 @@ macro_rules! text_of_size {
 /// Returns the answer to a call without a text: one that formats, or one of the other groups.
 pub fn answer(alloc: Global, words: &[&str]) -> Answer {
     let text = match words {
-        ["text", "byte", ..] => byte_answer(alloc, words)?,
-        ["text", "bit", ..] => bit_answer(alloc, words)?,
+        ["text", "byte", number, words @ ..] => byte_answer(alloc, number, words)?,
+        ["text", "bit", number, words @ ..] => bit_answer(alloc, number, words)?,
         ["plain", number, spec] => {
             let (number, spec) = (number_of(number)?, spec_of(spec)?);
             written!(alloc,
@@ -104,13 +100,23 @@ pub fn answer(alloc: Global, words: &[&str]) -> Answer {
 }
 
 /// Returns the text of a size in bytes.
-fn byte_answer(alloc: Global, words: &[&str]) -> Answer {
-    text_of_size!(Byte, alloc, words)
+fn byte_answer(alloc: Global, number: &str, words: &[&str]) -> Answer {
+    text_of_size!(Byte, byte_text_in_unit, alloc, number, words)
 }
 
 /// Returns the text of a size in bits.
-fn bit_answer(alloc: Global, words: &[&str]) -> Answer {
-    text_of_size!(Bit, alloc, words)
+fn bit_answer(alloc: Global, number: &str, words: &[&str]) -> Answer {
+    text_of_size!(Bit, bit_text_in_unit, alloc, number, words)
+}
+
+/// Returns the text of a size in bytes, in a unit, for a spec.
+fn byte_text_in_unit(alloc: Global, size: AdjustedByte, spec: FormatSpec) -> Answer {
+    text_of!(alloc, size, spec)
+}
+
+/// Returns the text of a size in bits, in a unit, for a spec.
+fn bit_text_in_unit(alloc: Global, size: AdjustedBit, spec: FormatSpec) -> Answer {
+    text_of!(alloc, size, spec)
 }
 
 /// Returns the text that fills a buffer of its very length, of which `len` bytes were written.

@@ -22,10 +22,8 @@ pub fn answer(alloc: Global, words: &[&str]) -> Answer {
         ["unit_json", unit] => string_of(alloc, &unit_to_json(alloc, unit_of(unit)?)?),
         ["largest", size, set, unit_type, bits] => {
             let (size, set, bits) = (number_of(size)?, named(set, FAMILIES)?, bits_of(bits)?);
-            or_none(
-                alloc,
-                largest_unit(size, set, named(unit_type, TYPES)?, bits),
-            )
+            let unit_type = named(unit_type, TYPES)?;
+            or_none(alloc, largest_unit(size, set, unit_type, bits))
         }
         ["choose", size, set, bits, places] => {
             let size = number_in(size, 0, Byte::MAX.as_u128())?;
