@@ -38,10 +38,7 @@ PROGRAMS = [*(("byte_unit_cli", *row) for row in CALLS), *(("byte_unit_lines", *
 def test_calls_without_allocator(tmp_path, crate, module):
     """Those in refused.rt, of at most four allocations, pass as each fails; those in allocations.rt end with the error
     of each of their three. In the fifth run no allocation fails."""
-    copy_to(tmp_path, "crates")
-    # Without the crates that only other tests use, which would be compiled in each run.
-    write(tmp_path / "crates.txt", re.sub(r"(?m)^(byte_unit_serde_tests:.*) byte_unit_uses (.*) clap$", r"\1 \2",
-                                          read("crates.txt")))  # fmt: skip
+    copy_to(tmp_path, "crates", "crates.txt")
     tests = f"crates/{crate}/src/tests"
     for name in re.findall(r"^mod (\w+);", read(f"{tests}.rt"), re.M):
         if name not in (module, "asserting"):

@@ -1,5 +1,5 @@
-//! The tests of `byte_unit_command`. They are a crate of their own, as `byte_unit_tests` is, which does not wait for
-//! the proof of the command.
+//! The tests of `byte_unit_command`, and of `byte_unit_uses`. They are a crate of their own, as `byte_unit_tests` is,
+//! which does not wait for the proof of the command.
 #![tactic(auto)]
 
 #[cfg(test)]

@@ -1,5 +1,7 @@
 //! Tests of runs of the command `byte-unit` over streams in memory that go in small steps or fail, one run after
 //! another in the same buffers. What a run converts is tested from outside, by `command/tests`.
+mod uses;
+
 use byte_unit_command::error::RunError;
 use byte_unit_command::options::{FieldRange, Form, Invalid, Kind, Options};
 use byte_unit_command::run::{Buffers, run_with_buffers};

@@ -1,5 +1,4 @@
-//! The tests of `byte_unit_serde`, and of what uses the library. They are a crate of their own, as `byte_unit_tests`,
-//! which does not wait for the proof of `byte_unit_serde`.
+//! The tests of `byte_unit_serde`, a crate of their own, since `byte_unit_tests` need not wait for its proof.
 #![tactic(auto)]
 
 #[cfg(test)]

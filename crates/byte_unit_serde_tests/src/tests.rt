@@ -1,7 +1,5 @@
-//! Tests of strings and fields that `byte_unit_serde` reads and writes, and of `byte_unit_uses`: a module for each
-//! subject, and assertions.
+//! Tests of strings and fields that `byte_unit_serde` reads and writes: a module for each subject, and assertions.
 mod asserting;
 mod refused;
 mod serde_strings;
 mod serde_ways;
-mod uses;
