@@ -7,7 +7,7 @@
     version   each place that says the version says that of the file VERSION
     readme    the commands of README.md print what is below them; its promise, literal and program are as their sources
     guide     docs/GUIDE.md lists each example; its format strings and sizes of programs are those of rows
-    command   the commands of command/README.md print what is below them
+    command   the commands of command/README.md print what is below them, and the command the error in README.md
     pasted    the blocks of Rattle in docs/GUIDE.md, in empty crates, are proved over the libraries of `rt ci`
     examples  the examples of the doc comments hold, and each public function of the library has a doc comment
 

@@ -33,13 +33,6 @@ def differs(page, command, wanted, folder, **more):
     return [f"{page}:{command.line}: status {got.returncode}, and it prints\n{got.stdout}{got.stderr}"]
 
 
-def is_built(program, page):
-    """Returns whether a program is built, and prints a line if not, since commands of the page are skipped then."""
-    if not os.path.exists(path(program)):
-        print(f"skipped: commands of {page}: {program} is not built", flush=True)
-    return os.path.exists(path(program))
-
-
 def promise(page):
     """Returns the words of the quoted lines from the first mention of the promise to the next heading."""
     text = read(page)
@@ -71,7 +64,7 @@ def readme():
     kinds = [block.language for block in found]
     if kinds != KINDS:
         return [f"{README}: its blocks are {' '.join(kinds)}, not {' '.join(KINDS)}"], ""
-    error, program, printed, gate, take, first, start, first_printed, literal = found
+    _, program, printed, gate, take, first, start, first_printed, literal = found
     wrong, logic = [], re.search(r" logic (\w+)\n", output("rt", "version"))[1]
     if not re.search(rf"`rt version` prints `\S+ logic {logic}`", page):  # the letter of the kit may be another
         wrong.append(f"{README}: the logic of rt version is {logic}")
@@ -85,9 +78,6 @@ def readme():
         copy_to(os.path.join(folder, "here"), "crates", "tools", "crates.txt", "LICENSE", "HANDLES", "VERSION")
         wrong += differs(README, program, printed, os.path.join(folder, "here"))
         wrong += first_program(take, first, start, first_printed, folder)
-    if is_built(COMMAND_PROGRAM, README):
-        said = call(path(COMMAND_PROGRAM), *re.findall("'(.*?)'", error.text)[:1], stderr=subprocess.STDOUT).stdout
-        wrong += [f"{README}:{error.line}: the error is\n{said}"] * (said != error.text)
     # The table of installations has each command with the path of the clone.
     for where, command in re.findall(r"^\| \[.*?\]\((.*?)\) \| `(.*?)` \|", page, re.M):
         there = re.sub(r"CLONE/|(?<= )\.\.?/(?:byte-unit-in-rattle/)?", "", read(where))
@@ -115,9 +105,12 @@ def guide():
 
 
 def command():
-    found, wrong = blocks(read(COMMAND)), []
-    if not is_built(COMMAND_PROGRAM, COMMAND):
+    found, error = blocks(read(COMMAND)), blocks(read(README))[0]
+    if not os.path.exists(path(COMMAND_PROGRAM)):
+        print(f"skipped: commands of {COMMAND}: {COMMAND_PROGRAM} is not built", flush=True)
         return [], "nothing was run"
+    said = call(path(COMMAND_PROGRAM), *re.findall("'(.*?)'", error.text)[:1], stderr=subprocess.STDOUT).stdout
+    wrong = [f"{README}:{error.line}: the error is\n{said}"] * (said != error.text)
     with tempfile.TemporaryDirectory() as folder:
         os.symlink(path(COMMAND_PROGRAM), os.path.join(folder, "byte-unit"))
         env = {**os.environ, "PATH": folder + os.pathsep + os.environ["PATH"], "LC_ALL": "C"}

@@ -3,6 +3,7 @@
 import os
 import subprocess
 import tempfile
+from concurrent.futures import ThreadPoolExecutor
 
 from ..common import output, read, write
 from ..libraries import rattle_after_ci
@@ -45,7 +46,9 @@ def pasted():
         write(f"{top}/crates/pasted/src/lib.rt", f"//! Bodies of tests.\n#![tactic(auto)]\n{modules}")
         for test in tests:
             write(f"{top}/crates/pasted/src/{test.test}.rt", f"//! A block of the guide.\n\n{test_of(test)}")
-        for name, needed in [*made.items(), ("pasted", used)]:
-            words = [*rattle_after_ci("check", name, needed), *["--test"] * (name == "pasted")]
-            output(*words, cwd=f"{top}/crates/{name}", stdin=subprocess.DEVNULL)
+        calls = {name: rattle_after_ci("check", name, needed) for name, needed in made.items()}
+        calls["pasted"] = [*rattle_after_ci("check", "pasted", used), "--test"]
+        folders = [f"{top}/crates/{name}" for name in calls]
+        with ThreadPoolExecutor() as pool:
+            list(pool.map(lambda call, cwd: output(*call, cwd=cwd, stdin=subprocess.DEVNULL), calls.values(), folders))
     return [], f"{len(found)} blocks and {len(tests)} bodies of tests are proved"
