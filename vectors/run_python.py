@@ -38,14 +38,15 @@ def position(of, given):
 
 
 def says(given, **how):
-    """Returns the message of a text without the number of the wrong character. It has to be at the end, if the error
-    has a position, and to be that of the character there."""
+    """Returns the message of a text without its last words. If the error has a position, these have to be the number of
+    the character there, or to say that only white space follows."""
     message = byte_unit.explain(given, **how)
     try:
         byte_unit.parse(given, **how)
     except byte_unit.SizeError as error:
-        number = "" if error.position is None else f" (character {error.position + 1})"
-        return message.removesuffix(number) if message.endswith(number) else f"without{number}: {message}"
+        at = error.position
+        where = "" if at is None else f" (character {at + 1})" if given[at:].strip() else " (at the end of the text)"
+        return message.removesuffix(where) if message.endswith(where) else f"without{where}: {message}"
 
 
 def plain(count):

@@ -84,9 +84,9 @@ export interface Library {
      *  SizeError. */
     parseMany(strings: Iterable<string> & object, options?: SizeReadingOptions): Sizes;
     /** Returns the message of the error of a string, or null if it is a size. Unless the size is too large, it ends
-     *  with the number of the wrong character, from 1. */
+     *  with the number of the wrong character, from 1, or with "(at the end of the text)". */
     explain(string: string, options?: SizeReadingOptions): string | null;
-    /** Returns the message of the error of a string, with that number, or null if it is a unit. */
+    /** Returns the message of the error of a string, with such words, or null if it is a unit. */
     explainUnit(string: string, options?: ReadingOptions): string | null;
     /** Returns the exact text of a size with a unit, or its digits if `alternate` is false. */
     text(size: bigint | number, options?: AdjustedTextOptions): string;

@@ -36,7 +36,7 @@ def evaluated(javascript, code):
 
 @pytest.mark.parametrize("code, found", [
     ("parse('10m', { binary: true, ignoreCase: true })", "10485760n"), ("parse('1 Kb', { bits: true })", "1000n"),
-    ("parse('')", "SizeError: no value can be found (character 1)"), ("parse(1)", "TypeError: 1 is no string"),
+    ("parse('')", "SizeError: no value can be found (at the end of the text)"), ("parse(1)", "TypeError: 1 is no string"),
     ("parse('1', { ignorecase: true })", "TypeError: ignorecase is no option of this call"),
     ("parse('1', { bits: 'no' })", 'TypeError: bits is "no": true or false is expected'),
     ("parseUnit('kib')", "Kib"), ("parseUnit('k', { bits: true })", "Kb"),

@@ -90,6 +90,8 @@ def test_lines(server, check_drawn):
     check_drawn(some_line, wrong)
 
 
+# The last words of a message, in a regular expression.
+WHERE = r"\((character \d+|at the end of the text)\)$"
 OPERATORS = {"add": "+", "subtract": "-", "multiply": "*", "divide": "/"}
 
 
@@ -103,12 +105,12 @@ def expression_of(row):
     if words[0] == "parse_binary":
         return f"size_parse({quoted(row.text)}, 'binary{' ignore-case' * ('uncased' in words)}')::numeric"
     if words[0] == "position":
-        return f"substring(size_explain({quoted(row.text)}) from '\\(character (\\d+)\\)$')"
+        return f"substring(size_explain({quoted(row.text)}) from '{WHERE}')"
     if words[0] == "compute":
         other = f"{words[4]}::numeric" + "::bytesize" * (words[3] in ("add", "subtract"))
         return f"({words[2]}::numeric::bytesize {OPERATORS[words[3]]} {other})::numeric"
     if words[0] == "says":
-        return f"regexp_replace(size_explain({quoted(row.text)}{flags}), ' \\(character \\d+\\)$', '')"
+        return f"regexp_replace(size_explain({quoted(row.text)}{flags}), ' {WHERE}', '')"
     found = re.fullmatch(r"\{(?::(#?)(?:\.(\d+))?)?\}", words[-1])
     if words[0] != "text" or not found:
         return None
@@ -127,7 +129,8 @@ def answer_of(row, said):
     if row.answer[0].isalpha() and said.startswith(state):
         return row.answer
     if row.words[0] == "position":
-        return str(len(row.text[: int(said) - 1].encode())) if said else "none"
+        before = row.text[: int(said.split()[1]) - 1] if said.startswith("character") else row.text.rstrip() or row.text
+        return str(len(before.encode())) if said else "none"
     if row.words[0] == "compute":
         return "none" if re.match("22003 |22012 ", said) else said
     return f'"{said}"' if row.words[0] in ("text", "says") else said

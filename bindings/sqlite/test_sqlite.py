@@ -8,7 +8,7 @@ from itertools import islice
 
 import pytest
 from byte_unit_dev.fixtures import call, compiled, copied, environment, need, output, path, read
-from byte_unit_dev.model.answers import numbered
+from byte_unit_dev.model.answers import located
 from byte_unit_dev.model.exact import SIZE_LIMIT, UNITS, Rejected, form, size_of, some_line, value_of
 
 WARNINGS = ["-Wall", "-Wextra", "-Wpedantic", "-Wconversion", "-Wshadow", "-Werror"]
@@ -130,7 +130,7 @@ def test_lines(sql, check_drawn, kind, flags):
     def row(line):
         size = size_of(line, kind)
         if isinstance(size, Rejected):
-            shown = rf"error: '.*' is not a size: {re.escape(numbered(line, size))}"
+            shown = rf"error: '.*' is not a size: {re.escape(located(line, size))}"
         elif size <= GREATEST:
             shown = re.escape(f"{size}|{form(size, kind)}|1")
         else:

@@ -12,7 +12,7 @@ from collections import namedtuple
 from dataclasses import replace
 from types import SimpleNamespace
 
-from byte_unit_dev.model.answers import numbered
+from byte_unit_dev.model.answers import located
 from byte_unit_dev.model.exact import (BASE, FORM_PLACES, SIZE_LIMIT, UNITS, WHITE_SPACE, Rejected, bad_unit, best_unit,
                                        largest, size_of, unit_of, value_of)
 from program import Result
@@ -214,7 +214,7 @@ class Run:
         size = read(text, options)
         if isinstance(size, Rejected):
             if options.invalid != "ignore":
-                why = numbered(text, size).removeprefix("the text is ")
+                why = located(text, size).removeprefix("the text is ")
                 self.tell(f"{named}: {why}", 0 if options.invalid == "warn" else 2)
             if options.invalid == "abort":
                 raise Aborted

@@ -11,12 +11,14 @@ WIDTH = "not a number from 1 to 65535, or its negative"
 NEEDS = "needs -d or --blanks, by which fields are separated"
 TOTAL = "byte-unit: the total is 10^30 or more\n"
 SPLIT = "byte-unit: a number and its unit were two operands; quote them as one, as in '5 KB'\n"
+END = "at the end of the text"
 GREATEST = b"999999999999999999999999999999"
 
 
 def told(place, why, at=0):
-    """Returns a message on a field or an option; with the number of the first wrong character, if it has one."""
-    return f"byte-unit: {place}: {why}{f' (character {at})' * (at > 0)}\n"
+    """Returns a message on a field or an option; with the number of the first wrong character, or `END`, if given."""
+    where = at if at == END else f"character {at}"
+    return f"byte-unit: {place}: {why}{f' ({where})' * bool(at)}\n"
 
 
 def unit(c, expected=START):
@@ -65,7 +67,7 @@ BETWEEN_BLANKS = [
      MEMORY.replace(b"        24617312     2342512    16204460", b"        23.5 MiB     2.2 MiB    15.5 MiB")),
     ("--blanks --field=2", b"a\t1024\tb\n", b"a\t1 KiB\tb\n"),
     ("--blanks", b"  1024 x\n5000 x\n", b" 1 KiB x\n5 KB x\n"),
-    ("--blanks --field=2- --invalid=warn", b"x 1024 \n", b"x 1 KiB \n", 0, told("line 1: field 3: ' '", BLANK, 2)),
+    ("--blanks --field=2- --invalid=warn", b"x 1024 \n", b"x 1 KiB \n", 0, told("line 1: field 3: ' '", BLANK, END)),
     ("--blanks --field=2 --padding=8", b"a  1024\n", b"a    1 KiB\n"),
     ("--blanks --field=2 --padding=-8", b"a  1024 b\n", b"a 1 KiB    b\n"),
     ("--blanks --field=5", b"total 12\n\n", b"total 12\n\n"),
@@ -83,7 +85,7 @@ SIZES = [
     ("-z", b"1 KB\x002 x", b"1 KB\0", 2, told("record 2: '2 x'", unit("x"), 3)),
     ("-- 1KB", b"", b"1 KB\n"),
     ("-- -1KB", b"", b"", 2, told("operand 1: '-1KB'", digit("-"), 1)),
-    ([""], b"", b"", 2, told("operand 1: ''", BLANK, 1)),
+    ([""], b"", b"", 2, told("operand 1: ''", BLANK, END)),
     (["1KB", "1KB\n2KB", "x"], b"", b"1 KB\n", 2,
      told("operand 2: '1KB\\u{a}2KB'", unit("\\n", "('i' or no character is expected)"), 4)),
     (["--invalid=warn", "1\n2", "x"], b"", b"1\n2\nx\n", 0,
@@ -95,11 +97,11 @@ SIZES = [
      told("operand 1: 'x'", digit("x"), 1) + told("operand 3: 'gib'", digit("g"), 1) + SPLIT),
     ("--invalid=warn 5 KB", b"", b"5 B\nKB\n", 0, told("operand 2: 'KB'", digit("K"), 1)),
     ("5K KB", b"", b"5 KB\n", 2, told("operand 2: 'KB'", digit("K"), 1)),
-    (["5", " "], b"", b"5 B\n", 2, told("operand 2: ' '", BLANK, 2)),
+    (["5", " "], b"", b"5 B\n", 2, told("operand 2: ' '", BLANK, END)),
     ("--header 4096K", b"", b"4.096 MB\n"),
     ("--header=2 1KB x", b"", b"1 KB\n", 2, told("operand 2: 'x'", digit("x"), 1)),
     ("", b"", b""), ("", b"1 KB", b"1 KB\n"),
-    ("", b"\n", b"", 2, told("line 1: ''", BLANK, 1)),
+    ("", b"\n", b"", 2, told("line 1: ''", BLANK, END)),
     ("--invalid=ignore", b"\n\n", b"\n\n"),
     ("-z", b"1 KB", b"1 KB\0"),
     ("", b"1 KB\r\n2 KB\r\n", b"1 KB\n2 KB\n"),
@@ -200,7 +202,7 @@ SUFFIXES = [
     ("--suffix=/s --padding=9 --to=plain 1K", b"", b"   1000/s\n"),
     ("--suffix=ps --padding=-9 --to=Mb -p0 5Mbps", b"", b"5 Mbps   \n"),
     ("--suffix=/s --max=1K 2K/s", b"", b"2 KB/s\n", 3, told("operand 1: '2K/s'", "above the maximum")),
-    ("--suffix=/s --invalid=warn /s 1x/s 1/s/s", b"", b"/s\n1x/s\n1/s/s\n", 0, told("operand 1: '/s'", BLANK, 1)
+    ("--suffix=/s --invalid=warn /s 1x/s 1/s/s", b"", b"/s\n1x/s\n1/s/s\n", 0, told("operand 1: '/s'", BLANK, END)
      + told("operand 2: '1x/s'", unit("x"), 2) + told("operand 3: '1/s/s'", unit("/"), 2)),
     ("--suffix=/s --invalid=warn 1K/S", b"", b"1K/S\n", 0,
      told("operand 1: '1K/S'", unit("/", "('B' or 'b' or no character is expected)"), 3)),
@@ -232,8 +234,8 @@ FIELDS = [
     ("-d , --field=3,1,1-2", b"1024,1024,1024,1024\n", b"1 KiB,1 KiB,1 KiB,1024\n"),
     ("-d , --field=1,2,3,4,5,6,7,8,9", b"1K," * 10 + b"1K\n", b"1 KB," * 9 + b"1K,1K\n"),
     ("-d , --field=-1,3-4,18446744073709551615-", b"1K,1K,1K,1K,1K\n", b"1 KB,1K,1 KB,1 KB,1K\n"),
-    ("-d ,", b",1024\n", b"", 2, told("line 1: field 1: ''", BLANK, 1)),
-    ("-d , --field=2 --invalid=warn", b"1024,\n", b"1024,\n", 0, told("line 1: field 2: ''", BLANK, 1)),
+    ("-d ,", b",1024\n", b"", 2, told("line 1: field 1: ''", BLANK, END)),
+    ("-d , --field=2 --invalid=warn", b"1024,\n", b"1024,\n", 0, told("line 1: field 2: ''", BLANK, END)),
     (["-d", "\n"], b"1024\n", b"1 KiB\n"),
     (["-d", "\\t", "--field=2"], b"a\t1024\n", b"a\t1 KiB\n"),
     ("-d , --field=2", b"\xc3\xa9,1024,\xff\n", b"\xc3\xa9,1 KiB,\xff\n"),
@@ -249,7 +251,7 @@ QUOTED = [
     field(b"1\t\x00", "1\\u{9}\\u{0}", unit("\\t"), 2),
     field("\u3000 1 Ké".encode(), "\\u{3000} 1 Ké", unit("é", "('B' or 'b' or no character is expected)"), 6),
     field(b" 1. ", " 1. ", digit("."), 4), field(b"1 bi", "1 bi", unit("i", "(no character is expected)"), 5),
-    field("\u3000\u00a0".encode(), "\\u{3000}\\u{a0}", BLANK, 3),
+    field("\u3000\u00a0".encode(), "\\u{3000}\\u{a0}", BLANK, END),
     *(field(text, text.decode(), "value number is too long", at)
       for text, at in ((b" 5192296858534827628530496329220096x", 35), (b"00" + b"1" * 40, 37), (b"1." + b"0" * 29, 31))),
     field(b"1.x", "1.x", digit("x"), 3), field(b"1 Kbitz", "1 Kbitz", unit("z", "('s' or no character is expected)"), 7),

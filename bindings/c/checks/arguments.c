@@ -78,7 +78,7 @@ static void specs(void)
 }
 
 /* Each call with these flags, by whether it knows them. The lengths are those of the messages "no value can be found
- * (character 1)", "a flag is unknown" and "the character 'x' is incorrect ('t' is expected) (character 3)". */
+ * (at the end of the text)", "a flag is unknown" and "the character 'x' is incorrect ('t' is expected) (character 3)". */
 static void flags(uint32_t word)
 {
     static const int64_t offsets[] = { 0, 1 };
@@ -105,7 +105,7 @@ static void flags(uint32_t word)
                             && (unit == 77) == !parses_units);
     check("parse_many", (byte_unit_parse_many("1", 1, offsets, 1, word, &size, &code) == BYTE_UNIT_OK) == parses
                             && code == (parses ? 0 : 77));
-    check("explain", byte_unit_explain("", 0, word, out, sizeof out) == (parses ? 35u : 17u)
+    check("explain", byte_unit_explain("", 0, word, out, sizeof out) == (parses ? 46u : 17u)
                          && memcmp(out, parses ? "no value" : "a flag i", 8) == 0);
     check("explain_unit", byte_unit_explain_unit("bix", 3, word, out, sizeof out) == (parses_units ? 62u : 17u)
                               && memcmp(out, parses_units ? "the char" : "a flag i", 8) == 0);
@@ -141,7 +141,7 @@ static void nulls(void)
               && byte_unit_parse("1000 RB", 7, 0, &size, NULL) == BYTE_UNIT_EXCEEDED_BOUNDS
               && byte_unit_parse("\xff", 1, 0, &size, NULL) == BYTE_UNIT_NOT_UTF8);
     check("parse_unit", byte_unit_parse_unit(NULL, 0, 0, &unit, NULL) == BYTE_UNIT_OK && unit == BYTE_UNIT_B);
-    check("explain", byte_unit_explain(NULL, 0, 0, NULL, 0) == 35 && byte_unit_explain("1", 1, 0, NULL, 0) == 0
+    check("explain", byte_unit_explain(NULL, 0, 0, NULL, 0) == 46 && byte_unit_explain("1", 1, 0, NULL, 0) == 0
                          && byte_unit_explain("1", 1, BYTE_UNIT_EITHER_KIND, NULL, 0) == 17);
     check("explain_unit", byte_unit_explain_unit(NULL, 0, 0, NULL, 0) == 0
                               && byte_unit_explain_unit("bix", 3, 0, NULL, 0) == 62);

@@ -162,8 +162,8 @@ static void answer_position(const char *of, const char *text)
         printf("none");
 }
 
-/* Answers `says KIND CASE TEXT`. The vectors have the message without the number of the wrong character. It has to be
- * at the end, if the error has a position, and to be that of the character there. */
+/* Answers `says KIND CASE TEXT`. The vectors have the message without its last words. If the error has a position, these
+ * have to be the number of the character there, or to say that only white space follows. */
 static void answer_says(uint32_t flags, const char *text)
 {
     size_t len = byte_unit_explain(text, strlen(text), flags, out, sizeof out), position, nth = 1, tail_len = 0;
@@ -171,7 +171,10 @@ static void answer_says(uint32_t flags, const char *text)
     if (byte_unit_error_position(text, strlen(text), &position)) {
         for (size_t at = 0; at < position; at++) /* counts the first bytes of characters */
             nth += ((unsigned char)text[at] & 0xC0) != 0x80;
-        tail_len = (size_t)sprintf(tail, " (character %zu)", nth);
+        if (text[position + strspn(text + position, " \t\n\v\f\r")])
+            tail_len = (size_t)sprintf(tail, " (character %zu)", nth);
+        else
+            tail_len = strlen(strcpy(tail, " (at the end of the text)"));
     }
     if (len < tail_len || memcmp(out + len - tail_len, tail, tail_len))
         printf("without%s: ", tail), tail_len = 0;

@@ -38,18 +38,20 @@ function positionOf(what, text) {
 }
 
 /**
- * Returns the message of a text without the number of the wrong character. It has to be at the end, if the error has a
- * position, and to be that of the character there.
+ * Returns the message of a text without its last words. If the error has a position, these have to be the number of the
+ * character there, or to say that only white space follows.
  */
 function messageOf(text, options) {
     const message = byteUnit.explain(text, options);
     try {
         byteUnit.parse(text, options);
     } catch (error) {
-        const number = error.position === null ? "" : ` (character ${[...text.slice(0, error.position)].length + 1})`;
-        if (!message.endsWith(number))
-            return `without${number}: ${message}`;
-        return message.slice(0, message.length - number.length);
+        const { position } = error;
+        const where = position === null ? "" : text.slice(position).trim() === "" ? " (at the end of the text)"
+            : ` (character ${[...text.slice(0, position)].length + 1})`;
+        if (!message.endsWith(where))
+            return `without${where}: ${message}`;
+        return message.slice(0, message.length - where.length);
     }
 }
 

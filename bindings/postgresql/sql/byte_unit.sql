@@ -21,7 +21,7 @@ INSERT INTO calls VALUES
     ($$'999999999999999999999999999999'::bytesize$$, '999999999999999999999999999.999 KB'),
     ($$'9007199254740993 B'::bytesize = '9007199254740992 B'::bytesize$$, 'false'),
     ($$'1 Ké'::bytesize$$, '22P02 invalid input syntax for type bytesize: "1 Ké": The character ''é'' is incorrect (''B'' or ''b'' or no character is expected) (character 4).'),
-    ($$''::bytesize$$, '22P02 invalid input syntax for type bytesize: "": No value can be found (character 1).'),
+    ($$''::bytesize$$, '22P02 invalid input syntax for type bytesize: "": No value can be found (at the end of the text).'),
     ($$'1000 RB'::bytesize$$, '22003 invalid input syntax for type bytesize: "1000 RB": The value 1000 exceeds the valid range.'),
     ($$('x' || repeat('é', 40))::bytesize$$, '22P02 invalid input syntax for type bytesize: "xééééééééééééééééééééééééééééééééééééééé..": The character ''x'' is not a number (character 1).');
 -- The functions, but for the calls that SQLite's extension answers, too.

@@ -37,8 +37,8 @@
     "\n" \
     "Returns the reason in the message of the error that `parse` raises, or `None` if the text is a size.\n" \
     "\n" \
-    "It ends with the number of the first wrong character, from 1, unless only the size is too large or the\n" \
-    "text is not UTF-8.\n" \
+    "It ends with the number of the first wrong character, from 1, or with \"(at the end of the text)\", unless\n" \
+    "only the size is too large or the text is not UTF-8.\n" \
     "\n" \
     ">>> explain(\"one KB\")\n" \
     "\"the character 'o' is not a number (character 1)\"\n" \
@@ -71,7 +71,8 @@
     "\n" \
     "Returns the reason in the message of the error that `parse_unit` raises, or `None` if the text is a unit.\n" \
     "\n" \
-    "It ends with the number of the first wrong character, from 1, unless the text is not UTF-8.\n" \
+    "It ends with the number of the first wrong character, from 1, or with \"(at the end of the text)\", unless\n" \
+    "the text is not UTF-8.\n" \
     "\n" \
     ">>> explain_unit(\"Kbitx\")\n" \
     "\"the character 'x' is incorrect ('s' or no character is expected) (character 5)\"\n" \

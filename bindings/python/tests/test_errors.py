@@ -19,10 +19,10 @@ TEN = "'B', 'K', 'M', 'G', 'T', 'P', 'E', 'Z', 'Y' or 'R' or no character"
 MESSAGES = [
     ("1,5 GB", f"'1,5 GB' is not a size: the character ',' is incorrect ({TEN} is expected) (character 2)"),
     (b"1,5 GB", f"b'1,5 GB' is not a size: the character ',' is incorrect ({TEN} is expected) (character 2)"),
-    ("", "'' is not a size: no value can be found (character 1)"),
+    ("", "'' is not a size: no value can be found (at the end of the text)"),
     ("\u3000-1", "'\\u3000-1' is not a size: the character '-' is not a number (character 2)"),
     ("\u3000-1".encode(), "b'\\xe3\\x80\\x80-1' is not a size: the character '-' is not a number (character 2)"),
-    ("1.\n", "'1.\\n' is not a size: the character '.' is not a number (character 3)"),
+    ("1.\n", "'1.\\n' is not a size: the character '.' is not a number (at the end of the text)"),
     ("1\u202eBK",
      f"'1\\u202eBK' is not a size: the character '\\u{{202e}}' is incorrect ({TEN} is expected) (character 2)"),
     ("1000 RB", "'1000 RB' is not a size: the value 1000 exceeds the valid range"),

@@ -10,7 +10,7 @@ from byte_unit import SizeError
 
 # text, flags, name, character, expected, also_expect_no_character, number, message
 ERRORS = [
-    (" \u2003\n", {}, "no_value", None, "", False, None, "no value can be found (character 4)"),
+    (" \u2003\n", {}, "no_value", None, "", False, None, "no value can be found (at the end of the text)"),
     ("1.é", {"bits": True}, "not_number", "é", "", False, None, "the character 'é' is not a number (character 3)"),
     ("1" * 40, {}, "number_too_long", None, "", False, None, "value number is too long (character 35)"),
     ("1K😀", {"ignore_case": True}, "unit", "😀", "B", True, None,

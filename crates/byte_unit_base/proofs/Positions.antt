@@ -3,7 +3,7 @@
 --
 -- Here `found` is a number and its unit, and `stop` is a state of the unit, that the text leads to it and no unit ends
 -- there, and what the code keeps of it. Of an error `of`, the parts are the error, and that it is one.
-use Rattle.std.proofs.Common.{◌≡◌, ℕ, ◌+◌, inr, List, [], ◌∷◌, Option, Some, None, Ok, Err, length}
+use Rattle.std.proofs.Common.{◌≡◌, ◌≢◌, ℕ, ◌+◌, inr, List, [], ◌∷◌, Option, Some, None, Ok, Err, length}
 use Rattle.std.proofs.Common.{take, drop, refl, sym, ap, ◌∙◌, arith, chars, IsUtf8, length-take-le, ◌≤◌, IsAscii, subst}
 use Rattle.std.proofs.Common.{take-append-drop}
 use Rattle.std.proofs.lemmas.Str.{IsAscii-append, IsUtf8-from_ascii}
@@ -13,15 +13,18 @@ use Rattle.byte_unit_base.specs.Spelling.{Flags}
 use Rattle.byte_unit_base.specs.SizeText.{trim_of}
 use Rattle.byte_unit_base.specs.ViablePrefix.{ParserState}
 use Rattle.byte_unit_base.specs.Fault.{Fault, fault_at, IsFaultAfter, IsFirstFault, IsSizeFault, IsUnitFault}
+use Rattle.byte_unit_base.specs.Fault.{exceeded, not_number, no_value, too_long, bad_unit}
 use Rattle.byte_unit_base.specs.Scan.{Scan, run}
 use Rattle.byte_unit_base.specs.UnitScan.{unit_step, unit_parser_state, start as unit_start}
 use Rattle.byte_unit_base.specs.UnitWord.{unit_stop}
 use Rattle.byte_unit_base.specs.SizeScan.{size_parser_state}
 use Rattle.byte_unit_base.specs.Outcome.{IsStop, IsUnitOrStop}
 use Rattle.byte_unit_base.specs.Readings.{IsNumberReading, IsUnitReading}
-use Rattle.byte_unit_base.specs.ParserEnds.{IsVisibleNext, IsFirst, IsStopAt, IsUnitStop, next_char, stop_fault}
+use Rattle.byte_unit_base.specs.ParserEnds.{IsVisibleNext, IsFirst, IsStopAt, IsUnitStop, stop_fault}
 use Rattle.byte_unit_base.specs.ParserEnds.{unit_stop_fault}
-use Rattle.byte_unit_base.specs.ErrorPosition.{leading_white, IsErrorAt, IsSizePosition, IsUnitPosition}
+use Rattle.byte_unit_base.specs.ErrorPosition.{leading_white, IsErrorAt, IsSizePosition, IsUnitPosition, next_char}
+use Rattle.byte_unit_base.specs.ErrorPosition.{location_at, IsLocationOf}
+use Rattle.byte_unit_base.specs.declared.errors.Location.{Location}
 use Rattle.byte_unit_base.specs.declared.read.stop.Reason.{Reason}
 use Rattle.byte_unit_base.specs.declared.unit.Unit.{Unit as UnitName}
 use Rattle.byte_unit_base.specs.declared.unit.scan.UnitStop.{UnitStop}
@@ -75,7 +78,7 @@ module _ {S Meaning : Type 0} {scan : Scan S Meaning} {Reached : S → List ℕ 
       (sym trimmed ∙ text_from text place ascii) run_is next after
 
   -- its position is the place in the text, after the leading white space
-  error_here : (index : ℕ) → index ≡ leading_white bytes + place
+  abbrev error_here : (index : ℕ) → index ≡ leading_white bytes + place
       → (fault : Fault) × IsFaultAfter current scan.flags (scan.place state) (chars (drop place text)) fault
       → IsErrorAt IsViable scan.flags bytes index
   error_here index index_is found = record {
@@ -94,6 +97,9 @@ pub stop_in_string : (flags : Flags) (bytes text : List ℕ) (place index : ℕ)
 stop_in_string flags bytes text place index reason next utf8 trimmed utf8_text stop next_is index_is =
     let at = stop.stopped utf8_text in
     let rest = chars (drop place text) in
+    let error = λ (other : Flags). error_here (size_scan_is other) bytes text trimmed place stop.within stop.ascii at.state
+    at.run_is at.before.0 index index_is (any_fault flags other (size_parser_state at.state) rest
+    (stop_fault flags reason (next_char rest)) at.before.1) in
     record {
       utf8 = utf8;
       reading = λ error error_is.
@@ -101,9 +107,8 @@ stop_in_string flags bytes text place index reason next utf8 trimmed utf8_text s
           at.before.0 (stop_fault flags reason (next_char rest)) at.before.1 in
           number_reading flags bytes (Err error) (subst (IsSizeFault current flags (trim_of bytes))
           (sym (error_is ∙ ap (stop_fault flags reason) next_is)) first);
-      position = λ other. error_here (size_scan_is other) bytes text trimmed place stop.within stop.ascii at.state
-          at.run_is at.before.0 index index_is (any_fault flags other (size_parser_state at.state) rest
-          (stop_fault flags reason (next_char rest)) at.before.1);
+      position = error;
+      location = λ other. (index, error other, ap (location_at bytes index) next_is);
     }
 
 -- ASCII with visible ends is trimmed, so the parser stops in the string where it stops in the bytes
@@ -115,6 +120,15 @@ stop_in_visible flags bytes place reason next seen stop =
     (IsAscii-append (take place bytes) (drop place bytes) stop.ascii seen.ascii)) in
     stop_in_string flags bytes bytes place place reason next utf8 (sym (trim_visible bytes utf8 seen.ends)) utf8 stop
     seen.next_is (omega (arith, no_leading_white bytes utf8 seen.ends))
+
+-- the location of each error but that of a size which is too large
+pub location_of : (IsLocation : Location → Type 0) (fault : Fault) (location : Location) → ((n : ℕ) → fault ≢ exceeded n)
+    → IsLocation location → IsLocationOf IsLocation fault location
+location_of IsLocation (exceeded n) location within is = absurd (within n refl)
+location_of IsLocation (not_number c) location within is = is
+location_of IsLocation no_value location within is = is
+location_of IsLocation too_long location within is = is
+location_of IsLocation (bad_unit c expected may_end) location within is = is
 
 -- where the parser of a unit stops
 
@@ -132,13 +146,16 @@ unit_stop_in_string flags bytes text place index kept next trimmed utf8 stop nex
     (λ c wide. no_other_step scan.multiple scan.word c (inr (omega (arith, wide)))) (drop place text)
     (utf8_from text place utf8 leads.within ascii) leads.next in
     let ends = λ (none : rest ≡ []). stop.2 (none_left text place utf8 leads.within ascii none) in
-    let fault = unit_stop_fault flags (unit_stop scan) (next_char rest) in (
+    let fault = unit_stop_fault flags (unit_stop scan) (next_char rest) in
+    let error = λ (other : Flags). error_here (unit_scan_is other) bytes text trimmed place leads.within ascii scan leads.run_is
+    cannot index index_is (any_fault flags other (unit_parser_state scan) rest fault
+    (unit_fault_after flags scan rest ends)) in (
       (λ error error_is.
           let first = fault_here (unit_scan_is flags) bytes text trimmed place leads.within ascii scan leads.run_is cannot
           fault (unit_fault_after flags scan rest ends) in
           let same = ap (λ kept. unit_stop_fault flags kept (next_char rest)) (sym stop.3) in
           unit_reading flags bytes (Err error) (subst (IsUnitFault current flags (trim_of bytes))
           (sym (error_is ∙ (ap (unit_stop_fault flags kept) next_is ∙ same))) first)),
-      (λ other. error_here (unit_scan_is other) bytes text trimmed place leads.within ascii scan leads.run_is cannot index
-          index_is (any_fault flags other (unit_parser_state scan) rest fault (unit_fault_after flags scan rest ends))),
+      error,
+      (λ other. (index, error other, ap (location_at bytes index) next_is)),
     )

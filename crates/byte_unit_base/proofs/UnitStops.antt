@@ -14,7 +14,8 @@ use Rattle.byte_unit_base.specs.UnitScan.{unit_step, unit_of, unit_parser_state,
 use Rattle.byte_unit_base.specs.UnitScan.{start, UnitScan, Multiple, One, SuffixPart, Empty, Bi}
 use Rattle.byte_unit_base.specs.UnitWord.{unit_stop, stop_parser_state}
 use Rattle.byte_unit_base.specs.Fault.{fault_at, fault_at_end, stops_at_bi, IsFaultAfter}
-use Rattle.byte_unit_base.specs.ParserEnds.{IsAfterLine, IsFirst, IsLeadingUnit, next_char, unit_stop_fault}
+use Rattle.byte_unit_base.specs.ErrorPosition.{next_char}
+use Rattle.byte_unit_base.specs.ParserEnds.{IsAfterLine, IsFirst, IsLeadingUnit, unit_stop_fault}
 use Rattle.byte_unit_base.proofs.Options.{none_or_some}
 use Rattle.byte_unit_base.proofs.Scans.{reached}
 use Rattle.byte_unit_base.proofs.UnitReached.{Spells-reached}

@@ -1,7 +1,7 @@
--- Where an input is wrong: the byte index of its first wrong character, and the number of it, as messages have it. An
--- input is given by its UTF-8 bytes.
+-- Where an input is wrong: the byte index of its first wrong character, and its location, as messages have it: the
+-- number of that character, or the end. An input is given by its UTF-8 bytes.
 use Rattle.std.specs.Prelude.{◌≡◌, ℕ, ◌+◌, ◌-◌, Bool, ◌||◌, nat_lt, nat_le}
-use Rattle.std.specs.Prelude.{List, [], ◌++◌, length, take, Option, Some, None, codes}
+use Rattle.std.specs.Prelude.{List, [], ◌∷◌, ◌++◌, length, take, Option, Some, None, codes}
 use Rattle.std.specs.Fmt.{decimal}
 use Rattle.std.specs.List.{count_by}
 use Rattle.std.specs.Str.{trim_start}
@@ -10,6 +10,8 @@ use Rattle.byte_unit_base.specs.Spelling.{Flags}
 use Rattle.byte_unit_base.specs.SizeText.{trim_of}
 use Rattle.byte_unit_base.specs.ViablePrefix.{ParserState, IsViableUnitPrefix, IsViableSizePrefix}
 use Rattle.byte_unit_base.specs.Fault.{Fault, IsFirstFault, exceeded}
+use Rattle.byte_unit_base.specs.declared.errors.Location.{Location}
+use Rattle.byte_unit_base.specs.declared.errors.Location.TheVariants.{Whole, Character, End}
 
 -- the number of bytes of the white space at the start of an input
 abbrev pub leading_white : List ℕ → ℕ
@@ -41,18 +43,43 @@ IsUnitPosition bytes result = (flags : Flags) → IsPositionFor (IsViableUnitPre
 abbrev pub begins_character : ℕ → Bool
 begins_character byte = nat_lt byte 128 || nat_le 192 byte
 
--- the number, counted from 1, of the character at an index; one more than the last has at the end
+-- the number, counted from 1, of the character at an index
 abbrev pub character_number : List ℕ → ℕ → ℕ
 character_number bytes index = count_by begins_character (take index bytes) + 1
 
--- the words for the number of a character, if a message has one
-abbrev pub character_words : Option ℕ → List ℕ
-character_words None = []
-character_words (Some number) = codes " (character " ++ (decimal number ++ codes ")")
+-- the first character, or `None` if there is none
+abbrev pub next_char : List ℕ → Option ℕ
+next_char [] = None
+next_char (c ∷ rest) = Some c
 
--- the number of the wrong character of the bytes, where `IsPosition` is the position of their error; `None` if only the
--- size is too large
-abbrev pub IsNumberOf : (Option ℕ → Type 0) → List ℕ → Fault → Option ℕ → Type 0
-IsNumberOf IsPosition bytes (exceeded n) number = number ≡ None
-IsNumberOf IsPosition bytes _ number =
-    (position : ℕ) × IsPosition (Some position) × (number ≡ Some (character_number bytes position))
+-- the location of an error at an index, by the character there: at the end if there is none
+abbrev pub location_at : List ℕ → ℕ → Option ℕ → Location
+location_at bytes index None = End
+location_at bytes index (Some c) = Character (character_number bytes index)
+
+-- the location of the error of the input: at the end if all of it, without the white space at its ends, is a viable
+-- prefix
+abbrev pub IsLocationFor : (ParserState → List ℕ → Type 0) → Flags → List ℕ → Location → Type 0
+IsLocationFor IsViable flags bytes location =
+    (position : ℕ) × (error : IsErrorAt IsViable flags bytes position)
+    × (location ≡ location_at bytes position (next_char error.first.rest))
+
+-- the location of the error of a number and unit
+abbrev pub IsSizeLocation : List ℕ → Location → Type 0
+IsSizeLocation bytes location = (flags : Flags) → IsLocationFor (IsViableSizePrefix current) flags bytes location
+
+-- the location of the error of a unit
+abbrev pub IsUnitLocation : List ℕ → Location → Type 0
+IsUnitLocation bytes location = (flags : Flags) → IsLocationFor (IsViableUnitPrefix current) flags bytes location
+
+-- the location of this error, where `IsLocation` is that of an error of the grammar; the whole input if only the size
+-- is too large
+abbrev pub IsLocationOf : (Location → Type 0) → Fault → Location → Type 0
+IsLocationOf IsLocation (exceeded n) location = location ≡ Whole
+IsLocationOf IsLocation _ location = IsLocation location
+
+-- the words for a location in a message
+abbrev pub location_words : Location → List ℕ
+location_words Whole = []
+location_words (Character number) = codes " (character " ++ (decimal number ++ codes ")")
+location_words End = codes " (at the end of the text)"

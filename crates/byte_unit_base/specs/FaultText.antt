@@ -4,8 +4,9 @@ use Rattle.std.specs.Prelude.{ℕ, Bool, if◌then◌else◌, ◌==◌, length, 
 use Rattle.std.specs.Fmt.{debug_char, ◌++?◌}
 use Rattle.byte_unit_math.specs.Bounds.{places_of_decimal}
 use Rattle.byte_unit_math.specs.Numeral.{short_numeral}
-use Rattle.byte_unit_base.specs.ErrorPosition.{character_words}
+use Rattle.byte_unit_base.specs.ErrorPosition.{location_words}
 use Rattle.byte_unit_base.specs.declared.errors.ExceededBoundsError.{ExceededBoundsError}
+use Rattle.byte_unit_base.specs.declared.errors.Location.{Location}
 use Rattle.byte_unit_base.specs.declared.errors.UnitParseError.{UnitParseError}
 use Rattle.byte_unit_base.specs.declared.errors.ValueParseError.{ValueParseError}
 use Rattle.byte_unit_base.specs.declared.errors.ValueParseError.TheVariants.{ExceededBounds, NotNumber}
@@ -50,9 +51,9 @@ abbrev pub parse_text : ParseError → Option (List ℕ)
 parse_text (Value e) = value_text e
 parse_text (UnitError e) = unit_text e
 
--- that message, and after it the words for the number of a character, if there is one
-abbrev pub numbered_text : ParseError → Option ℕ → Option (List ℕ)
-numbered_text e number = parse_text e ++? Some (character_words number)
+-- that message, and after it the words for its location
+abbrev pub located_text : ParseError → Location → Option (List ℕ)
+located_text e location = parse_text e ++? Some (location_words location)
 
 -- the message of an error of a parser of JSON values
 abbrev pub json_text : JsonSizeError → Option (List ℕ)

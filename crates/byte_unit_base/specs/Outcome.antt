@@ -2,7 +2,7 @@
 -- byte_unit_c cite this file.
 use Rattle.std.specs.Prelude.{◌≡◌, ℕ, List, Option, Some, Result, Ok, Err}
 use Rattle.std.specs.Str.{IsUtf8}
-use Rattle.byte_unit_base.specs.ErrorPosition.{IsSizePosition, IsUnitPosition}
+use Rattle.byte_unit_base.specs.ErrorPosition.{IsSizePosition, IsUnitPosition, IsSizeLocation, IsUnitLocation, location_at}
 use Rattle.byte_unit_base.specs.Errors.{size_fault, unit_fault}
 use Rattle.byte_unit_base.specs.ParserEnds.{stop_fault, unit_stop_fault}
 use Rattle.byte_unit_base.specs.Readings.{IsNumberReading, IsUnitReading}
@@ -13,13 +13,14 @@ use Rattle.byte_unit_base.specs.declared.read.stop.Stop.{Stop}
 use Rattle.byte_unit_base.specs.declared.unit.Unit.{Unit as UnitName}
 use Rattle.byte_unit_base.specs.declared.unit.scan.UnitStop.{UnitStop}
 
--- the parser stops in this string: the error by the reason and by the character, or the end, is that of the string, and
--- the index is its position
+-- the parser stops in this string: the error by the reason and by the character, or the end, is that of the string, the
+-- index is its position, and both give its location
 pub record IsStop (flags : Flags) (bytes : List ℕ) (stop : Stop) : Type 0 where
   pub utf8 : IsUtf8 bytes
   pub reading : (error : ParseError) → size_fault error ≡ stop_fault flags stop.reason stop.next
       → IsNumberReading flags bytes (Err error)
   pub position : IsSizePosition bytes (Some stop.index)
+  pub location : IsSizeLocation bytes (location_at bytes stop.index stop.next)
 
 -- the number and the unit of the string, or where the parser stops in it
 abbrev pub IsNumberOrStop : Flags → List ℕ → Result (UnitName × ℕ) Stop → Type 0
@@ -27,10 +28,11 @@ IsNumberOrStop flags bytes (Ok (unit, number)) = IsNumberReading flags bytes (Ok
 IsNumberOrStop flags bytes (Err stop) = IsStop flags bytes stop
 
 -- the unit of the string; or what was read before the parser stops in it, and the character there, or `None` at the
--- end, by which the error is that of the string, and the position of this error
+-- end, by which the error is that of the string, and the position of this error; they give its location
 abbrev pub IsUnitOrStop : Flags → List ℕ → Result UnitName (UnitStop × Option ℕ × ℕ) → Type 0
 IsUnitOrStop flags bytes (Ok unit) = IsUnitReading flags bytes (Ok unit)
 IsUnitOrStop flags bytes (Err (stop, next, position)) =
     ((error : UnitParseError) → unit_fault error ≡ unit_stop_fault flags stop next
     → IsUnitReading flags bytes (Err error))
     × IsUnitPosition bytes (Some position)
+    × IsUnitLocation bytes (location_at bytes position next)

@@ -12,6 +12,7 @@ use Rattle.byte_unit_base.specs.Spelling.{Flags, Spells}
 use Rattle.byte_unit_base.specs.Number.{point, IsNumberText}
 use Rattle.byte_unit_base.specs.SizeText.{space, IsSizeText}
 use Rattle.byte_unit_base.specs.Fault.{Fault, IsFaultAfter, fault_at, no_unit, not_number, no_value, too_long, stops_at_bi}
+use Rattle.byte_unit_base.specs.ErrorPosition.{next_char}
 use Rattle.byte_unit_base.specs.Scan.{run}
 use Rattle.byte_unit_base.specs.UnitScan.{UnitScan, unit_of, unit_step, start}
 use Rattle.byte_unit_base.specs.UnitWord.{unit_stop, stop_parser_state}
@@ -53,11 +54,6 @@ first_eight bytes = take 8 (bytes ++ replicate 8 0)
 -- the character is no space
 abbrev pub IsNoSpace : ℕ → Type 0
 IsNoSpace c = c ≢ space
-
--- the first character, or `None` if there is none
-abbrev pub next_char : List ℕ → Option ℕ
-next_char [] = None
-next_char (c ∷ rest) = Some c
 
 -- with the digit at this place the value of the digits reaches the limit of a whole part
 pub record IsLimitAt (digits : List ℕ) (place : ℕ) : Type 0 where

@@ -7,7 +7,7 @@ use Rattle.byte_unit_base.specs.Shape.{Shape}
 use Rattle.byte_unit_base.specs.Version.{current}
 use Rattle.byte_unit_base.specs.Fault.{exceeded}
 use Rattle.byte_unit_base.specs.Errors.{size_fault}
-use Rattle.byte_unit_base.specs.declared.errors.NumberedError.{NumberedError}
+use Rattle.byte_unit_base.specs.declared.errors.LocatedError.{LocatedError}
 use Rattle.byte_unit_base.specs.declared.errors.ParseError.{ParseError}
 use Rattle.byte_unit_base.specs.declared.kind.Kind.{Kind}
 use Rattle.byte_unit_base.specs.Accepted.{as_written, IsAcceptedAs, ExceedsAs, IsRejectedAs}
@@ -43,8 +43,8 @@ IsBytesReadingAs meant kind ignore_case bytes result =
 abbrev pub IsBytesReading : Kind → Bool → List ℕ → Option (Result ℕ ParseError) → Type 0
 IsBytesReading = IsBytesReadingAs as_written
 
--- a result without the number of the wrong character
-abbrev pub without_number : Option (Result ℕ NumberedError) → Option (Result ℕ ParseError)
-without_number None = None
-without_number (Some (Ok n)) = Some (Ok n)
-without_number (Some (Err e)) = Some (Err e.error)
+-- a result without the location of its error
+abbrev pub without_location : Option (Result ℕ LocatedError) → Option (Result ℕ ParseError)
+without_location None = None
+without_location (Some (Ok n)) = Some (Ok n)
+without_location (Some (Err e)) = Some (Err e.error)

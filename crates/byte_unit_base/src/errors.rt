@@ -2,7 +2,6 @@
 
 ghost use Rattle.std.specs.Prelude.{◌≡◌, ⊤, Some};
 ghost use Rattle.std.specs.Fmt.{DisplaysOnOk};
-ghost use Rattle.byte_unit_base.specs.ErrorPosition.{character_words};
 ghost use Rattle.byte_unit_base.specs.FaultText.{expected_text, others_text};
 
 use crate::unit::scan::Expected;
@@ -94,17 +93,26 @@ pub enum ParseError {
     Unit(UnitParseError),
 }
 
-/// The error of a string that is not a size, and the number of its first wrong character, as messages have it:
-/// `size::explain` returns it.
+/// Where a string is wrong, as messages have it.
+#[derive(Clone, Copy)]
+pub enum Location {
+    /// All of the string: only its size is too large.
+    Whole,
+    /// At its first wrong character. Holds the number of the character, counted from 1.
+    Character(usize),
+    /// At its end, before white space there: it ends too early.
+    End,
+}
+
+/// The error of a string that is not a size, and where the string is wrong: `size::explain` returns it.
 #[derive(Drop)]
-pub struct NumberedError {
+pub struct LocatedError {
     /// The error.
     pub error: ParseError,
     /// What the message names as expected: `Nothing` if it is no error of a unit.
     pub expected: Expected,
-    /// The number of the character, counted from 1, one more than the last has if the string ends too early. `None` if
-    /// only the size is too large.
-    pub number: Option<usize>,
+    /// Where the string is wrong.
+    pub location: Location,
 }
 
 /// The error of a JSON value that is not a size.
@@ -265,24 +273,29 @@ impl fmt::Display for ParseError {
 
 impl Error for ParseError {}
 
-impl fmt::Display for NumberedError {
-    ghost use Rattle.byte_unit_base.specs.FaultText.{numbered_text};
+impl fmt::Display for LocatedError {
+    ghost use Rattle.byte_unit_base.specs.FaultText.{located_text};
 
-    ghost output = { λ e. numbered_text e.error e.number };
+    ghost output = { λ e. located_text e.error e.location };
 
     fn fmt<W: fmt::Write>(&self, f: &mut fmt::Formatter<W>) -> fmt::Result {
         fmt::Display::fmt(&self.error, f)?;
-        write_number(self.number, f)
+        fmt::Display::fmt(&self.location, f)
     }
 }
 
-/// Writes the words for the number of a character, if there is one.
-fn write_number<W: fmt::Write>(number: Option<usize>, f: &mut fmt::Formatter<W>) -> fmt::Result
-    ensures { DisplaysOnOk W.write_str_gives f.old result (Some (character_words number)) f.new }
-{
-    match number {
-        None => Ok(()),
-        Some(number) => write!(f, " (character {number})"),
+/// Writes the words that follow a message, with a space before them, or nothing if all of the string is wrong.
+impl fmt::Display for Location {
+    ghost use Rattle.byte_unit_base.specs.ErrorPosition.{location_words};
+
+    ghost output = { λ location. Some (location_words location) };
+
+    fn fmt<W: fmt::Write>(&self, f: &mut fmt::Formatter<W>) -> fmt::Result {
+        match self {
+            Location::Whole => Ok(()),
+            Location::Character(number) => write!(f, " (character {number})"),
+            Location::End => f.write_str(" (at the end of the text)"),
+        }
     }
 }
 

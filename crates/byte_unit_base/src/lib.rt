@@ -4,12 +4,13 @@
 #![tactic(auto)]
 
 pub use crate::errors::{
-    ExceededBoundsError, JsonSizeError, NumberedError, ParseError, UnitParseError, ValueParseError,
+    ExceededBoundsError, JsonSizeError, LocatedError, Location, ParseError, UnitParseError,
+    ValueParseError,
 };
 pub use crate::kind::Kind;
 pub use crate::quoted::Quoted;
 pub use crate::read::read_size;
-pub use crate::read::stop::{NumberStop, Reason, Stop, character_number, error_at};
+pub use crate::read::stop::{NumberStop, Reason, Stop, error_at, location_at};
 pub use crate::unit::parse::read_unit_text;
 pub use crate::unit::scan::{Expected, Flags, UnitStop};
 pub use crate::unit::tables::{PREFIXES, prefix_letter, unit_at};

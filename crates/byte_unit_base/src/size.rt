@@ -7,13 +7,13 @@ ghost use Rattle.byte_unit_math.specs.Bounds.{size_limit};
 ghost use Rattle.byte_unit_base.specs.Kinds.{bits_in, flags_for};
 ghost use Rattle.byte_unit_base.specs.Readings.{IsNumberReading};
 ghost use Rattle.byte_unit_base.specs.BinaryReading.{unit_meant};
-ghost use Rattle.byte_unit_base.specs.SizeReading.{IsReadingAs, IsBytesReadingAs, IsNotUtf8, without_number};
+ghost use Rattle.byte_unit_base.specs.SizeReading.{IsReadingAs, IsBytesReadingAs, IsNotUtf8, without_location};
 ghost use Rattle.byte_unit_base.specs.Errors.{size_fault};
 ghost use Rattle.byte_unit_base.specs.Expected.{expected_codes, named_in};
 ghost use Rattle.byte_unit_base.specs.Units.{shape_of};
 ghost use Rattle.byte_unit_base.specs.SizeOrNone.{IsSizeOfUnit, IsSizeOfDecimal};
 ghost use Rattle.byte_unit_base.specs.Line.{IsLine};
-ghost use Rattle.byte_unit_base.specs.ErrorPosition.{IsSizePosition, IsNumberOf};
+ghost use Rattle.byte_unit_base.specs.ErrorPosition.{IsSizePosition, IsSizeLocation, IsLocationOf};
 ghost use Rattle.byte_unit_base.specs.ParserEnds.{IsVisibleNext};
 ghost use Rattle.byte_unit_base.specs.Outcome.{IsNumberOrStop};
 ghost use Rattle.byte_unit_base.specs.Spelling.{Flags};
@@ -21,10 +21,10 @@ ghost use Rattle.byte_unit_base.specs.declared.errors.ParseError.TheVariants.{Va
 ghost use Rattle.byte_unit_base.specs.declared.errors.ValueParseError.TheVariants.{ExceededBounds};
 
 use crate::read::number::read_number_and_unit;
-use crate::read::stop::{Stop, character_number, error_at, expected_at, first_ascii};
+use crate::read::stop::{Stop, error_at, expected_at, first_ascii, location_at};
 use crate::read::{has_visible_ends, read_or_stop};
 use crate::unit::scan::{Expected, Flags};
-use crate::{Kind, NumberedError, ParseError, Unit, ValueParseError, read_size};
+use crate::{Kind, LocatedError, Location, ParseError, Unit, ValueParseError, read_size};
 use byte_unit_math::{Decimal, least_size};
 use std::str;
 
@@ -297,28 +297,28 @@ fn read_string(bytes: &[u8], flags: Flags) -> Option<Result<(Unit, Decimal), Sto
     Some(read_or_stop(string, flags))
 }
 
-/// Parses a size from bytes, as [`parse_bytes`], for a message: with the number of the first wrong character. Returns
-/// `None` if the bytes are not UTF-8.
+/// Parses a size from bytes, as [`parse_bytes`], for a message: with the location of the error. Returns `None` if the
+/// bytes are not UTF-8.
 ///
 /// # Errors
-/// Returns `Some` with the error of `parse_bytes` and the number of the character.
+/// Returns `Some` with the error of `parse_bytes` and its location.
 ///
 /// # Examples
 /// ```rust
 /// assert!(rt; matches!(size::explain::<false>(b"1 KiB", false, Kind::Byte), Some(Ok(1024))));
 /// let error = size::explain::<false>("1 µB".as_bytes(), false, Kind::Byte);
-/// assert!(rt; matches!(error, Some(Err(NumberedError { number: Some(3), .. }))));
+/// assert!(rt; matches!(error, Some(Err(LocatedError { location: Location::Character(3), .. }))));
 /// ```
 #[inline(always)]
 pub fn explain<const BINARY: bool>(
     bytes: &[u8],
     ignore_case: bool,
     kind: Kind,
-) -> Option<Result<u128, NumberedError>>
+) -> Option<Result<u128, LocatedError>>
     ensures reading { IsBytesReadingAs (unit_meant BINARY) kind ignore_case bytes.now
-        (without_number result) }
-    ensures number { IfSome result (λ answer. IfErr answer (λ e.
-        IsNumberOf (IsSizePosition bytes.now) bytes.now (size_fault e.error) e.number)) }
+        (without_location result) }
+    ensures location { IfSome result (λ answer. IfErr answer (λ e.
+        IsLocationOf (IsSizeLocation bytes.now) (size_fault e.error) e.location)) }
     ensures expected { IfSome result (λ answer. IfErr answer (λ e.
         expected_codes e.expected ≡ named_in (size_fault e.error))) }
 {
@@ -326,16 +326,16 @@ pub fn explain<const BINARY: bool>(
     match read_text(bytes, flags) {
         Some(Ok(found)) => match size_of::<BINARY>((found.1, found.0), kind) {
             Ok(size) => Some(Ok(size)),
-            Err(error) => Some(Err(NumberedError {
+            Err(error) => Some(Err(LocatedError {
                 error,
                 expected: Expected::Nothing,
-                number: None,
+                location: Location::Whole,
             })),
         },
-        Some(Err(stop)) => Some(Err(NumberedError {
+        Some(Err(stop)) => Some(Err(LocatedError {
             error: error_at(stop.reason, stop.next, flags),
             expected: expected_at(stop.reason, stop.next, flags),
-            number: Some(character_number(bytes, stop.index)),
+            location: location_at(bytes, stop.index, stop.next),
         })),
         None => None,
     }

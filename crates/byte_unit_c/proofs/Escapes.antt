@@ -1,7 +1,9 @@
 -- Messages with a quoted character.
-use Rattle.std.proofs.Common.{◌≡◌, ◌≢◌, ℕ, ◌+◌, ◌≤◌, List, [], ◌∷◌, ◌++◌, length, arith, decimal, length-append, codes}
+use Rattle.std.proofs.Common.{◌≡◌, ◌≢◌, ℕ, ◌+◌, ◌≤◌, List, [], ◌∷◌, length, arith, length-append}
 use Rattle.std.proofs.lemmas.Bool.Decides.{nat_tests}
 use Rattle.std.specs.Fmt.{debug_escape}
+use Rattle.byte_unit_base.specs.ErrorPosition.{location_words}
+use Rattle.byte_unit_base.specs.declared.errors.Location.{Location}
 use Rattle.byte_unit_c.specs.Parse.{quoting}
 
 -- `Debug` writes a printable character of ASCII (32 to 126), if it is no quote (39) and no backslash (92), as it is
@@ -10,8 +12,6 @@ unfolding debug_escape
 letter c printable ascii no_quote no_backslash = grind (arith, nat_tests)
 
 -- the length of such a message
-pub quoted_length : (character : ℕ) (rest : List ℕ) (number : ℕ)
-    → length (quoting character rest number) ≡ 29 + length rest + length (decimal number)
-quoted_length character rest number =
-    let digits = decimal number in
-    omega (arith, length-append rest (codes " (character " ++ (digits ++ codes ")")), length-append digits (codes ")"))
+pub quoted_length : (character : ℕ) (rest : List ℕ) (location : Location)
+    → length (quoting character rest location) ≡ 16 + length rest + length (location_words location)
+quoted_length character rest location = omega (arith, length-append rest (location_words location))

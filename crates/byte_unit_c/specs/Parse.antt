@@ -3,13 +3,15 @@ use Rattle.std.specs.Prelude.{◌≡◌, ℕ, ◌<◌, Bool, List, Option, Some,
 use Rattle.std.specs.Prelude.{◌∷◌, ◌++◌, codes}
 use Rattle.std.specs.Fmt.Cut.{IsTextOrCut}
 use Rattle.std.specs.Str.{IsUtf8}
-use Rattle.byte_unit_base.specs.ErrorPosition.{IsNumberOf, IsSizePosition, IsUnitPosition, character_words}
+use Rattle.byte_unit_base.specs.ErrorPosition.{IsSizePosition, IsUnitPosition, IsLocationOf, IsSizeLocation}
+use Rattle.byte_unit_base.specs.ErrorPosition.{IsUnitLocation, location_words}
 use Rattle.byte_unit_base.specs.Errors.{size_fault, unit_fault}
-use Rattle.byte_unit_base.specs.FaultText.{numbered_text}
+use Rattle.byte_unit_base.specs.FaultText.{located_text}
 use Rattle.byte_unit_base.specs.Readings.{IsUnitReading}
 use Rattle.byte_unit_base.specs.Shape.{Shape}
 use Rattle.byte_unit_base.specs.SizeReading.{IsBytesReadingAs}
 use Rattle.byte_unit_base.specs.Spelling.{flags_of}
+use Rattle.byte_unit_base.specs.declared.errors.Location.{Location}
 use Rattle.byte_unit_base.specs.declared.errors.ParseError.{ParseError}
 use Rattle.byte_unit_base.specs.declared.errors.ParseError.TheVariants.{Unit as UnitError}
 use Rattle.byte_unit_base.specs.declared.errors.UnitParseError.{UnitParseError}
@@ -54,20 +56,21 @@ IsUnitReturned bytes (Some (Err e)) code unit unit' errors errors' =
     (code ≡ code_of (unit_fault e)) × IsErrorWritten (IsUnitPosition bytes) (unit_fault e) errors errors'
     × (unit' ≡ unit)
 
--- the message of the error with the number, or at most 256 bytes of it that end in dots; no claim if std specifies no
+-- the message of the error with its location, or at most 256 bytes of it that end in dots; no claim if std specifies no
 -- message
-abbrev pub IsErrorText : ParseError → Option ℕ → List ℕ → Type 0
-IsErrorText e number kept = IfSome (numbered_text e number) (λ words. IsTextOrCut 256 words kept)
+abbrev pub IsErrorText : ParseError → Location → List ℕ → Type 0
+IsErrorText e location kept = IfSome (located_text e location) (λ words. IsTextOrCut 256 words kept)
 
--- Private: a message with a quoted character, what follows it, and the number of a character
-abbrev pub quoting : ℕ → List ℕ → ℕ → List ℕ
-quoting character rest number = codes "the character '" ++ character ∷ (rest ++ character_words (Some number))
+-- Private: a message with a quoted character, what follows it, and the words for a location
+abbrev pub quoting : ℕ → List ℕ → Location → List ℕ
+quoting character rest location = codes "the character '" ++ character ∷ (rest ++ location_words location)
 
--- the message of the error of the bytes, with the number of their wrong character, of at least one byte
-abbrev pub IsErrorExplained : (Option ℕ → Type 0) → List ℕ → ParseError → List ℕ → List ℕ → ℕ → Type 0
-IsErrorExplained IsPosition bytes e old new needed =
-    (number : Option ℕ) × IsNumberOf IsPosition bytes (size_fault e) number × (0 < needed)
-    × WritesForm (IsErrorText e number) old new needed
+-- the message of the error with its location, of at least one byte, where `IsLocation` is that of an error of the
+-- grammar
+abbrev pub IsErrorExplained : (Location → Type 0) → ParseError → List ℕ → List ℕ → ℕ → Type 0
+IsErrorExplained IsLocation e old new needed =
+    (location : Location) × IsLocationOf IsLocation (size_fault e) location × (0 < needed)
+    × WritesForm (IsErrorText e location) old new needed
 
 -- the message of the error, or that the bytes are not UTF-8, of at least one byte; 0, and nothing is written, if the
 -- string represents a size
@@ -75,7 +78,7 @@ abbrev pub IsExplanation : List ℕ → Option (Result ℕ ParseError) → List 
 IsExplanation bytes None old new needed =
     (0 < needed) × WritesForm (λ words. words ≡ codes "the text is not UTF-8") old new needed
 IsExplanation bytes (Some (Ok n)) old new needed = (needed ≡ 0) × (new ≡ old)
-IsExplanation bytes (Some (Err e)) old new needed = IsErrorExplained (IsSizePosition bytes) bytes e old new needed
+IsExplanation bytes (Some (Err e)) old new needed = IsErrorExplained (IsSizeLocation bytes) e old new needed
 
 -- Private: what a call that explains with these flags returns and writes, where a unit `u` that is read counts as
 -- `meant u`
@@ -91,4 +94,4 @@ IsUnitExplanation bytes None old new needed =
     (0 < needed) × WritesForm (λ words. words ≡ codes "the text is not UTF-8") old new needed
 IsUnitExplanation bytes (Some (Ok name)) old new needed = (needed ≡ 0) × (new ≡ old)
 IsUnitExplanation bytes (Some (Err e)) old new needed =
-    IsErrorExplained (IsUnitPosition bytes) bytes (UnitError e) old new needed
+    IsErrorExplained (IsUnitLocation bytes) (UnitError e) old new needed

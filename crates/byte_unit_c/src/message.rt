@@ -1,47 +1,51 @@
-//! The messages of errors, with the number of the wrong character.
+//! The messages of errors, with their locations.
 
 ghost use Rattle.std.specs.Prelude.{◌≡◌, ◌<◌, ◌≤◌, ◌∷◌, ◌++◌, length, [], Some, IfSome, IsTrue, codes};
 ghost use Rattle.std.specs.Fmt.{debug_char, ◌++?◌};
 ghost use Rattle.std.specs.Fmt.Cut.{IsTextOrCut};
 ghost use Rattle.std.specs.Fmt.InlineText.{inline_text};
+ghost use Rattle.byte_unit_base.specs.ErrorPosition.{location_words};
 ghost use Rattle.byte_unit_base.specs.Errors.{size_fault};
 ghost use Rattle.byte_unit_base.specs.Expected.{expected_codes, named_in};
-ghost use Rattle.byte_unit_base.specs.FaultText.{parse_text, expected_text, numbered_text};
+ghost use Rattle.byte_unit_base.specs.FaultText.{parse_text, expected_text, located_text};
 ghost use Rattle.byte_unit_format.specs.Written.{WritesForm};
 ghost use Rattle.byte_unit_math.specs.PutBefore.{IsPutBefore};
 ghost use Rattle.byte_unit_c.specs.Parse.{IsErrorText, quoting};
 
 use crate::texts::write;
-use byte_unit_base::{Expected, NumberedError, ParseError, ValueParseError};
+use byte_unit_base::{Expected, LocatedError, Location, ParseError, ValueParseError};
 use byte_unit_format::put;
 use byte_unit_math::{decimal_len, put_u128};
 use std::fmt::InlineText;
 
-/// Writes the message of an error, and after it the number of the first wrong character, if there is one, to the start
-/// of `out` if they fit, and returns their length, at most 256 bytes.
+/// The words for the end of a text.
+const END: &[u8] = b" (at the end of the text)";
+
+/// Writes the message of an error, and after it its location, to the start of `out` if they fit, and returns their
+/// length, at most 256 bytes.
 ///
 /// Most messages are known but for a character and its number. They are not put together by a `Formatter`, which takes
 /// five times as long.
 ///
 /// Precondition (proved at every call): `error.expected` is what the error names as expected.
-pub fn write_message(error: &NumberedError, out: &mut [u8]) -> usize
+pub fn write_message(error: &LocatedError, out: &mut [u8]) -> usize
     requires { expected_codes error.now.expected ≡ named_in (size_fault error.now.error) }
     ensures positive { 0 < result }
-    ensures text { WritesForm (IsErrorText error.now.error error.now.number) out.old out.new result }
+    ensures text { WritesForm (IsErrorText error.now.error error.now.location) out.old out.new result }
     ensures bound { result ≤ 256 }
 {
-    match (quoted(error), error.number) {
-        (Some((character, rest)), Some(number)) => write_quoted(character, rest, number, out),
-        _ => write_formatted(error, out),
+    match quoted(error) {
+        Some((character, rest)) => write_quoted(character, rest, error.location, out),
+        None => write_formatted(error, out),
     }
 }
 
 /// Writes a message as `write_message` does, by its `Display`. Not inlined, since its memory would be cleared first.
 #[cold]
 #[inline(never)]
-fn write_formatted(error: &NumberedError, out: &mut [u8]) -> usize
+fn write_formatted(error: &LocatedError, out: &mut [u8]) -> usize
     ensures positive { 0 < result }
-    ensures text { WritesForm (IsErrorText error.now.error error.now.number) out.old out.new result }
+    ensures text { WritesForm (IsErrorText error.now.error error.now.location) out.old out.new result }
     ensures bound { result ≤ 256 }
 {
     write(some_message(message_of(error).as_str().as_bytes()), out)
@@ -49,7 +53,7 @@ fn write_formatted(error: &NumberedError, out: &mut [u8]) -> usize
 
 /// Returns the character that the message of an error quotes, and what follows it there. Returns `None` if it quotes no
 /// character, or not as it is.
-fn quoted(error: &NumberedError) -> Option<(u8, &'static [u8])>
+fn quoted(error: &LocatedError) -> Option<(u8, &'static [u8])>
     requires { expected_codes error.now.expected ≡ named_in (size_fault error.now.error) }
     ensures text { IfSome result (λ found. parse_text error.now.error
         ≡ Some (codes "the character '" ++ found.0 ∷ found.1.now)) }
@@ -102,38 +106,66 @@ fn rest_of_message(expected: Expected, may_end: bool) -> Option<&'static [u8]>
     }
 }
 
-/// Writes `the character '`, a character of ASCII, the rest of a message and the words for the number of a character to
-/// the start of `out` if they fit, and returns their length.
-fn write_quoted(character: u8, rest: &[u8], number: usize, out: &mut [u8]) -> usize
+/// Writes `the character '`, a character of ASCII, the rest of a message and the words for a location to the start of
+/// `out` if they fit, and returns their length.
+fn write_quoted(character: u8, rest: &[u8], location: Location, out: &mut [u8]) -> usize
     requires { length rest.now ≤ 100 }
-    ensures text { WritesForm (λ form. form ≡ quoting character rest.now number) out.old out.new result }
+    ensures text { WritesForm (λ form. form ≡ quoting character rest.now location) out.old out.new result }
     ensures bound { result ≤ 256 }
 {
-    // The beginning has 15 bytes, ` (character ` 12, and the character and `)` one each.
-    let len = 29 + rest.len() + decimal_len(number as u128);
+    // The beginning has 15 bytes, and the character one.
+    let len = 16 + rest.len() + location_len(location);
     if len <= out.len() {
-        put_quoted(character, rest, number, out, len);
+        put_quoted(character, rest, location, out, len);
     }
     len
 }
 
-/// Writes what `write_quoted` does so that it ends before the index `end`, and returns the index where it begins.
-fn put_quoted(character: u8, rest: &[u8], number: usize, out: &mut [u8], end: usize) -> usize
-    requires room { length (quoting character rest.now number) ≤ end }
-    requires end_bound { end ≤ length out.old }
-    ensures { IsPutBefore (quoting character rest.now number) end out.old out.new result }
+/// Returns the length of the words for a location.
+fn location_len(location: Location) -> usize
+    ensures len { result ≡ length (location_words location) }
+    ensures bound { result ≤ 52 }
 {
-    let digits = put(b")", out, end);
-    let words = put_u128(number as u128, out, digits);
-    let after = put(b" (character ", out, words);
+    match location {
+        Location::Whole => 0,
+        // ` (character ` has 12 bytes, and `)` one.
+        Location::Character(number) => 13 + decimal_len(number as u128),
+        Location::End => END.len(),
+    }
+}
+
+/// Writes what `write_quoted` does so that it ends before the index `end`, and returns the index where it begins.
+fn put_quoted(character: u8, rest: &[u8], location: Location, out: &mut [u8], end: usize) -> usize
+    requires room { length (quoting character rest.now location) ≤ end }
+    requires end_bound { end ≤ length out.old }
+    ensures { IsPutBefore (quoting character rest.now location) end out.old out.new result }
+{
+    let after = put_location(location, out, end);
     let quote = put(rest, out, after);
     let beginning = put(&[character], out, quote);
     put(b"the character '", out, beginning)
 }
 
+/// Writes the words for a location so that they end before the index `end`, and returns the index where they begin.
+fn put_location(location: Location, out: &mut [u8], end: usize) -> usize
+    requires room { length (location_words location) ≤ end }
+    requires end_bound { end ≤ length out.old }
+    ensures { IsPutBefore (location_words location) end out.old out.new result }
+{
+    match location {
+        Location::Whole => end,
+        Location::Character(number) => {
+            let digits = put(b")", out, end);
+            let words = put_u128(number as u128, out, digits);
+            put(b" (character ", out, words)
+        }
+        Location::End => put(END, out, end),
+    }
+}
+
 /// Returns the message of an error. The longest message has some 150 bytes, so none is truncated.
-fn message_of(error: &NumberedError) -> InlineText<256>
-    ensures { IfSome (numbered_text error.now.error error.now.number)
+fn message_of(error: &LocatedError) -> InlineText<256>
+    ensures { IfSome (located_text error.now.error error.now.location)
         (λ words. IsTextOrCut 256 words (inline_text result)) }
 {
     InlineText::of(error)

@@ -3,10 +3,12 @@ use Rattle.std.specs.Prelude.{◌≡◌, ℕ, Bool, true, false, IfSome, MatchBo
 use Rattle.std.specs.Prelude.{codes}
 use Rattle.std.specs.Fmt.{decimal}
 use Rattle.std.specs.Str.{IsUtf8}
-use Rattle.byte_unit.specs.ErrorPosition.{IsNumberOf, IsSizePosition, character_words}
+use Rattle.byte_unit.specs.ErrorPosition.{IsLocationOf, IsSizeLocation, location_words}
 use Rattle.byte_unit.specs.Errors.{size_fault}
 use Rattle.byte_unit.specs.FaultText.{parse_text}
 use Rattle.byte_unit_base.specs.Quoted.{quote}
+use Rattle.byte_unit_base.specs.declared.errors.Location.{Location}
+use Rattle.byte_unit_base.specs.declared.errors.Location.TheVariants.{Whole}
 use Rattle.byte_unit_command.specs.Field.{ignores_case, without_suffix}
 use Rattle.byte_unit_command.specs.Prefixes.{IsRejectedBy}
 use Rattle.byte_unit_command.specs.State.{Place}
@@ -42,16 +44,16 @@ quoted_text field = codes "'" ++ quote field ++ codes "': "
 abbrev pub place_text : Place → ℕ → List ℕ
 place_text place number = record_text place ++ field_text place.options.delimiter number
 
--- the number of the first wrong character of a field, if the parser rejects it and not only its size is too large
-abbrev pub number_of : FieldError → Option ℕ
-number_of (Rejected e) = e.number
-number_of _ = None
+-- where a field is wrong
+abbrev pub location_of : FieldError → Location
+location_of (Rejected e) = e.location
+location_of _ = Whole
 
 -- a message about the field with this number, in the record at this place
 abbrev pub IsMessage : Place → ℕ → List ℕ → FieldError → List ℕ → Type 0
 IsMessage place number field reason text =
     (words : List ℕ) × AreWords reason words
-    × (text ≡ place_text place number ++ quoted_text field ++ words ++ character_words (number_of reason) ++ 10 ∷ [])
+    × (text ≡ place_text place number ++ quoted_text field ++ words ++ location_words (location_of reason) ++ 10 ∷ [])
 
 -- such a message if it is told, and else nothing
 abbrev pub IsMessageIf : Bool → Place → ℕ → List ℕ → FieldError → List ℕ → Type 0
@@ -64,13 +66,13 @@ AreLimitMessages place number field size text =
     (above below : List ℕ) × IsMessageIf (is_above place.options.max size) place number field Above above
     × IsMessageIf (is_below place.options.min size) place number field Below below × (text ≡ above ++ below)
 
--- this is the reason why the field is not a size, with the number of the first wrong character of its text
+-- this is the reason why the field is not a size, with the location of the error in its text
 abbrev pub IsFieldError : Options → List ℕ → FieldError → Type 0
 IsFieldError options field NotUtf8 = ¬ IsUtf8 (without_suffix options.suffix.now field)
 IsFieldError options field (Rejected e) =
     let text = without_suffix options.suffix.now field in
     IsUtf8 text × IsRejectedBy options.binary options.kind (ignores_case options.kind options.ignore_case) text
-    (size_fault e.error) × IsNumberOf (IsSizePosition text) text (size_fault e.error) e.number
+    (size_fault e.error) × IsLocationOf (IsSizeLocation text) (size_fault e.error) e.location
 IsFieldError options field _ = ⊥
 
 -- whether rejected fields are told

@@ -2,17 +2,16 @@
 
 ghost use Rattle.std.specs.Prelude.{◌≡◌, ◌++◌, List, ℕ, Option, OnOk};
 ghost use Rattle.std.specs.String.{string_bytes};
-ghost use Rattle.byte_unit.specs.ErrorPosition.{character_words};
 ghost use Rattle.byte_unit_command.specs.Field.{IsNoSize};
 ghost use Rattle.byte_unit_command.specs.Messages.{AreLimitMessages, AreWords, IsRejectMessage};
-ghost use Rattle.byte_unit_command.specs.Messages.{IsMessage, IsMessageIf, IsFieldError, number_of};
+ghost use Rattle.byte_unit_command.specs.Messages.{IsMessage, IsMessageIf, IsFieldError, location_of};
 ghost use Rattle.byte_unit_command.specs.Messages.{place_text, quoted_text, tells_rejected as has_rejected_told};
 ghost use Rattle.byte_unit_command.specs.CallEnds.{messages_of, place_of};
 ghost use Rattle.byte_unit_stream.specs.Beginnings.{IsBeginningOf};
 
 use crate::options::{Invalid, Options};
 use crate::size::explain;
-use byte_unit_base::{NumberedError, Quoted};
+use byte_unit_base::{LocatedError, Location, Quoted};
 use std::alloc::{AllocError, Allocator};
 use std::fmt::Write;
 
@@ -44,7 +43,7 @@ enum FieldError {
     /// It is not UTF-8.
     NotUtf8,
     /// It is rejected by the parser.
-    Rejected(NumberedError),
+    Rejected(LocatedError),
     /// Its size is above the maximum.
     Above,
     /// Its size is below the minimum.
@@ -173,7 +172,7 @@ fn add_message<A: Allocator>(
     add_place(place, number, &mut notices.line)?;
     add_quoted(field, &mut notices.line)?;
     add_words(reason, &mut notices.words, &mut notices.line)?;
-    add_number(number_of(reason), &mut notices.line)?;
+    write!(notices.line, "{}", location_of(reason))?;
     notices.line.push_str("\n")?;
     notices.messages.extend_from_slice(notices.line.as_bytes())
 }
@@ -239,27 +238,12 @@ fn add_words<A: Allocator>(
     }
 }
 
-/// Returns the number of the first wrong character of a text that is rejected, unless only its size is too large.
-fn number_of(reason: &FieldError) -> Option<usize>
-    ensures { result ≡ number_of reason.now }
+/// Returns where a field is wrong.
+fn location_of(reason: &FieldError) -> Location
+    ensures { result ≡ location_of reason.now }
 {
     match reason {
-        FieldError::Rejected(error) => error.number,
-        _ => None,
-    }
-}
-
-/// Appends the number of a character, or nothing.
-///
-/// # Errors
-///
-/// Returns `AllocError` if allocation fails.
-fn add_number<A: Allocator>(number: Option<usize>, line: &mut String<A>) -> Result<(), AllocError>
-    ensures { OnOk result
-        (string_bytes line.new ≡ string_bytes line.old ++ character_words number) }
-{
-    match number {
-        None => Ok(()),
-        Some(number) => write!(line, " (character {number})"),
+        FieldError::Rejected(error) => error.location,
+        _ => Location::Whole,
     }
 }

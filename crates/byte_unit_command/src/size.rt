@@ -2,16 +2,16 @@
 
 ghost use Rattle.std.specs.Prelude.{◌≡◌, ◌<◌, ◌≤◌, false, IfSome, IfNone, IfOk, IfErr};
 ghost use Rattle.byte_unit.specs.Bounds.{size_limit};
-ghost use Rattle.byte_unit.specs.ErrorPosition.{IsNumberOf, IsSizePosition};
+ghost use Rattle.byte_unit.specs.ErrorPosition.{IsLocationOf, IsSizeLocation};
 ghost use Rattle.byte_unit.specs.Errors.{size_fault};
-ghost use Rattle.byte_unit.specs.SizeReading.{without_number};
+ghost use Rattle.byte_unit.specs.SizeReading.{without_location};
 ghost use Rattle.byte_unit_command.specs.Field.{IsSize, IsNoSize, IsSizeBy, IsNoSizeBy, ignores_case};
 ghost use Rattle.byte_unit_command.specs.Field.{before_space, without_suffix};
 ghost use Rattle.byte_unit_command.specs.Prefixes.{IsBytesReadingBy};
 
 use crate::options::{Kind, Options};
 use byte_unit::ParseError;
-use byte_unit_base::{NumberedError, size};
+use byte_unit_base::{LocatedError, size};
 
 /// Parses a field, without the suffix of the options, as a size of their kind. Returns `None` if it is not UTF-8.
 pub(crate) fn parse(options: &Options, field: &[u8]) -> Option<Result<u128, ParseError>>
@@ -29,14 +29,14 @@ pub(crate) fn parse(options: &Options, field: &[u8]) -> Option<Result<u128, Pars
     }
 }
 
-/// Parses a field as [`parse`] does, for a message: with the number of the first wrong character.
-pub(crate) fn explain(options: &Options, field: &[u8]) -> Option<Result<u128, NumberedError>>
+/// Parses a field as [`parse`] does, for a message: with the location of the error.
+pub(crate) fn explain(options: &Options, field: &[u8]) -> Option<Result<u128, LocatedError>>
     ensures reading { IsBytesReadingBy options.now.binary options.now.kind
         (ignores_case options.now.kind options.now.ignore_case)
-        (without_suffix options.now.suffix.now field.now) (without_number result) }
-    ensures number { IfSome result (λ answer. IfErr answer (λ e.
+        (without_suffix options.now.suffix.now field.now) (without_location result) }
+    ensures location { IfSome result (λ answer. IfErr answer (λ e.
         let text = without_suffix options.now.suffix.now field.now in
-        IsNumberOf (IsSizePosition text) text (size_fault e.error) e.number)) }
+        IsLocationOf (IsSizeLocation text) (size_fault e.error) e.location)) }
 {
     let text = without_suffix(options.suffix, field);
     let ignore_case = ignores_case(options.kind, options.ignore_case);

@@ -62,11 +62,15 @@ def position(what, text):
     return str(start + re.match(SIZE_PREFIX, trimmed).end())
 
 
-def numbered(data, size):
-    """Returns the message for bytes that are no size, with the number of the first wrong character if there is one."""
+def located(data, size):
+    """Returns the message for bytes that are no size, with the number of the first wrong character, or that the text is
+    wrong at its end, if it is wrong at a place."""
     if size.name in ("out of range", "not text"):
         return size.message
-    return f"{size.message} (character {len(data[: int(position('byte', data.decode()))].decode()) + 1})"
+    at = int(position("byte", data.decode()))
+    if data.decode().rstrip(WHITE_SPACE) in ("", data[:at].decode()):
+        return f"{size.message} (at the end of the text)"
+    return f"{size.message} (character {len(data[:at].decode()) + 1})"
 
 
 def digits(number, spec):

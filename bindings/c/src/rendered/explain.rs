@@ -6,7 +6,7 @@ use crate::rendered::flags::{ParseFlags, binary_flags_at, parse_flags_at};
 use crate::rendered::message::write_message;
 use crate::rendered::parse::{read_unit, unit_flags};
 use crate::rendered::texts::write;
-use byte_unit::rendered::base::{NumberedError, ParseError, Quoted, character_number, size};
+use byte_unit::rendered::base::{LocatedError, ParseError, Quoted, location_at, size};
 use byte_unit::support::InlineText;
 
 /// Writes the error message for a string that is rejected to the start of `out`, and returns its length, at most 256
@@ -15,8 +15,8 @@ use byte_unit::support::InlineText;
 /// message is `a flag is unknown`.
 ///
 /// Unless only the size is too large or the bytes are not UTF-8, the message ends with the number, from 1, of the first
-/// wrong character: the one at the position that `byte_unit_error_position` writes, so one more than the last has if
-/// the string ends too early.
+/// wrong character, the one at the position that `byte_unit_error_position` writes, or with `(at the end of the text)` if
+/// the string, without white space at its ends, ends too early.
 ///
 /// For example, `-1` gives 47, the length of `the character '-' is not a number (character 1)`.
 #[unsafe(no_mangle)]
@@ -51,7 +51,7 @@ fn explain_as<const BINARY: bool>(text: &[u8], asked: ParseFlags, out: &mut [u8]
 /// Writes the error message for a string that is not a unit to the start of `out`, and returns its length, at most 256
 /// bytes. Returns the length and writes nothing if `out` is shorter. Returns 0 if and only if all flags are known and
 /// the string spells a unit, and then writes nothing. The flags are those of `byte_unit_parse_unit_to`; for another,
-/// the message is `a flag is unknown`. It ends with the number of the first wrong character, as that of
+/// the message is `a flag is unknown`. It ends with the number of the first wrong character or at the end, as that of
 /// `byte_unit_explain`.
 ///
 /// For example, `Kx` gives 85, the length of
@@ -79,10 +79,10 @@ fn explain_unit_as(text: &[u8], asked: ParseFlags, out: &mut [u8]) -> usize {
         Some(Ok(_)) => 0,
         Some(Err(stopped)) => {
             let (stop, next, position) = stopped;
-            let error = NumberedError {
+            let error = LocatedError {
                 error: ParseError::Unit(stop.error_before(next, flags)),
                 expected: stop.expected_before(next, flags),
-                number: Some(character_number(text, position)),
+                location: location_at(text, position, next),
             };
             write_message(&error, out)
         }

@@ -159,7 +159,7 @@ class Column(Sequence["int | None"]):
         [(1, 'no_value'), (3, 'unit')]
         >>> for row, error in parse_many(texts).errors(texts):
         ...     print(row, error)
-        1 '' is not a size: no value can be found (character 1)
+        1 '' is not a size: no value can be found (at the end of the text)
         3 '1 Kx' is not a size: the character 'x' is incorrect ('B' or 'b' or no character is expected) (character 4)
         """
         if texts is None:

@@ -39,7 +39,8 @@ class SizeError(ByteUnitError):
     3 x
 
     The message has the text, of a long one the first 80 characters, or bytes, and the reason that `explain` returns,
-    which ends with the number of the first wrong character, from 1. `args[0]` is the reason.
+    which ends with the number of the first wrong character, from 1, or says that the text ends there. `args[0]` is the
+    reason.
 
     `text` is the text. The names are those of the codes in byte_unit.h:
 

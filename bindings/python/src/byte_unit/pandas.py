@@ -59,7 +59,7 @@ def to_sizes(
     {'a': 1000, 'b': <NA>, 'c': <NA>}
     >>> to_sizes(quota)
     Traceback (most recent call last):
-    byte_unit.SizeError: texts[1]: '' is not a size: no value can be found (character 1)
+    byte_unit.SizeError: texts[1]: '' is not a size: no value can be found (at the end of the text)
     """
     _check_series("texts", texts)
     many = texts.to_numpy(object)

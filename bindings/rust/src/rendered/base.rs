@@ -5,12 +5,12 @@
 //! What sizes in bytes and in bits have in common is here once, as functions that take the [`Kind`].
 
 pub use crate::rendered::base::errors::{
-    ExceededBoundsError, NumberedError, ParseError, UnitParseError, ValueParseError,
+    ExceededBoundsError, LocatedError, Location, ParseError, UnitParseError, ValueParseError,
 };
 pub use crate::rendered::base::kind::Kind;
 pub use crate::rendered::base::quoted::Quoted;
 pub use crate::rendered::base::read::read_size;
-pub use crate::rendered::base::read::stop::{NumberStop, Reason, Stop, character_number, error_at};
+pub use crate::rendered::base::read::stop::{NumberStop, Reason, Stop, error_at, location_at};
 pub use crate::rendered::base::unit::parse::read_unit_text;
 pub use crate::rendered::base::unit::scan::{Expected, Flags, UnitStop};
 pub use crate::rendered::base::unit::tables::{PREFIXES, prefix_letter, unit_at};

@@ -2,13 +2,13 @@
 
 ghost use Rattle.std.specs.Prelude.{◌≡◌};
 ghost use Rattle.std.specs.Str.{chars, IsAscii};
-ghost use Rattle.byte_unit_base.specs.ErrorPosition.{begins_character, character_number};
+ghost use Rattle.byte_unit_base.specs.ErrorPosition.{begins_character, character_number, location_at, next_char};
 ghost use Rattle.byte_unit_base.specs.Errors.{size_fault, value_fault};
 ghost use Rattle.byte_unit_base.specs.Expected.{expected_codes, named_in};
-ghost use Rattle.byte_unit_base.specs.ParserEnds.{next_char, number_stop_fault, stop_fault};
+ghost use Rattle.byte_unit_base.specs.ParserEnds.{number_stop_fault, stop_fault};
 
 use crate::unit::scan::{Expected, Flags, UnitStop};
-use crate::{ParseError, ValueParseError};
+use crate::{Location, ParseError, ValueParseError};
 
 /// Why the parser of a number stops.
 #[derive(Clone, Copy)]
@@ -109,15 +109,24 @@ pub(crate) fn expected_at(reason: Reason, next: Option<char>, flags: Flags) -> E
     }
 }
 
-/// Returns the number of the character at an index in bytes of a UTF-8 text, counted from 1, as messages have it. At
-/// the end it is one more than the number of the last character.
+/// Returns the location of an error at an index in bytes of a UTF-8 text, by the character there, or `None` at the end.
 ///
 /// # Examples
 /// ```rust
-/// assert_eq!(rt; character_number("é x".as_bytes(), 3), 3);
-/// assert_eq!(rt; character_number(b"1.", 2), 3);
+/// assert!(rt; matches!(location_at("é x".as_bytes(), 3, Some('x')), Location::Character(3)));
+/// assert!(rt; matches!(location_at(b"1. ", 2, None), Location::End));
 /// ```
-pub fn character_number(text: &[u8], index: usize) -> usize
+pub fn location_at(text: &[u8], index: usize, next: Option<char>) -> Location
+    ensures { result ≡ location_at text.now index next }
+{
+    match next {
+        Some(_) => Location::Character(character_number(text, index)),
+        None => Location::End,
+    }
+}
+
+/// Returns the number of the character at an index in bytes of a UTF-8 text, counted from 1.
+fn character_number(text: &[u8], index: usize) -> usize
     ensures { result ≡ character_number text.now index }
 {
     let before = text.get(..index).unwrap_or(text);

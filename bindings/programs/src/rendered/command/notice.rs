@@ -6,7 +6,7 @@ use crate::rattle::alloc::{AllocError, Allocator};
 use crate::rattle::{String, Vec};
 use crate::rendered::command::options::{Invalid, Options};
 use crate::rendered::command::size::explain;
-use byte_unit::rendered::base::{NumberedError, Quoted};
+use byte_unit::rendered::base::{LocatedError, Location, Quoted};
 
 /// The place of a record: what a message about a field of it needs beside the field.
 #[derive(Clone, Copy)]
@@ -34,7 +34,7 @@ enum FieldError {
     /// It is not UTF-8.
     NotUtf8,
     /// It is rejected by the parser.
-    Rejected(NumberedError),
+    Rejected(LocatedError),
     /// Its size is above the maximum.
     Above,
     /// Its size is below the minimum.
@@ -133,7 +133,7 @@ fn add_message<A: Allocator>(
     add_place(place, number, &mut notices.line)?;
     add_quoted(field, &mut notices.line)?;
     add_words(reason, &mut notices.words, &mut notices.line)?;
-    add_number(number_of(reason), &mut notices.line)?;
+    write!(notices.line, "{}", location_of(reason))?;
     notices.line.push_str("\n")?;
     notices.messages.extend_from_slice(notices.line.as_bytes())
 }
@@ -182,22 +182,10 @@ fn add_words<A: Allocator>(reason: &FieldError, words: &mut String<A>, line: &mu
     }
 }
 
-/// Returns the number of the first wrong character of a text that is rejected, unless only its size is too large.
-fn number_of(reason: &FieldError) -> Option<usize> {
+/// Returns where a field is wrong.
+fn location_of(reason: &FieldError) -> Location {
     match reason {
-        FieldError::Rejected(error) => error.number,
-        _ => None,
-    }
-}
-
-/// Appends the number of a character, or nothing.
-///
-/// # Errors
-///
-/// Returns `AllocError` if allocation fails.
-fn add_number<A: Allocator>(number: Option<usize>, line: &mut String<A>) -> Result<(), AllocError> {
-    match number {
-        None => Ok(()),
-        Some(number) => write!(line, " (character {number})"),
+        FieldError::Rejected(error) => error.location,
+        _ => Location::Whole,
     }
 }

@@ -4,7 +4,7 @@
 
 use crate::rendered::command::options::{Kind, Options};
 use byte_unit::rendered::base::ParseError;
-use byte_unit::rendered::base::{NumberedError, size};
+use byte_unit::rendered::base::{LocatedError, size};
 use std::str;
 
 /// Parses a field, without the suffix of the options, as a size of their kind. Returns `None` if it is not UTF-8.
@@ -18,8 +18,8 @@ pub(crate) fn parse(options: &Options, field: &[u8]) -> Option<Result<u128, Pars
     }
 }
 
-/// Parses a field as [`parse`] does, for a message: with the number of the first wrong character.
-pub(crate) fn explain(options: &Options, field: &[u8]) -> Option<Result<u128, NumberedError>> {
+/// Parses a field as [`parse`] does, for a message: with the location of the error.
+pub(crate) fn explain(options: &Options, field: &[u8]) -> Option<Result<u128, LocatedError>> {
     let text = without_suffix(options.suffix, field);
     let ignore_case = ignores_case(options.kind, options.ignore_case);
     if options.binary {

@@ -81,16 +81,25 @@ pub enum ParseError {
     Unit(UnitParseError),
 }
 
-/// The error of a string that is not a size, and the number of its first wrong character, as messages have it:
-/// `size::explain` returns it.
-pub struct NumberedError {
+/// Where a string is wrong, as messages have it.
+#[derive(Clone, Copy)]
+pub enum Location {
+    /// All of the string: only its size is too large.
+    Whole,
+    /// At its first wrong character. Holds the number of the character, counted from 1.
+    Character(usize),
+    /// At its end, before white space there: it ends too early.
+    End,
+}
+
+/// The error of a string that is not a size, and where the string is wrong: `size::explain` returns it.
+pub struct LocatedError {
     /// The error.
     pub error: ParseError,
     /// What the message names as expected: `Nothing` if it is no error of a unit.
     pub expected: Expected,
-    /// The number of the character, counted from 1, one more than the last has if the string ends too early. `None` if
-    /// only the size is too large.
-    pub number: Option<usize>,
+    /// Where the string is wrong.
+    pub location: Location,
 }
 
 impl UnitParseError {
@@ -159,18 +168,21 @@ impl fmt::Display for ParseError {
 
 impl Error for ParseError {}
 
-impl fmt::Display for NumberedError {
+impl fmt::Display for LocatedError {
     fn fmt(&self, f: &mut fmt::Formatter<'_>) -> fmt::Result {
         fmt::Display::fmt(&self.error, f)?;
-        write_number(self.number, f)
+        fmt::Display::fmt(&self.location, f)
     }
 }
 
-/// Writes the words for the number of a character, if there is one.
-fn write_number(number: Option<usize>, f: &mut fmt::Formatter<'_>) -> fmt::Result {
-    match number {
-        None => Ok(()),
-        Some(number) => write!(f, " (character {number})"),
+/// Writes the words that follow a message, with a space before them, or nothing if all of the string is wrong.
+impl fmt::Display for Location {
+    fn fmt(&self, f: &mut fmt::Formatter<'_>) -> fmt::Result {
+        match self {
+            Location::Whole => Ok(()),
+            Location::Character(number) => write!(f, " (character {number})"),
+            Location::End => f.write_str(" (at the end of the text)"),
+        }
     }
 }
 

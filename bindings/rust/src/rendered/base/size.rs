@@ -3,10 +3,10 @@
 //! Sizes of either kind, as numbers below the limit: what the size types have in common.
 
 use crate::rendered::base::read::number::read_number_and_unit;
-use crate::rendered::base::read::stop::{Stop, character_number, error_at, expected_at, first_ascii};
+use crate::rendered::base::read::stop::{Stop, error_at, expected_at, first_ascii, location_at};
 use crate::rendered::base::read::{has_visible_ends, read_or_stop};
 use crate::rendered::base::unit::scan::{Expected, Flags};
-use crate::rendered::base::{Kind, NumberedError, ParseError, Unit, ValueParseError, read_size};
+use crate::rendered::base::{Kind, LocatedError, Location, ParseError, Unit, ValueParseError, read_size};
 use crate::rendered::math::{Decimal, least_size};
 use core::str;
 
@@ -242,11 +242,11 @@ fn read_string(bytes: &[u8], flags: Flags) -> Option<Result<(Unit, Decimal), Sto
     Some(read_or_stop(string, flags))
 }
 
-/// Parses a size from bytes, as [`parse_bytes`], for a message: with the number of the first wrong character. Returns
-/// `None` if the bytes are not UTF-8.
+/// Parses a size from bytes, as [`parse_bytes`], for a message: with the location of the error. Returns `None` if the
+/// bytes are not UTF-8.
 ///
 /// # Errors
-/// Returns `Some` with the error of `parse_bytes` and the number of the character.
+/// Returns `Some` with the error of `parse_bytes` and its location.
 ///
 /// # Examples
 /// ```
@@ -255,20 +255,20 @@ fn read_string(bytes: &[u8], flags: Flags) -> Option<Result<(Unit, Decimal), Sto
 ///
 /// assert!(matches!(size::explain::<false>(b"1 KiB", false, Kind::Byte), Some(Ok(1024))));
 /// let error = size::explain::<false>("1 µB".as_bytes(), false, Kind::Byte);
-/// assert!(matches!(error, Some(Err(NumberedError { number: Some(3), .. }))));
+/// assert!(matches!(error, Some(Err(LocatedError { location: Location::Character(3), .. }))));
 /// ```
 #[inline(always)]
-pub fn explain<const BINARY: bool>(bytes: &[u8], ignore_case: bool, kind: Kind) -> Option<Result<u128, NumberedError>> {
+pub fn explain<const BINARY: bool>(bytes: &[u8], ignore_case: bool, kind: Kind) -> Option<Result<u128, LocatedError>> {
     let flags = flags_for(kind, ignore_case);
     match read_text(bytes, flags) {
         Some(Ok(found)) => match size_of::<BINARY>((found.1, found.0), kind) {
             Ok(size) => Some(Ok(size)),
-            Err(error) => Some(Err(NumberedError { error, expected: Expected::Nothing, number: None })),
+            Err(error) => Some(Err(LocatedError { error, expected: Expected::Nothing, location: Location::Whole })),
         },
-        Some(Err(stop)) => Some(Err(NumberedError {
+        Some(Err(stop)) => Some(Err(LocatedError {
             error: error_at(stop.reason, stop.next, flags),
             expected: expected_at(stop.reason, stop.next, flags),
-            number: Some(character_number(bytes, stop.index)),
+            location: location_at(bytes, stop.index, stop.next),
         })),
         None => None,
     }

@@ -1,5 +1,5 @@
 -- At the end, the characters that were written are those of the text.
-use Rattle.std.proofs.Common.{◌++◌, sym, ap, ◌∙◌, map-id, flat_map}
+use Rattle.std.proofs.Common.{sym, ap, ◌∙◌, map-id, flat_map}
 use Rattle.std.proofs.Output.{has_written_of_eq}
 use Rattle.std.proofs.lemmas.Iterator.{YieldsList-from_chars}
 use Rattle.std.proofs.lemmas.Iterator.Consumers.{YieldsList-end}

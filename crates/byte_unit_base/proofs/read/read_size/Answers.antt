@@ -2,7 +2,8 @@
 use Rattle.std.proofs.Common.{Ok, ap, refl, subst, ◌∙◌, chars, IsUtf8}
 use Rattle.byte_unit_base.specs.Spelling.{flags_of}
 use Rattle.byte_unit_base.specs.Units.{shape_of}
-use Rattle.byte_unit_base.specs.ParserEnds.{IsStopAt, next_char}
+use Rattle.byte_unit_base.specs.ErrorPosition.{next_char}
+use Rattle.byte_unit_base.specs.ParserEnds.{IsStopAt}
 use Rattle.byte_unit_base.proofs.Positions.{stop_in_string}
 use Rattle.byte_unit_base.proofs.SizeAscii.{size_of_chars}
 use Rattle.byte_unit_base.proofs.SizeReads.{number_reading}

@@ -1,7 +1,10 @@
 -- The result is that of the number and the unit of the string, or the error where the parser stops in it.
-use Rattle.std.proofs.Common.{eqb, not, subst}
+use Rattle.std.proofs.Common.{eqb, not, subst, sym}
 use Rattle.byte_unit_base.specs.BinaryReading.{unit_meant}
+use Rattle.byte_unit_base.specs.ErrorPosition.{IsSizeLocation}
+use Rattle.byte_unit_base.specs.Errors.{size_fault}
 use Rattle.byte_unit_base.specs.Outcome.{IsNumberOrStop}
+use Rattle.byte_unit_base.proofs.Positions.{location_of}
 use Rattle.byte_unit_base.proofs.SizeOfText.{reading_of_fault}
 use Rattle.byte_unit_base.proofs.size.explain.Goals as goal
 
@@ -28,3 +31,11 @@ returns-in-Some-Err-clause-reading g c =
     let stop = subst (IsNumberOrStop c.flags_for-flags.result bytes) c.in-Some-Err.field-0-is c.in-Some-Err.ensures.1 in
     let reading = rw c.flags_for-flags.ensures at (stop.reading c.error_at.result c.error_at.ensures) in
     (stop.utf8, reading_of_fault (unit_meant (not (eqb g.row.BINARY 0))) _ _ bytes c.error_at.result reading)
+
+pub returns-in-Some-Err-clause-location : goal.returns-in-Some-Err-clause-location
+returns-in-Some-Err-clause-location g c =
+    let bytes = c.args.bytes.now in
+    let stop = subst (IsNumberOrStop c.flags_for-flags.result bytes) c.in-Some-Err.field-0-is c.in-Some-Err.ensures.1 in
+    let reading = stop.reading c.error_at.result c.error_at.ensures in
+    location_of (IsSizeLocation bytes) (size_fault c.error_at.result) c.location_at.result reading.no_bounds
+    (subst (IsSizeLocation bytes) (sym c.location_at.ensures) stop.location)

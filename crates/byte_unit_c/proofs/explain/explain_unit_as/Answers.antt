@@ -1,5 +1,6 @@
 -- The message is that of the error where the parser stops.
-use Rattle.std.proofs.Common.{Some, Ok, Err, refl, ap, subst}
+use Rattle.std.proofs.Common.{Some, Ok, Err, refl, subst, sym}
+use Rattle.byte_unit_base.specs.ErrorPosition.{IsUnitLocation}
 use Rattle.byte_unit_base.specs.Outcome.{IsUnitOrStop}
 use Rattle.byte_unit_c.proofs.explain.explain_unit_as.Goals as goal
 
@@ -15,7 +16,7 @@ returns-in-Some-Ok-clause-reading c =
 -- the string is rejected: the message of its error is written
 pub returns-in-Some-Err-clause-reading : goal.returns-in-Some-Err-clause-reading
 returns-in-Some-Err-clause-reading c =
-    -- a pair: the error by the stop is that of the string, and the position is its position
+    -- a pair: the error by the stop is that of the string, and the location is that of it
     let stops = subst (IsUnitOrStop c.unit_flags-flags.result c.args.text.now) c.in-Some-Err.field-0-is
     c.in-Some-Err.ensures.1 in
     let error = c.error_before.result in
@@ -23,8 +24,8 @@ returns-in-Some-Err-clause-reading c =
       Some (Err error),
       (c.in-Some-Err.ensures.0, reading),
       (
-        Some c.character_number.result,
-        (c.in-Some-Err.stopped.2, stops.1, ap Some c.character_number.ensures),
+        c.location_at.result,
+        subst (IsUnitLocation c.args.text.now) (sym c.location_at.ensures) stops.2,
         c.write_message.ensures.positive,
         c.write_message.ensures.text,
       ),

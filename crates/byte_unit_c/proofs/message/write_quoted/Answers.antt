@@ -6,10 +6,10 @@ use Rattle.byte_unit_c.proofs.message.write_quoted.Goals as goal
 
 pub returns-then-len-out-clause-text : goal.returns-then-len-out-clause-text
 returns-then-len-out-clause-text c =
-    let form = quoting c.args.character c.args.rest.now c.args.number in
-    let is = quoted_length c.args.character c.args.rest.now c.args.number in
-    let long : 29 + length c.args.rest.now + c.decimal_len.result ≡ length form =
-    omega (arith, c.decimal_len.ensures.exact, is) in
+    let form = quoting c.args.character c.args.rest.now c.args.location in
+    let is = quoted_length c.args.character c.args.rest.now c.args.location in
+    let long : 16 + length c.args.rest.now + c.location_len.result ≡ length form =
+    omega (arith, c.location_len.ensures.len, is) in
     let begin : c.put_quoted.result ≡ 0 = omega (arith, c.put_quoted.ensures.begins, long) in
     record {
       form = form;

@@ -15,7 +15,7 @@ returns-in-Some-Ok c =
 -- the string is rejected: the details of its error are written
 pub returns-in-Some-Err : goal.returns-in-Some-Err
 returns-in-Some-Err c =
-    -- a pair: the error by the stop is that of the string, and the position is its position
+    -- a pair: the error by the stop is that of the string, and the position is its position, with its location
     let stops = subst (IsUnitOrStop c.unit_flags-flags.result c.args.text.now) c.in-Some-Err.field-0-is
     c.in-Some-Err.ensures.1 in
     -- the error of the unit, that it is the one where the parser stops, and that it is written

@@ -1,6 +1,6 @@
 -- A field that the parser accepts is a size.
 use Rattle.std.proofs.Common.{Some, inl, inr, ap, ◌∙◌, subst}
-use Rattle.byte_unit.specs.SizeReading.{without_number}
+use Rattle.byte_unit.specs.SizeReading.{without_location}
 use Rattle.byte_unit_command.specs.Field.{ignores_case, without_suffix}
 use Rattle.byte_unit_command.specs.Prefixes.{IsBytesReadingBy}
 use Rattle.byte_unit_command.proofs.Readings.{sizes_or_not}
@@ -14,7 +14,7 @@ returns-in-Some-Ok c =
     let ignore_case = ignores_case kind c.args.options.now.ignore_case in
     let field = without_suffix c.args.options.now.suffix.now c.args.field.now in
     -- a pair: the text is UTF-8, and parsing it gives the size
-    let read = subst (λ answer. IsBytesReadingBy binary kind ignore_case field (without_number answer))
+    let read = subst (λ answer. IsBytesReadingBy binary kind ignore_case field (without_location answer))
     (c.in-Some-Ok.is ∙ ap Some c.in-Some-Ok.field-0-is) c.explain.ensures.reading in
     let law = sizes_or_not binary kind ignore_case field in
     elim c.requires [

@@ -3,7 +3,7 @@
 //! Where and why the parser of a number and a unit stops, the character there, and the error by these.
 
 use crate::rendered::base::unit::scan::{Expected, Flags, UnitStop};
-use crate::rendered::base::{ParseError, ValueParseError};
+use crate::rendered::base::{Location, ParseError, ValueParseError};
 
 /// Why the parser of a number stops.
 #[derive(Clone, Copy)]
@@ -104,16 +104,23 @@ pub(crate) fn expected_at(reason: Reason, next: Option<char>, flags: Flags) -> E
     }
 }
 
-/// Returns the number of the character at an index in bytes of a UTF-8 text, counted from 1, as messages have it. At
-/// the end it is one more than the number of the last character.
+/// Returns the location of an error at an index in bytes of a UTF-8 text, by the character there, or `None` at the end.
 ///
 /// # Examples
 /// ```
 /// # use byte_unit::rendered::{base::{size::parse_line, *}, bit::*, byte::*, choice::*, format::*, math::*};
-/// assert_eq!(character_number("é x".as_bytes(), 3), 3);
-/// assert_eq!(character_number(b"1.", 2), 3);
+/// assert!(matches!(location_at("é x".as_bytes(), 3, Some('x')), Location::Character(3)));
+/// assert!(matches!(location_at(b"1. ", 2, None), Location::End));
 /// ```
-pub fn character_number(text: &[u8], index: usize) -> usize {
+pub fn location_at(text: &[u8], index: usize, next: Option<char>) -> Location {
+    match next {
+        Some(_) => Location::Character(character_number(text, index)),
+        None => Location::End,
+    }
+}
+
+/// Returns the number of the character at an index in bytes of a UTF-8 text, counted from 1.
+fn character_number(text: &[u8], index: usize) -> usize {
     let before = text.get(..index).unwrap_or(text);
     before.iter().filter(|byte| begins_character(**byte)).count() + 1
 }

@@ -4,7 +4,8 @@ use Rattle.byte_unit_base.specs.Version.{current}
 use Rattle.byte_unit_base.specs.Spelling.{Spells}
 use Rattle.byte_unit_base.specs.Units.{shape_of}
 use Rattle.byte_unit_base.specs.UnitScan.{start}
-use Rattle.byte_unit_base.specs.ParserEnds.{IsUnitStop, next_char}
+use Rattle.byte_unit_base.specs.ErrorPosition.{next_char}
+use Rattle.byte_unit_base.specs.ParserEnds.{IsUnitStop}
 use Rattle.byte_unit_base.proofs.Positions.{unit_stop_in_string}
 use Rattle.byte_unit_base.proofs.SizeRest.{boundary_at}
 use Rattle.byte_unit_base.proofs.Trim.{chars-trim}
