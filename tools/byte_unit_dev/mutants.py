@@ -1,10 +1,12 @@
-"""Lists, tries and places mutants: wrong edits of functions, which the prover has to reject; and proves their controls.
+"""Lists, tries and places mutants: wrong edits, which the prover or a test has to see; and proves controls.
 
     tools/dev mutants [list [CRATE..]]        finds public functions without a mutant, and mutants that do not fit
     tools/dev mutants try [K/N] [CRATE..]     tries the mutants, of the catalogues all or a part of them
     tools/dev mutants controls [CRATE..]      proves the controls
     tools/dev mutants put K/N                 copies a part of the catalogues to must-fail/, where `rt ci` tries it
     tools/dev mutants remove                  deletes these copies, which git ignores
+    tools/dev mutants bindings [K/N]          tries the mutants of what is written by hand, by the tests that see them
+    tools/dev mutants --all bindings          the same, all of them
 
 A mutant is an edit for `rt must-fail`. Each run of the gate tries the files crates/CRATE/must-fail/TITLE.edit, and a
 part of the catalogues crates/CRATE/mutants.edits, which have the others, each after a line `== TITLE`. The catalogue of
@@ -30,6 +32,7 @@ import re
 from pathlib import Path
 
 from .common import Failure, path, read, report, shown, write
+from . import wrappers
 from .render import bits
 from .replace import remove_folders
 from .source import EXAMPLES, crates, files, public_names, source
@@ -101,7 +104,7 @@ def misfits(crate, title, text, has_control):
 
 def listed(crates):
     """Reports the mutants that do not fit, and the public functions without a mutant."""
-    wrong, total = [], 0
+    wrong, total = [*wrappers.listed()], 0
     for crate in crates:
         edits, functions, named = in_every_run(crate), public_functions(crate), []
         for title, text in {**by_turns(crate), **edits}.items():
@@ -156,9 +159,13 @@ def part_or_crate(word):
     return word
 
 
-def run(action: ("list", "try", "controls", "put", "remove") = "list", *words: part_or_crate):
+def run(action: ("list", "try", "controls", "put", "remove", "bindings") = "list", *words: part_or_crate, all_=""):
+    if all_ not in ("", "bindings"):
+        raise Failure(f"--all: '{all_}' is not bindings")
     crates, parts = ([word for word in words if isinstance(word, kind)] for kind in (str, tuple))
     crates, part = crates or with_mutants(), [*parts, (1, 1)][0]
+    if action == "bindings" or all_:
+        return wrappers.run(part)
     if action == "list":
         return listed(crates)
     remove()

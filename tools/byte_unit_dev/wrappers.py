@@ -1,0 +1,121 @@
+"""Mutants of what is written by hand, which no proof covers: each is a wrong edit that a test has to see.
+
+Each catalogue is a file mutants.edits outside crates/. In it each mutant has a line `== TITLE`, which says what a user
+would see; then `file: NAME`, from the top of the repository; one or more pairs of lines `old: TEXT`, which is in the
+file once, and `new: TEXT`; and `test: WORDS`, the words of `tools/dev test` that run the test which sees it. One that
+no user can see has `equal: WHY` in place of `test:`, and is not tried.
+"""
+
+import os
+import re
+import shlex
+import shutil
+import tempfile
+from collections import namedtuple
+from pathlib import Path
+
+from .builds import environment
+from .common import Failure, ROOT, call, files, output, path, read, report, write
+
+CATALOGUE = re.compile(r"(?!crates/).*/mutants\.edits")
+PAIR = re.compile(r"^old: (.*)\nnew: ?(.*)$", re.M)
+Mutant = namedtuple("Mutant", "catalogue title file pairs test equal")
+
+
+def field(text, name):
+    """Returns what follows a word at the beginning of a line, or an empty text."""
+    found = re.search(rf"^{name}: (.*)$", text, re.M)
+    return found[1] if found else ""
+
+
+def mutants():
+    """Returns all mutants, in the order of their catalogues."""
+    return [Mutant(name, edit.partition("\n")[0], field(edit, "file"), PAIR.findall(edit), field(edit, "test"),
+                   field(edit, "equal"))
+            for name in files() if CATALOGUE.fullmatch(name) for edit in re.split("^== ", read(name), flags=re.M)[1:]]
+
+
+def edited(mutant, text):
+    """Returns the text of a file with a mutant in it. Fails if the mutant does not fit."""
+    for old, new in mutant.pairs:
+        if text.count(old) != 1:
+            raise Failure(f"{mutant.catalogue}: {mutant.title}: this is not in its file exactly once: {old}")
+        text = text.replace(old, new)
+    return text
+
+
+def listed():
+    """Yields what is wrong with the form of a mutant."""
+    seen = set()
+    for mutant in mutants():
+        name = f"{mutant.catalogue}: {mutant.title}"
+        try:
+            if os.path.isfile(path(mutant.file)):
+                edited(mutant, read(mutant.file))
+            else:
+                yield f"{name}: there is no file {mutant.file}"
+        except Failure as failure:
+            yield str(failure)
+        if not mutant.pairs or bool(mutant.test) == bool(mutant.equal):
+            yield f"{name}: no pair of `old:` and `new:`, or not one of `test:` and `equal:`"
+        if name in seen:
+            yield f"{name}: twice"
+        seen.add(name)
+
+
+def copied(folder):
+    """Copies the repository's files, as a repository of git, and returns the environment of the tests there: cargo
+    builds the library, since no program `rt` is on the path."""
+    tree, programs = Path(folder, "tree"), Path(folder, "bin")
+    for name in files():
+        (tree / name).parent.mkdir(parents=True, exist_ok=True)
+        shutil.copy2(path(name), tree / name, follow_symlinks=False)
+    output("git", "init", "--quiet", cwd=tree)
+    output("git", "add", "--all", cwd=tree)
+    programs.mkdir()
+    folders = os.environ["PATH"].split(os.pathsep)
+    for place in [place for place in folders if os.path.isfile(f"{place}/rt")]:
+        for program in set(os.listdir(place)) - {"rt"}:
+            if not os.path.lexists(programs / program):
+                (programs / program).symlink_to(f"{place}/{program}")
+        folders[folders.index(place)] = str(programs)
+    return tree, environment(PATH=os.pathsep.join(folders))
+
+
+def passes(tree, here, test):
+    """Runs a test in the copy. Returns whether some passed and none failed, and what it printed."""
+    got = call("tools/dev", "test", *shlex.split(test), cwd=tree, env=here)
+    return bool(re.search(r"^[1-9]\d* passed, 0 failed", got.stdout, re.M)), got.stdout
+
+
+def tried(chosen):
+    """Tries mutants in a copy of the repository, and yields what is wrong. Each test passes without a mutant, which is
+    seen once for each."""
+    with tempfile.TemporaryDirectory() as folder:
+        tree, here = copied(folder)
+        sound = {}
+        for mutant in chosen:
+            if mutant.test not in sound:
+                sound[mutant.test], said = passes(tree, here, mutant.test)
+                if not sound[mutant.test]:
+                    yield f"{mutant.catalogue}: `tools/dev test {mutant.test}` does not pass:\n{said}"
+            if not sound[mutant.test]:
+                continue
+            text = read(tree / mutant.file)
+            write(tree / mutant.file, edited(mutant, text))
+            survives, _ = passes(tree, here, mutant.test)
+            write(tree / mutant.file, text)
+            print(f"{'SURVIVES' if survives else 'killed'}: {mutant.catalogue}: {mutant.title}", flush=True)
+            if survives:
+                yield f"{mutant.catalogue}: no test sees this: {mutant.title}"
+
+
+def run(part):
+    """Tries the part K/N of the mutants."""
+    wrong = [*listed()]
+    if wrong:
+        return report(wrong, "")
+    every = [mutant for mutant in mutants() if mutant.test]
+    number, parts = part
+    chosen = every[len(every) * (number - 1) // parts : len(every) * number // parts]
+    return report([*tried(chosen)], f"mutants: {len(chosen)} of {len(every)} of what is written by hand, each seen")
