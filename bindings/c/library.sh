@@ -54,7 +54,9 @@ if ! command -v "${CARGO:-cargo}" > /dev/null || ! is_enough; then
         "or set BYTE_UNIT_LIBRARY_DIR to a folder that \`tools/make-libraries\` filled"
 fi
 echo "byte_unit: rustc $found builds the library from the rendered Rust" >&2
-unset CARGO_BUILD_TARGET
-"${CARGO:-cargo}" build --release --offline --quiet --manifest-path "$here/Cargo.toml" --target-dir "$here/target" >&2
-take "$here/byte_unit.h" "$here/target/release/libbyte_unit.a"
-stop "cargo made no $here/target/release/libbyte_unit.a"
+# For this machine, also if cargo's configuration names another target: the target is in the path of what is built.
+host=$("${RUSTC:-rustc}" -vV | sed -n 's/^host: //p')
+"${CARGO:-cargo}" build --release --offline --quiet --manifest-path "$here/Cargo.toml" --target-dir "$here/target" \
+    --target "$host" >&2
+take "$here/byte_unit.h" "$here/target/$host/release/libbyte_unit.a"
+stop "cargo made no $here/target/$host/release/libbyte_unit.a"

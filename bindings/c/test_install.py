@@ -6,7 +6,7 @@ import shutil
 from pathlib import Path
 
 import pytest
-from byte_unit_dev.fixtures import call, compiled, copied, environment, is_there, need, output, path, read
+from byte_unit_dev.fixtures import call, compiled, copied, environment, is_there, need, output, path, read, write
 from byte_unit_dev.install import calls_of
 from byte_unit_dev.libraries import exported
 
@@ -212,6 +212,22 @@ def test_library_for_bindings(library, tmp_path, way):
     assert (got.returncode, got.stdout) == (0, "")
     for name in ("libbyte_unit.a", "byte_unit.h"):
         assert (tmp_path / "new/folder" / name).read_bytes() == Path(library, name).read_bytes()
+
+
+def test_library_by_cargo(cargo, tmp_path):
+    """With --cargo cargo builds it, also below a workspace, and for this machine if its configuration names another."""
+    need("nm", "readelf")
+    clone = tmp_path / 'a "clone"'
+    c, _ = copied("c", clone), copied("rust", clone)
+    write(clone / "Cargo.toml", "[workspace]\n")
+    write(clone / "crates/byte_unit_c/out/libbyte_unit_c.a", "of Rattle")
+    write(tmp_path / "home/config.toml", '[build]\ntarget = "wasm64-unknown-unknown"\n')
+    here = environment(**cargo.variables, CARGO=cargo.cargo) | {"CARGO_HOME": str(tmp_path / "home")}
+    output("sh", f"{c}/library.sh", "--cargo", tmp_path / "made", env=here)
+    found = re.findall(r" T (\w+)$", output("nm", tmp_path / "made/libbyte_unit.a"), re.M)
+    assert {*found} >= {*exported(read(f"{c}/byte_unit.h"))}
+    (shared,) = Path(c).glob("target/*/release/libbyte_unit.so")
+    assert "soname: [libbyte_unit.so.3]" in output("readelf", "-d", shared)
 
 
 @pytest.mark.parametrize("variables, words", [

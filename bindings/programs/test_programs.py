@@ -2,10 +2,13 @@
 
 import os
 import random
+import shutil
+from pathlib import Path
 
 import pytest
 from byte_unit_dev.common import Failure
 from byte_unit_dev.fixtures import CARGO_PROGRAMS, CONFIG, copied, ended, environment, need, output, read, write
+from byte_unit_dev.needs import DEBIAN_RUST
 from byte_unit_dev.render import rust, rust_programs
 
 NAMES = ["bits", "ignore-case", "from", "to", "no-unit", "suffix", "precision", "human-readable", "delimiter", "blanks",
@@ -15,12 +18,12 @@ VALUES = ["", "1", "x", "-1", "exact", "KB", "1 KB", "\u00e9", "\n", "9999999999
 
 @pytest.fixture(scope="module")
 def cargo(tmp_path_factory):
-    """Returns what calls cargo on a copy of the package, without a registry."""
+    """Returns what calls cargo on a copy of the package, below a workspace, without a registry."""
     need(*CARGO_PROGRAMS)
     folder = tmp_path_factory.mktemp("cargo")
     write(folder / "config.toml", CONFIG)
-    copied("rust", folder)
-    package = copied("programs", folder)
+    write(folder / "Cargo.toml", "[workspace]\n")
+    package = [copied(part, folder) for part in ("rust", "c", "programs")][-1]
 
     def called(*words):
         here = environment(CARGO_HOME=folder, CARGO_TARGET_DIR=folder / "target")
@@ -36,6 +39,17 @@ def test_lines_alone(cargo):
     cargo("install", "--path", ".", "--root", cargo.folder, "--no-default-features")
     assert os.listdir(cargo.folder / "bin") == ["byte_unit_lines"]
     assert ended(cargo.folder / "bin/byte_unit_lines", input=b"1KiB\n") == (0, b"1024 = 1 KiB\n", b"")
+
+
+@pytest.mark.parametrize("folder", ["programs", "c"])
+def test_package(cargo, tmp_path, folder):
+    """What is over the Rust package can be packed by a source of crates that has it, here a folder with Debian's."""
+    for crate in Path(DEBIAN_RUST).iterdir():
+        (tmp_path / crate.name).symlink_to(crate)
+    shutil.copytree(cargo.folder / "bindings/rust", tmp_path / "byte-unit")
+    write(tmp_path / "byte-unit/.cargo-checksum.json", '{"files": {}}')
+    words = ["--manifest-path", f"../{folder}/Cargo.toml", "--config", f"source.debian.directory = '{tmp_path}'"]
+    cargo("package", "--no-verify", "--allow-dirty", *words)
 
 
 def test_style(cargo):

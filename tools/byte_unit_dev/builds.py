@@ -2,6 +2,7 @@
 the package in its place, in environments of their own."""
 
 import glob
+import json
 import os
 import re
 import shutil
@@ -77,5 +78,6 @@ def program(source, crate):
     shutil.copy(path(source), os.path.join(crate, "src/bin/program.rs"))
     write(f"{crate}/.cargo/config.toml", CONFIG)
     env = environment(**PROFILE, CARGO_HOME=os.path.join(crate, "home"))
-    output("cargo", "build", "--bin", "program", *OPTIONS, cwd=crate, env=env)
-    return os.path.join(crate, "target/release/program")
+    said = output("cargo", "build", "--bin", "program", "--message-format", "json", *OPTIONS, cwd=crate, env=env)
+    made = (json.loads(line).get("executable") for line in said.splitlines() if line.startswith("{"))
+    return next(filter(None, made))

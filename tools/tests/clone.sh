@@ -3,6 +3,7 @@
 # Needs: python3 make gcc libc6-dev pkg-config cargo-web/bookworm rustc-web/bookworm sqlite3 libsqlite3-dev python3-dev python3-pip python3-setuptools python3-venv python3-wheel postgresql-15 postgresql-server-dev-15
 set -eu
 cd "$HOME/clone"
+echo "[workspace]" > ../Cargo.toml # a clone may be below one
 
 # Prints the commands of the section Install of the README in standard input.
 install_of() { awk '/^## / { here = $0 == "## Install" } /^```/ { on = $0 == "```sh"; next } here && on'; }
