@@ -58,6 +58,13 @@ def test_style(cargo):
     cargo("fmt", "--check")
 
 
+@pytest.mark.parametrize("name, answer", [("byte-unit", b"1.5 KiB\n"), ("byte_unit_lines", b"1536 = 1.5 KiB\n")])
+def test_older_processor(programs_by_cargo, name, answer):
+    need("qemu-x86_64")
+    words = ["qemu-x86_64", "-cpu", "qemu64", programs_by_cargo / name]
+    assert ended(*words, input=b"1.5 KiB\n") == (0, answer, b"")
+
+
 def some_word(rng):
     """Returns a word of a call: an option, perhaps abbreviated or misspelt, letters, or an operand."""
     if rng.random() < 0.3:

@@ -1,7 +1,7 @@
 """Builds the extension module, with the library inside: the header byte_unit.h and the archive libbyte_unit.a.
 
-In the repository, bindings/c/library.sh finds both, or has cargo build the archive. Elsewhere they are those of the
-folder BYTE_UNIT_LIBRARY_DIR, or of `library` beside this file, which a source distribution has.
+c/library.sh finds both, or has cargo build the archive from the Rust beside it. It is in the folder `bindings` of the
+repository, and in the folder `library` of a source distribution.
 """
 
 import os
@@ -18,21 +18,17 @@ from setuptools.command.sdist import sdist
 HERE = os.path.dirname(os.path.abspath(__file__))
 ROOT = os.path.dirname(os.path.dirname(HERE))
 HEADER, ARCHIVE = "byte_unit.h", "libbyte_unit.a"
-# What fills a folder with both, in the repository.
-MAKER = os.path.join(ROOT, "bindings/c/library.sh")
+# The folder with the sources of the library, and that with the changelog.
+IS_PACKED = os.path.isfile(os.path.join(HERE, "library/c/library.sh"))
+SOURCES, TOP = (os.path.join(HERE, "library"), HERE) if IS_PACKED else (os.path.join(ROOT, "bindings"), ROOT)
 
 
 def library():
-    """Returns the paths of both. If one is not there, a line says why."""
-    folder = os.environ.get("BYTE_UNIT_LIBRARY_DIR") or os.path.join(HERE, "library")
-    if os.path.isfile(MAKER):
-        folder = os.path.join(HERE, "build", "library")
-        if subprocess.run(["sh", MAKER, folder]).returncode:
-            sys.exit(1)
-    paths = os.path.join(folder, HEADER), os.path.join(folder, ARCHIVE)
-    if not all(map(os.path.isfile, paths)):
-        sys.exit(f"byte_unit: {folder} has no {HEADER} and {ARCHIVE}: BYTE_UNIT_LIBRARY_DIR names a folder with both")
-    return paths
+    """Returns the paths of both. If they are neither found nor built, a line says why."""
+    folder = os.path.join(HERE, "build", "library")
+    if subprocess.run(["sh", os.path.join(SOURCES, "c/library.sh"), folder]).returncode:
+        sys.exit(1)
+    return os.path.join(folder, HEADER), os.path.join(folder, ARCHIVE)
 
 
 def version_of(header):
@@ -57,18 +53,18 @@ def extension(header, archive):
 
 
 class WithLibrary(sdist):
-    """A source distribution with the header and the archive, so that another machine builds it, and the changelog."""
+    """A source distribution with the sources of the library, so that another machine builds it, and the changelog."""
 
     def make_release_tree(self, base_dir, files):
         super().make_release_tree(base_dir, files)
-        os.makedirs(os.path.join(base_dir, "library"), exist_ok=True)
-        for name, path in zip((HEADER, ARCHIVE), found):
-            shutil.copyfile(path, os.path.join(base_dir, "library", name))
-        if os.path.isfile(os.path.join(ROOT, "bindings/c", HEADER)):  # the repository
-            shutil.copy(os.path.join(ROOT, "CHANGELOG.md"), base_dir)
+        left_out = shutil.ignore_patterns("target", "Cargo.lock", "checks", "examples", "test_*", "__pycache__")
+        for name in ("c", "rust"):
+            shutil.copytree(os.path.join(SOURCES, name), os.path.join(base_dir, "library", name), ignore=left_out)
+        shutil.copy(os.path.join(TOP, "CHANGELOG.md"), base_dir)
 
 
-found = library()
+# A source distribution has no archive, and the version of its sources.
+found = (os.path.join(SOURCES, "c", HEADER), ARCHIVE) if "sdist" in sys.argv else library()
 # The functions of glibc that the module needs are older than 2.17: tests/test_package.py.
 machine = sysconfig.get_platform().removeprefix("linux-")
 tag = {"plat_name": f"manylinux_2_17_{machine}"} if platform.libc_ver()[0] == "glibc" else {}

@@ -2,9 +2,12 @@
 
 import os
 import re
+import shutil
 
 import pytest
-from byte_unit_dev.fixtures import DEBIAN_PYTHON, call, check_needs, environment, is_there, need, output, path, write
+from byte_unit_dev.fixtures import (
+    DEBIAN_PYTHON, call, check_needs, environment, is_there, need, output, path, read, write,
+)  # fmt: skip
 
 LINES = path("bindings/python/checks/lines.py")
 
@@ -18,17 +21,49 @@ def test_one_line_says_what_is_missing(python_package, tmp_path, folder, words):
     assert (got.returncode, got.stdout[:11], got.stdout.count("\n")) == (1, "byte_unit: ", 1) and words in got.stdout
 
 
-def test_source_distribution(python_package, library, tmp_path):
-    """It builds where neither the repository nor a library is, and its wheel needs no more than its tag says."""
+def packed(package, folder, env):
+    """Makes a source distribution in a folder, unpacks it there, and returns its names and its path."""
+    output(DEBIAN_PYTHON, "setup.py", "sdist", "-d", folder, cwd=package, env=env)
+    (source,) = folder.glob("byte_unit-*.tar.gz")
+    shutil.unpack_archive(source, folder)
+    made = folder / source.name.removesuffix(".tar.gz")
+    return sorted(str(name.relative_to(made)) for name in made.rglob("*") if name.is_file()), made
+
+
+def test_source_distribution(python_package, cargo, tmp_path):
+    """It has sources alone. Where neither the repository nor a library is, cargo builds it, and its wheel needs no more
+    than its tag says. That of what is unpacked has the same files."""
     need("readelf")
-    here = environment(BYTE_UNIT_LIBRARY_DIR=library)
-    output(DEBIAN_PYTHON, "setup.py", "sdist", "-d", tmp_path, cwd=python_package, env=here)
-    (source,) = tmp_path.glob("byte_unit-*.tar.gz")
-    words = [DEBIAN_PYTHON, "-m", "pip", "wheel", "--no-index", "--no-deps", "-w", tmp_path, source]
-    output(*words, cwd=tmp_path, env=environment(PKG_CONFIG_LIBDIR="/nowhere"))
+    here = environment(PKG_CONFIG_LIBDIR="/nowhere", CARGO="/nowhere")
+    names, made = packed(python_package, tmp_path, here)
+    assert "CHANGELOG.md" in names and not [name for name in names if re.search(r"\.(a|o|so|rlib)$", name)]
+    (tmp_path / "again").mkdir()
+    assert packed(made, tmp_path / "again", here)[0] == names
+    here |= {"CARGO": cargo.cargo, "RUSTC": cargo.variables["RUSTC"], "CARGO_HOME": str(tmp_path)}
+    words = [DEBIAN_PYTHON, "-m", "pip", "wheel", "--no-index", "--no-deps", "-w", tmp_path, made]
+    output(*words, cwd=tmp_path, env=here)
     (wheel,) = tmp_path.glob("*.whl")
     assert wheel.name.endswith("-cp311-abi3-manylinux_2_17_x86_64.whl")
-    check_needs(wheel, tmp_path)
+    check_needs(wheel, tmp_path / "wheel")
+    program = "import byte_unit; print(byte_unit.parse('1.5 KiB'))"
+    assert output(DEBIAN_PYTHON, "-c", program, cwd="/", env=environment(PYTHONPATH=tmp_path / "wheel")) == "1536\n"
+
+
+def test_build_after_build(python_package, library, tmp_path):
+    """The module is compiled with the library of this build, not of an earlier one."""
+    other = shutil.copytree(library, tmp_path / "other", ignore=shutil.ignore_patterns("*.so*"))
+    write(other / "byte_unit.h", read(other / "byte_unit.h").replace('VERSION_STRING "', 'VERSION_STRING "later than '))
+    words = [DEBIAN_PYTHON, "setup.py", "build_ext", "--build-lib", tmp_path]
+    for folder in (library, other):
+        output(*words, cwd=python_package, env=environment(BYTE_UNIT_LIBRARY_DIR=folder))
+        assert (b"later than" in (tmp_path / "byte_unit/_native.abi3.so").read_bytes()) == (folder == other)
+
+
+@pytest.mark.parametrize("version, needs", [("60.10.0", "['setuptools>=61']"), ("61.0.0", "[]")])
+def test_old_setuptools(python_package, version, needs):
+    """pip is asked for a newer one, if the installed one is too old."""
+    program = f"import importlib.metadata as m, backend; m.version = lambda _: '{version}'; print(backend.missing())"
+    assert output(DEBIAN_PYTHON, "-B", "-c", program, cwd=python_package) == f"{needs}\n"
 
 
 def test_its_c_has_no_warning(python):

@@ -24,6 +24,9 @@ OPTIONS = ["--release", "--offline", "--quiet", "--no-default-features", "--feat
 # The fastest code that cargo makes, since the programs are measured.
 PROFILE = {"CARGO_PROFILE_RELEASE_LTO": "fat", "CARGO_PROFILE_RELEASE_CODEGEN_UNITS": "1",
            "CARGO_PROFILE_RELEASE_PANIC": "abort"}
+# What a binding is built with, beside its folder.
+BESIDE = {"sqlite": ["bindings/library.mk"], "postgresql": ["bindings/library.mk"],
+          "python": ["bindings/c", "bindings/rust", "CHANGELOG.md"]}  # fmt: skip
 # Variables by which a build could find another library, other flags or another folder for what it makes.
 UNSET = ["PYTHONPATH", "BYTE_UNIT_LIBRARY_DIR", "PKG_CONFIG", "PKG_CONFIG_PATH", "RUSTFLAGS", "RUSTDOCFLAGS",
          "CARGO_BUILD_TARGET", "CARGO_TARGET_DIR", "CARGO", "RUSTC"]  # fmt: skip
@@ -40,10 +43,9 @@ def environment(**variables):
 
 def copied(binding, folder):
     """Copies a binding and what it includes, without what was built in it. Returns the copy's path."""
-    built = shutil.ignore_patterns("build", "*.egg-info", "__pycache__", "target", "Cargo.lock")
-    if binding in ("sqlite", "postgresql"):
-        copy_to(folder, "bindings/library.mk")
-    return str(shutil.copytree(path("bindings", binding), Path(folder).resolve() / "bindings" / binding, ignore=built))
+    folder, names = str(Path(folder).resolve()), [f"bindings/{binding}", *BESIDE.get(binding, [])]
+    copy_to(folder, *names, without=["build", "*.egg-info", "__pycache__", "target", "Cargo.lock"])
+    return os.path.join(folder, names[0])
 
 
 def original(given, work):
