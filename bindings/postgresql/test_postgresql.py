@@ -4,43 +4,15 @@ import re
 import shutil
 
 import pytest
-from byte_unit_dev import postgresql
-from byte_unit_dev.fixtures import call, environment, need, output, path, read, write
+from byte_unit_dev.fixtures import call, need, output, read, write
 from byte_unit_dev.model.exact import Rejected, form, size_of, some_line
-from byte_unit_dev.needs import DEBIAN_PYTHON, POSTGRESQL
+from byte_unit_dev.needs import DEBIAN_PYTHON
 from byte_unit_dev.pages import beside
 from byte_unit_dev.pages.beside import Program
+from byte_unit_dev.postgresql import STATEMENTS, TRIED, quoted, tried
 from byte_unit_dev.rows import check, rows
 
 VERSION = read("VERSION").strip()
-STATEMENTS = read("bindings/postgresql/sql/byte_unit.sql")
-# A function that returns what a query returns, or the SQLSTATE, the message and the detail of its error.
-TRIED = re.search(r"^CREATE FUNCTION tried.*?\$\$;$", STATEMENTS, re.M | re.S)[0]
-
-
-@pytest.fixture(scope="module")
-def server(library):
-    need(*POSTGRESQL)
-    with postgresql.running(library) as started:
-        started.sql(TRIED)
-        yield started
-
-
-def quoted(text):
-    """Returns a text as a constant of SQL."""
-    return "E'" + "".join(c if c.isalnum() and c.isascii() or c in " ." else f"\\U{ord(c):08x}" for c in text) + "'"
-
-
-def tried(expression):
-    """Returns a statement that prints what an expression is, or its error."""
-    return "SELECT tried(" + quoted(f"SELECT {expression}") + ");"
-
-
-def wrong_of(server, rows):
-    """Returns five at most of the expressions that do not have the result, a pattern, beside them."""
-    got = server.sql(*[tried(expression) for expression, _ in rows])
-    assert len(got) == len(rows)
-    return [(*row, found) for row, found in zip(rows, got) if not re.fullmatch(row[1], found)][:5]
 
 
 def test_installcheck(server):
@@ -66,7 +38,18 @@ def test_shared_rows(server):
              for code, answer in rows]  # fmt: skip
     sized = [(re.sub(r"^(size_(?:parse|try)\(.*\))$", r"coalesce((\1)::numeric::text, 'NULL')", code), answer)
              for code, answer in sized]  # fmt: skip
-    assert len(rows) > 20 and wrong_of(server, [(code, re.escape(answer)) for code, answer in sized]) == []
+    assert len(rows) > 20 and server.wrong([(code, re.escape(answer)) for code, answer in sized]) == []
+
+
+def test_words_that_are_flags(server):
+    """A flag may be given twice. A word that is cut short, or differs from a flag by one character, is not one."""
+    rows = [(f"size_parse('1 Kb', '{words}')::numeric", answer) for words, answer in (
+        ("ignore-case ignore-case", "1000"), ("ignore-case  binary ignore-case", "1024"), ("binary binary", "128"))]
+    for flag in ("ignore-case", "binary"):
+        words = [flag[:at] + "x" + flag[at + 1 :] for at in range(len(flag))] + [flag[:-1], flag[1:], flag + "s"]
+        words += [flag + space + "binary" for space in "\t\n\r\v\f\xa0,"] + [flag.upper()]
+        rows += [(f"size_parse('1', {quoted(word)})", "22023 .*") for word in words]
+    assert server.wrong(rows) == []
 
 
 def test_lines(server, check_drawn):
@@ -85,7 +68,7 @@ def test_lines(server, check_drawn):
     def wrong(lines):
         usable = [line for line in lines if b"\0" not in line and b"\n" not in line
                   and getattr(size_of(line, "byte"), "name", "") != "not text"]  # fmt: skip
-        return usable and wrong_of(server, [row(line) for line in usable])
+        return usable and server.wrong([row(line) for line in usable])
 
     check_drawn(some_line, wrong)
 

@@ -2,14 +2,29 @@
 
 import contextlib
 import os
+import re
 import shutil
 import socket
 import tempfile
 from pathlib import Path
 
 from .builds import copied, environment
-from .common import output
+from .common import output, read
 from .needs import POSTGRESQL_15
+
+STATEMENTS = read("bindings/postgresql/sql/byte_unit.sql")
+# A function that returns what a query returns, or the SQLSTATE, the message and the detail of its error.
+TRIED = re.search(r"^CREATE FUNCTION tried.*?\$\$;$", STATEMENTS, re.M | re.S)[0]
+
+
+def quoted(text):
+    """Returns a text as a constant of SQL."""
+    return "E'" + "".join(c if c.isalnum() and c.isascii() or c in " ." else f"\\U{ord(c):08x}" for c in text) + "'"
+
+
+def tried(expression):
+    """Returns a statement that prints what an expression is, or its error."""
+    return f"SELECT tried({quoted('SELECT ' + expression)});"
 
 
 class Server:
@@ -61,6 +76,12 @@ class Server:
         """Runs statements in one session. Returns the lines of their results."""
         words = [self.bin / "psql", "-XAtq", "-v", "ON_ERROR_STOP=1", "-d", database, "-f", "-"]
         return output(*words, env=self.variables, input="\n".join(statements), **more).split("\n")[:-1]
+
+    def wrong(self, rows):
+        """Returns five at most of the expressions that do not have the result, a pattern, beside them."""
+        got = self.sql(*[tried(expression) for expression, _ in rows])
+        assert len(got) == len(rows)
+        return [(*row, found) for row, found in zip(rows, got) if not re.fullmatch(row[1], found)][:5]
 
     def stop(self):
         """Stops the server at once, since nothing of its data is kept."""
