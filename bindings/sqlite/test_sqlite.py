@@ -1,10 +1,10 @@
 """Builds the SQLite extension, and tests it by the program sqlite3 and by Python's sqlite3."""
 
+import itertools
 import re
 import sqlite3
 import sys
 import unicodedata
-from itertools import islice
 
 import pytest
 from byte_unit_dev.fixtures import call, compiled, copied, environment, need, output, path, read
@@ -64,6 +64,11 @@ def test_makefile(library, tmp_path):
     assert output("sqlite3", "-cmd", f".load {loaded}", ":memory:", "SELECT size_parse('1.5 KiB');") == "1536\n"
     output(*words, "uninstall", env=environment())
     assert not file.exists()
+    below = f"DESTDIR={tmp_path}/below"
+    output(*words, below, "install", env=environment())
+    assert not file.exists() and (tmp_path / "below" / file.relative_to("/")).exists()
+    output(*words, below, "uninstall", env=environment())
+    assert not [*(tmp_path / "below").rglob("*.so")]
 
 
 @pytest.fixture(scope="module")
@@ -110,7 +115,7 @@ def wrong_of(sql, rows):
     Of these, and of lines that no statement should print, there are five at most."""
     got, errors = sql([statement for statement, _ in rows])
     lines = iter(got)
-    seen = [[f"error: {errors[at]}"] if at in errors else list(islice(lines, len(wanted)))
+    seen = [[f"error: {errors[at]}"] if at in errors else list(itertools.islice(lines, len(wanted)))
             for at, (_, wanted) in enumerate(rows, 1)]  # fmt: skip
     differing = [(*row, found) for row, found in zip(rows, seen)
                  if len(found) != len(row[1]) or not all(map(re.fullmatch, row[1], found))]  # fmt: skip
@@ -139,6 +144,81 @@ def test_lines(sql, check_drawn, kind, flags):
                 f" FROM (SELECT {quoted(line)} AS t);"), [shown]  # fmt: skip
 
     check_drawn(some_line, lambda lines: wrong_of(sql, [row(line) for line in lines]))
+
+
+# What each argument of a function is, and a value of each kind that is right.
+FUNCTIONS = {**dict.fromkeys(["size_parse", "size_try", "size_explain", "size_sum"], ["text", "flags"]),
+             "size_text": ["number", "precision", "flags"], "size_in": ["number", "unit", "precision", "flags"],
+             "size_pretty": ["number", "type", "precision", "flags"]}  # fmt: skip
+RIGHT = {"text": "'1'", "number": "1", "unit": "'B'", "flags": "''", "precision": "0", "type": "'both'"}
+# A value of each storage class, what a message calls it, and for each kind of RIGHT what follows: it is right (+), the
+# result is NULL (0), or there is an error of REASONS.
+VALUES = {
+    "NULL": ("NULL", "000FPT"), "0": ("0", "++UF+T"), "1": ("1", "++UF+T"), str(GREATEST): (str(GREATEST), "++UFPT"),
+    f"-{GREATEST} - 1": (f"-{GREATEST + 1}", "BMUFPT"), "1.5": ("the REAL value 1.5", "ANUFPT"),
+    "1e999": ("the REAL value Inf", "ANUFPT"), "''": ("''", "CNU+PT"), "'x'": ("'x'", "BNXOPT"),
+    "'1'": ("'1'", "++XOPT"), "x''": ("a BLOB of length 0", "ANUFPT"), "x'31'": ("a BLOB of length 1", "ANUFPT"),
+    "zeroblob(2)": ("a BLOB of length 2", "ANUFPT"),
+}  # fmt: skip
+REASONS = {
+    "A": "is not a size: TEXT or an INTEGER is expected",
+    "B": r"is not a size: the character '.' is not a number \(character 1\)",
+    "C": r"is not a size: no value can be found \(character 1\)", "M": "is not a size: it is negative",
+    "N": "is not an INTEGER such as size_parse returns", "U": "is not a unit such as 'KiB' or 'MB'",
+    "X": "is not a unit: the character '.' is incorrect .*", "F": "is not a text of flags",
+    "O": "has flags other than 'bits'.*", "P": "is not a precision: an INTEGER from 0 to 65535 is expected",
+    "T": "is not a type of units: 'binary', 'decimal' or 'both' is expected",
+}  # fmt: skip
+
+
+def answer_of(function, kind, value):
+    """Returns a pattern of what a call prints that has this value as an argument of a kind."""
+    shown, column = VALUES[value][0], [*RIGHT].index(kind)
+    found = VALUES[value][1][column]
+    if found in REASONS:
+        if kind == "text" and function == "size_try":
+            return "NULL"
+        error = f"'?{re.escape(shown)}'? {REASONS[found]}"
+        if kind == "text" and function == "size_explain":
+            return error if found == "A" else REASONS[found].removeprefix("is not a size: ")
+        return f"error: {error}"
+    if found == "0" or function == "size_explain":
+        return "NULL"
+    number = shown.strip("'") if kind in ("text", "number") else "1"
+    if FUNCTIONS[function][0] == "text":
+        return number
+    return r"8(\.0)? EiB|9223372036854775(\.807 K|807 )B" if number == str(GREATEST) else rf"{number}(\.0)? B"
+
+
+def test_storage_classes(sql):
+    """Each function takes or rejects a value of each storage class in each place, and another number of arguments."""
+    rows = []
+    for function, kinds in FUNCTIONS.items():
+        least = 2 if function == "size_in" else 1
+        rows += [(f"SELECT {function}({', '.join(['1'] * count)});", [r"error: wrong number of arguments to .*"])
+                 for count in (least - 1, len(kinds) + 1)]  # fmt: skip
+        for count in range(least, len(kinds) + 1):
+            for at, value in itertools.product(range(count), VALUES):
+                given = [value if at == place else RIGHT[kind] for place, kind in enumerate(kinds[:count])]
+                kind = kinds[at]
+                if kind == "precision" and function != "size_pretty" and value.startswith("'"):
+                    # Flags may be in the place of the precision, and are the last argument then.
+                    kind, given = "flags", given[: at + 1]
+                answer = answer_of(function, kind, value)
+                rows.append((f"SELECT ifnull({function}({', '.join(given)}), 'NULL');", [answer]))
+    assert len(rows) > 400 and wrong_of(sql, rows) == []
+
+
+def test_words_that_are_flags(sql):
+    """A flag may be given twice. A word that is cut short, or differs from a flag by one character, is not one."""
+    rows = [(f"SELECT size_parse('8 Kb', '{words}');", [size]) for words, size in (
+        ("bits bits", "8000"), ("ignore-case  ignore-case ", "8000"), ("binary bits binary", "8192"))]  # fmt: skip
+    for flag in ("bits", "ignore-case", "binary"):
+        words = [flag[:at] + "x" + flag[at + 1 :] for at in range(len(flag))] + [flag[:-1], flag[1:], flag + "s"]
+        words += [flag + space + "bits" for space in "\t\n\r\v\f\xa0,"] + [flag.upper()]
+        rows += [(f"SELECT size_parse('1', {quoted(word.encode())});", ["error: '.*' has flags other than .*"])
+                 for word in words]  # fmt: skip
+    assert wrong_of(sql, rows) == []
 
 
 def some_conversion(rng):
@@ -210,6 +290,25 @@ def test_rows_that_postgresql_shares(sql):
     rows = re.findall(r"^([^#\n].*?) = (.*)$", read("bindings/sqlite/checks/shared.txt"), re.M)
     calls = [(f"SELECT coalesce({code}, 'NULL');", [re.escape(answer)]) for code, answer in rows]
     assert len(rows) > 20 and wrong_of(sql, calls) == []
+
+
+def test_without_the_extension(sql, tmp_path):
+    """A database whose schema names it can be read without it, and REINDEX mends an index by another order."""
+    loaded, file = ["-cmd", f'.load "{sql.extension}"'], tmp_path / "kept.db"
+    make = ("CREATE TABLE quotas(q TEXT CHECK (size_explain(q) IS NULL)); CREATE TABLE other(t TEXT COLLATE SIZE);"
+            " INSERT INTO quotas VALUES ('1 KB'); INSERT INTO other VALUES ('1 KB'), ('999');")  # fmt: skip
+    assert output("sqlite3", *loaded, file, make) == ""
+    assert output("sqlite3", file, "SELECT * FROM quotas; SELECT t FROM other;") == "1 KB\n1 KB\n999\n"
+    for statement, missing in (("INSERT INTO quotas VALUES ('2 KB')", "unknown function: size_explain()"),
+                               ("SELECT t FROM other ORDER BY t", "no such collation sequence: SIZE")):  # fmt: skip
+        got = call("sqlite3", file, statement, stderr=-1)
+        assert got.returncode and missing in got.stderr
+    db = sqlite3.connect(file)
+    db.create_collation("SIZE", lambda a, b: (a > b) - (a < b))
+    db.execute("CREATE INDEX by_text ON other(t)")
+    db.close()
+    got = output("sqlite3", *loaded, file, "PRAGMA integrity_check; REINDEX; PRAGMA integrity_check;")
+    assert re.fullmatch(r"(.* by_text\n)+ok\n", got)
 
 
 def test_sqlite3_of_python(sql):

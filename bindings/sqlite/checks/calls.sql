@@ -43,6 +43,9 @@ SELECT size_sum(column1) FROM (VALUES ('1'), ('999999999999999999999999999999'))
 SELECT size_sum(column1) FROM (VALUES ('999 RB'), ('999 RB'), ('1 x')); -- error: '1 x' is not a size: the character 'x' is incorrect ('B', 'K', 'M', 'G', 'T', 'P', 'E', 'Z', 'Y' or 'R' or no character is expected) (character 3)
 SELECT size_sum(column1) FILTER (WHERE size_try(column1) > 0) FROM (VALUES ('1 KB'), ('1 x')); -- 1000
 SELECT size_parse(1.5); -- error: the REAL value 1.5 is not a size: TEXT or an INTEGER is expected
+SELECT size_parse(1.1); -- error: the REAL value 1.1 is not a size: TEXT or an INTEGER is expected
+SELECT size_sum(column1) FROM (VALUES ('1'), (1.5)); -- error: the REAL value 1.5 is not a size: TEXT or an INTEGER is expected
+SELECT size_sum(column1) FROM (VALUES ('1'), (x'31')); -- error: a BLOB of length 1 is not a size: TEXT or an INTEGER is expected
 SELECT size_parse(x'3132'); -- error: a BLOB of length 2 is not a size: TEXT or an INTEGER is expected
 SELECT size_parse(-5); -- error: '-5' is not a size: the character '-' is not a number (character 1)
 SELECT size_parse('1', 'bist'); -- error: 'bist' has flags other than 'bits', 'ignore-case' and 'binary'

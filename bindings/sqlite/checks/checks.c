@@ -1,5 +1,6 @@
-/* Makes one allocation of SQLite after another fail while a statement that calls the extension runs: the statement must
- * end with SQLITE_NOMEM, or as it does if none fails. Then binds texts with zero bytes. The extension, which is linked,
+/* Makes one allocation of SQLite after another fail while the extension is loaded, or a statement that calls it runs.
+ * That must end with SQLITE_NOMEM, or as it does if none fails; the connection must be as usable as before, and no
+ * memory may be left when it is closed. Then binds texts with zero bytes. The extension, which is linked,
  * gets only those calls of SQLite that 3.31 has, and from them texts that end where their memory ends, so that ASan
  * reports a read past one.
  *
@@ -18,6 +19,7 @@ static sqlite3_mem_methods real; /* SQLite's own allocator */
 static long before_failure = -1; /* how many more allocations succeed; no limit if negative */
 static bool failed; /* whether an allocation failed in the run */
 static long runs, wrong;
+static sqlite3_int64 used_before; /* the bytes that SQLite has allocated without a database */
 
 /* Whether the allocation fails that is asked for now. */
 static bool fails(void)
@@ -137,26 +139,38 @@ static sqlite3_stmt *prepare(sqlite3 *db, const char *sql)
     return statement;
 }
 
-/* Runs a statement with its first allocation failing, with its second one, and so on, until all succeed: 1000 times at
- * most, so that it ends. */
+/* Runs a statement, of which the allocation after `count` others fails, or none if `count` is negative. Returns its
+ * status, and its result as text. */
+static int run(sqlite3 *db, const char *sql, long count, char *out, size_t out_len)
+{
+    sqlite3_stmt *statement = prepare(db, sql);
+
+    failed = false;
+    before_failure = count;
+    int status = result_of(statement, out, out_len);
+    before_failure = -1;
+    finalize(statement);
+    runs++;
+    return status;
+}
+
+/* Runs a statement with its first allocation failing, with its second one, and so on, until all succeed; and after each
+ * failure once more, as it is. There are 1000 runs at most, so that it ends. */
 static void with_failures(sqlite3 *db, const char *sql)
 {
-    char wanted[512], got[512]; /* longer than each result and error */
-    sqlite3_stmt *statement = prepare(db, sql);
-    int normal = result_of(statement, wanted, sizeof wanted);
+    char wanted[512], got[512], after[512]; /* longer than each result and error */
+    int normal = run(db, sql, -1, wanted, sizeof wanted);
 
-    finalize(statement);
     failed = true;
-    for (long count = 0; failed && count < 1000; count++) {
-        statement = prepare(db, sql);
-        failed = false;
-        before_failure = count;
-        int status = result_of(statement, got, sizeof got);
-        before_failure = -1;
-        finalize(statement);
-        runs++;
-        if (status != SQLITE_NOMEM && (status != normal || strcmp(got, wanted) != 0)) {
-            printf("%s: allocation %ld fails: %d %s, not %d %s\n", sql, count, status, got, normal, wanted);
+    for (long count = 0; failed && count <= 1000; count++) {
+        int status = run(db, sql, count, got, sizeof got);
+        bool is_right = status == normal && strcmp(got, wanted) == 0, has_failed = failed;
+        bool is_usable = run(db, sql, -1, after, sizeof after) == normal && strcmp(after, wanted) == 0;
+
+        failed = has_failed;
+        if (!is_usable || count == 1000 || !(is_right || (failed && status == SQLITE_NOMEM))) {
+            printf("%s: allocation %ld fails: %d %s, then %s, not %d %s\n", sql, count, status, got, after, normal,
+                   wanted);
             wrong++;
         }
     }
@@ -243,25 +257,71 @@ static void with_old_version(sqlite3 *db)
     sqlite3_free(error);
 }
 
-/* Runs all checks in a database of an encoding: in UTF-16, SQLite converts each text. */
-static void in_encoding(const char *encoding)
+/* Opens a database of an encoding. */
+static sqlite3 *opened(const char *encoding)
 {
     sqlite3 *db = NULL;
-    char *error = NULL;
 
-    if (sqlite3_open(":memory:", &db) != SQLITE_OK || sqlite3_exec(db, encoding, NULL, NULL, NULL) != SQLITE_OK
-        || sqlite3_byteunit_init(db, &error, &given) != SQLITE_OK) {
-        printf("%s: %s\n", encoding, error == NULL ? sqlite3_errmsg(db) : error);
-        wrong++;
-        return;
+    if (sqlite3_open(":memory:", &db) != SQLITE_OK || sqlite3_exec(db, encoding, NULL, NULL, NULL) != SQLITE_OK) {
+        printf("%s: %s\n", encoding, sqlite3_errmsg(db));
+        exit(1);
     }
     /* Without the memory that a connection keeps for small objects, each allocation is made by the functions above. */
     sqlite3_db_config(db, SQLITE_DBCONFIG_LOOKASIDE, NULL, 0, 0);
-    for (size_t at = 0; at < sizeof statements / sizeof *statements; at++)
-        with_failures(db, statements[at]);
-    with_zero_bytes(db);
-    with_old_version(db);
-    sqlite3_close(db);
+    return db;
+}
+
+/* Closes a database, after which SQLite has the memory that it had before, if the extension has freed all of it. */
+static void closed(sqlite3 *db, const char *what)
+{
+    if (sqlite3_close(db) != SQLITE_OK || sqlite3_memory_used() != used_before) {
+        printf("%s: %lld bytes are left\n", what, sqlite3_memory_used() - used_before);
+        wrong++;
+    }
+}
+
+/* Loads the extension into new databases, with one allocation after another failing. */
+static void with_failures_of_loading(const char *encoding)
+{
+    failed = true;
+    for (long count = 0; failed && count < 1000; count++) {
+        sqlite3 *db = opened(encoding);
+        char *error = NULL;
+
+        failed = false;
+        before_failure = count;
+        int status = sqlite3_byteunit_init(db, &error, &given);
+        before_failure = -1;
+        runs++;
+        if (status != (failed ? SQLITE_NOMEM : SQLITE_OK)) {
+            printf("loading: allocation %ld fails: %d\n", count, status);
+            wrong++;
+        }
+        sqlite3_free(error);
+        closed(db, "loading");
+    }
+}
+
+/* Runs all checks in databases of an encoding: in UTF-16, SQLite converts each text. */
+static void in_encoding(const char *encoding)
+{
+    with_failures_of_loading(encoding);
+    for (size_t at = 0; at <= sizeof statements / sizeof *statements; at++) {
+        bool is_last = at == sizeof statements / sizeof *statements;
+        sqlite3 *db = opened(encoding);
+
+        if (sqlite3_byteunit_init(db, NULL, &given) != SQLITE_OK) {
+            printf("%s: %s\n", encoding, sqlite3_errmsg(db));
+            exit(1);
+        }
+        if (!is_last) {
+            with_failures(db, statements[at]);
+        } else {
+            with_zero_bytes(db);
+            with_old_version(db);
+        }
+        closed(db, is_last ? encoding : statements[at]);
+    }
 }
 
 int main(void)
@@ -276,6 +336,7 @@ int main(void)
     if (sqlite3_config(SQLITE_CONFIG_MALLOC, &failing) != SQLITE_OK
         || sqlite3_auto_extension((void (*)(void))get_calls) != SQLITE_OK)
         return 2;
+    used_before = sqlite3_memory_used();
     in_encoding("PRAGMA encoding = 'UTF-8'");
     in_encoding("PRAGMA encoding = 'UTF-16'");
     printf("%ld runs, %ld wrong\n", runs, wrong);

@@ -7,6 +7,8 @@ CREATE TABLE quotas(
 CREATE TABLE stored(quota TEXT, bytes INTEGER AS (size_parse(quota)) STORED);
 CREATE TABLE checked(quota TEXT CHECK (size_explain(quota) IS NULL));
 CREATE VIEW totals AS SELECT size_in(sum(size_parse(quota)), 'KB') AS total FROM quotas;
+CREATE VIEW calls AS SELECT size_sum(quota) AS s, size_sum(quota, 'bits') AS b, min(size_try(quota)) AS t,
+    max(size_pretty(bytes)) AS p, max(size_text(bytes)) AS x, count(size_explain(quota)) AS e FROM quotas;
 CREATE UNIQUE INDEX by_quota ON quotas(quota COLLATE SIZE);
 CREATE INDEX by_parsed ON quotas(size_parse(quota));
 INSERT INTO quotas VALUES ('a', '1.5 KiB'), ('b', '1 MB'), ('c', 12);
@@ -27,6 +29,7 @@ SELECT * FROM quotas ORDER BY quota COLLATE SIZE; -- c|12|12|12 B
 -- a|1.5 KiB|1536|1.5 KiB
 -- b|1 MB|1000000|1 MB
 SELECT total FROM totals; -- 1001.548 KB
+SELECT * FROM calls; -- 1001548|8012300|12|976.6 KiB|12 B|0
 PRAGMA integrity_check; -- ok
 EXPLAIN QUERY PLAN SELECT * FROM quotas WHERE quota = '1000 KB' COLLATE SIZE; -- QUERY PLAN
 -- `--SEARCH quotas USING INDEX by_quota (quota=?)
