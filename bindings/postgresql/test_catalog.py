@@ -10,7 +10,7 @@ from byte_unit_dev.postgresql import quoted, tried
 
 # The functions that belong to the extension, as rows of pg_proc with their language.
 FUNCTIONS = ("(SELECT p.*, lanname FROM pg_proc p JOIN pg_language l ON l.oid = prolang JOIN pg_depend ON objid = p.oid"
-             " AND classid = 'pg_proc'::regclass AND refobjid = (SELECT oid FROM pg_extension WHERE extname = 'byte_unit'))")
+             " AND classid = 'pg_proc'::regclass JOIN pg_extension e ON e.oid = refobjid AND extname = 'byte_unit')")
 # Of the functions in C these get NULL: the options of a call cannot be NULL, and the state of avg is NULL at first.
 NOT_STRICT = r"size_\w+|bytesize_avg(_add|_combine)?"
 # These tell nothing of a size but their result, so that under row security, too, they are called by an index.
@@ -19,7 +19,7 @@ COMPARISONS, CALCULATIONS = ("=", "<>", "<", "<=", ">", ">="), ("+", "-", "*", "
 
 
 def test_functions(server):
-    """Indexes may call each function, and workers. In C only some get NULL, and comparisons and hashes are leakproof."""
+    """Indexes and workers may call each function. In C only some get NULL, and comparisons and hashes are leakproof."""
     got = server.sql(f"SELECT count(*) FROM {FUNCTIONS} AS f;", f"SELECT oid::regprocedure FROM {FUNCTIONS} AS f WHERE"
                      " provolatile <> 'i' OR proparallel <> 's'"
                      f" OR proisstrict <> (lanname = 'c' AND proname !~ '^({NOT_STRICT})$')"
@@ -32,7 +32,8 @@ def test_operators(server):
     number, which have none: the planner puts their bodies in their place."""
     found = server.sql("SELECT oprname, oprleft::regtype, oprright::regtype, coalesce(oprcom::regoperator::text, '0'),"
                        " oprnegate::regoperator, oprrest, oprjoin, oprcanhash, oprcanmerge FROM pg_operator WHERE"
-                       " 'bytesize'::regtype IN (oprleft, oprright) OR (oprleft, oprright) = ('numeric'::regtype, 'numeric'::regtype);")  # fmt: skip
+                       " 'bytesize'::regtype IN (oprleft, oprright)"
+                       " OR oprleft = 'numeric'::regtype AND oprright = 'numeric'::regtype;")  # fmt: skip
     rows = {tuple(line.split("|")[:3]): line.split("|")[3:] for line in found}
     wanted = {}
     for name, left, right in rows:
@@ -72,7 +73,8 @@ def test_aggregates(server):
 # How a value is cast; each other pair of these types is not.
 CASTS = {**{(number, "bytesize"): "assignment" for number in ("smallint", "integer", "bigint")},
          ("numeric", "bytesize"): "explicit", ("text", "bytesize"): "explicit", ("bytesize", "integer"): "explicit",
-         ("bytesize", "bigint"): "explicit", ("bytesize", "numeric"): "assignment", ("bytesize", "text"): "assignment"}  # fmt: skip
+         ("bytesize", "bigint"): "explicit", ("bytesize", "numeric"): "assignment",
+         ("bytesize", "text"): "assignment"}  # fmt: skip
 OTHERS = ["smallint", "integer", "bigint", "numeric", "real", "double precision", "text", "boolean"]
 
 
@@ -85,8 +87,9 @@ def test_casts(server):
     asked, seen = [], {}
     for source, target in pairs:
         at, value = ["bytesize", *OTHERS].index(target), f"CAST('1' AS {source})"
-        asked += [tried(f"pg_temp.wants_{at}({value})"), tried(f"CAST({value} AS {target})"),
-                  f"SELECT tried({quoted(f'INSERT INTO assigned_to(c{at}) VALUES ({value}) RETURNING 1')});"]  # fmt: skip
+        insert = quoted(f"INSERT INTO assigned_to(c{at}) VALUES ({value}) RETURNING 1")
+        calls = [tried(f"pg_temp.wants_{at}({value})"), tried(f"CAST({value} AS {target})")]
+        asked += [*calls, f"SELECT tried({insert});"]
     got = server.sql(*wants, f"CREATE TEMP TABLE assigned_to({columns});", *asked)
     for pair, implicit, explicit, assigned in zip(pairs, *(got[at::3] for at in range(3)), strict=True):
         fails = [implicit.startswith("42883"), assigned.startswith("42804"), explicit.startswith("42846")]
@@ -111,15 +114,17 @@ WRONG = {"flags": "'bogus'", "unit_type": "'bogus'", "precision": "-1", "places"
 
 
 def calls_of(server):
-    """Yields each function and operator that a statement can call: how it is called, and each argument's name or type."""
-    for line in server.sql(f"SELECT proname, array_to_string(proargtypes::regtype[], ','), array_to_string(proargnames, ',')"
-                           f" FROM {FUNCTIONS} AS f WHERE prokind = 'f' AND NOT 'internal'::regtype = ANY(proargtypes);"):  # fmt: skip
-        name, types, names = (part.split(",") for part in line.split("|"))
-        arguments = [own or kind for own, kind in itertools.zip_longest(names if names != [""] else [], types)]
-        yield f'"{name[0]}"({", ".join(["{}"] * len(types))})', arguments
-    for line in server.sql("SELECT oprname, oprleft::regtype, oprright::regtype FROM pg_operator"
-                           " WHERE 'bytesize'::regtype IN (oprleft, oprright);"):  # fmt: skip
-        name, *arguments = line.split("|")
+    """Yields each function and operator that a statement can call, as a format, and its arguments by name or type."""
+    functions = server.sql(
+        "SELECT proname, array_to_string(proargtypes::regtype[], ','), array_to_string(proargnames, ',')"
+        f" FROM {FUNCTIONS} AS f WHERE prokind = 'f' AND 'internal'::regtype <> ALL(proargtypes);")  # fmt: skip
+    for name, types, names in (line.split("|") for line in functions):
+        kinds = types.split(",")
+        arguments = [own or kind for own, kind in itertools.zip_longest(names.split(",") if names else [], kinds)]
+        yield f'"{name}"({", ".join(["{}"] * len(kinds))})', arguments
+    operators = server.sql("SELECT oprname, oprleft::regtype, oprright::regtype FROM pg_operator"
+                           " WHERE 'bytesize'::regtype IN (oprleft, oprright);")  # fmt: skip
+    for name, *arguments in (line.split("|") for line in operators):
         yield f"{{}} {name} {{}}", arguments
 
 
@@ -151,7 +156,7 @@ def test_no_superuser(server):
 
 @pytest.fixture(scope="module")
 def joined(server):
-    server.sql("CREATE TABLE stored AS SELECT (x * 7919 % 1000)::bytesize AS size FROM generate_series(1, 5000) AS x;",
+    server.sql("CREATE TABLE stored AS SELECT (x * 7 % 1000)::bytesize AS size FROM generate_series(1, 5000) AS x;",
                "CREATE INDEX ON stored(size);", "CREATE TABLE given AS SELECT generate_series(5, 5000, 5) AS bytes;",
                "ANALYZE stored;", "ANALYZE given;")  # fmt: skip
 
@@ -181,7 +186,8 @@ def test_extremes_by_an_index(server, joined):
 
 def test_partitions_by_hash(server):
     """Sizes are spread over partitions, and one that is asked for is looked for in one."""
-    parts = [f"CREATE TABLE part{at} PARTITION OF hashed FOR VALUES WITH (MODULUS 4, REMAINDER {at});" for at in range(4)]
+    parts = [f"CREATE TABLE part{at} PARTITION OF hashed FOR VALUES WITH (MODULUS 4, REMAINDER {at});"
+             for at in range(4)]  # fmt: skip
     got = server.sql("CREATE TABLE hashed(size bytesize) PARTITION BY HASH (size);", *parts,
                      "INSERT INTO hashed SELECT x::bytesize FROM generate_series(1, 4000) AS x;",
                      "SELECT count(*) > 500 FROM hashed GROUP BY tableoid;",
