@@ -147,6 +147,16 @@ def test_null(server):
     assert server.sql(f"SELECT {aggregates} FROM (VALUES (NULL::bytesize), (NULL)) AS t(size);") == ["t|t|t|t"]
 
 
+def test_arguments_are_kept(server):
+    """No call changes the sizes in the row that it gets, as sum(bytesize) changes its state."""
+    calls = [form.format(*("size" if kind == "bytesize" else SAMPLES.get(kind, "3") for kind in arguments))
+             for form, arguments in calls_of(server)]  # fmt: skip
+    calls += [f"{name}(size)" for name in ("min", "max", "sum", "avg")]
+    got = server.sql("CREATE TABLE kept AS SELECT '1 KB'::bytesize AS size;",
+                     *(tried(f"{call} FROM kept") + " SELECT size FROM kept;" for call in calls))  # fmt: skip
+    assert [call for call, size in zip(calls, got[1::2], strict=True) if size != "1 KB"] == []
+
+
 def test_no_superuser(server):
     """A role with CREATE on the database alone creates the extension, and uses it."""
     server.sql("CREATE ROLE plain LOGIN;", "CREATE DATABASE plain;", "GRANT CREATE ON DATABASE plain TO plain;")

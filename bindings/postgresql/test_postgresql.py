@@ -1,7 +1,6 @@
 """Builds the extension for PostgreSQL, and tests it in a cluster of its own on loopback, by a copy of the server."""
 
 import re
-import shutil
 
 import pytest
 from byte_unit_dev.fixtures import call, need, output, read, write
@@ -248,6 +247,13 @@ def test_texts_without_utf8(server, encoding, data):
     assert got == [*answers.values(), "1|0"]
 
 
+def test_long_text_of_another_encoding(server):
+    """Each character is longer in UTF-8: of 3 bytes in place of one."""
+    got = in_encoding(server, "WIN1252", b"\x80", "UPDATE texts SET size = repeat(size, 3000000);",
+                      "SELECT size_explain(size), size_try(size) IS NULL, length(size) FROM texts;")  # fmt: skip
+    assert len(got) == 1 and got[0].endswith(" is not a number (character 1)|t|3000000")
+
+
 def test_compiled_expressions(server):
     """Answers the same where the server compiles expressions with the functions' bitcode inlined, if it can."""
     query = "SELECT sum(size_parse(x || ' KiB') * 2), count(*) FROM generate_series(1, 10000) AS x;"
@@ -277,14 +283,27 @@ def test_no_report_of_valgrind(server):
     # One line each, the body of the function too.
     lines = re.sub(r"^(--|\\).*\n", "", STATEMENTS.replace(TRIED, TRIED.replace("\n", " ")), flags=re.M)
     statements = re.sub(r"(?<!;)\n\s*", " ", lines)
-    folder, log = server.folder / "single", server.folder / "data/valgrind"
-    folder.mkdir()
-    shutil.chown(folder, server.user())
-    server.by_user(server.bin / "initdb", "-D", folder, "-A", "trust", "-E", "UTF8", "--locale=C", "--no-sync")
-    words = ["valgrind", "--quiet", f"--log-file={log}", server.bin / "postgres", "--single", "-D", folder, "postgres"]
+    log = server.folder / "data/valgrind"
+    words = ["valgrind", "--quiet", f"--log-file={log}", *server.single("UTF8")]
     said = server.by_user(*words, input=statements)
     assert 'max = "4.999 KB"' in said and "wrong = " not in said
     assert "byte_unit" not in log.read_text(encoding="utf-8", errors="replace")
+
+
+def test_out_of_memory(server):
+    """In a backend with 210 MB of address space, a statement ends by an error for which a text cannot be converted, or
+    flags cannot be copied, and the next one is answered."""
+    need("prlimit")
+    long = "SELECT size_explain(convert_from(decode(repeat('e9', x), 'hex'), 'LATIN1'))"
+    queries = [(long, 20000000), ("SELECT size_try('1', repeat(' ', x))", 90000000)]
+    after = "SELECT size_parse('1.5 KiB') AS answer;\n"
+    asked = "".join(f"{query} FROM generate_series({n}, {n}) AS x;\n{after}" for query, n in queries)
+    words = ["prlimit", "--as=210000000", *server.single("LATIN1")]
+    # -2 is subprocess.STDOUT: the backend writes errors to stderr.
+    said = server.by_user(*words, input=f"CREATE EXTENSION byte_unit;\n{asked}", stderr=-2)
+    found = re.findall(r"Failed on request of size (\d+)|^\t 1: answer = (.*?)\t", said, re.M)
+    # What the extension asks for: 4 bytes for each byte of LATIN1, and one more.
+    assert [size or answer for size, answer in found] == ["80000001", '"1.5 KiB"', "90000001", '"1.5 KiB"']
 
 
 def ended_well(*words, **how):

@@ -42,7 +42,7 @@ PACKAGES = {
     "aarch64-linux-gnu-gcc": "gcc-aarch64-linux-gnu", **dict.fromkeys(["qemu-x86_64", "qemu-aarch64"], "qemu-user"),
     "/usr/aarch64-linux-gnu/include/stdio.h": "libc6-dev-arm64-cross",
     f"{POSTGRESQL_15}/bin/initdb": "postgresql-15", f"{POSTGRESQL_15}/bin/psql": "postgresql-client-15",
-    POSTGRES_H: "postgresql-server-dev-15", **dict.fromkeys(["setpriv", "lsblk", "unshare"], "util-linux"),
+    POSTGRES_H: "postgresql-server-dev-15", **dict.fromkeys(["setpriv", "prlimit", "lsblk", "unshare"], "util-linux"),
     **dict.fromkeys(["du", "df", "ls", "numfmt"], "coreutils"), **dict.fromkeys(["free", "ps"], "procps"),
     "/usr/bin/time": "time", "apt-get": "apt",
 }  # fmt: skip

@@ -83,6 +83,14 @@ class Server:
         assert len(got) == len(rows)
         return [(*row, found) for row, found in zip(rows, got) if not re.fullmatch(row[1], found)][:5]
 
+    def single(self, encoding):
+        """Makes a cluster of an encoding. Returns the words that run statements in a backend of one user."""
+        folder = self.folder / f"single-{encoding}"
+        folder.mkdir()
+        shutil.chown(folder, self.user())
+        self.by_user(self.bin / "initdb", "-D", folder, "-A", "trust", "-E", encoding, "--locale=C", "--no-sync")
+        return [self.bin / "postgres", "--single", "-D", folder, "-c", "shared_buffers=1MB", "postgres"]
+
     def stop(self):
         """Stops the server at once, since nothing of its data is kept."""
         self.by_user(self.bin / "pg_ctl", "-m", "immediate", "stop")

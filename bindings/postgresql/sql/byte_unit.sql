@@ -24,6 +24,11 @@ INSERT INTO calls VALUES
     ($$''::bytesize$$, '22P02 invalid input syntax for type bytesize: "": No value can be found (at the end of the text).'),
     ($$'1000 RB'::bytesize$$, '22003 invalid input syntax for type bytesize: "1000 RB": The value 1000 exceeds the valid range.'),
     ($$('x' || repeat('é', 40))::bytesize$$, '22P02 invalid input syntax for type bytesize: "xééééééééééééééééééééééééééééééééééééééé..": The character ''x'' is not a number (character 1).');
+-- Texts of 8, 16 and 32 bytes, which fill what the server allocates for them, one after another.
+INSERT INTO calls VALUES
+    ($$array_agg(t::bytesize)::text FROM unnest('{1.25 KiB,1.25 MiB,1.25 GiB}'::text[]) AS t$$, '{"1.25 KiB","1.25 MiB","1.25 GiB"}'),
+    ($$array_agg(t::bytesize)::text FROM unnest('{123456789.123 KB,123456789.124 KB}'::text[]) AS t$$, '{"123456789.123 KB","123456789.124 KB"}'),
+    ($$array_agg(t::bytesize)::text FROM unnest('{1234567890123456789012345.678 KB,1234567890123456789012345.679 KB}'::text[]) AS t$$, '{"1234567890123456789012345.678 KB","1234567890123456789012345.679 KB"}');
 -- The functions, but for the calls that SQLite's extension answers, too.
 INSERT INTO calls VALUES
     ($$concat_ws('|', size_parse(NULL), size_try(NULL), size_explain(NULL), size_text(NULL), size_in(NULL, 'KiB'), size_pretty(NULL))$$, ''),
