@@ -73,7 +73,7 @@ def test_its_c_has_no_warning(python):
 def test_its_own_tests(python, tmp_path):
     tests = path("bindings/python/tests")
     said = output(python.program, "-m", "unittest", "discover", "-s", tests, cwd=tmp_path, env=environment())
-    modules = is_there("import numpy") and is_there("import pandas")
+    modules = all(map(is_there, ("import numpy", "import pandas", "import _testcapi")))
     assert re.search(r"\nOK\n$" if modules else r"\nOK( \(skipped=\d+\))?\n$", said), said
 
 

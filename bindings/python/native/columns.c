@@ -11,8 +11,8 @@ bool new_column(Py_ssize_t count, column *column)
         return false;
     }
     column->sizes = PyBytes_FromStringAndSize(NULL, count * (Py_ssize_t)sizeof(byte_unit_number));
-    column->codes = PyBytes_FromStringAndSize(NULL, count);
-    return column->sizes && column->codes;
+    column->codes = column->sizes ? PyBytes_FromStringAndSize(NULL, count) : NULL;
+    return column->codes;
 }
 
 byte_unit_number *sizes_of(column *column)

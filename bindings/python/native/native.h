@@ -116,7 +116,8 @@ bool borrow_text(PyObject *object, text *text);
 /* The same for the argument `text`: raises a TypeError if it is neither. */
 bool to_text(PyObject *object, text *text);
 void release_text(text *text);
-/* Whether the object is null: None, a float that is not a number, or NA or NaT of pandas. */
+/* Whether the object is null: None, a float that is not a number, or NA or NaT of pandas. False with an exception set
+ * if there is no memory. */
 bool is_null(PyObject *module, PyObject *object);
 
 /* A call of the library that writes the message for a text. */
@@ -155,10 +156,11 @@ typedef struct column {
     PyObject *codes;
 } column;
 
+/* Allocates both parts. Whether it can or not, `from_column` has to be called, which releases them. */
 bool new_column(Py_ssize_t count, column *column);
 byte_unit_number *sizes_of(column *column);
 uint8_t *codes_of(column *column);
-/* Returns both parts as a tuple if `holds`, else NULL. */
+/* Returns both parts as a tuple if `holds`, else NULL. Releases them. */
 PyObject *from_column(column *column, bool holds);
 /* Returns the place of the first text that is rejected, or `count`. */
 size_t first_rejected(const uint8_t *codes, size_t count);

@@ -73,7 +73,10 @@ PyObject *part(PyObject *module, PyObject *const *args, Py_ssize_t count)
         return NULL;
     }
     Py_ssize_t step = PyNumber_AsSsize_t(args[3], NULL); /* clipped if it is so large that one row has no next */
-    bool holds = !PyErr_Occurred() && new_column((Py_ssize_t)rows, &part);
+    if (PyErr_Occurred()) {
+        return NULL;
+    }
+    bool holds = new_column((Py_ssize_t)rows, &part);
     for (size_t i = 0; holds && i < rows; i++, row += (size_t)step) { /* backwards, too: the sum wraps */
         holds = row < view.count;
         if (holds) {
@@ -84,7 +87,7 @@ PyObject *part(PyObject *module, PyObject *const *args, Py_ssize_t count)
     if (!holds && !PyErr_Occurred()) {
         PyErr_SetString(PyExc_IndexError, "a row is out of range");
     }
-    return PyErr_Occurred() ? NULL : from_column(&part, holds);
+    return from_column(&part, holds);
 }
 
 /* Returns the number as an int. */

@@ -34,19 +34,24 @@ void release_text(text *text)
     Py_CLEAR(text->owner);
 }
 
-/* Keeps NA and NaT of pandas, if pandas is imported. */
+/* Keeps NA and NaT of pandas, if pandas is imported, and returns whether it is. */
 static bool find_missing(state *state)
 {
     static const char *const NAMES[] = {"NA", "NaT"};
     PyObject *name = PyUnicode_FromString("pandas");
     PyObject *pandas = name ? PyImport_GetModule(name) : NULL;
-    for (int i = 0; pandas && i < 2; i++) {
+    bool found = pandas;
+    for (int i = 1; found && i >= 0; i--) { /* NA last: if it is kept, both are */
+        Py_CLEAR(state->missing[i]);
         state->missing[i] = PyObject_GetAttrString(pandas, NAMES[i]);
+        found = state->missing[i];
     }
     Py_XDECREF(name);
     Py_XDECREF(pandas);
-    PyErr_Clear();
-    return state->missing[0];
+    if (PyErr_Occurred() && !PyErr_ExceptionMatches(PyExc_MemoryError)) {
+        PyErr_Clear();
+    }
+    return found;
 }
 
 bool is_null(PyObject *module, PyObject *object)

@@ -2,6 +2,7 @@
 
 import ast
 import doctest
+import gc
 import importlib.metadata
 import importlib.resources
 import importlib.util
@@ -14,7 +15,9 @@ import tempfile
 import threading
 import time
 import tracemalloc
+import types
 import unittest
+import unittest.mock
 from array import array
 from collections.abc import Callable
 from functools import partial
@@ -34,6 +37,7 @@ ONLY_TYPES = [
     r"byte_unit\.pandas\.Callable",
 ]
 HAS_MYPY = importlib.util.find_spec("mypy") is not None
+_testcapi: Any = importlib.import_module("_testcapi") if importlib.util.find_spec("_testcapi") else None
 README = os.path.join(os.path.dirname(os.path.abspath(__file__)), "../README.md")
 
 
@@ -218,35 +222,44 @@ class Threads(unittest.TestCase):
             self.assertGreater(turns, 9)
 
 
+# Texts that are rejected; a column, so short that the allocator counts each of its blocks; and calls of each kind.
+WRONG: list[Any] = ["x", "1" * 40, "1000.5 RB", "1 Kx" * 20, b"\xff", "\ud800", "1 KÖ"]
+MANY, OFFSETS = ["1 KB", "x", None, "\ud800", "é"] * 5, array("q", [0, 1, 2])
+COLUMN = byte_unit.parse_many(MANY)
+KINDS: list[Callable[[], object]] = [
+    lambda: [*map(byte_unit.parse, ["999 RB", "1"])], lambda: [*map(byte_unit.explain, WRONG)],
+    lambda: byte_unit.parse_many(MANY), lambda: byte_unit.parse_buffers(b"1x", OFFSETS, validity=b"\1"),
+    lambda: byte_unit.text(10**29 + 1, width=400), lambda: byte_unit.approximate_text(10**29 + 1, width=400),
+    lambda: byte_unit.recoverable_unit(10**29 + 1, precision=28), lambda: byte_unit.text(10**30),
+    lambda: byte_unit.from_unit(2**70, "KB"), lambda: byte_unit.from_unit(10**30, "KB"),
+    *(partial(call, text) for call in (byte_unit.parse, byte_unit.parse_unit) for text in WRONG),
+    lambda: byte_unit.parse_many(MANY, errors="raise"), lambda: byte_unit.parse_many(["1", 2]),  # type: ignore
+    lambda: byte_unit.parse_buffers(b"1x", OFFSETS, errors="raise"),
+    lambda: byte_unit.parse_buffers(b"1\xff", OFFSETS, errors="raise"),
+    lambda: byte_unit.parse_buffers(b"1", OFFSETS), lambda: byte_unit.parse_buffers(b"1x", OFFSETS, validity=b""),
+    lambda: (list(COLUMN), COLUMN[::-2], COLUMN[:], COLUMN[0], COLUMN.sum(), COLUMN.max(), COLUMN.mask()),
+    lambda: _native.part(COLUMN.sizes, COLUMN.codes, 1, 1, len(COLUMN)),  # its last row is out of range
+    lambda: (COLUMN.int64(overflow="null"), COLUMN.uint128(), bytes(COLUMN.float64()), repr(COLUMN)),
+    lambda: [(row, str(error)) for row, error in COLUMN.errors(MANY)],
+]  # fmt: skip
+
+
+def outcome(call: Callable[[], object]) -> object:
+    """Returns what a call returns, or the type of what it raises."""
+    try:
+        return call()
+    except Exception as error:
+        return type(error)
+
+
 class Memory(unittest.TestCase):
     def test_nothing_is_kept(self) -> None:
         """Neither results nor errors leave blocks or references."""
-        wrong: list[Any] = ["x", "1" * 40, "1000.5 RB", "1 Kx" * 20, b"\xff", "\ud800", "1 KÖ"]
-        many, offsets = ["1 KB", "x", None, "\ud800", "é"] * 9, array("q", [0, 1, 2])
-        column = byte_unit.parse_many(many)
-        calls: list[Callable[[], object]] = [
-            lambda: [*map(byte_unit.parse, ["999 RB", "1"])], lambda: [*map(byte_unit.explain, wrong)],
-            lambda: byte_unit.parse_many(many), lambda: byte_unit.parse_buffers(b"1x", offsets, validity=b"\1"),
-            lambda: byte_unit.text(10**29 + 1, width=400), lambda: byte_unit.approximate_text(10**29 + 1, width=400),
-            lambda: byte_unit.recoverable_unit(10**29 + 1, precision=28), lambda: byte_unit.text(10**30),
-            *(partial(call, text) for call in (byte_unit.parse, byte_unit.parse_unit) for text in wrong),
-            lambda: byte_unit.parse_many(many, errors="raise"), lambda: byte_unit.parse_many(["1", 2]),  # type: ignore
-            lambda: byte_unit.parse_buffers(b"1x", offsets, errors="raise"),
-            lambda: byte_unit.parse_buffers(b"1\xff", offsets, errors="raise"),
-            lambda: byte_unit.parse_buffers(b"1", offsets), lambda: byte_unit.parse_buffers(b"1x", offsets, validity=b""),
-            lambda: (list(column), column[::-2], column[0], column.sum(), column.max(), column.mask(), column.float64()),
-            lambda: (column.int64(overflow="null"), column.uint128(), list(column.errors(many)), repr(column)),
-        ]  # fmt: skip
-        kept = [None, "unit", True, False, byte_unit.UNITS, byte_unit.ERROR_NAMES, byte_unit.SizeError, *wrong]
+        kept = [None, "unit", True, False, byte_unit.UNITS, byte_unit.ERROR_NAMES, byte_unit.SizeError, *WRONG]
 
         def work() -> None:
-            for call in calls * 1000:
-                try:
-                    call()
-                except byte_unit.SizeError as error:
-                    error.position
-                except (ValueError, TypeError):
-                    pass
+            for call in KINDS * 1000:
+                outcome(call)
 
         work()
         tracemalloc.start()
@@ -256,6 +269,57 @@ class Memory(unittest.TestCase):
         self.assertLess(tracemalloc.get_traced_memory()[0] - before, 20_000)
         for object_, count in zip(kept, references, strict=True):
             self.assertLess(abs(sys.getrefcount(object_) - count), 100)  # not one for each call
+
+
+def fails(place: int, call: Callable[[], object]) -> object:
+    """Makes a call, in which the allocation at a place fails."""
+    _testcapi.set_nomemory(place, place + 1)
+    try:
+        return call()
+    except SystemError as error:  # CPython itself has no memory for the traceback of an error
+        raise MemoryError if str(error) == "error return without exception set" else error
+    finally:
+        _testcapi.remove_mem_hooks()
+
+
+@unittest.skipUnless(_testcapi, "this CPython has no module _testcapi, by which an allocation fails")
+class NoMemory(unittest.TestCase):
+    def fail_in_turn(self, call: Callable[[], object], wanted: object) -> int:
+        """Makes the call until 20 failures in a row change nothing. Returns the number of those that do."""
+        place = times = last = 0
+        while place < last + 20:
+            found = outcome(partial(fails, place, call))
+            place += 1
+            if found is MemoryError:
+                times, last = times + 1, place
+            else:
+                self.assertEqual(found, wanted)
+        return times
+
+    def test_each_allocation_fails_in_turn(self) -> None:
+        """The call raises MemoryError, and leaves no block, whichever allocation fails."""
+        for number, call in enumerate(KINDS):
+            wanted = outcome(call)
+            with self.subTest(number, wanted=wanted):
+                self.assertGreater(self.fail_in_turn(call, wanted) + self.fail_in_turn(call, wanted), 1)
+                gc.collect()
+                before = sys.getallocatedblocks()
+                for _ in range(10):
+                    self.fail_in_turn(call, wanted)
+                gc.collect()
+                self.assertLess(sys.getallocatedblocks() - before, 5)  # not one for each of the ten
+
+    def test_the_first_null_of_pandas(self) -> None:
+        """It is null, or raises MemoryError; the next ones are null."""
+        pandas = types.SimpleNamespace(NA=object(), NaT=object())
+        spec: Any = importlib.util.spec_from_file_location("byte_unit._native", _native.__file__)
+        with unittest.mock.patch.dict(sys.modules, pandas=pandas):
+            for place in range(20):
+                module = importlib.util.module_from_spec(spec)  # a new one, which has not seen pandas
+                spec.loader.exec_module(module)
+                call = partial(module.parse_many, [pandas.NA, pandas.NaT], False, False, False, False)
+                self.assertIn(outcome(partial(fails, place, call)), (MemoryError, (bytes(32), b"\7\7")))
+                self.assertEqual(call(), (bytes(32), b"\7\7"))
 
 
 if __name__ == "__main__":
