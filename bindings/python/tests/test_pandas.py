@@ -92,14 +92,16 @@ class ToSizes(unittest.TestCase):
 @unittest.skipUnless(HAS_PANDAS, "pandas is not installed")
 class FormatSizes(unittest.TestCase):
     def test_dtypes(self) -> None:
-        for dtype in ("Int64", "UInt64", "object"):
+        for dtype in ("Int64", "UInt64", "object", "category"):
             sizes = pandas.Series([1536, None, 0], list("abc"), dtype, "quota")
             texts = format_sizes(sizes)
             with self.subTest(dtype):
                 self.assertEqual((str(texts.dtype), texts.name, list(texts.index)), ("string", "quota", list("abc")))
                 self.assertEqual(texts.tolist(), ["1.5 KiB", pandas.NA, "0 B"])
         self.assertEqual(format_sizes(pandas.Series([2**63 - 1])).tolist(), [byte_unit.text(2**63 - 1)])
-        self.assertEqual(format_sizes(pandas.Series([10**30 - 1, None], dtype=object))[0], byte_unit.text(10**30 - 1))
+        for size, dtype in itertools.product((2**63 - 1, 10**30 - 1), (object, "category")):
+            texts = format_sizes(pandas.Series([size, None], dtype=dtype))
+            self.assertEqual(texts.tolist(), [byte_unit.text(size), pandas.NA])
         self.assertEqual(str(format_sizes(pandas.Series([], dtype="Int64")).dtype), "string")
 
     def test_options(self) -> None:
@@ -128,7 +130,13 @@ class FormatSizes(unittest.TestCase):
                 format_sizes(pandas.Series(wrong))
         for other in ([1.5], ["1"]):
             with self.assertRaises(TypeError):
-                format_sizes(pandas.Series(other))
+                format_sizes(pandas.Series(other, dtype=object))
+        for dtype, data in itertools.product(("float64", "float32", "Float64", "Sparse[float64]"), ([], [None], [1.0])):
+            sizes = pandas.Series(data, dtype=dtype)
+            for series in [sizes] if dtype[0] == "S" else [sizes, sizes.astype("category")]:
+                message = "^sizes must be a Series of integers, not of .*[Ff]loat.*: make it Int64 first$"
+                with self.subTest(dtype, data=data), self.assertRaisesRegex(TypeError, message):
+                    format_sizes(series)
         for other in ([1], numpy.array([1]), pandas.DataFrame({"1": [2]}), 1):
             message = rf"^sizes must be a Series of pandas, .*, not [a-z.]*{type(other).__name__}$"
             with self.assertRaisesRegex(TypeError, message):

@@ -81,8 +81,9 @@ def format_sizes(
     """Returns the texts of a series of integers as strings, with its index and name.
 
     Each is what `text` returns, with `unit` what `adjusted_text` does, or with `unit_type` what `approximate_text`
-    does. The options are the other arguments of that call, with its defaults and errors. A null is `NA`. Raises
-    `TypeError` if both are given, or if the series is of floats, which are not exact: make it `Int64` first.
+    does. The options are the other arguments of that call, with its defaults and errors. A null is `NA`. The series may
+    be of objects or categories, too. Raises `TypeError` if both are given, or if the series is of floats, even of nulls
+    alone or empty, since floats are not exact: make it `Int64` first.
 
     >>> format_sizes(pandas.Series([1536, 123456]), unit="KiB", precision=1).tolist()
     ['1.5 KiB', '120.6 KiB']
@@ -97,6 +98,11 @@ def format_sizes(
         function, options["unit_type"] = approximate_text, unit_type
     call = partial(function, **options)
     call(0)  # wrong options raise an error for a series without a size, too
-    rows = zip(sizes.to_numpy(object), sizes.isna(), strict=True)
+    is_categorical = isinstance(sizes.dtype, pandas.CategoricalDtype)
+    dtype = sizes.dtype.categories.dtype if is_categorical else sizes.dtype
+    if pandas.api.types.is_float_dtype(dtype):
+        raise TypeError(f"sizes must be a Series of integers, not of {dtype}: make it Int64 first")
+    values = sizes.astype(object) if is_categorical else sizes  # else pandas makes floats of integers beside a null
+    rows = zip(values.to_numpy(object), sizes.isna(), strict=True)
     texts = [pandas.NA if is_null else call(size) for size, is_null in rows]
     return pandas.Series(pandas.array(texts, "string"), sizes.index, name=sizes.name)
