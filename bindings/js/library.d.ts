@@ -1,6 +1,6 @@
 // The types of library.js: its calls, their options and results, and the error of a string.
 
-/** Why a string is no size, or no unit: the names of the codes in byte_unit.h. */
+/** Why a string is no size, or no unit: the names of the codes in byte_unit.h. `not_utf8` is a lone surrogate. */
 export type ErrorCode =
     "no_value" | "not_number" | "number_too_long" | "exceeded_bounds" | "unit" | "not_utf8" | "invalid_argument";
 /** The name of a unit, such as `KiB`, `MB` or `Kb`. */
@@ -8,7 +8,8 @@ export type Unit = string;
 /** The units from which one is chosen: by 1024, by 1000, or of both. */
 export type UnitType = "binary" | "decimal" | "both";
 
-/** How a string is read. All are false if they are not given. */
+/** How a string is read. All are false if they are not given. Here and below, options are own properties of an object
+ *  whose prototype is that of `{}` or null: of any other object they are a TypeError. */
 export interface ReadingOptions {
     /** Sizes are in bits in place of bytes. */
     bits?: boolean;
@@ -65,7 +66,7 @@ export class SizeError extends Error {
     /** Whether the string could end there, of `unit`. */
     readonly alsoExpectNoCharacter?: boolean;
     /** The index in the string of the wrong character, or, if it ends too early, of its end, before white space there;
-     *  null if the size is too large. */
+     *  of `not_utf8` that of the first lone surrogate; null if the size is too large. */
     readonly position: number | null;
 }
 
@@ -83,8 +84,9 @@ export interface Library {
     /** Reads the strings of an array, a set, a generator or another iterable object, each as parse does, and throws no
      *  SizeError. */
     parseMany(strings: Iterable<string> & object, options?: SizeReadingOptions): Sizes;
-    /** Returns the message of the error of a string, or null if it is a size. Unless the size is too large, it ends
-     *  with the number of the wrong character, from 1, or with "(at the end of the text)". */
+    /** Returns the message of the error of a string, or null if it is a size. Unless the size is too large, or the
+     *  string has a lone surrogate, it ends with the number of the wrong character, from 1, or with "(at the end of the
+     *  text)". */
     explain(string: string, options?: SizeReadingOptions): string | null;
     /** Returns the message of the error of a string, with such words, or null if it is a unit. */
     explainUnit(string: string, options?: ReadingOptions): string | null;

@@ -32,6 +32,8 @@ const SIZE_LIMIT = 10n ** 30n, LOW = (1n << 64n) - 1n;
 // BYTE_UNIT_BUFFER_SIZE: every message fits, and every text without a width and with at most 200 places.
 const PAGE = 65536, FIRST_OUT = 256;
 const encoder = new TextEncoder(), decoder = new TextDecoder();
+// A half of a pair of UTF-16 without the other half.
+const LONE_SURROGATE = /\p{Surrogate}/u;
 
 /** The error of a text that is no size, or no unit. */
 export class SizeError extends Error {
@@ -48,24 +50,37 @@ function quoted(value) {
     return typeof value === "bigint" ? `${text}n` : text;
 }
 
+/** Returns whether the prototype of an object is null, or the Object.prototype of a realm, which alone has the method. */
+function isPlain(object) {
+    const prototype = Object.getPrototypeOf(object);
+    return prototype === null
+        || Object.getPrototypeOf(prototype) === null && Object.hasOwn(prototype, "isPrototypeOf");
+}
+
 /**
- * Returns the codes of the options that are given, by their names: one that is `undefined` is not given. Each is read
- * once, so no code of the caller, such as a getter, runs later. Throws a TypeError if a name is not one of `allowed` or
- * a value has another type, such as `"no"` for `false`, and a RangeError if it is out of range.
+ * Returns the codes of the options that are given, by their names, and those of `defaults` that are not given: one that
+ * is `undefined` is not. They are own properties of a plain object; neither it nor what is returned inherits any. Each
+ * is read once, so no code of the caller, such as a getter, runs later. Throws a TypeError if the object is not plain, a
+ * name is not one of `allowed`, or a value has another type, such as `"no"` for `false`, and a RangeError if it is out
+ * of range.
  */
-function optionsOf(given = {}, ...allowed) {
+function optionsOf(given = {}, allowed, defaults = {}) {
     if (typeof given !== "object" || given === null)
         throw new TypeError(`${quoted(given)} is no object with options`);
-    const options = {};
-    for (const [name, value] of Object.entries(given)) {
+    if (!isPlain(given))
+        throw new TypeError("options are own properties of a plain object, whose prototype is that of {} or null");
+    const options = { __proto__: null, ...defaults };
+    for (const name of Object.getOwnPropertyNames(given)) {
         if (!allowed.includes(name))
             throw new TypeError(`${name} is no option of this call`);
+        const value = given[name];
         if (value === undefined)
             continue;
         const { type, expected, codeOf } = OPTIONS[name], isOfType = typeof value === type;
-        options[name] = isOfType ? codeOf(value) : undefined;
-        if (options[name] === undefined)
+        const code = isOfType ? codeOf(value) : undefined;
+        if (code === undefined)
             throw new (isOfType ? RangeError : TypeError)(`${name} is ${quoted(value)}: ${expected} is expected`);
+        options[name] = code;
     }
     return options;
 }
@@ -80,6 +95,16 @@ function textGiven(value) {
     if (typeof value !== "string")
         throw new TypeError(`${quoted(value)} is no string`);
     return value;
+}
+
+/**
+ * Makes the UTF-8 of a string invalid if the string has a lone surrogate, so that the library rejects it as such: the
+ * encoder writes U+FFFD for it. Returns the bytes.
+ */
+function invalidIfLone(string, bytes) {
+    if (LONE_SURROGATE.test(string))
+        bytes[0] = 0xff;
+    return bytes;
 }
 
 /** Returns the index in a string, in UTF-16 units, of the character that begins at a byte of its UTF-8 form. */
@@ -160,7 +185,8 @@ class Memory {
      */
     write(string) {
         const room = this.reserve(3 * string.length + FIRST_OUT);
-        const { written } = encoder.encodeInto(string, this.bytes(room, 3 * string.length));
+        const bytes = this.bytes(room, 3 * string.length), { written } = encoder.encodeInto(string, bytes);
+        invalidIfLone(string, bytes);
         return [BigInt(room), BigInt(written)];
     }
 
@@ -230,7 +256,9 @@ export async function instantiate(bytes) {
             fields.expected = decoder.decode(memory.bytes(at.error + 5, 16)).replace(/\0.*$/s, "");
             fields.alsoExpectNoCharacter = view.getUint8(at.error + 4) === 1;
         }
-        if (name !== "exceeded_bounds")
+        if (name === "not_utf8")
+            fields.position = string.search(LONE_SURROGATE);
+        else if (name !== "exceeded_bounds")
             fields.position = indexOfByte(string, Number(view.getBigUint64(at.error + 56, true)));
         const message = explained(ofUnit ? exports.byte_unit_explain_unit : exports.byte_unit_explain, string, flags);
         return new SizeError(message, fields);
@@ -268,20 +296,20 @@ export async function instantiate(bytes) {
         version: exports.byte_unit_version(),
 
         parse(string, options) {
-            return sizeOf(textGiven(string), flagsOf(optionsOf(options, ...SIZE_OPTIONS)));
+            return sizeOf(textGiven(string), flagsOf(optionsOf(options, SIZE_OPTIONS)));
         },
 
         parseUnit(string, options) {
-            return UNITS[unitOf(textGiven(string), flagsOf(optionsOf(options, ...UNIT_OPTIONS)))];
+            return UNITS[unitOf(textGiven(string), flagsOf(optionsOf(options, UNIT_OPTIONS)))];
         },
 
         parseMany(strings, options) {
-            const flags = flagsOf(optionsOf(options, ...SIZE_OPTIONS)), encoded = [];
+            const flags = flagsOf(optionsOf(options, SIZE_OPTIONS)), encoded = [];
             if (Object(strings) instanceof String)
                 throw new TypeError("strings is one string: an array or another iterable of strings is expected");
             // The caller's iterator runs here alone, and what it returns is counted: nothing is in the memory yet.
             for (const string of strings)
-                encoded.push(encoder.encode(textGiven(string)));
+                encoded.push(invalidIfLone(textGiven(string), encoder.encode(string)));
             const count = encoded.length, total = encoded.reduce((sum, bytes) => sum + bytes.length, 0);
             // A text has 16 bytes for its size, 8 for its offset and 1 for its code. There is one offset of 8 bytes more:
             // 64 bytes hold it, and the others are to spare.
@@ -304,30 +332,30 @@ export async function instantiate(bytes) {
         },
 
         explain(string, options) {
-            const flags = flagsOf(optionsOf(options, ...SIZE_OPTIONS));
+            const flags = flagsOf(optionsOf(options, SIZE_OPTIONS));
             return explained(exports.byte_unit_explain, textGiven(string), flags) || null;
         },
 
         explainUnit(string, options) {
-            const flags = flagsOf(optionsOf(options, ...UNIT_OPTIONS));
+            const flags = flagsOf(optionsOf(options, UNIT_OPTIONS));
             return explained(exports.byte_unit_explain_unit, textGiven(string), flags) || null;
         },
 
         text(size, options) {
-            const given = { alternate: 1, ...optionsOf(options, ...TEXT_OPTIONS) }, flags = flagsOf(given);
+            const given = optionsOf(options, TEXT_OPTIONS, { alternate: 1 }), flags = flagsOf(given);
             const spec = memory.writeSpec(given), number = memory.writeSize(size);
             return memory.readText((out, room) => exports.byte_unit_text(number, flags, spec, out, room));
         },
 
         adjustedText(size, unit, options) {
-            const given = optionsOf(options, ...TEXT_OPTIONS), flags = flagsOf(given), code = unitCode(unit);
+            const given = optionsOf(options, TEXT_OPTIONS), flags = flagsOf(given), code = unitCode(unit);
             const spec = memory.writeSpec(given), number = memory.writeSize(size);
             return memory.readText(
                 (out, room) => exports.byte_unit_adjusted_text(number, flags, code, spec, out, room));
         },
 
         approximateText(size, options) {
-            const given = { unitType: BINARY, precision: 1, ...optionsOf(options, ...TEXT_OPTIONS, "unitType") };
+            const given = optionsOf(options, [...TEXT_OPTIONS, "unitType"], { unitType: BINARY, precision: 1 });
             const flags = flagsOf(given), code = given.unitType;
             const spec = memory.writeSpec(given), number = memory.writeSize(size);
             return memory.readText(
@@ -335,7 +363,7 @@ export async function instantiate(bytes) {
         },
 
         appropriateUnit(size, options) {
-            const given = { unitType: BINARY, ...optionsOf(options, "bits", "unitType") };
+            const given = optionsOf(options, ["bits", "unitType"], { unitType: BINARY });
             return UNITS[exports.byte_unit_appropriate_unit(memory.writeSize(size), flagsOf(given), given.unitType)];
         },
     };

@@ -95,6 +95,72 @@ def test_options_that_are_undefined(javascript, call, names, text):
     assert evaluated(javascript, call.replace("{}", f"{{ {options} }}")) == text
 
 
+# Calls with OPTIONS, each with the names that it takes; and for each name values, some of which would change a result.
+CALLS_WITH_OPTIONS = {
+    "parse('1 Kb', OPTIONS)": "bits ignoreCase binary", "parseMany(['1 kb'], OPTIONS).sizes": "bits ignoreCase binary",
+    "explain('200 RB', OPTIONS)": "bits ignoreCase binary", "explainUnit('Kx', OPTIONS)": "bits ignoreCase",
+    "parseUnit('k', OPTIONS)": "bits ignoreCase", "text(1536, OPTIONS)": "bits precision width sign align alternate",
+    "adjustedText(1537, 'KiB', OPTIONS)": "bits precision width sign align alternate",
+    "approximateText(1280, OPTIONS)": "bits precision width sign align alternate unitType",
+    "appropriateUnit(1000, OPTIONS)": "bits unitType",
+}  # fmt: skip
+VALUES = {**dict.fromkeys(["bits", "ignoreCase", "binary", "alternate"], "true, false, 1, 7"),
+          "precision": "0, 70000, 'x'", "width": "30, 70000", "sign": "'minus', 2, 7", "align": "'right', 3, 7",
+          "unitType": "'decimal', 1, 7"}  # fmt: skip
+# What gives a call an object that has or inherits `bits`, or none; RESULT if it is taken as `{ bits: true }`.
+OBJECTS = {
+    "{ bits: true }": True, "{ __proto__: null, bits: true }": True, "Object.freeze({ bits: true })": True,
+    "new Proxy({ bits: true }, {})": True, "{ get bits() { return true; } }": True,
+    "Object.defineProperty({}, 'bits', { value: true })": True, "vm.runInNewContext('({ bits: true })')": True,
+    "vm.runInNewContext('({ __proto__: null, bits: true })')": True, "{ bits: true, [Symbol('s')]: 1 }": True,
+    "new (class { bits = true; })()": False, "new (class { get bits() { return true; } })()": False,
+    "new (class extends null { constructor() { return Object.create(new.target.prototype); } })()": False,
+    "Object.create({ bits: true })": False, "Object.create({ __proto__: null, bits: true })": False,
+    "Object.create(Object.create(null))": False, "new Map([['bits', true]])": False, "new Proxy(new Map(), {})": False,
+    "[]": False, "new Date()": False, "vm.runInNewContext('new Map()')": False,
+    "vm.runInNewContext('Object.create({ bits: true })')": False, "vm.runInNewContext('[]')": False,
+}  # fmt: skip
+
+
+def test_options_that_are_inherited(javascript):
+    """They are passed over: whatever Object.prototype has, each call returns what it does without."""
+    calls = ", ".join(f"options => {call.replace('OPTIONS', 'options')}" for call in CALLS_WITH_OPTIONS)
+    values = ", ".join(f"[{name!r}, {value}]" for name, values in VALUES.items() for value in values.split(", "))
+    code = f"""[{calls}].flatMap(call => [{values}].flatMap(([name, value]) => [undefined, {{}}].flatMap(options => {{
+        const outcome = () => {{ try {{ return String(call(options)); }} catch (error) {{ return String(error); }} }};
+        const wanted = outcome();
+        Object.prototype[name] = value;
+        const got = outcome();
+        delete Object.prototype[name];
+        return got === wanted ? [] : [[String(call), name, String(value), got, wanted]];
+    }})))"""
+    assert evaluated(javascript, code) == []
+
+
+def test_options_of_other_calls(javascript):
+    """Each call takes its options, and no others."""
+    asked = [(call, name) for call in CALLS_WITH_OPTIONS for name in VALUES]
+    given = [call.replace("OPTIONS", f"{{ {name}: {VALUES[name].split(', ')[0]} }}") for call, name in asked]
+    tried = "[{}].map(call => {{ try {{ return String(call()); }} catch (error) {{ return String(error); }} }})"
+    found = evaluated(javascript, tried.format(", ".join(f"() => {call}" for call in given)))
+    for (call, name), got in zip(asked, found):
+        taken = name in CALLS_WITH_OPTIONS[call].split()
+        assert taken == (got != f"TypeError: {name} is no option of this call"), (call, name, got)
+
+
+def test_options_of_each_kind_of_object(javascript):
+    """They are own properties of a plain object, of any realm; any other object is a TypeError, not passed over."""
+    calls = ", ".join(f"options => {call.replace('OPTIONS', 'options')}" for call in CALLS_WITH_OPTIONS)
+    code = f"""import('node:vm').then(({{ default: vm }}) => [{calls}].map(call =>
+        [{", ".join(f"() => ({given})" for given in [*OBJECTS, "{}"])}].map(given => {{
+            try {{ return String(call(given())); }} catch (error) {{ return String(error); }}
+        }})))"""
+    error = "TypeError: options are own properties of a plain object, whose prototype is that of {} or null"
+    for call, (*got, without) in zip(CALLS_WITH_OPTIONS, evaluated(javascript, code)):
+        assert got == [got[0] if is_plain else error for is_plain in OBJECTS.values()], call
+        assert got[0] != without or call[:11] == "explainUnit", call  # its message does not depend on `bits` alone
+
+
 def test_options_with_code(javascript):
     """A getter that makes calls of its own changes no size, and is called once."""
     getter = "get width() { calls++; parse('7 KB'); text(10n ** 29n, { width: 30, precision: 2 }); return 12; }"
@@ -126,6 +192,30 @@ def test_no_iterables_of_strings(javascript, strings, error):
     code = (f"(() => {{ try {{ parseMany({strings}); }} catch (error) {{ "
             "return [`${error.name}: ${error.message}`, parse('1.5 KiB'), text(1536)]; } })()")  # fmt: skip
     assert evaluated(javascript, code) == [error, "1536n", "1.5 KiB"]
+
+
+@pytest.mark.parametrize("string, position", [
+    ("1\ud800", 1), ("\udc00", 0), ("\U0001f600\ud83d", 2), ("1 K\ude00\ud83d", 3), ("1 KB \ud800", 5),
+    ("\ufffd\ud800", 1), ("9" * 300 + "\udfff", 300), ("1\ufffd", None), ("1\U0001f600", None), ("1\ue000", None), ("1\ud7ff", None),
+])  # fmt: skip
+def test_lone_surrogates(javascript, string, position):
+    """They are told by a code of their own, with the place of the first; a real U+FFFD is a wrong character."""
+    code = f"""(string => {{
+        const errorOf = call => {{ try {{ call(string); }} catch (error) {{ return error; }} }};
+        const fields = call => {{
+            const {{ code, text, character, position, expected, message }} = errorOf(call);
+            return [code, text === string, character, position, expected, message];
+        }};
+        return [fields(parse), fields(parseUnit), explain(string), explainUnit(string), parseMany([string, '1']).codes];
+    }})({json.dumps(string)})"""
+    of_size, of_unit, *explained, codes = evaluated(javascript, code)
+    if position is not None:
+        said = "the text is not UTF-8"
+        assert of_size == of_unit == ["not_utf8", True, None, position, None, said]
+        assert [*explained, *codes] == [said, said, "not_utf8", "ok"]
+    else:
+        assert [of_size[0], of_size[2], of_size[3], *codes] == ["unit", string[1], 1, "unit", "ok"]
+        assert f"'{string[1]}'" in explained[0] or string[1] in "\ue000\ud7ff"
 
 
 def test_a_column_that_is_rejected(javascript):

@@ -116,6 +116,22 @@ def test_copying(browser):
             "Copied.", "The browser does not allow it.")  # fmt: skip
 
 
+def test_page_with_a_lone_surrogate(browser, place):
+    """It is told and marked; the address and the link that is copied have U+FFFD in its place."""
+    typed(browser, "1 KB")
+    got = browser.execute_async_script("""
+        const done = arguments[0], links = [], field = document.getElementById("text");
+        navigator.clipboard.writeText = async text => links.push(text);
+        field.value = "5 K\\ud800B";
+        document.getElementById("form").dispatchEvent(new Event("input"));
+        document.querySelector("[data-copy=link]").click();
+        const said = document.getElementById("answer").innerText.toWellFormed();
+        setTimeout(() => done([links, location.href, field.value.charCodeAt(3), said]), 500);""")
+    address = place.as_uri() + "#bytes=5%20K%EF%BF%BDB"
+    assert got[:3] == [[address], address, 0xD800] and got[3] == "5 K\ufffdB\n\nNot a size: The text is not UTF-8."
+    assert browser.get_log("browser") == []
+
+
 def test_page_for_all(browser):
     """Every field has a label, each table a name; keys reach all; a link opens the same state; no message."""
     unnamed = "[...document.querySelectorAll('input')].filter(input => !input.labels.length), " \
