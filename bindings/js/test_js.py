@@ -2,6 +2,7 @@
 
 import json
 import re
+from operator import mul
 from pathlib import Path
 
 import pytest
@@ -40,11 +41,16 @@ def evaluated(javascript, code):
     ("parse('1', { ignorecase: true })", "TypeError: ignorecase is no option of this call"),
     ("parse('1', { bits: 'no' })", 'TypeError: bits is "no": true or false is expected'),
     ("parseUnit('kib')", "Kib"), ("parseUnit('k', { bits: true })", "Kb"),
-    ("explain('1 KB')", None), ("explainUnit('x').startsWith(\"the character 'x'\")", True),
+    ("byteUnit.version", sum(map(mul, map(int, read("VERSION").split(".")), (10**6, 10**3, 1)))),
+    ("byteUnit.UNITS.length", 38), ("Object.isFrozen(byteUnit.UNITS)", True),
+    ("explain('1 KB')", None), ("explainUnit('KB')", None), ("explainUnit('k', { bits: true })", None), ("explainUnit('x').startsWith(\"the character 'x'\")", True),
     ("explain('1😀x').slice(-14)", " (character 2)"), ("explainUnit('K😀').slice(-14)", " (character 2)"),
     ("explain('1000 RB')", "the value 1000 exceeds the valid range"),
     ("text(10n ** 30n)", f"RangeError: {10**30} is no size: it is negative, or 10^30 or more"),
-    ("text(1.5)", "TypeError: 1.5 is no BigInt, and no integer that a number holds exactly"),
+    ("text(2n ** 64n + 1n)", "18446744073709551.617 KB"), ("text(2 ** 53 - 1)", "9007199254740.991 KB"),
+    *[(f"text({size})", f"TypeError: {value} is no BigInt, and no integer that a number holds exactly")
+      for size, value in (("1.5", "1.5"), ("2 ** 53", 2**53), ("-(2 ** 53)", -(2**53)), ("'1'", '"1"'))],
+    *[(f"text({size})", "RangeError: -1 is no size: it is negative, or 10^30 or more") for size in ("-1", "-1n")],
     ("text(1, { precision: -1 })", "RangeError: precision is -1: an integer from 0 to 65535 is expected"),
     ("text(1, { precision: 65536 })", "RangeError: precision is 65536: an integer from 0 to 65535 is expected"),
     ("text(1, { sign: 'both' })", 'RangeError: sign is "both": one of plus, minus is expected'),

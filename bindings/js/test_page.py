@@ -1,5 +1,6 @@
 """Tests the page in Chromium, driven by WebDriver, and what is said of a module that cannot be loaded."""
 
+import random
 import re
 import shutil
 import threading
@@ -10,6 +11,8 @@ from http.server import SimpleHTTPRequestHandler, ThreadingHTTPServer
 import pytest
 from byte_unit_dev import page
 from byte_unit_dev.fixtures import NODE, need, output, read
+from byte_unit_dev.model import page as model
+from byte_unit_dev.model.exact import some_line
 from byte_unit_dev.rows import check, rows
 
 NARROW_SPACE = "\u202f"  # what the page has between groups of three digits
@@ -105,15 +108,85 @@ def test_page_by_the_vectors(browser):
     check(asked, [size or row.answer * (not row.answer.isdigit()) for row, size in zip(asked, got)])
 
 
-def test_copying(browser):
-    """A click on a button to copy says whether the browser allows it."""
-    typed(browser, "1.5 KiB")
-    for what in ("number", "text", "link"):
-        browser.execute_script("document.getElementById('copied').textContent = ''")
-        browser.execute_script(f"document.querySelector('[data-copy={what}]').click()")
-        time.sleep(0.2)
-        assert browser.execute_script("return document.getElementById('copied').textContent") in (
-            "Copied.", "The browser does not allow it.")  # fmt: skip
+# Texts at the ends of what the page tells apart, beside those that are drawn.
+EDGES = ["", " ", "1.", "0", "1", "1 b", "7 b", "8 b", "9 b", "1 B", "1 byte", "1 Kb", "8 Kb", "8 Mb", "1.5 KiB", "100 mb",
+         "10m", "0.3 b", "1 RB", "1.1 RB", "8 RB", "999.999 RB", "1000 RB", "000.50 kib", "1000", "1.25 gb", "1 RiB",
+         "12 Kiq", "1.5 €", " 1 😀"]  # fmt: skip
+
+
+def test_page_by_the_model(browser, place, seed):
+    """All that the page shows and copies for a text is what the exact model has."""
+    drawn = [some_line(random.Random(f"{seed} {at}")).decode(errors="replace") for at in range(200)]
+    texts = [*EDGES, *(line for line in drawn if not re.search("[\0\r\n]", line))]
+    calls = [(reading, text) for at, text in enumerate(texts) for reading in model.READINGS
+             if at < len(EDGES) or reading in ("bytes", "bits")]  # fmt: skip
+    before = browser.execute_script("return history.length")
+    got, marks = browser.execute_script(read("bindings/js/checks/shown.js"), calls)
+    wrong = []
+    for (reading, text), found in zip(calls, got):
+        wanted, at = model.shown(text, reading, place.as_uri()), found.pop("place", None)
+        if at is not None:
+            wrong += [(reading, text, "place", at)] * (abs(at - model.place_of(wanted.pop("bits"))) > 0.1)
+        wrong += [(reading, text, name, found.get(name), wanted.get(name)) for name in {*found, *wanted}
+                  if found.get(name) != wanted.get(name)]  # fmt: skip
+    assert wrong == [], wrong[:5]
+    for (*mark, of_name, of_line), (*known, at) in zip(marks, model.marks(), strict=True):
+        assert mark == known and abs(of_name - at) < 0.1 and abs(of_line - at) < 0.2, mark
+    time.sleep(0.5)  # the address has the text after 0.2 s, in place of the one before
+    assert browser.execute_script("return [history.length, location.href]") == [before, wanted["copied"][-1]]
+
+
+# The texts of the examples, with the first line of the result, or what is marked.
+EXAMPLES = {"1.5 KiB": "1_536 bytes", "100 mb": "12_500_000 bytes", "10m": "10_000_000 bytes",
+            "0.1 GiB": "107_374_183 bytes", "1.44 MB": "1_440_000 bytes", "1 byte": "y", "12 Kiq": "q", "1..5": ".",
+            "1.": "␣", "999.999 RB": "999_999_000_000_000_000_000_000_000_000 bytes"}  # fmt: skip
+
+
+def test_controls(browser, place):
+    """Each does what it says, by the mouse and by keys, and leaves the page as it is."""
+    opened(browser, f"{place.as_uri()}#bytes=1")
+    browser.execute_script("window.stays = true; window.copied = []; "
+                           "navigator.clipboard.writeText = async text => { copied.push(text); }")  # fmt: skip
+
+    def use(selector, key=None, at=0):
+        """Clicks on an element, or focuses it and presses a key. Returns the text, the reading and the result."""
+        element = browser.find_elements("css selector", selector)[at]
+        if key is None:
+            element.click()
+        else:
+            browser.execute_script("arguments[0].focus()", element)
+            browser.keys(key)
+        time.sleep(0.05)
+        return browser.execute_script("return [document.getElementById('text').value, document.forms[0].reading.value, "
+            "(document.querySelector('mark') ?? document.querySelector('.value')).textContent, window.stays]")  # fmt: skip
+
+    enter, space, down = "\ue007", " ", "\ue015"
+    for key in (None, enter, space):
+        for at, (text, shown) in enumerate(EXAMPLES.items()):
+            assert use("#examples button", key, at) == [text, "bytes", shown.replace("_", NARROW_SPACE), True]
+    assert len(browser.find_elements("css selector", "#examples button")) == len(EXAMPLES)
+    use("#examples button", at=1)
+    for key in (None, down):
+        for at, size in enumerate(["12_500_000 bytes", "100_000_000 bytes", "104_857_600 bytes", "100_000_000 bits"]):
+            found = use("[name=reading]", None if key is None or at == 0 else key, max(at - (key is not None), 0))
+            assert found == ["100 mb", [*model.READINGS][at], size.replace("_", NARROW_SPACE), True]
+    for key in (None, enter, space):
+        for at, text in enumerate(["100000000", "100 Mb", f"{place.as_uri()}#bits=100%20mb"]):
+            use("[data-copy]", key, at)
+            assert browser.execute_script("return [copied.pop(), document.getElementById('copied').textContent]") == [
+                text, "Copied."]  # fmt: skip
+    browser.execute_script("navigator.clipboard.writeText = async () => { throw new Error(); }")
+    use("[data-copy]")
+    assert browser.find_element("id", "copied").text == "The browser does not allow it."
+    assert use("#text", "0") == ["100 mb0", "bits", "0", True] and browser.find_element("id", "copied").text == ""
+    assert use("#text", "\ue003" + enter) == ["100 mb", "bits", f"100{NARROW_SPACE}000{NARROW_SPACE}000 bits", True]
+    browser.execute_script("location.hash = '#case=2%20kb'")
+    assert use("h1") == ["2 kb", "case", f"2{NARROW_SPACE}000 bytes", True]
+    assert browser.execute_script("return location.search") == "" and browser.get_log("browser") == []
+    opened(browser, place.as_uri())  # whose clipboard is the browser's
+    use("[data-copy]")
+    time.sleep(0.2)
+    assert browser.find_element("id", "copied").text in ("Copied.", "The browser does not allow it.")
 
 
 def test_page_with_a_lone_surrogate(browser, place):
@@ -149,7 +222,13 @@ def test_page_for_all(browser):
         browser.keys("\ue004")  # Tab
         seen.append(browser.execute_script(name))
     assert {"reading", "number", "text", "link"} <= set(seen)
-    assert browser.execute_script("return document.querySelectorAll('#units tr').length") == 38
+    live, about, axis, heading = browser.execute_script("""
+        const all = [...document.querySelectorAll("h2")].map(heading => heading.textContent);
+        const answer = document.getElementById("answer");
+        return [[answer.role, answer.ariaLive, answer.ariaAtomic], document.getElementById("about").textContent,
+                document.getElementById("scale").ariaLabel, all.find(text => text.startsWith("Where"))];""")
+    assert live == ["status", "polite", "true"] and about.startswith(f"byte_unit {read('VERSION').strip()}, proved")
+    assert heading == re.sub(".* from (.*) to (.*):.*", r"Where it lies between \1 and \2", axis)
     assert browser.get_log("browser") == []
 
 
