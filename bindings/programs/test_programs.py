@@ -6,10 +6,8 @@ import shutil
 from pathlib import Path
 
 import pytest
-from byte_unit_dev.common import Failure
 from byte_unit_dev.fixtures import CARGO_PROGRAMS, CONFIG, copied, ended, environment, need, output, read, write
 from byte_unit_dev.needs import DEBIAN_RUST
-from byte_unit_dev.render import rust, rust_programs
 
 NAMES = ["bits", "ignore-case", "from", "to", "no-unit", "suffix", "precision", "human-readable", "delimiter", "blanks",
          "field", "header", "padding", "invalid", "total", "max", "min", "zero-terminated", "help", "version"]  # fmt: skip
@@ -91,19 +89,3 @@ def test_wrong_calls_are_answered_alike(program_of, programs_by_cargo, check_dra
         return ""
 
     check_drawn(lambda rng: [some_word(rng) for _ in range(rng.randint(1, 3))], wrong)
-
-
-@pytest.mark.parametrize("old, new, why", [
-    ("use byte_unit_base::{NumberedError, size};", "use std::simd::u8x1;",
-     "a form that no rule knows: use std::simd::{u8x1};"),
-    ("use byte_unit::ParseError;", "use byte_unit::Parse;", "a name that no rule knows: byte_unit::Parse"),
-    ("#[inline(always)]", "#[target_feature]", "an attribute that no rule knows: #[target_feature"),
-])  # fmt: skip
-def test_unknown_form_is_seen(monkeypatch, old, new, why):
-    """The renderer says in which line a form is that no rule knows."""
-    name = "crates/byte_unit_command/src/size.rt"
-    text, facade = read(name), rust_programs.exported()
-    monkeypatch.setattr(rust, "read", lambda _: text.replace(old, new, 1))
-    with pytest.raises(Failure) as failure:
-        rust_programs.rendered(name, "byte_unit_command", facade)
-    assert str(failure.value) == f"{name}:{text[:text.index(old)].count(chr(10)) + 1}: {why}"

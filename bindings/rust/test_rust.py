@@ -7,9 +7,8 @@ import tomllib
 from pathlib import Path
 
 import pytest
-from byte_unit_dev.common import Failure, output
+from byte_unit_dev.common import output
 from byte_unit_dev.fixtures import CARGOS, SERDE, is_there, need, read, write
-from byte_unit_dev.render import rust
 
 FEATURES = ["--features", "serde"] if all(map(is_there, SERDE)) else []
 AS_WRITTEN, CHANGED = 91, 9  # the examples of the original that run here as they are, and those that need a change
@@ -106,22 +105,3 @@ def test_nothing_is_unsafe_or_linked(rust_package):
     manifest = tomllib.loads(read("bindings/rust/Cargo.toml"))
     assert not manifest["package"].keys() & {"links", "build"} and not os.path.exists(f"{rust_package}/build.rs")
     assert [(name, more["optional"]) for name, more in manifest["dependencies"].items()] == [("serde", True)]
-
-
-@pytest.mark.parametrize("name, old, new, why", [
-    ("math/src/tens", "#[inline]", "#[target_feature]", "an attribute that no rule knows: #[target_feature"),
-    ("math/src/tens", "\n/// The", "\nuse std::net::IpAddr;\n\n///", "a path that no rule knows: std::net::IpAddr"),
-    ("math/src/tens", "1 << exponent", "std::mem::drop(1)", "a form that no rule knows: std::mem::drop(1)"),
-    ("math/src/tens", "1 << exponent", "1 ⊕ exponent", "a form that no rule knows: 1 ⊕ exponent"),
-    ("math/src/tens", "assert_eq!(rt; power", "assert_eq![rt; power", "an example has a form that no rule knows: rt;"),
-    ("math/src/tens", "fn power_of_ten", "fn power_of_10", "no function is power_of_ten, which has to be `const`"),
-])  # fmt: skip
-def test_unknown_form_is_seen(monkeypatch, name, old, new, why):
-    """The renderer says in which line a form is that no rule knows."""
-    crate, file = f"byte_unit_{name.partition('/')[0]}", f"crates/byte_unit_{name}.rt"
-    text = read(file)
-    line = text[:text.index(old)].count("\n") + 1 + (new.startswith("\n"))
-    monkeypatch.setattr(rust, "read", lambda _: text.replace(old, new, 1))
-    with pytest.raises(Failure) as failure:
-        rust.rendered(file, crate, {})
-    assert str(failure.value) == f"{file}:{line}: {why}" or "const" in why and str(failure.value).endswith(why)

@@ -22,7 +22,7 @@ PARTS = {
     **{part: f"bindings/{part}" for part in ("postgresql", "js")},
     "vectors": "vectors", "agreement": "bindings/test_agreement.py",
     "command": "command/tests", "programs": "bindings/programs/test_programs.py",
-    **{part: f"tools/tests/test_{part}.py" for part in ("scale", "memory", "limits", "take", "clone")},
+    **{part: f"tools/tests/test_{part}.py" for part in ("render", "scale", "memory", "limits", "take", "clone")},
 }
 
 

@@ -7,10 +7,12 @@ from concurrent.futures import ThreadPoolExecutor
 
 from ..common import Failure, files, output, path, read
 from ..source import Source, blanked, sources
+from .by_hand import REPLACED, unchanged
 from .rust_rules import (
-    ALONE, ATTRIBUTES, BY_HAND, CLAUSE, COMMENT_FORMS, CONST, CONST_FORMS, DERIVED, EXAMPLE_FORMS, FORMS, HIDDEN,
-    INLINED, ITEMS_LEFT_OUT, LEFT_OUT, NAMES_LEFT_OUT, PRELUDE, PUBLIC, STD, TRAITS, UNKNOWN,
+    ALONE, BY_HAND, CLAUSE, COMMENT_FORMS, CONST, CONST_FORMS, DERIVED, EXAMPLE_FORMS, FORMS, HIDDEN, INLINED,
+    ITEMS_BY_HAND, ITEMS_LEFT_OUT, LEFT_OUT, NAMES_LEFT_OUT, PRELUDE, PUBLIC, STD, TRAITS,
 )  # fmt: skip
+from .vocabulary import LIBRARY, Vocabulary
 
 HEAD = "// Rendered from {} by `tools/dev render rust`. Do not edit.\n\n".format
 CONFIG = "bindings/rust/rustfmt.toml"
@@ -24,6 +26,11 @@ HOMES["byte_unit_c"] = Home("bindings/c/src/rendered", "crate::rendered", None)
 FOLDERS = ("bindings/rust/src/rendered/", "bindings/c/src/rendered/")
 MODULES = "bindings/rust/src/rendered/mod.rs"
 MODULE = "//! The proved sources of the library as Rust, without their contracts: a module for each crate.\n\n"
+# What is known in the sources of these packages.
+RULES = [rule[0] for rule in [*FORMS, *CONST_FORMS, *COMMENT_FORMS, *EXAMPLE_FORMS]]
+KNOWN = Vocabulary(HOMES, [*RULES, *REPLACED], LIBRARY)
+# What `exports` rewrites.
+EXTERN = r"\bpub extern\s+(?=fn )"
 LAYERS_MODULE = HEAD("crates/") + MODULE + "".join(f"pub mod {layer};\n" for layer in LAYERS)
 
 
@@ -107,13 +114,6 @@ class Rendered(Source):
                 self.put(found.start(), found.end(), self.path_of(found[0] + "x", found.start())[:-1])
         self.code = blanked(self.text)
 
-    def known(self, unknown):
-        """Checks that nothing is left in the code that no rule knows."""
-        found = unknown.search(self.code)
-        if found:
-            line = self.text.splitlines()[self.text[:found.start()].count("\n")]
-            raise self.wrong(found.start(), f"a form that no rule knows: {line.strip()}")
-
     def finished(self, text):
         """Returns the text of the file, before rustfmt."""
         return HEAD(self.name) + re.sub(r"\n{3,}", "\n\n", text.replace(self.MARK, "")).lstrip("\n")
@@ -121,11 +121,8 @@ class Rendered(Source):
 
 def without_proofs(file):
     """Drops attributes of proofs, ghost items and clauses, with the comments on them."""
-    def attribute(found):
-        if found[2] not in ATTRIBUTES:
-            raise file.wrong(found.start(), f"an attribute that no rule knows: {found[0].strip()}")
-        if not ATTRIBUTES[found[2]]:
-            file.drop(found.start(), file.closing(found.start(1)))
+    def tactic(found):
+        file.drop(found.start(), file.closing(found.start(1)))
 
     def ghost(found):
         code, end = file.code, found.end()
@@ -142,19 +139,24 @@ def without_proofs(file):
 
     for found in reversed([*re.finditer(ALONE, file.text)]):
         file.put(found.start(), found.end(), "")
-    file.each(r"^ *#!?(\[)(\w+)", attribute)
+    file.each(r"^ *#!?(\[)tactic\b", tactic)
     file.each(r"^ *ghost\b", ghost)
     file.each(CLAUSE, clause)
 
 
 def without_items(file):
-    """Drops the items of `ITEMS_LEFT_OUT`, and private constants that nothing else has used."""
+    """Drops the items of the two tables, and private constants that nothing else has used."""
     def constant(found):
         if len(re.findall(rf"\b{found[1]}\b", file.code)) == 1:
             file.drop_item(found)
 
-    for pattern in ITEMS_LEFT_OUT:
-        file.each(rf"^(?:#\[\S*\])? *(?:{pattern})", file.drop_item)
+    def by_hand(found):
+        KNOWN.unseen.discard(unchanged(file, found.start(), file.end_of(found.start())))
+        file.drop_item(found)
+
+    for patterns, drop in ((ITEMS_LEFT_OUT, file.drop_item), (ITEMS_BY_HAND, by_hand)):
+        for pattern in patterns:
+            file.each(rf"^(?:#\[\S*\])? *(?:{pattern})", drop)
     file.each(r"^const (\w+)", constant)
 
 
@@ -223,10 +225,7 @@ def functions(file):
         if found[3] in constant:
             start = file.code.index("{", found.end())
             end = file.closing(start)
-            body = file.text[start:end]
-            for pattern, new in CONST_FORMS:
-                body = re.sub(pattern, new, body)
-            file.put(start, end, body)
+            file.put(start, end, KNOWN.rewritten(file.text[start:end], CONST_FORMS))
             file.put(found.end(2), found.end(2), "const ")
             constant.remove(found[3])
         if found[3] in HIDDEN:
@@ -242,9 +241,7 @@ def functions(file):
 def examples(file):
     """Returns the text with comments rewritten, and the examples in them, which Rust runs as they are."""
     def change(found):
-        mark, body = found[1], found[2]
-        for pattern, new, _ in EXAMPLE_FORMS:
-            body = re.sub(pattern, new, body)
+        mark, body = found[1], KNOWN.rewritten(found[2], EXAMPLE_FORMS)
         bad = re.search(r"\b(?:rt;|alloc\b)", body)
         if bad:
             raise file.wrong(found.start(2), f"an example has a form that no rule knows: {bad[0]}")
@@ -254,30 +251,39 @@ def examples(file):
         end = f"{mark}# Ok::<(), Box<dyn std::error::Error>>(())\n" if re.search(r"\?(?:;|[.,)])", body) else ""
         return f"{mark}```\n{mark}{PRELUDE}\n{body}{end}{mark}```\n"
 
-    for pattern, new, _ in COMMENT_FORMS:
-        file.text = re.sub(pattern, new, file.text)
+    file.text = KNOWN.rewritten(file.text, COMMENT_FORMS)
     return re.sub(r"^( *//[/!] )```rust\n((?:\1?.*\n)*?)\1```\n", change, file.text, flags=re.M)
 
 
 def rendered(name, crate, exported):
     """Returns the text of a file in Rust, before rustfmt."""
     file = Rendered(name, crate)
-    for step in (without_proofs, without_items, derived, imports):
+    for step in (without_proofs, without_items, imports):
         step(file)
     file.paths(r"crate|byte_unit_\w+")
     file.each(r"(?<![\w:])std::(fmt|str|cmp|error)::", lambda found: file.put(found.start(), found.start() + 3, "core"))
+    KNOWN.check(file, *(rule[0] for rule in FORMS), *[EXTERN] * bool(exported))
+    derived(file)
     if exported:
         calls_of_exports(file, exported)
         exports(file)
     file.rewrite(FORMS)
     functions(file)
-    file.known(UNKNOWN)
     return file.finished(examples(file))
 
 
 def formatted(text):
     """Returns a text as rustfmt has it."""
     return output("rustfmt", "--edition", "2024", "--config-path", path(CONFIG), input=text)
+
+
+def left_out(crate):
+    """Checks that no file of a crate that is by hand in Rust has changed."""
+    names = (file.name for file in sources(crate) if file.name.endswith((*LEFT_OUT,)))
+    for name in (name for name in names if "/laws" not in name):
+        file = Rendered(name, crate)
+        without_proofs(file)
+        KNOWN.unseen.discard(unchanged(file, 0, len(file.text)))
 
 
 def targets_of(crate, folder, left_out):
@@ -306,7 +312,9 @@ def made():
     """Each file of the two folders."""
     texts = {MODULES: LAYERS_MODULE}
     for crate, home in HOMES.items():
+        left_out(crate)
         exported, targets = exports_of(crate), targets_of(crate, home.folder, LEFT_OUT)
         texts |= {place: rendered(name, crate, exported) for name, place in targets.items()}
     texts[f"{FOLDERS[1]}mod.rs"] = texts.pop(f"{FOLDERS[1][:-1]}.rs")  # the root of the C library is in its folder
     yield from files_of(texts, *FOLDERS)
+    KNOWN.used_up()

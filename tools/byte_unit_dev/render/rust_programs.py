@@ -8,6 +8,7 @@ import re
 
 from ..common import read
 from . import rust, rust_rules
+from .vocabulary import LIBRARY, PROGRAMS, Vocabulary
 
 FOLDER = "bindings/programs/src/rendered"
 # The crates of the programs: the modules of `rendered`. Those of the second program need clap.
@@ -33,13 +34,12 @@ TRAITS_LEFT_OUT = ["std::fmt::Write", "std::io::IsTerminal"]
 FORMS = [
     (r"^fn main\(", "pub fn main(", "a `main` by hand calls it, with the runtime"),
     (r" \+ Drop\b", "", "every type of Rust can be dropped"),
+    (r"\.num_args\(0\.\.\)", ".num_args(0..)", "a number of operands for clap, which is no iterator"),
 ]
 # The examples in comments.
 EXAMPLES = re.compile(r"^ *///\n */// # Examples\n */// ```rust\n(?: *///.*\n)*? */// ```\n", re.M)
-# What may be in no rendered file.
-UNKNOWN = re.compile(
-    r"\b(?:ghost|requires|ensures|decreases|invariant|tactic)\b|\bstd::(?:alloc|env|io|simd)\b|\bbyte_unit_\w+::|"
-    r"\blaws::|[^\x00-\x7f]")  # fmt: skip
+KNOWN = Vocabulary([*rust.HOMES, "byte_unit", *(f"byte_unit_{module}" for module in MODULES)],
+                   [rule[0] for rule in FORMS], LIBRARY, PROGRAMS)  # fmt: skip
 
 
 def exported():
@@ -114,11 +114,11 @@ def rendered(name, crate, facade):
     file = Program(name, crate, facade)
     without_items(file)
     rust.without_proofs(file)
-    rust.derived(file)
     imports(file)
     file.paths(r"crate|clap|byte_unit\w*")
+    KNOWN.check(file, *(rule[0] for rule in FORMS))
+    rust.derived(file)
     file.rewrite(FORMS)
-    file.known(UNKNOWN)
     return file.finished(file.text.replace(" (proved at every call)", ""))
 
 
@@ -129,3 +129,4 @@ def made():
         targets = rust.targets_of(f"byte_unit_{module}", f"{FOLDER}/{module}", LEFT_OUT)
         texts |= {place: rendered(name, f"byte_unit_{module}", facade) for name, place in targets.items()}
     yield from rust.files_of(texts, f"{FOLDER}/")
+    KNOWN.used_up()

@@ -1,6 +1,6 @@
 """The rules by which render/rust.py makes plain Rust of the proved sources, each with its reason.
 
-What is in none of these tables is kept as it is: Rattle is Rust with contracts.
+What is in none of these tables is kept as it is, if render/vocabulary.py knows it: Rattle is Rust with contracts.
 """
 
 import re
@@ -15,11 +15,14 @@ LEFT_OUT = {
 # Items that are not rendered, by how they begin, with their comments and attributes.
 ITEMS_LEFT_OUT = {
     r"impl(?:<[^>]*>)? Model for \w+": "what a value is in a contract",
-    r"impl Clone for \w+": "Rattle's `clone` may fail; the type is `Copy`, and `Clone` is derived",
     r"(?:pub )?mod (?:laws|json|text|approximate);": "see `LEFT_OUT`",
-    r"pub enum JsonSizeError|impl (?:\w+::)?\w+ for JsonSizeError": "see `LEFT_OUT` of `/json.rt`",
     r"(?:pub(?:\(\w+\))? )?fn \w+(?:<A: Allocator>|\(self, alloc: Global)":
         "allocators are not stable, and no call of the package allocates",
+}  # fmt: skip
+# Items that are by hand in Rust: see render/by_hand.py.
+ITEMS_BY_HAND = {
+    r"impl Clone for \w+": "Rattle's `clone` may fail; the type is `Copy`, and `Clone` is derived",
+    r"pub enum JsonSizeError|impl (?:\w+::)?\w+ for JsonSizeError": "see `LEFT_OUT` of `/json.rt`",
     r"impl fmt::Display for (?:Unit|Decimal|Byte|Bit|AdjustedByte|AdjustedBit)\b":
         "by hand: the original's obeys the flags of the formatter",
     r"(?:pub )?fn (?:last_16_digits|suffix_len|value_of_eight|first_char)\(":
@@ -30,9 +33,6 @@ ITEMS_LEFT_OUT = {
 }  # fmt: skip
 # Paths of names that are left out with their items.
 NAMES_LEFT_OUT = re.compile(r".*::(?:append_\w+|JsonSizeError|first_char)")
-# Attributes, by their first word: whether they are kept. `inline` is added, see `INLINED`.
-ATTRIBUTES = {"tactic": False, "inline": True, "cold": True, "repr": True, "unsafe": True, "derive": True,
-              "macro_export": True}  # fmt: skip
 # Derived traits that the original's types have, and Rattle's need not.
 DERIVED = {"Unit": ["Hash"], "UnitType": ["Hash"], "Sign": ["Hash"], "Align": ["Hash"], "FormatSpec": ["Hash"],
            "ValueParseError": ["PartialEq", "Eq"], "UnitParseError": ["PartialEq", "Eq"],
@@ -128,10 +128,6 @@ PUBLIC = {"AdjustedBit", "AdjustedByte", "Align", "Bit", "Byte", "Decimal", "Exc
           "ParseError", "Sign", "Unit", "UnitParseError", "UnitType", "ValueParseError"}  # fmt: skip
 PRELUDE = "# use byte_unit::rendered::{base::{size::parse_line, *}, bit::*, byte::*, choice::*, format::*, math::*};"
 
-# What is in no rendered file: words of contracts and of Rattle's std that no rule has dropped.
-UNKNOWN = re.compile(
-    r"\b(?:ghost|requires|ensures|decreases|invariant|tactic|Allocator|Global|alloc|AllocError)\b|\bstd::|"
-    r"\bbyte_unit_\w+::|\brt; |[^\x00-\x7f]")  # fmt: skip
 # A comment between blank lines: all of these are on ghost members.
 ALONE = r"(?<=\n\n)(?://(?![/!]).*\n)+(?=\n)"
 CLAUSE = r"^ *(requires|ensures|decreases|invariant)\b[^{;]*(?=\{)"
