@@ -6,7 +6,7 @@ import shutil
 from pathlib import Path
 
 import pytest
-from byte_unit_dev.fixtures import CARGO_PROGRAMS, CONFIG, copied, ended, environment, need, output, read, write
+from byte_unit_dev.fixtures import CARGO_PROGRAMS, CONFIG, copied, ended, environment, need, output, write
 from byte_unit_dev.needs import DEBIAN_RUST
 
 NAMES = ["bits", "ignore-case", "from", "to", "no-unit", "suffix", "precision", "human-readable", "delimiter", "blanks",
