@@ -65,6 +65,9 @@ FORMS = [
      "bytes[start..end].copy_from_slice(&PAIRS[pair..pair + 2]);", "one store, and one test of its indexes"),
     (r"\bvalue_of_eight\(", "crate::support::value_of_eight(", "fewer instructions, as in `read_digits`"),
     (r"\bfirst_char\(&text\[([\w.]+)\.\.\]\)", r"crate::support::char_at(text, \1)", "fewer, if it is ASCII"),
+    (r"\bfmt::Display::fmt\(value, f\)",
+     "fmt::Display::fmt(&crate::rendered::math::Expansion::from_decimal(*value), f)",
+     "a message ignores the flags of its formatter, and the `Display` of a decimal obeys them"),
     (r"#\[inline\(never\)\](?=\s*fn long_value\()", "#[inline(always)]", "fewer, since a call saves registers"),
     (r"^( *)'\w+: (?=while\b|for\b|loop\b)", r"\1", "labels name loops for proofs alone"),
     (r"(pub fn (?:parse_str(?:_binary)?|error_position))\(s: &str((?:, \w+: bool)*\)[^{]*\{)",
@@ -104,6 +107,7 @@ QUOTED = "crate::support::write_quoted(f, "
 # Forms of comments, and those that are found by what is in a string or a comment.
 COMMENT_FORMS = [
     (r" \(proved at every call\)", "", "proved of the calls in Rattle alone"),
+    (r"\n *// Not by `write!`, whose contract .*", "", "there is no contract"),
     (r"(?:\n *///)? In (?:a contract|contracts) (?:[^\n.]|\.(?=\d))*\.(?=\n)", "", "there is no contract"),
     (r" In contracts (?:[^\n.]|\.(?=\d))*\.(?= )", "", "the same"),
     # With its text. In Rust a character in quotes takes fewer instructions without a formatter of its own.

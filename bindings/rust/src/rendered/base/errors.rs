@@ -120,9 +120,8 @@ impl fmt::Display for ValueParseError {
     fn fmt(&self, f: &mut fmt::Formatter<'_>) -> fmt::Result {
         match self {
             ValueParseError::ExceededBounds(value) => {
-                // Not by `write!`, whose contract leaves out the flags of the formatter.
                 f.write_str("the value ")?;
-                fmt::Display::fmt(value, f)?;
+                fmt::Display::fmt(&crate::rendered::math::Expansion::from_decimal(*value), f)?;
                 f.write_str(" exceeds the valid range")
             }
             ValueParseError::NotNumber(c) => {
