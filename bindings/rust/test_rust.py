@@ -7,6 +7,7 @@ import tomllib
 from pathlib import Path
 
 import pytest
+from byte_unit_dev.builds import CONFIG
 from byte_unit_dev.common import output
 from byte_unit_dev.fixtures import CARGOS, SERDE, is_there, need, read, write
 
@@ -19,11 +20,41 @@ def each_cargo(request, cargos):
     return cargos(request.param)
 
 
-@pytest.mark.parametrize("words, needs", [(["--lib", "--tests", "--examples"], []), (["--test", "serde"], SERDE)],
-                         ids=["all", "serde"])  # fmt: skip
-def test_its_own_tests(each_cargo, rust_package, words, needs):
-    need(*needs)
-    assert each_cargo.passed(rust_package, *words, *FEATURES) > 0
+def test_its_own_tests(each_cargo, rust_package):
+    assert each_cargo.passed(rust_package, "--lib", "--tests", "--examples", *FEATURES) > 0
+
+
+def test_serde(each_cargo, rust_package):
+    need(*SERDE)
+    assert each_cargo.passed(f"{rust_package}/checks/serde") > 0
+
+
+def test_each_public_call_is_drawn(cargo, rust_package):
+    """Compares the methods that the documentation shows with those that the test of panics has called."""
+    said = cargo.output(rust_package, "test", "--test", "calls", "--", "--nocapture")
+    cargo.output(rust_package, "doc", "--no-deps")
+    shown = set()
+    for page in (cargo.target / "doc/byte_unit").glob("*.*.html"):
+        own = re.search(r'id="implementations"(.*?)id="trait-implementations"', read(page), re.S)
+        shown |= set(re.findall(r'id="method\.(\w+?)(?:-\d+)?"', own[1])) if own else set()
+    assert {"parse_str", "get_bit", "fraction", "powers"} < shown
+    assert shown - set(re.findall(r"^drawn: (\w+)$", said, re.M)) == {"from_u128_unsafe"}
+
+
+# What rustc cannot check: each has a precondition, or is of the modules that only this repository's packages see.
+HIDDEN = ["Decimal::from_digits(0, u128::MAX, 28)", 'Byte::parse_line(b"1", 2, false)', 'Bit::parse_line(b"1", 2)',
+          "Byte::MAX.get_recoverable_unit_counted(false, 3, todo!())", "rendered::math::power_of_ten(99)",
+          'rendered::base::size::parse_line(b"1", 2, false, todo!())', 'support::char_at("é", 1)',
+          "support::lanes::u8x8::from_slice(&[])"]  # fmt: skip
+
+
+def test_calls_with_preconditions_are_hidden(each_cargo, rust_package, tmp_path):
+    calls = "\n".join(f"    let _ = byte_unit::{call};" for call in HIDDEN)
+    write(f"{tmp_path}/Cargo.toml", read("bindings/rust/checks/moved.toml").replace("PACKAGE", rust_package))
+    write(f"{tmp_path}/src/main.rs", f"fn main() {{\n{calls}\n}}\n")
+    said = each_cargo.call(tmp_path, "check").stdout
+    private = r"error\[E0(?:603|624)\]: .* is private\n *--> src/main.rs:(\d+):"
+    assert sorted(map(int, re.findall(private, said))) == [*range(2, 2 + len(HIDDEN))], said
 
 
 @pytest.mark.parametrize("module, count", [("as_written", AS_WRITTEN), ("changed", CHANGED)])
@@ -63,14 +94,17 @@ def test_build(cargo, rust_package, words):
 
 
 @pytest.mark.parametrize("program, words", [
+    ("cargo-clippy", ["clippy", *FEATURES, "--", "-D", "warnings"]),
     ("cargo-clippy", ["clippy", "--all-targets", *FEATURES, "--", "-D", "warnings"]),
     ("cargo-fmt", ["fmt", "--check"]),
-], ids=["clippy", "rustfmt"])  # fmt: skip
+], ids=["clippy", "clippy of tests", "rustfmt"])  # fmt: skip
 def test_style(cargos, rust_package, program, words):
     """Calls clippy and rustfmt by the first cargo that has them beside it."""
     need(program)
     has = [cargo for cargo in CARGOS if os.path.exists(os.path.join(os.path.dirname(cargo), program))]
     cargos(has[0]).output(rust_package, *words)
+    if FEATURES:
+        cargos(has[0]).output(f"{rust_package}/checks/serde", *(word for word in words if word not in FEATURES))
 
 
 def test_package(cargo, rust_package, tmp_path):
@@ -82,6 +116,26 @@ def test_package(cargo, rust_package, tmp_path):
     write(f"{tmp_path}/program/src/main.rs", 'fn main() { println!("{:#}", byte_unit::Byte::from_u64(1536)); }\n')
     cargo.output(tmp_path / "program", "add", "--path", "../byte-unit-5.2.6", CARGO_NET_OFFLINE="true")
     assert cargo.output(tmp_path / "program", "run") == "1.5 KiB\n"
+
+
+@pytest.mark.parametrize("place, dependency, more", [
+    ("workspace/vendor", 'path = "../vendor/rust"', ""),
+    ("beside", 'path = "../../beside/rust"', ""),
+    ("workspace/vendor", 'version = "5"', '[patch.crates-io]\nbyte-unit.path = "vendor/rust"\n'),
+], ids=["below", "beside", "patch"])  # fmt: skip
+def test_workspace(each_cargo, rust_package, tmp_path, place, dependency, more):
+    """Builds a program of a workspace with the package below it, or beside it: nothing but serde is locked for it."""
+    need(*SERDE)
+    shutil.copytree(rust_package, tmp_path / place / "rust", ignore=shutil.ignore_patterns(".cargo", "Cargo.lock"))
+    work = tmp_path / "workspace"
+    write(work / ".cargo/config.toml", CONFIG)
+    write(work / "Cargo.toml", f'[workspace]\nmembers = ["program"]\nresolver = "2"\n{more}')
+    write(work / "program/Cargo.toml", '[package]\nname = "program"\nversion = "0.1.0"\nedition = "2021"\n'
+          f"[dependencies]\nbyte-unit = {{ {dependency} }}\n")  # fmt: skip
+    write(work / "program/src/main.rs", 'fn main() { println!("{:#}", byte_unit::Byte::from_u64(1536)); }\n')
+    assert each_cargo.output(work, "run") == "1.5 KiB\n"
+    locked = re.findall(r'^name = "(.*)"', read(work / "Cargo.lock"), re.M)
+    assert {"byte-unit", "program"} <= {*locked} <= {"byte-unit", "program", "serde"}
 
 
 def test_other_pointers_are_refused_by_one_line(cargo, rust_package, tmp_path):

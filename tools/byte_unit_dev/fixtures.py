@@ -338,7 +338,7 @@ def rust_package(tmp_path_factory):
     if all(map(is_there, SERDE)):
         write(f"{package}/.cargo/config.toml", CONFIG)
         return package
-    text = re.sub(r"^serde = {.*\n|^\[dev-dependencies\]\n(.+\n)+", "", read(f"{package}/Cargo.toml"), flags=re.M)
+    text = re.sub(r"^serde = {.*\n", "", read(f"{package}/Cargo.toml"), flags=re.M)
     write(f"{package}/Cargo.toml", text.replace('serde = ["dep:serde"]', "serde = []"))
     return package
 

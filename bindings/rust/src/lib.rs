@@ -53,24 +53,20 @@ extern crate std;
 mod decimal;
 mod errors;
 mod many;
-// The forms of the sources are those of Rattle: its proofs and its compiler have theirs for a reason.
-#[allow(
-    clippy::char_lit_as_u8,
-    clippy::derived_hash_with_manual_eq,
-    clippy::len_without_is_empty,
-    clippy::manual_div_ceil,
-    clippy::manual_map,
-    clippy::module_inception,
-    clippy::needless_return,
-    clippy::new_without_default,
-    clippy::type_complexity,
-    missing_docs
-)]
+// The rendered sources, and what they need, are for the packages of this repository alone: their functions may have
+// preconditions, which rustc does not check.
+#[cfg(not(feature = "internal"))]
+mod rendered;
+#[cfg(feature = "internal")]
 #[doc(hidden)]
 pub mod rendered;
 #[cfg(feature = "serde")]
 mod serde_traits;
 mod sizes;
+#[cfg(not(feature = "internal"))]
+#[allow(dead_code)]
+mod support;
+#[cfg(feature = "internal")]
 #[allow(missing_docs)]
 #[doc(hidden)]
 pub mod support;

@@ -24,7 +24,7 @@ REPLACED = {
     "byte/src/byte/approximate.rt": "sizes.rs ae4bbf31",
     "byte/src/byte/json.rt": "serde_traits.rs d3511cf1",
     "byte/src/byte/text.rt": "sizes.rs 6ec5e818",
-    "byte/src/byte.rt fn from_u128_unsafe": "sizes.rs dc08f78a",
+    "byte/src/byte.rt fn from_u128_unsafe": "sizes.rs 33fb92cc",
     "byte/src/byte/adjusted.rt fn get_value": "sizes.rs ab8007b2",
     "byte/src/byte/adjusted.rt fn write_text": "sizes.rs 17a81276",
     "byte/src/byte/adjusted.rt fn text_len": "sizes.rs febb728c",

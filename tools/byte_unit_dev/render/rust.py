@@ -10,7 +10,7 @@ from ..source import Source, blanked, sources
 from .by_hand import REPLACED, unchanged
 from .rust_rules import (
     ALONE, BY_HAND, CLAUSE, COMMENT_FORMS, CONST, CONST_FORMS, DERIVED, EXAMPLE_FORMS, FORMS, HIDDEN, INLINED,
-    ITEMS_BY_HAND, ITEMS_LEFT_OUT, LEFT_OUT, NAMES_LEFT_OUT, PRELUDE, PUBLIC, STD, TRAITS,
+    HIDDEN_EXAMPLES, ITEMS_BY_HAND, ITEMS_LEFT_OUT, LEFT_OUT, NAMES_LEFT_OUT, PRELUDE, PUBLIC, STD, TRAITS,
 )  # fmt: skip
 from .vocabulary import LIBRARY, Vocabulary
 
@@ -25,7 +25,24 @@ HOMES = {f"byte_unit_{layer}": Home(f"bindings/rust/src/rendered/{layer}", f"cra
 HOMES["byte_unit_c"] = Home("bindings/c/src/rendered", "crate::rendered", None)
 FOLDERS = ("bindings/rust/src/rendered/", "bindings/c/src/rendered/")
 MODULES = "bindings/rust/src/rendered/mod.rs"
-MODULE = "//! The proved sources of the library as Rust, without their contracts: a module for each crate.\n\n"
+MODULE = """//! The proved sources of the library as Rust, without their contracts: a module for each crate.
+
+// What other packages call is not used without the feature `internal`.
+#![allow(dead_code, missing_docs, unused_imports)]
+// The forms of the sources are those of Rattle: its proofs and its compiler have theirs for a reason.
+#![allow(
+    clippy::char_lit_as_u8,
+    clippy::derived_hash_with_manual_eq,
+    clippy::len_without_is_empty,
+    clippy::manual_div_ceil,
+    clippy::manual_map,
+    clippy::module_inception,
+    clippy::needless_return,
+    clippy::new_without_default,
+    clippy::type_complexity
+)]
+
+"""
 # What is known in the sources of these packages.
 RULES = [rule[0] for rule in [*FORMS, *CONST_FORMS, *COMMENT_FORMS, *EXAMPLE_FORMS]]
 KNOWN = Vocabulary(HOMES, [*RULES, *REPLACED], LIBRARY)
@@ -132,9 +149,11 @@ def without_proofs(file):
 
     def clause(found):
         before = file.code[:found.start()]
-        method = found[1] == "requires" and re.search(r"^ +pub (?:const )?fn [^;{}]*\Z", before, re.M)
+        method = found[1] == "requires" and re.search(r"^ +pub(?= (?:const )?fn [^;{}]*\Z)", before, re.M)
         file.drop(file.above(found.start(), "// "), file.closing(found.end()))
-        if method:
+        if method and re.findall(r"^impl(?:<[^>]*>)? (?:.* for )?(\w+)", before, re.M)[-1] in PUBLIC:
+            file.put(method.end(), method.end(), "(crate)")
+        elif method:
             file.mark(method.start(), "#[doc(hidden)]")
 
     for found in reversed([*re.finditer(ALONE, file.text)]):
@@ -217,7 +236,7 @@ def calls_of_exports(file, exported):
 
 
 def functions(file):
-    """Adds `const`, with the forms of `CONST_FORMS` in the body, `#[inline]` and `#[doc(hidden)]` to functions."""
+    """Adds `const`, with the forms of `CONST_FORMS` in the body, and `#[inline]` to functions, and hides `HIDDEN`."""
     place = file.name.removeprefix("crates/byte_unit_").removesuffix(".rt")
     constant = CONST.get(place, "").split()
 
@@ -229,7 +248,7 @@ def functions(file):
             file.put(found.end(2), found.end(2), "const ")
             constant.remove(found[3])
         if found[3] in HIDDEN:
-            file.mark(found.start(), "#[doc(hidden)]")
+            file.put(found.start(2), found.end(2), "pub(crate) ")
         if file.crate in INLINED and "#[inline" not in file.text[file.above(found.start(), "#["):found.start()]:
             file.mark(found.start(), "#[inline]")
 
@@ -252,6 +271,7 @@ def examples(file):
         return f"{mark}```\n{mark}{PRELUDE}\n{body}{end}{mark}```\n"
 
     file.text = KNOWN.rewritten(file.text, COMMENT_FORMS)
+    file.text = HIDDEN_EXAMPLES.sub("", file.text)
     return re.sub(r"^( *//[/!] )```rust\n((?:\1?.*\n)*?)\1```\n", change, file.text, flags=re.M)
 
 

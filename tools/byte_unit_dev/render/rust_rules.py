@@ -27,7 +27,7 @@ ITEMS_BY_HAND = {
         "by hand: the original's obeys the flags of the formatter",
     r"(?:pub )?fn (?:last_16_digits|suffix_len|value_of_eight|first_char)\(":
         "by hand, in `support`: rustc makes many instructions of them",
-    r"pub fn from_u128_unsafe": "by hand: the original's is `unsafe`",
+    r"pub(?:\(crate\))? fn from_u128_unsafe": "by hand: the original's is `unsafe`",
     r"pub fn get_value": "by hand: the original's returns a float",
     r"(?<=    )pub fn (?:text_len|write_text)\(self": "see `LEFT_OUT` of `/text.rt`",
 }  # fmt: skip
@@ -99,9 +99,12 @@ CONST_FORMS = [
 # Crates whose functions are `#[inline]` unless they say otherwise: a call of another package is no call in Rattle,
 # whose compiler has all crates at once.
 INLINED = ["byte_unit_byte", "byte_unit_bit"]
-# Functions that users are not shown: `Steps` is for proofs. Nor are methods with preconditions, since rustc does not
-# prove these.
+# Methods of the package's types that users cannot call: `Steps` is for proofs. Nor can they call those that have a
+# precondition, since rustc does not prove it. Examples of both are left out: doc tests cannot call them either.
 HIDDEN = ["get_recoverable_unit_counted"]
+HIDDEN_EXAMPLES = re.compile(
+    r"^( *)///\n\1/// # Examples\n\1/// ```rust\n(?:\1///.*\n)*?\1/// ```\n(?=(?:\s|\0|#\[[^]]*\])*pub\(crate\) )",
+    re.M)  # fmt: skip
 
 QUOTED = "crate::support::write_quoted(f, "
 # Forms of comments, and those that are found by what is in a string or a comment.
@@ -118,13 +121,22 @@ COMMENT_FORMS = [
     (r"(pub struct Decimal \{\n)((?:.*\n){2})((?:.*\n){2})((?:.*\n){2})(?=\})", r"#[repr(C)]\n\1\4\3\2",
      "the number of places first: fewer instructions"),
 ]
+
+
+def decimal(found):
+    """Returns an example's decimal without `from_digits`, for a match of its whole part, its digits and places."""
+    whole, digits, places = found.groups()
+    digits = digits.zfill(int(places)) if places != "0" else ""
+    return f"Decimal::from_u128_with_scale({int(whole + digits)}, {places}).unwrap()"
+
+
 # Forms of examples in comments.
 EXAMPLE_FORMS = [
     *FORMATTER,
     (r"(\bassert\w*!\()rt; ", r"\1", "no argument for the runtime"),
     (r"\bformat!\(in alloc; ", "format!(", "no argument for the allocator"),
     (r"(format!\([^;]*\))\?(?=\.as_str)", r"\1", "a call that cannot fail in Rust"),
-    (r"\b(\w+::from_u128_unsafe\([^)]*\))", r"unsafe { \1 }", "the original's is `unsafe`"),
+    (r"\bDecimal::from_digits\((\w+), (\w+), (\w+)\)", decimal, "a method with a precondition, see `HIDDEN`"),
     (r"\.to_text\(alloc, FormatSpec::PLAIN\)\?\.as_str\(\)", ".to_string()", "see `LEFT_OUT` of `/text.rt`"),
 ]
 # The package's names, which each example imports as it is shown, and what precedes it, hidden, for all other names.

@@ -34,7 +34,7 @@ mod value;
 /// use byte_unit::{Decimal, ParseError, Unit, ValueParseError};
 ///
 /// let read = read_size("1.5 KiB", false, true)?;
-/// assert_eq!(read, (Decimal::from_digits(1, 5, 1), Unit::KiB));
+/// assert_eq!(read, (Decimal::from_u128_with_scale(15, 1).unwrap(), Unit::KiB));
 /// let error = read_size("1.", false, true);
 /// assert!(matches!(error, Err(ParseError::Value(ValueParseError::NotNumber('.')))));
 /// # Ok::<(), Box<dyn std::error::Error>>(())

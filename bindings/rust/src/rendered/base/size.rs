@@ -60,9 +60,9 @@ pub const fn with_unit(size: u128, unit: Unit, kind: Kind) -> Option<u128> {
 /// # use byte_unit::rendered::{base::{size::parse_line, *}, bit::*, byte::*, choice::*, format::*, math::*};
 /// use byte_unit::{Byte, Decimal, Unit};
 ///
-/// let half = Decimal::from_digits(0, 5, 1);
+/// let half = Decimal::from_u128_with_scale(5, 1).unwrap();
 /// assert_eq!(size::from_decimal(half, Unit::KiB, Kind::Byte), Some(512));
-/// assert_eq!(size::from_decimal(Decimal::from_digits(1000, 0, 0), Unit::RB, Kind::Byte), None);
+/// assert_eq!(size::from_decimal(Decimal::from_u128_with_scale(1000, 0).unwrap(), Unit::RB, Kind::Byte), None);
 /// ```
 #[inline(always)]
 pub fn from_decimal(number: Decimal, unit: Unit, kind: Kind) -> Option<u128> {
@@ -309,7 +309,7 @@ pub fn error_position<S: AsRef<str>>(s: S) -> Option<usize> {
 /// # use byte_unit::rendered::{base::{size::parse_line, *}, bit::*, byte::*, choice::*, format::*, math::*};
 /// use byte_unit::{Byte, Decimal, Unit};
 ///
-/// let found = (Decimal::from_digits(1, 5, 1), Unit::KB);
+/// let found = (Decimal::from_u128_with_scale(15, 1).unwrap(), Unit::KB);
 /// assert!(matches!(size::size_of::<false>(found, Kind::Byte), Ok(1500)));
 /// assert!(matches!(size::size_of::<true>(found, Kind::Byte), Ok(1536)));
 /// ```

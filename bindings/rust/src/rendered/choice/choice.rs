@@ -53,7 +53,7 @@ const FEW_PLACES: u32 = 5;
 ///
 /// let mut steps = Steps::new();
 /// let chosen = choose_unit(1536, Family::Bytes, 8, 3, &mut steps);
-/// assert_eq!(chosen, Some((Decimal::from_digits(1, 5, 1), Unit::KiB)));
+/// assert_eq!(chosen, Some((Decimal::from_u128_with_scale(15, 1).unwrap(), Unit::KiB)));
 /// assert_eq!(steps.count(), 12);
 /// assert_eq!(choose_unit(999, Family::Bytes, 8, 3, &mut Steps::new()), None);
 /// ```
@@ -112,7 +112,7 @@ pub fn choose_unit(
 /// use byte_unit::{Byte, Decimal, Unit};
 ///
 /// let (number, unit) = recoverable_unit(50_840_000, Kind::Byte, false, 2, &mut Steps::new());
-/// assert!(number == Decimal::from_digits(50, 84, 2) && unit == Unit::MB);
+/// assert!(number == Decimal::from_u128_with_scale(5084, 2).unwrap() && unit == Unit::MB);
 /// ```
 #[inline(always)]
 pub fn recoverable_unit(size: u128, kind: Kind, allow: bool, precision: usize, steps: &mut Steps) -> (Decimal, Unit) {

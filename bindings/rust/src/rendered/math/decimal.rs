@@ -89,18 +89,8 @@ impl Decimal {
     /// Creates `whole + digits / 10^places`.
     ///
     /// Precondition: `whole < 2^112`, `places <= 28` and `digits < 10^places`.
-    ///
-    /// # Examples
-    /// ```
-    /// # use byte_unit::rendered::{base::{size::parse_line, *}, bit::*, byte::*, choice::*, format::*, math::*};
-    /// use byte_unit::Decimal;
-    ///
-    /// assert_eq!(Some(Decimal::from_digits(50, 84, 3)), Decimal::from_u128_with_scale(50_084, 3));
-    /// assert_eq!(Decimal::from_digits(1, 500, 3).places(), 1);
-    /// ```
     #[inline(always)]
-    #[doc(hidden)]
-    pub const fn from_digits(whole: u128, digits: u128, places: u32) -> Decimal {
+    pub(crate) const fn from_digits(whole: u128, digits: u128, places: u32) -> Decimal {
         if digits >= 1 << 64 {
             return Decimal::from_wide_digits(whole, digits, places);
         }
@@ -138,7 +128,7 @@ impl Decimal {
     /// # use byte_unit::rendered::{base::{size::parse_line, *}, bit::*, byte::*, choice::*, format::*, math::*};
     /// use byte_unit::Decimal;
     ///
-    /// assert_eq!(Decimal::from_digits(50, 84, 3).whole(), 50);
+    /// assert_eq!(Decimal::from_u128_with_scale(50084, 3).unwrap().whole(), 50);
     /// assert_eq!(Decimal::from(7u8).whole(), 7);
     /// ```
     pub const fn whole(self) -> u128 {
@@ -152,7 +142,7 @@ impl Decimal {
     /// # use byte_unit::rendered::{base::{size::parse_line, *}, bit::*, byte::*, choice::*, format::*, math::*};
     /// use byte_unit::Decimal;
     ///
-    /// assert_eq!(Decimal::from_digits(1, 5, 1).fraction(), 5 * 10u128.pow(27));
+    /// assert_eq!(Decimal::from_u128_with_scale(15, 1).unwrap().fraction(), 5 * 10u128.pow(27));
     /// assert_eq!(Decimal::from(7u8).fraction(), 0);
     /// ```
     pub const fn fraction(self) -> u128 {
@@ -166,7 +156,7 @@ impl Decimal {
     /// # use byte_unit::rendered::{base::{size::parse_line, *}, bit::*, byte::*, choice::*, format::*, math::*};
     /// use byte_unit::Decimal;
     ///
-    /// assert_eq!(Decimal::from_digits(50, 840, 4).places(), 3);
+    /// assert_eq!(Decimal::from_u128_with_scale(500840, 4).unwrap().places(), 3);
     /// assert_eq!(Decimal::from(7u8).places(), 0);
     /// ```
     pub fn places(self) -> u32 {
@@ -180,7 +170,7 @@ impl Decimal {
     /// # use byte_unit::rendered::{base::{size::parse_line, *}, bit::*, byte::*, choice::*, format::*, math::*};
     /// use byte_unit::Decimal;
     ///
-    /// assert_eq!(Decimal::from_digits(50, 84, 3).digits(), 84);
+    /// assert_eq!(Decimal::from_u128_with_scale(50084, 3).unwrap().digits(), 84);
     /// assert_eq!(Decimal::from(7u8).digits(), 0);
     /// ```
     pub fn digits(self) -> u128 {

@@ -58,7 +58,7 @@ impl Expansion {
     /// # use byte_unit::rendered::{base::{size::parse_line, *}, bit::*, byte::*, choice::*, format::*, math::*};
     /// use byte_unit::Decimal;
     ///
-    /// let e = Expansion::from_decimal(Decimal::from_digits(50, 84, 3));
+    /// let e = Expansion::from_decimal(Decimal::from_u128_with_scale(50084, 3).unwrap());
     /// assert_eq!((e.whole(), e.places(), e.digit(3)), (50, 3, 4));
     /// ```
     pub fn from_decimal(d: Decimal) -> Expansion {

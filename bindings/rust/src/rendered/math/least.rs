@@ -30,9 +30,9 @@ const GROUPS: u32 = 4;
 /// # use byte_unit::rendered::{base::{size::parse_line, *}, bit::*, byte::*, choice::*, format::*, math::*};
 /// use byte_unit::Decimal;
 ///
-/// assert_eq!(least_size(Decimal::from_digits(1, 5, 1), 1024, 2000), Some(1536));
-/// assert_eq!(least_size(Decimal::from_digits(0, 1, 1), 1024, 2000), Some(103));
-/// assert_eq!(least_size(Decimal::from_digits(1, 5, 1), 1024, 1536), None);
+/// assert_eq!(least_size(Decimal::from_u128_with_scale(15, 1).unwrap(), 1024, 2000), Some(1536));
+/// assert_eq!(least_size(Decimal::from_u128_with_scale(1, 1).unwrap(), 1024, 2000), Some(103));
+/// assert_eq!(least_size(Decimal::from_u128_with_scale(15, 1).unwrap(), 1024, 1536), None);
 /// ```
 #[inline(always)]
 pub fn least_size(d: Decimal, unit_size: u128, limit: u128) -> Option<u128> {
@@ -65,7 +65,7 @@ pub fn least_size(d: Decimal, unit_size: u128, limit: u128) -> Option<u128> {
 /// use byte_unit::Decimal;
 ///
 /// let mut steps = Steps::new();
-/// assert_eq!(least_size_counted(Decimal::from_digits(1, 5, 1), 1024, 2000, &mut steps), Some(1536));
+/// assert_eq!(least_size_counted(Decimal::from_u128_with_scale(15, 1).unwrap(), 1024, 2000, &mut steps), Some(1536));
 /// assert_eq!(steps.count(), 4);
 /// ```
 pub fn least_size_counted(d: Decimal, unit_size: u128, limit: u128, steps: &mut Steps) -> Option<u128> {

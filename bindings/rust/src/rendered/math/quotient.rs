@@ -20,7 +20,7 @@ use crate::rendered::math::{DECIMAL_PLACES, Decimal, Factors, Steps};
 /// use byte_unit::Decimal;
 ///
 /// let mut steps = Steps::new();
-/// assert_eq!(exact_quotient(1, 8, 3, &mut steps), Some(Decimal::from_digits(0, 125, 3)));
+/// assert_eq!(exact_quotient(1, 8, 3, &mut steps), Some(Decimal::from_u128_with_scale(125, 3).unwrap()));
 /// assert_eq!(exact_quotient(1, 8, 2, &mut steps), None);
 /// assert_eq!(steps.count(), 3 + 2);
 /// ```
@@ -56,7 +56,7 @@ pub fn exact_quotient(size: u128, unit: u128, places: u32, steps: &mut Steps) ->
 /// use byte_unit::Decimal;
 ///
 /// let mut steps = Steps::new();
-/// assert_eq!(exact_number(13, 3, 0, 3, &mut steps), Decimal::from_digits(1, 625, 3));
+/// assert_eq!(exact_number(13, 3, 0, 3, &mut steps), Decimal::from_u128_with_scale(1625, 3).unwrap());
 /// assert_eq!(steps.count(), 3);
 /// ```
 #[inline(never)]
@@ -82,7 +82,7 @@ pub fn exact_number(numerator: u128, twos: u32, fives: u32, places: u32, steps: 
 ///
 /// let mut steps = Steps::new();
 /// let twelve = Factors { left: 3, twos: 2, fives: 0 };
-/// assert_eq!(factored_quotient(twelve, 3, 0, 1, &mut steps), Decimal::from_digits(1, 5, 1));
+/// assert_eq!(factored_quotient(twelve, 3, 0, 1, &mut steps), Decimal::from_u128_with_scale(15, 1).unwrap());
 /// assert_eq!(steps.count(), 1);
 /// ```
 #[inline(always)]

@@ -70,18 +70,8 @@ impl Bit {
     ///
     /// Precondition: `len <= bytes.len()`, and the line ends there: the next byte is a line
     /// feed, or there is none.
-    ///
-    /// # Examples
-    /// ```
-    /// # use byte_unit::rendered::{base::{size::parse_line, *}, bit::*, byte::*, choice::*, format::*, math::*};
-    /// use byte_unit::Bit;
-    ///
-    /// let size = Bit::parse_line(b"1.5 Kib\n12\n", 7);
-    /// assert!(matches!(size, Some(Ok(size)) if size == Bit::from_u64(1536)));
-    /// ```
     #[inline(always)]
-    #[doc(hidden)]
-    pub fn parse_line(bytes: &[u8], len: usize) -> Option<Result<Bit, ParseError>> {
+    pub(crate) fn parse_line(bytes: &[u8], len: usize) -> Option<Result<Bit, ParseError>> {
         match size::parse_line::<false>(bytes, len, false, Kind::Bit)? {
             Ok(size) => Some(Ok(Bit { size })),
             Err(error) => Some(Err(error)),

@@ -70,18 +70,8 @@ impl Byte {
     ///
     /// Precondition: `len <= bytes.len()`, and the line ends there: the next byte is a line
     /// feed, or there is none.
-    ///
-    /// # Examples
-    /// ```
-    /// # use byte_unit::rendered::{base::{size::parse_line, *}, bit::*, byte::*, choice::*, format::*, math::*};
-    /// use byte_unit::Byte;
-    ///
-    /// let size = Byte::parse_line(b"1.5 KiB\n12\n", 7, false);
-    /// assert!(matches!(size, Some(Ok(size)) if size == Byte::from_u64(1536)));
-    /// ```
     #[inline(always)]
-    #[doc(hidden)]
-    pub fn parse_line(bytes: &[u8], len: usize, ignore_case: bool) -> Option<Result<Byte, ParseError>> {
+    pub(crate) fn parse_line(bytes: &[u8], len: usize, ignore_case: bool) -> Option<Result<Byte, ParseError>> {
         match size::parse_line::<false>(bytes, len, ignore_case, Kind::Byte)? {
             Ok(size) => Some(Ok(Byte { size })),
             Err(error) => Some(Err(error)),

@@ -55,19 +55,8 @@ impl Byte {
     /// A step is one factor 2 or 5 of the size, one of the two trials that fail, or one digit of the decimal after
     /// the point. That is at most 116 steps; a size of zero takes none. Few of these divisions are made, so the count
     /// bounds no running time. It saturates at its maximum.
-    ///
-    /// # Examples
-    /// ```
-    /// # use byte_unit::rendered::{base::{size::parse_line, *}, bit::*, byte::*, choice::*, format::*, math::*};
-    /// use byte_unit::Byte;
-    ///
-    /// let mut steps = Steps::new();
-    /// unsafe { Byte::from_u128_unsafe(7 << 87) }.get_recoverable_unit_counted(true, 27, &mut steps);
-    /// assert_eq!(steps.count(), 116);
-    /// ```
     #[inline]
-    #[doc(hidden)]
-    pub fn get_recoverable_unit_counted(
+    pub(crate) fn get_recoverable_unit_counted(
         self,
         allow_in_bits: bool,
         precision: usize,
