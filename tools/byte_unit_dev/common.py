@@ -86,6 +86,12 @@ def reason(error):
     return str(error) or "interrupted"
 
 
+def part_of(every, part):
+    """Returns the part K/N of a list."""
+    number, parts = part
+    return every[len(every) * (number - 1) // parts : len(every) * number // parts]
+
+
 def report(findings, fine):
     """Prints each finding, or what is fine if there is none. Returns the exit status."""
     print("\n".join(findings) if findings else fine, flush=True)

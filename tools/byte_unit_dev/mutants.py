@@ -2,9 +2,10 @@
 
     tools/dev mutants [list [CRATE..]]        finds public functions without a mutant, and mutants that do not fit
     tools/dev mutants try [K/N] [CRATE..]     tries the mutants, of the catalogues all or a part of them
-    tools/dev mutants controls [CRATE..]      proves the controls
+    tools/dev mutants controls [K/N] [CRATE..]  proves the controls, or a part of them
     tools/dev mutants put K/N                 copies a part of the catalogues to must-fail/, where `rt ci` tries it
     tools/dev mutants remove                  deletes these copies, which git ignores
+    tools/dev mutants reasons < PRINTED       compares why mutants were rejected, in what `rt ci` has printed
     tools/dev mutants bindings [K/N]          tries the mutants of what is written by hand, by the tests that see them
     tools/dev mutants --all bindings          the same, all of them
 
@@ -14,8 +15,9 @@ byte_unit_bit is rendered from all mutants of byte_unit_byte when it is tried.
 
 A mutant may be rejected for its form alone: because a name that a proof cites is gone, or a proof no longer fits. So
 each one of must-fail/ has a control: after each line `new: TEXT` a line `control: TEXT`, which `rt` passes over, with
-right code in the same place and the same form. It has to be proved without a change of any proof. Each check begins
-with what `rt check` of the crate has kept in out/, or from nothing.
+right code in the same place. It has to be proved without a change of any proof. Each check begins with what `rt check`
+of the crate has kept in out/, or from nothing. And a line `goal: WORDS` has words of the message with which the mutant
+is rejected: the name of the goal that is open then, or of the contract's clause.
 
 A title is `module.function.what`: the function whose contract rejects the mutant, and what it does wrong. `module` is
 the file of the function or a folder that this file is in; of several the one with the shortest path is meant. A
@@ -29,10 +31,11 @@ import argparse
 import glob
 import os
 import re
+import sys
 from pathlib import Path
 
-from .common import Failure, path, read, report, shown, write
 from . import wrappers
+from .common import Failure, part_of, path, read, report, shown, write
 from .render import bits
 from .replace import remove_folders
 from .source import EXAMPLES, crates, files, public_names, source
@@ -42,6 +45,8 @@ COPY = "by-turn."
 # In `Source.code`, a string such as that of `extern "C"` is spaces.
 FUNCTION = re.compile(r'^ *pub (extern     )?fn (\w+)', re.M)
 IMPL = re.compile(r"^impl(?:<[^>]*>)? (\w+)", re.M)
+# What `rt` says of a mutant that is rejected.
+REJECTED = re.compile(rf"must-fail (\w+)/(?:{re.escape(COPY)})?(.+)\.edit: refused, as it must be(.*)$", re.M)
 # A replacement of a mutant: what is old, what is new, and what the control has there.
 REPLACED = re.compile(r"^old: (.*)\nnew: ?(.*)$(?:\ncontrol: ?(.*)$)?", re.M)
 
@@ -121,25 +126,35 @@ def listed(crates):
 
 def put(crates, part):
     """Copies a part of the catalogues to must-fail/, and returns the names of its crates."""
-    every = [(crate, *mutant) for crate in crates for mutant in by_turns(crate).items()]
-    number, parts = part
-    chosen = every[len(every) * (number - 1) // parts : len(every) * number // parts]
+    chosen = part_of([(crate, *mutant) for crate in crates for mutant in by_turns(crate).items()], part)
     for crate, title, text in chosen:
         write(path("crates", crate, "must-fail", f"{COPY}{title}.edit"), text + "\n")
     print(f"{len(chosen)} mutants of the catalogues for rt")
     return sorted({crate for crate, *_ in chosen})
 
 
-def proved(crates):
-    """Proves the controls, each in the place of its mutant, and reports the others."""
-    controls = {(crate, title): text for crate in crates for title, text in in_every_run(crate).items()}
+def proved(crates, part):
+    """Proves a part of the controls, each in the place of its mutant, and reports those that are not proved."""
+    controls = dict(part_of([((crate, title), text) for crate in crates
+                             for title, text in in_every_run(crate).items()], part))  # fmt: skip
     for (crate, title), text in controls.items():
         control = re.sub(r"^new:.*\ncontrol:", "new:", text, flags=re.M)
         write(path("crates", crate, "must-fail", f"{COPY}{title}.edit"), control)
-    _, said = shown("rt", "must-fail", *sorted({crate for crate, _ in controls}), cwd=path())
+    said = shown("rt", "must-fail", *sorted({crate for crate, _ in controls}), cwd=path())[1] if controls else ""
     wrong = [f"mutants: {crate}: the control of {title} is not proved" for crate, title in controls
              if f"must-fail {crate}/{COPY}{title}.edit: NOT REFUSED" not in said]
     return report(wrong, f"mutants: {len(controls)} controls proved")
+
+
+def compared(printed):
+    """Reports each mutant that was rejected for another goal than its line `goal:` names."""
+    wrong, named = [], 0
+    for crate, title, why in REJECTED.findall(printed):
+        goal = re.search(r"^goal: (.*)$", {**by_turns(crate), **in_every_run(crate)}.get(title, ""), re.M)
+        named += bool(goal)
+        if goal and goal[1] not in why:
+            wrong.append(f"mutants: {crate}: {title}: rejected, but not for the goal {goal[1]}: {why}")
+    return report(wrong, f"mutants: {named} were rejected for the goals that they name")
 
 
 def remove():
@@ -159,11 +174,14 @@ def part_or_crate(word):
     return word
 
 
-def run(action: ("list", "try", "controls", "put", "remove", "bindings") = "list", *words: part_or_crate, all_=""):
+def run(action: ("list", "try", "controls", "put", "remove", "reasons",
+                 "bindings") = "list", *words: part_or_crate, all_=""):
     if all_ not in ("", "bindings"):
         raise Failure(f"--all: '{all_}' is not bindings")
     crates, parts = ([word for word in words if isinstance(word, kind)] for kind in (str, tuple))
     crates, part = crates or with_mutants(), [*parts, (1, 1)][0]
+    if action == "reasons":
+        return compared(sys.stdin.read())
     if action == "bindings" or all_:
         return wrappers.run(part)
     if action == "list":
@@ -171,7 +189,7 @@ def run(action: ("list", "try", "controls", "put", "remove", "bindings") = "list
     remove()
     try:
         if action == "controls":
-            return proved(crates)
+            return proved(crates, part)
         chosen = put(crates, part) if action != "remove" else []
         return shown("rt", "must-fail", *chosen, cwd=path())[0] if action == "try" and chosen else 0
     finally:

@@ -15,7 +15,7 @@ from collections import namedtuple
 from pathlib import Path
 
 from .builds import environment
-from .common import Failure, ROOT, call, files, output, path, read, report, write
+from .common import Failure, call, files, output, part_of, path, read, report, write
 
 CATALOGUE = re.compile(r"(?!crates/).*/mutants\.edits")
 PAIR = re.compile(r"^old: (.*)\nnew: ?(.*)$", re.M)
@@ -116,6 +116,5 @@ def run(part):
     if wrong:
         return report(wrong, "")
     every = [mutant for mutant in mutants() if mutant.test]
-    number, parts = part
-    chosen = every[len(every) * (number - 1) // parts : len(every) * number // parts]
+    chosen = part_of(every, part)
     return report([*tried(chosen)], f"mutants: {len(chosen)} of {len(every)} of what is written by hand, each seen")
