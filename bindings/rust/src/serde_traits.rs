@@ -6,7 +6,7 @@ use core::fmt::{self, Display, Formatter};
 use core::marker::PhantomData;
 use core::str::{self, FromStr};
 
-use serde::de::{DeserializeSeed, Error, IgnoredAny, MapAccess, Unexpected, Visitor};
+use serde::de::{DeserializeSeed, Error, MapAccess, Unexpected, Visitor};
 use serde::{Deserialize, Deserializer, Serialize, Serializer};
 
 use crate::text::TEXT_LEN;
@@ -43,7 +43,8 @@ where
     type Value = T;
 
     fn deserialize<D: Deserializer<'de>>(self, deserializer: D) -> Result<T, D::Error> {
-        deserializer.deserialize_str(self)
+        // An element of XML could be read as a string, too, and is a map here.
+        deserializer.deserialize_any(self)
     }
 }
 
@@ -60,6 +61,36 @@ impl FromStr for IsText {
 
 impl Parsed for IsText {
     const EXPECTED: &'static str = "a key";
+}
+
+/// The value of an attribute, which is not read.
+struct Attribute;
+
+impl FromStr for Attribute {
+    type Err = Infallible;
+
+    fn from_str(_: &str) -> Result<Self, Infallible> {
+        Ok(Attribute)
+    }
+}
+
+impl Parsed for Attribute {
+    const EXPECTED: &'static str = "an attribute";
+}
+
+/// What a text is parsed as, which is an error only if there is no other text.
+struct Text<T: FromStr>(Result<T, T::Err>);
+
+impl<T: FromStr> FromStr for Text<T> {
+    type Err = Infallible;
+
+    fn from_str(text: &str) -> Result<Self, Infallible> {
+        Ok(Text(text.parse()))
+    }
+}
+
+impl<T: Parsed> Parsed for Text<T> {
+    const EXPECTED: &'static str = T::EXPECTED;
 }
 
 /// What is also converted from a number.
@@ -114,17 +145,23 @@ where
         Err(E::custom(format_args!("invalid type: floating point `{number}`, expected {}; {why}", T::EXPECTED)))
     }
 
-    /// Reads an XML element, which is a map of its attributes and its text.
+    /// Reads an XML element, which is a map of its attributes and its text. A comment, for one, makes it two texts.
     fn visit_map<A: MapAccess<'de>>(self, mut map: A) -> Result<T, A::Error> {
+        let no_size = |_| A::Error::invalid_type(Unexpected::Map, &self);
         let mut size = None;
         while let Some(IsText(is_text)) = map.next_key_seed(Parser(PhantomData))? {
             if !is_text {
-                map.next_value::<IgnoredAny>()?;
-            } else if size.replace(map.next_value_seed(Parser(PhantomData))?).is_some() {
+                let Attribute = map.next_value_seed(Parser(PhantomData)).map_err(no_size)?;
+            } else if size.is_some() {
                 return Err(A::Error::duplicate_field("$text"));
+            } else {
+                size = Some(map.next_value_seed(Parser(PhantomData))?);
             }
         }
-        size.ok_or_else(|| A::Error::invalid_type(Unexpected::Map, &self))
+        match size {
+            Some(Text(size)) => size.map_err(A::Error::custom),
+            None => Err(A::Error::invalid_type(Unexpected::Map, &self)),
+        }
     }
 }
 

@@ -5,7 +5,8 @@ use std::fmt::Debug;
 
 use byte_unit::{AdjustedBit, AdjustedByte, Bit, Byte, Unit, UnitType};
 use serde::de::value::{Error, MapDeserializer};
-use serde::de::{Deserialize, DeserializeOwned, IntoDeserializer};
+use serde::de::{DeserializeOwned, IntoDeserializer, Visitor};
+use serde::{Deserialize, Deserializer};
 use serde_json::{from_str, from_value, to_string};
 
 #[test]
@@ -134,6 +135,32 @@ fn each_type_of_integer_is_read() {
     assert!(from_number::<Bit, _>(2.0f32).is_err());
 }
 
+/// A number of 64 bits in a format that is not human-readable, as CBOR has it.
+struct Binary(u64);
+
+impl<'de> Deserializer<'de> for Binary {
+    type Error = Error;
+
+    fn deserialize_any<V: Visitor<'de>>(self, visitor: V) -> Result<V::Value, Error> {
+        visitor.visit_u64(self.0)
+    }
+
+    fn is_human_readable(&self) -> bool {
+        false
+    }
+
+    serde::forward_to_deserialize_any! {
+        bool i8 i16 i32 i64 i128 u8 u16 u32 u64 u128 f32 f64 char str string bytes byte_buf option unit unit_struct
+        newtype_struct seq tuple tuple_struct map struct enum identifier ignored_any
+    }
+}
+
+#[test]
+fn a_binary_format_may_have_shorter_integers() {
+    assert_eq!(Byte::deserialize(Binary(7)), Ok(Byte::from_u64(7)));
+    assert_eq!(Bit::deserialize(Binary(u64::MAX)), Ok(Bit::from_u64(u64::MAX)));
+}
+
 #[test]
 fn an_xml_element_is_read_by_its_text() {
     let read = |entries: &[(&'static str, &'static str)]| {
@@ -146,6 +173,7 @@ fn an_xml_element_is_read_by_its_text() {
     for (entries, reason) in [
         (&[("$text", "x")][..], "the character 'x' is not a number"),
         (&[("$text", "1"), ("$text", "0 KB")], "duplicate field `$text`"),
+        (&[("$text", "1."), ("$value", "5 KB")], "duplicate field `$text`"),
         (&[("@id", "7")], "invalid type: map"),
     ] {
         let error = read(entries).0.unwrap_err().to_string();
@@ -172,6 +200,79 @@ fn sizes_in_xml() {
     assert_eq!(lists["limit"], [Byte::KILOBYTE, Byte::from_u64(2)]);
     let written = serde_xml_rs::to_string(&HashMap::from([("limit", Bit::from_u64(1536))])).unwrap();
     assert_eq!((written.as_str(), from_xml(&written)), ("<limit>1.5 Kib</limit>", Bit::from_u64(1536)));
+}
+
+/// The elements `limit` of a document, or the errors of `quick_xml` and of `serde_xml_rs`.
+fn limits_of(text: &str) -> [Result<Byte, String>; 2] {
+    let document = format!("<config><limit>{text}</limit></config>");
+    let limit = |limits: HashMap<String, Byte>| limits["limit"];
+    [
+        quick_xml::de::from_str(&document).map(limit).map_err(|error| error.to_string()),
+        serde_xml_rs::from_str(&document).map(limit).map_err(|error| error.to_string()),
+    ]
+}
+
+#[test]
+fn an_xml_element_has_one_text_and_no_children() {
+    for text in ["<![CDATA[1 KB]]>", "<!-- a -->1 KB", "1 KB<!-- b -->", "1 &#75;B"] {
+        assert_eq!(limits_of(text), [Ok(Byte::KILOBYTE), Ok(Byte::KILOBYTE)], "{text}");
+    }
+    for text in ["1 KB<x>3</x>", "<x>3</x>1 KB", "1 KB<x/>", "1 K<x id=\"7\">B</x>", "<x>1 KB</x>", ""] {
+        for error in limits_of(text).map(Result::unwrap_err) {
+            assert!(error.contains("invalid type: map") && error.contains(EXPECTED), "{text}: {error}");
+        }
+    }
+    // `serde_xml_rs` joins the parts of a text.
+    for (text, joined) in [("1<!-- a --> KB", 1000), ("1 <![CDATA[KB]]>", 1000), ("1.<!-- a -->5 KB", 1500)] {
+        let error = "duplicate field `$text`".to_owned();
+        assert_eq!(limits_of(text), [Err(error), Ok(Byte::from_u64(joined))], "{text}");
+    }
+}
+
+#[test]
+fn a_map_that_is_no_xml_element_is_rejected() {
+    for text in
+        ["{\"size\": 1}", "{\"id\": 1, \"$text\": \"1 KB\"}", "{\"id\": {}, \"$text\": \"1 KB\"}", "{\"id\": \"7\"}"]
+    {
+        let error = from_str::<Byte>(text).unwrap_err().to_string();
+        assert!(error.starts_with("invalid type: map") && error.contains(EXPECTED), "{text}: {error}");
+    }
+    assert!(from_str::<Byte>("{\"$text\": 12}").is_err());
+    // A map of strings could be an element.
+    assert_eq!(from_str::<Byte>("{\"id\": \"7\", \"$text\": \"1 KB\"}").unwrap(), Byte::KILOBYTE);
+}
+
+#[derive(Debug, PartialEq, Deserialize)]
+struct Limit {
+    limit: Byte,
+}
+
+#[derive(Debug, PartialEq, Deserialize)]
+struct Flat {
+    #[serde(flatten)]
+    inner: Limit,
+}
+
+#[derive(Debug, PartialEq, Deserialize)]
+#[serde(untagged)]
+enum Untagged {
+    Limit(Limit),
+}
+
+#[derive(Debug, PartialEq, Deserialize)]
+#[serde(tag = "kind")]
+enum Tagged {
+    A { limit: Byte },
+}
+
+#[test]
+fn flattened_fields_and_enums_have_sizes() {
+    let limit = || Limit { limit: Byte::KILOBYTE };
+    let (json, xml) = ("{\"kind\": \"A\", \"limit\": \"1 KB\"}", "<r kind=\"A\"><limit>1 KB</limit></r>");
+    assert_eq!((from_str(json).unwrap(), from_xml(xml)), (Flat { inner: limit() }, Flat { inner: limit() }));
+    assert_eq!((from_str(json).unwrap(), from_xml(xml)), (Untagged::Limit(limit()), Untagged::Limit(limit())));
+    let tagged = || Tagged::A { limit: Byte::KILOBYTE };
+    assert_eq!((from_str(json).unwrap(), from_xml(xml)), (tagged(), tagged()));
 }
 
 #[test]
