@@ -10,6 +10,7 @@ import pytest
 from byte_unit_dev.builds import CONFIG
 from byte_unit_dev.common import output
 from byte_unit_dev.fixtures import CARGOS, SERDE, is_there, need, read, write
+from byte_unit_dev.needs import DEBIAN_RUST
 
 FEATURES = ["--features", "serde"] if all(map(is_there, SERDE)) else []
 AS_WRITTEN, CHANGED = 91, 9  # the examples of the original that run here as they are, and those that need a change
@@ -136,6 +137,26 @@ def test_workspace(each_cargo, rust_package, tmp_path, place, dependency, more):
     assert each_cargo.output(work, "run") == "1.5 KiB\n"
     locked = re.findall(r'^name = "(.*)"', read(work / "Cargo.lock"), re.M)
     assert {"byte-unit", "program"} <= {*locked} <= {"byte-unit", "program", "serde"}
+
+
+def test_lock_file_of_an_older_original(each_cargo, rust_package, tmp_path):
+    """The patch is not used, with a warning, until `cargo update` takes it, as the page says."""
+    registry, page = tmp_path / "registry", read("bindings/rust/README.md")
+    manifest = '[package]\nname = "{}"\nversion = "5.1.0"\nedition = "2021"\n'
+    write(registry / "byte-unit-5.1.0/Cargo.toml", manifest.format("byte-unit"))
+    write(registry / "byte-unit-5.1.0/src/lib.rs", "")
+    write(registry / "byte-unit-5.1.0/.cargo-checksum.json", '{"files": {}}')
+    write(tmp_path / ".cargo/config.toml", CONFIG.replace(DEBIAN_RUST, str(registry)))
+    manifest = manifest.format("program") + '[dependencies]\nbyte-unit = "5"\n'
+    write(tmp_path / "Cargo.toml", manifest)
+    write(tmp_path / "src/main.rs", 'fn main() { println!("{:#}", byte_unit::Byte::from_u64(1536)); }\n')
+    each_cargo.output(tmp_path, "generate-lockfile")
+    write(tmp_path / "Cargo.toml", f'{manifest}[patch.crates-io]\nbyte-unit.path = "{rust_package}"\n')
+    said = each_cargo.call(tmp_path, "check", CARGO_TERM_QUIET="false").stdout
+    assert re.search(r"warning: Patch `byte-unit v5\.2\.6 .*` was not used", said, re.I), said
+    words = re.search(r"`cargo (update [^`]*)` takes it", page)[1].split()
+    each_cargo.output(tmp_path, *words)
+    assert each_cargo.output(tmp_path, "run") == "1.5 KiB\n"
 
 
 def test_other_pointers_are_refused_by_one_line(cargo, rust_package, tmp_path):

@@ -2,7 +2,7 @@
 
 use std::fmt::{self, Write};
 
-use byte_unit::{Align, Bit, Byte, FormatSpec, Sign, Unit};
+use byte_unit::{Align, Bit, Byte, FormatSpec, Sign, Unit, UnitType};
 
 #[test]
 fn digits_are_formatted_as_an_integer() {
@@ -15,6 +15,24 @@ fn digits_are_formatted_as_an_integer() {
     assert_eq!(format!("{size:+08}"), "+0010240");
     assert_eq!(format!("{size:8.1}"), "   10240");
     assert_eq!(format!("{size:_>+65535}"), format!("{number:_>+65535}"));
+}
+
+#[test]
+fn names_and_debug_texts() {
+    let unit = Unit::KiB;
+    assert_eq!(format!("{unit}|{unit:>5}|{unit:*^6}|{unit:.1}|{}", unit.as_ref()), "KiB|  KiB|*KiB**|K|KiB");
+    let most = 10u128.pow(30) - 1;
+    assert_eq!(format!("{:?} {:?}", Byte::MAX, Bit::MAX), format!("Byte({most}) Bit({most})"));
+    assert_eq!(format!("{:?}", FormatSpec::default().sign), format!("{:?}", Sign::default()));
+}
+
+#[test]
+fn ties_are_rounded_as_the_page_says() {
+    let texts = [1280, 2048].map(Byte::from_u64).map(|size| {
+        let adjusted = size.get_adjusted_unit(Unit::KiB);
+        format!("{adjusted:.1}|{adjusted:#.1}|{}", size.approximate_text(UnitType::Binary, 1))
+    });
+    assert_eq!(texts, ["1.2 KiB|1.3 KiB|1.2 KiB", "2.0 KiB|2 KiB|2.0 KiB"]);
 }
 
 #[test]

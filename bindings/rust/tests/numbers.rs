@@ -92,6 +92,7 @@ fn decimals_of_floats_are_exact() {
 fn decimals() {
     let number = Decimal::new(50, 84 * 10u128.pow(26)).unwrap();
     assert_eq!(format!("{number}|{number:8}|{number:08}|{number:*<7}"), "50.84|   50.84|00050.84|50.84**");
+    assert_eq!(format!("{number:+}|{number:+08}|{number:.1}|{number:#}"), "+50.84|+0050.84|50.84|50.84");
     assert_eq!(Decimal::new((1 << 112) - 1, 10u128.pow(28) - 1).unwrap().to_string().len(), 34 + 1 + 28);
     assert!(Decimal::new(1 << 112, 0).is_none() && number > Decimal::from(50u8) && number < Decimal::from(51u64));
     assert_eq!(Byte::from_decimal(number), Some(Byte::from_u64(51)));

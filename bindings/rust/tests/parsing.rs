@@ -66,7 +66,10 @@ fn buffers_that_do_not_fit() {
         let parsed = Byte::parse_buffers(b"12", offsets, false, &mut sizes, &mut codes);
         assert_eq!((parsed, sizes, codes), (Err(BuffersError), [Byte::MAX; 2], [9; 2]));
     }
-    assert_eq!(Byte::parse_buffers(b"12", &[0i32, 1, 2], false, &mut sizes, &mut codes[..1]), Err(BuffersError));
+    for (sizes_len, codes_len) in [(1, 2), (2, 1), (3, 2), (2, 3), (0, 0)] {
+        let (sizes, codes) = (&mut [Byte::MAX; 3][..sizes_len], &mut [9; 3][..codes_len]);
+        assert_eq!(Byte::parse_buffers(b"12", &[0i32, 1, 2], false, sizes, codes), Err(BuffersError));
+    }
     assert_eq!(Byte::parse_buffers::<i32>(b"", &[], false, &mut [], &mut []), Ok(0));
     assert_eq!(BuffersError.to_string(), "the offsets do not fit the data, or the buffers the number of texts");
 }

@@ -284,6 +284,7 @@ fn units_and_adjusted_sizes_are_strings() {
     assert_eq!(from_str::<AdjustedByte>("\"1.536 KB\"").unwrap(), adjusted);
     let greatest = Byte::MAX.get_adjusted_unit(Unit::RiB);
     assert_eq!(to_string(&greatest).unwrap(), format!("\"{:#}\"", Byte::MAX));
+    assert_eq!(to_string(&Byte::MAX.get_adjusted_unit(Unit::B)).unwrap(), "\"999999999999999999999999999.999 KB\"");
     assert_eq!(from_str::<AdjustedByte>(&to_string(&greatest).unwrap()).unwrap(), greatest);
     let bit = Bit::from_u64(12).get_adjusted_unit(Unit::B);
     assert_eq!(from_str::<AdjustedBit>(&to_string(&bit).unwrap()).unwrap(), bit);
