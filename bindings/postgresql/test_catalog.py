@@ -172,7 +172,8 @@ def joined(server):
 
 
 @pytest.mark.parametrize("kept, node", [
-    ("hashjoin", "Hash Join"), ("mergejoin", "Merge Join"), ("nestloop", "Index Cond: (size = (given.bytes)::bytesize)"),
+    ("hashjoin", "Hash Join"), ("mergejoin", "Merge Join"),
+    ("nestloop", "Index Cond: (size = (given.bytes)::bytesize)"),
 ])  # fmt: skip
 def test_joins(server, joined, kept, node):
     """A hash, a merge or an index serves a join by sizes, and the planner knows how many rows it has."""
@@ -204,6 +205,16 @@ def test_partitions_by_hash(server):
                      "SELECT count(*) FROM hashed WHERE size = '1 KB';",
                      "EXPLAIN (COSTS OFF) SELECT FROM hashed WHERE size = '1 KB';")  # fmt: skip
     assert got[:5] == ["t"] * 4 + ["1"] and "".join(got[5:]).count("Scan on part") == 1
+
+
+def test_hashes(server):
+    """A hash depends on all of the size, and one by a seed on the seed. By 0 it ends with the bits of that without."""
+    sizes = "generate_series(1, 1000) AS x, unnest(ARRAY[x, x * 18446744073709551616, x * 4294967296]) AS n"
+    got = server.sql("SELECT count(DISTINCT bytesize_hash(s)), count(DISTINCT bytesize_hash_extended(s, 1)),"
+                     " count(DISTINCT bytesize_hash_extended(s, 2) # bytesize_hash_extended(s, 1)),"
+                     " bool_and(bytesize_hash_extended(s, 0)::bit(32) = bytesize_hash(s)::bit(32))"
+                     f" FROM (SELECT n::bytesize AS s FROM {sizes}) AS sized;")  # fmt: skip
+    assert got == ["3000|3000|3000|t"]
 
 
 def test_deduplication(server):

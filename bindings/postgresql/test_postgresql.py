@@ -8,7 +8,7 @@ from byte_unit_dev.model.exact import Rejected, form, size_of, some_line
 from byte_unit_dev.needs import DEBIAN_PYTHON
 from byte_unit_dev.pages import beside
 from byte_unit_dev.pages.beside import Program
-from byte_unit_dev.postgresql import STATEMENTS, TRIED, quoted, tried
+from byte_unit_dev.postgresql import TRIED, quoted, tried
 from byte_unit_dev.rows import check, rows
 
 VERSION = read("VERSION").strip()
@@ -197,15 +197,6 @@ def test_workers_agree(server):
     assert found[0][1].startswith("22003 bytesize out of range")
 
 
-def test_errors_leave_no_memory(server):
-    """A hundred thousand errors in one statement leave less than a megabyte."""
-    loop = ("DO $$ BEGIN FOR i IN 1..%d LOOP BEGIN PERFORM ('1 X' || i)::bytesize; EXCEPTION WHEN OTHERS THEN NULL; END;"
-            " END LOOP; END $$;")  # fmt: skip
-    used = "SELECT sum(total_bytes) FROM pg_backend_memory_contexts;"
-    before, after = server.sql(loop % 1000, used, loop % 100000, used)
-    assert int(after) - int(before) < 1 << 20
-
-
 def in_encoding(server, encoding, data, *statements):
     """Returns the lines of statements in a database of an encoding, in which a row of `texts` has bytes as its text."""
     name = f"in_{encoding.lower()}_{data.hex()}"
@@ -275,35 +266,6 @@ def test_upgrade(server):
                      "SELECT count(*) FROM pg_proc WHERE proname ~ '^(size_|bytesize)';", database="updated",
                      stderr=-3)  # fmt: skip
     assert got == ["1.5 KiB|updated", "9.9.9", "0"]
-
-
-def test_no_report_of_valgrind(server):
-    """Runs the statements of sql/byte_unit.sql in a backend of one user under valgrind: no report names the extension."""
-    need("valgrind")
-    # One line each, the body of the function too.
-    lines = re.sub(r"^(--|\\).*\n", "", STATEMENTS.replace(TRIED, TRIED.replace("\n", " ")), flags=re.M)
-    statements = re.sub(r"(?<!;)\n\s*", " ", lines)
-    log = server.folder / "data/valgrind"
-    words = ["valgrind", "--quiet", f"--log-file={log}", *server.single("UTF8")]
-    said = server.by_user(*words, input=statements)
-    assert 'max = "4.999 KB"' in said and "wrong = " not in said
-    assert "byte_unit" not in log.read_text(encoding="utf-8", errors="replace")
-
-
-def test_out_of_memory(server):
-    """In a backend with 210 MB of address space, a statement ends by an error for which a text cannot be converted, or
-    flags cannot be copied, and the next one is answered."""
-    need("prlimit")
-    long = "SELECT size_explain(convert_from(decode(repeat('e9', x), 'hex'), 'LATIN1'))"
-    queries = [(long, 20000000), ("SELECT size_try('1', repeat(' ', x))", 90000000)]
-    after = "SELECT size_parse('1.5 KiB') AS answer;\n"
-    asked = "".join(f"{query} FROM generate_series({n}, {n}) AS x;\n{after}" for query, n in queries)
-    words = ["prlimit", "--as=210000000", *server.single("LATIN1")]
-    # -2 is subprocess.STDOUT: the backend writes errors to stderr.
-    said = server.by_user(*words, input=f"CREATE EXTENSION byte_unit;\n{asked}", stderr=-2)
-    found = re.findall(r"Failed on request of size (\d+)|^\t 1: answer = (.*?)\t", said, re.M)
-    # What the extension asks for: 4 bytes for each byte of LATIN1, and one more.
-    assert [size or answer for size, answer in found] == ["80000001", '"1.5 KiB"', "90000001", '"1.5 KiB"']
 
 
 def ended_well(*words, **how):

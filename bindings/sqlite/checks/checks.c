@@ -40,6 +40,12 @@ static void *failing_realloc(void *old, int size)
     return fails() ? NULL : real.xRealloc(old, size);
 }
 
+/* Makes each allocation as long as it is asked for, not a multiple of 8 bytes. */
+static int same_size(int size)
+{
+    return size;
+}
+
 static struct copy {
     struct copy *next;
     char text[];
@@ -333,6 +339,7 @@ int main(void)
     failing = real;
     failing.xMalloc = failing_malloc;
     failing.xRealloc = failing_realloc;
+    failing.xRoundup = same_size;
     if (sqlite3_config(SQLITE_CONFIG_MALLOC, &failing) != SQLITE_OK
         || sqlite3_auto_extension((void (*)(void))get_calls) != SQLITE_OK)
         return 2;
