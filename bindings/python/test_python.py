@@ -5,9 +5,11 @@ import re
 import shutil
 
 import pytest
+from byte_unit_dev.builds import copied
 from byte_unit_dev.fixtures import (
     DEBIAN_PYTHON, call, check_needs, environment, is_there, need, output, path, read, write,
 )  # fmt: skip
+from byte_unit_dev.needs import PYTHON_PACKAGE
 
 LINES = path("bindings/python/checks/lines.py")
 
@@ -75,6 +77,20 @@ def test_its_own_tests(python, tmp_path):
     said = output(python.program, "-m", "unittest", "discover", "-s", tests, cwd=tmp_path, env=environment())
     modules = all(map(is_there, ("import numpy", "import pandas", "import _testcapi")))
     assert re.search(r"\nOK\n$" if modules else r"\nOK( \(skipped=\d+\))?\n$", said), said
+
+
+def test_its_c_with_sanitizers(library, tmp_path):
+    """AddressSanitizer and UndefinedBehaviorSanitizer find nothing in the extension module."""
+    need(*PYTHON_PACKAGE)
+    flags = "-fsanitize=address,undefined -fno-sanitize-recover=all"
+    here = environment(BYTE_UNIT_LIBRARY_DIR=library, CFLAGS=f"{flags} -g", LDFLAGS=flags)
+    words = ["setup.py", "build", "--build-base", tmp_path, "--build-lib", tmp_path / "lib"]
+    output(DEBIAN_PYTHON, *words, cwd=copied("python", tmp_path), env=here)
+    # Without Python's own allocator, so that each block has the sanitizer's zones around it.
+    here = environment(PYTHONPATH=tmp_path / "lib", PYTHONMALLOC="malloc", ASAN_OPTIONS="detect_leaks=0",
+                       LD_PRELOAD=output("gcc", "-print-file-name=libasan.so").strip())  # fmt: skip
+    tests = ["test_columns", "test_errors", "test_format", "test_parse", "test_results", "test_package.Arguments"]
+    output(DEBIAN_PYTHON, "-m", "unittest", *tests, cwd=path("bindings/python/tests"), env=here)
 
 
 @pytest.mark.parametrize("kind", ["byte", "bit"])

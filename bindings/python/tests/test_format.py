@@ -137,6 +137,11 @@ class Ranges(unittest.TestCase):
         for count in FAR:
             with self.assertRaises(ByteUnitError):
                 byte_unit.from_unit(count, "B")
+        for bits in (False, True):
+            with self.assertRaises(ByteUnitError) as caught:
+                byte_unit.from_unit(10**30, "KB", bits=bits)
+            wanted = f"{10**30} KB must be less than 10**30 {'bits' if bits else 'bytes'}"
+            self.assertEqual(str(caught.exception), wanted)
 
     def test_numbers_of_wrong_types(self) -> None:
         calls = [*SIZE_CALLS, *DIGIT_CALLS, lambda count: byte_unit.from_unit(count, "B")]

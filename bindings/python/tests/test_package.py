@@ -7,6 +7,7 @@ import importlib.metadata
 import importlib.resources
 import importlib.util
 import inspect
+import mmap
 import os
 import re
 import subprocess
@@ -62,6 +63,8 @@ class Package(unittest.TestCase):
             value = getattr(byte_unit, name)
             if callable(value):
                 self.assertTrue(value.__doc__, name)
+            if name in CALLS:  # `help` shows it by this name, and it is pickled by it
+                self.assertEqual((value.__module__, value.__qualname__), ("byte_unit", name))
         public = {name for name in vars(byte_unit) if not name.startswith("_")} - {"pandas"}
         self.assertEqual(public, set(byte_unit.__all__) - {"__version__"})
         self.assertEqual(len(CALLS), 11)
@@ -253,6 +256,27 @@ def outcome(call: Callable[[], object]) -> object:
 
 
 class Memory(unittest.TestCase):
+    def test_copies_are_freed(self) -> None:
+        """Copies of half a megabyte or more. tracemalloc does not count those of the bytes of a buffer."""
+        text, zeros = b"0" * 1_000_000, bytes(1_000_000)
+        # Two pieces, of 1,024 texts and of one, which is longer than these.
+        offsets, many = array("q", [*range(0, 488 * 1024 + 1, 488), len(text)]), array("q", zeros)
+
+        def resident() -> int:
+            with open("/proc/self/statm", encoding="ascii") as file:
+                return int(file.read().split()[1]) * mmap.PAGESIZE
+
+        before = resident()
+        for _ in range(100):
+            self.assertEqual(byte_unit.parse_buffers(text, offsets).codes, bytes(1025))
+            self.assertEqual(byte_unit.parse_buffers(b"", many, validity=zeros).codes.count(7), len(many) - 1)
+            self.assertEqual(byte_unit.parse_many([text, text.decode()]).ints(), [0, 0])
+            with self.assertRaises(byte_unit.SizeError):
+                byte_unit.parse_buffers(text[:-1] + b"x", offsets, errors="raise")
+            with self.assertRaises(byte_unit.ByteUnitError):
+                byte_unit.parse_buffers(text, array("q", [0, len(text), 0]))
+        self.assertLess(resident() - before, 30_000_000)
+
     def test_nothing_is_kept(self) -> None:
         """Neither results nor errors leave blocks or references."""
         kept = [None, "unit", True, False, byte_unit.UNITS, byte_unit.ERROR_NAMES, byte_unit.SizeError, *WRONG]

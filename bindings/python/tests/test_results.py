@@ -1,9 +1,8 @@
-"""What a column of many texts gives: nulls, errors, numbers of each kind, sums, a sequence; with numpy; and memory."""
+"""What a column of many texts gives: nulls, errors, numbers of each kind, sums, a sequence; with numpy."""
 
 import copy
 import importlib.util
 import math
-import mmap
 import pickle
 import random
 import unittest
@@ -40,6 +39,10 @@ class Listed:
 
     def tolist(self) -> Any:
         return self.items
+
+
+class Named(Column):
+    """A subclass, as a caller may write one."""
 
 
 class Nulls(unittest.TestCase):
@@ -300,6 +303,15 @@ class Sequences(unittest.TestCase):
         for version in range(pickle.HIGHEST_PROTOCOL + 1):
             self.assertEqual(pickle.loads(pickle.dumps(column, version)), column)
 
+    def test_a_subclass(self) -> None:
+        """A copy has its class; `match` takes its parts in their order."""
+        column = Named(bytes(32), b"\0\1")
+        for other in (copy.copy(column), copy.deepcopy(column), pickle.loads(pickle.dumps(column))):
+            self.assertEqual((type(other), other), (Named, column))
+        match column:
+            case Column(sizes, codes):
+                self.assertEqual((sizes, codes), (column.sizes, column.codes))
+
     def test_a_column_cannot_be_changed(self) -> None:
         column = byte_unit.parse_many(TEXTS)
         for name in ("sizes", "codes", "other"):
@@ -349,30 +361,6 @@ class Numpy(unittest.TestCase):
         low, high = map(numpy.asarray, column.uint128())
         self.assertEqual((low.tolist(), high.tolist(), low.flags.owndata), ([7, 0, 2**63], [0, 0, 0], False))
         self.assertEqual(numpy.nansum(numpy.asarray(column.float64())), 7 + 2.0**63)
-
-
-class Memory(unittest.TestCase):
-    def test_copies_are_freed(self) -> None:
-        """Copies of half a megabyte or more. tracemalloc does not count those of the bytes of a buffer."""
-        text, zeros = b"0" * 1_000_000, bytes(1_000_000)
-        # Two pieces, of 1,024 texts and of one, which is longer than these.
-        offsets, many = array("q", [*range(0, 488 * 1024 + 1, 488), len(text)]), array("q", zeros)
-
-        def resident() -> int:
-            with open("/proc/self/statm", encoding="ascii") as file:
-                return int(file.read().split()[1]) * mmap.PAGESIZE
-
-        before = resident()
-        for _ in range(100):
-            self.assertEqual(byte_unit.parse_buffers(text, offsets).codes, bytes(1025))
-            self.assertEqual(byte_unit.parse_buffers(b"", many, validity=zeros).codes.count(7), len(many) - 1)
-            self.assertEqual(byte_unit.parse_many([text, text.decode()]).ints(), [0, 0])
-            with self.assertRaises(SizeError):
-                byte_unit.parse_buffers(text[:-1] + b"x", offsets, errors="raise")
-            with self.assertRaises(ByteUnitError):
-                byte_unit.parse_buffers(text, array("q", [0, len(text), 0]))
-        self.assertLess(resident() - before, 30_000_000)
-
 
 
 if __name__ == "__main__":
