@@ -11,6 +11,7 @@ from byte_unit_dev.builds import CONFIG
 from byte_unit_dev.common import output
 from byte_unit_dev.fixtures import CARGOS, SERDE, is_there, need, read, write
 from byte_unit_dev.needs import DEBIAN_RUST
+from byte_unit_dev.render import by_hand, rust
 
 FEATURES = ["--features", "serde"] if all(map(is_there, SERDE)) else []
 AS_WRITTEN, CHANGED = 91, 9  # the examples of the original that run here as they are, and those that need a change
@@ -77,6 +78,27 @@ def test_program_of_the_original(each_cargo, rust_package, tmp_path, name):
     write(f"{tmp_path}/Cargo.toml", read("bindings/rust/checks/moved.toml").replace("PACKAGE", rust_package))
     write(f"{tmp_path}/src/main.rs", text)
     assert each_cargo.output(tmp_path, "run") == printed
+
+
+def proved(items):
+    """Returns items of the sources without contracts, each with the constants of its file."""
+    texts = []
+    for name, _, item in (words.partition(" ") for words in items):
+        file = rust.Rendered(f"crates/byte_unit_{name}", f"byte_unit_{name.partition('/')[0]}")
+        rust.without_proofs(file)
+        _, start, end = file.item(item)
+        texts += [*re.findall(r"^const .*", file.text, re.M), file.text[start:end].replace(file.MARK, "")]
+    return "\n".join(dict.fromkeys(texts))
+
+
+def test_code_by_hand_is_the_proved_code(cargo, rust_package, tmp_path):
+    """Compares `support` with the proved code in whose place it is; `read_digits` with a function that is proved to
+    return the same."""
+    items = [item for item, where in by_hand.REPLACED.items() if where.startswith("support")]
+    write(f"{tmp_path}/src/proved.rs", proved([*items, "base/src/read/number.rt fn few_digits"]))
+    write(f"{tmp_path}/src/main.rs", read("bindings/rust/checks/by_hand.rs"))
+    write(f"{tmp_path}/Cargo.toml", read("bindings/rust/checks/moved.toml").replace("PACKAGE", rust_package))
+    assert cargo.output(tmp_path, "run", "--release") == "0 wrong\n"
 
 
 @pytest.mark.parametrize("kind", ["byte", "bit"])
