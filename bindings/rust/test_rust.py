@@ -97,7 +97,8 @@ def test_code_by_hand_is_the_proved_code(cargo, rust_package, tmp_path):
     items = [item for item, where in by_hand.REPLACED.items() if where.startswith("support")]
     write(f"{tmp_path}/src/proved.rs", proved([*items, "base/src/read/number.rt fn few_digits"]))
     write(f"{tmp_path}/src/main.rs", read("bindings/rust/checks/by_hand.rs"))
-    write(f"{tmp_path}/Cargo.toml", read("bindings/rust/checks/moved.toml").replace("PACKAGE", rust_package))
+    manifest = read("bindings/rust/checks/moved.toml").replace("PACKAGE", rust_package)
+    write(f"{tmp_path}/Cargo.toml", manifest.replace('"u128"', '"u128", "internal"'))
     assert cargo.output(tmp_path, "run", "--release") == "0 wrong\n"
 
 
