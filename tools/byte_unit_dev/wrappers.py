@@ -1,9 +1,9 @@
 """Mutants of what is written by hand, which no proof covers: each is a wrong edit that a test has to see.
 
 Each catalogue is a file mutants.edits outside crates/. In it each mutant has a line `== TITLE`, which says what a user
-would see; then `file: NAME`, from the top of the repository; one or more pairs of lines `old: TEXT`, which is in the
-file once, and `new: TEXT`; and `test: WORDS`, the words of `tools/dev test` that run the test which sees it. One that
-no user can see has `equal: WHY` in place of `test:`, and is not tried.
+would see; then `file: NAME`, from the catalogue's folder, and one or more pairs of lines `old: TEXT`, which is in the
+file once, and `new: TEXT`. A line `test: WORDS`, here or before the first mutant, has the words of `tools/dev test` that
+run the tests which see it. One that no user can see has a line `equal: WHY`, and is not tried.
 """
 
 import os
@@ -29,10 +29,13 @@ def field(text, name):
 
 
 def mutants():
-    """Returns all mutants, in the order of their catalogues."""
-    return [Mutant(name, edit.partition("\n")[0], field(edit, "file"), PAIR.findall(edit), field(edit, "test"),
-                   field(edit, "equal"))
-            for name in files() if CATALOGUE.fullmatch(name) for edit in re.split("^== ", read(name), flags=re.M)[1:]]
+    """Yields all mutants, in the order of their catalogues."""
+    for name in filter(CATALOGUE.fullmatch, files()):
+        head, *edits = re.split("^== ", read(name), flags=re.M)
+        for edit in edits:
+            file = os.path.normpath(os.path.join(os.path.dirname(name), field(edit, "file")))
+            test = field(edit, "test") or field(head, "test")
+            yield Mutant(name, edit.partition("\n")[0], file, PAIR.findall(edit), test, field(edit, "equal"))
 
 
 def edited(mutant, text):
@@ -56,8 +59,8 @@ def listed():
                 yield f"{name}: there is no file {mutant.file}"
         except Failure as failure:
             yield str(failure)
-        if not mutant.pairs or bool(mutant.test) == bool(mutant.equal):
-            yield f"{name}: no pair of `old:` and `new:`, or not one of `test:` and `equal:`"
+        if not mutant.pairs or not mutant.test:
+            yield f"{name}: no `test:`, or no pair of `old:` and `new:`"
         if name in seen:
             yield f"{name}: twice"
         seen.add(name)
@@ -115,6 +118,6 @@ def run(part):
     wrong = [*listed()]
     if wrong:
         return report(wrong, "")
-    every = [mutant for mutant in mutants() if mutant.test]
+    every = [mutant for mutant in mutants() if not mutant.equal]
     chosen = part_of(every, part)
     return report([*tried(chosen)], f"mutants: {len(chosen)} of {len(every)} of what is written by hand, each seen")
