@@ -22,6 +22,10 @@ fn constant_expressions() {
 fn limits_of_constructors() {
     assert_eq!(Byte::from_u128(LIMIT - 1), Some(Byte::MAX));
     assert_eq!((Byte::from_u128(LIMIT), Byte::from_i128(-1), Byte::from_i64(i64::MIN)), (None, None, None));
+    assert_eq!((Byte::from_i128(0), Byte::from_i64(0)), (Some(Byte::MIN), Some(Byte::MIN)));
+    let most = u128::from(u64::MAX);
+    assert_eq!(Byte::from_u128(most).unwrap().as_u64_checked(), Some(u64::MAX));
+    assert_eq!(Byte::from_u128(most + 1).unwrap().as_u64_checked(), None);
     assert_eq!(Byte::from_u64_with_unit(1000, Unit::RB), None);
     assert_eq!(Byte::from_u64_with_unit(999, Unit::RB).unwrap().as_u128(), 999 * 10u128.pow(27));
     assert_eq!(Byte::from_u64_with_unit(9, Unit::Bit).unwrap().as_u64(), 2);
@@ -43,6 +47,8 @@ fn conversions_to_integers() {
 fn comparisons() {
     assert!(Byte::KIBIBYTE == 1024u64 && 1024u128 == Byte::KIBIBYTE && Byte::KIBIBYTE != 1023u64);
     assert!(Byte::KIBIBYTE > 1000u64 && 2000u128 > Byte::KIBIBYTE && Byte::KILOBYTE < Byte::KIBIBYTE);
+    assert!(Byte::KIBIBYTE != 1025u64 && Byte::KIBIBYTE < 1025u64 && 1023u64 < Byte::KIBIBYTE);
+    assert!(Byte::MAX != u64::MAX && u64::MAX != Byte::MAX && Byte::MAX > u64::MAX && u64::MAX < Byte::MAX);
     assert_eq!(HashSet::from([Byte::KILOBYTE, Byte::from_u64(1000), Byte::KIBIBYTE]).len(), 2);
     let (a, b) = (Byte::KILOBYTE.get_adjusted_unit(Unit::KB), Byte::KILOBYTE.get_adjusted_unit(Unit::Bit));
     assert!(a == b && a < Byte::KIBIBYTE.into() && HashSet::from([a, b]).len() == 1);
@@ -69,6 +75,7 @@ fn sizes_of_floats_are_exact() {
         assert_eq!(Bit::try_from(number).ok().map(Bit::as_u128), size, "{number}");
     }
     assert_eq!(Byte::from_f32(16777217.0).unwrap(), 16777216u64);
+    assert_eq!((Byte::from_f32(0.5).unwrap(), Bit::try_from(1.5f32)), (Byte::BYTE, Ok(Bit::from_u64(2))));
     assert_eq!(Byte::try_from(f32::NAN), Err(ExceededBoundsError));
 }
 
@@ -93,7 +100,8 @@ fn decimals() {
     let number = Decimal::new(50, 84 * 10u128.pow(26)).unwrap();
     assert_eq!(format!("{number}|{number:8}|{number:08}|{number:*<7}"), "50.84|   50.84|00050.84|50.84**");
     assert_eq!(format!("{number:+}|{number:+08}|{number:.1}|{number:#}"), "+50.84|+0050.84|50.84|50.84");
-    assert_eq!(Decimal::new((1 << 112) - 1, 10u128.pow(28) - 1).unwrap().to_string().len(), 34 + 1 + 28);
+    let longest = Decimal::new((1 << 112) - 1, 10u128.pow(28) - 1).unwrap();
+    assert_eq!((longest.to_string().len(), format!("{longest:1}")), (34 + 1 + 28, longest.to_string()));
     assert!(Decimal::new(1 << 112, 0).is_none() && number > Decimal::from(50u8) && number < Decimal::from(51u64));
     assert_eq!(Byte::from_decimal(number), Some(Byte::from_u64(51)));
     assert_eq!(Bit::from_decimal_with_unit(number, Unit::KB), Some(Bit::from_u64(406_720)));

@@ -17,9 +17,9 @@ fn many_texts() {
     for (row, (text, found)) in TEXTS.iter().zip(&rows).enumerate() {
         assert_eq!(*found, Byte::parse_str(text, false).map_err(|error| RowError { row, error }), "{text}");
     }
-    let strings: Vec<String> = TEXTS[1..3].iter().map(|text| text.to_string()).collect();
+    let strings = ["12", "1.5 KiB", "0.1 KB"].map(str::to_owned);
     let sizes: Result<Vec<Bit>, _> = Bit::parse_many(&strings).collect();
-    assert_eq!(sizes.unwrap(), [12, 12288].map(Bit::from_u64));
+    assert_eq!(sizes.unwrap(), [12, 12288, 800].map(Bit::from_u64));
     let mut ignoring = Byte::parse_many_binary(["8 Kb"], true).chain(Byte::parse_many_binary(["8 Kb"], false));
     assert_eq!((ignoring.next(), ignoring.next()), (Some(Ok(Byte::from(8192u16))), Some(Ok(Byte::from(1024u16)))));
     assert_eq!(Bit::parse_many_binary(["1 Kb", "-"]).next(), Some(Ok(Bit::from(1024u16))));
@@ -52,11 +52,11 @@ fn columns_by_one_call() {
     }
     compare_buffers!(Bit, parse_str, parse_buffers, i64);
     compare_buffers!(Bit, parse_str_binary, parse_buffers_binary, i32);
-    let (mut sizes, mut codes) = ([Bit::MAX; 6], [9; 6]);
-    let data = b"1.x1000 RB11\xff1.12345678901234567890123456789";
-    let rejected = Bit::parse_buffers(data, &[0i32, 2, 3, 10, 11, 13, 44], &mut sizes, &mut codes);
-    assert_eq!((rejected, codes), (Ok(5), [2, 2, 4, 0, 6, 3]));
-    assert_eq!(sizes, [0u8, 0, 0, 1, 0, 0].map(Bit::from));
+    let (mut sizes, mut codes) = ([Bit::MAX; 8], [9; 8]);
+    let data = b"1.x1000 RB11\xff1.123456789012345678901234567891 Kx";
+    let rejected = Bit::parse_buffers(data, &[0i32, 2, 3, 10, 11, 13, 44, 44, 48], &mut sizes, &mut codes);
+    assert_eq!((rejected, codes), (Ok(7), [2, 2, 4, 0, 6, 3, 1, 5]));
+    assert_eq!(sizes, [0u8, 0, 0, 1, 0, 0, 0, 0].map(Bit::from));
 }
 
 #[test]
