@@ -53,10 +53,9 @@ def test_operator_classes(server):
     of = ("JOIN pg_am a ON a.oid = opcmethod JOIN {0} ON {1}family = opcfamily AND {1}lefttype = opcintype AND"
           " {1}righttype = opcintype WHERE opcdefault AND opcintype = '{2}'::regtype")  # fmt: skip
     own, server_own = (server.sql(
-        f"SELECT amname, amprocnum FROM pg_opclass {of.format('pg_amproc', 'amproc', name)} UNION ALL"
-        " SELECT amname, concat_ws(' ', amopstrategy, amoppurpose, oprname)::text FROM pg_opclass"
-        f" {of.format('(pg_amop JOIN pg_operator o ON o.oid = amopopr)', 'amop', name)} ORDER BY 1;".replace(
-            "amprocnum", "amprocnum::text"))
+        f"SELECT amname, amprocnum::text FROM pg_opclass {of.format('pg_amproc', 'amproc', name)} UNION ALL"
+        " SELECT amname, concat_ws(' ', amopstrategy, amoppurpose, oprname) FROM pg_opclass"
+        f" {of.format('(pg_amop JOIN pg_operator o ON o.oid = amopopr)', 'amop', name)};")
         for name in ("bytesize", "bigint"))  # fmt: skip
     assert len(own) > 15 and sorted([*own, "btree|3"]) == sorted(server_own)
 
@@ -105,8 +104,7 @@ def test_no_number_of_floating_point(server):
     assert server.wrong(rows) == []
 
 
-# A value for each type of argument, and for arguments by name. An argument with a name in WRONG is an option, which is
-# checked, also for NULL, even if all others are NULL.
+# A value for each type of argument, and for arguments by name; and a wrong one for each option, by its name.
 SAMPLES = {"bytesize": "'1 KB'::bytesize", "text": "'1 KB'", "numeric": "3::numeric", "bigint": "3::bigint",
            "smallint": "3::smallint", "integer": "3", "cstring": "'3'::cstring", "unit": "'KiB'", "unit_type": "'both'",
            "flags": "'ignore-case'"}  # fmt: skip
@@ -130,7 +128,7 @@ def calls_of(server):
 
 def test_null(server):
     """NULL in each place gives NULL, or for an option its error, and no end of the server's process. A wrong option is
-    an error even if all else is NULL."""
+    an error even if all arguments that are none are NULL."""
     rows, found = [], list(calls_of(server))
     for form, arguments in found:
         values = [SAMPLES.get(kind, "3") for kind in arguments]

@@ -32,8 +32,8 @@ def test_no_report_of_valgrind(server):
 
 
 def test_out_of_memory(server):
-    """In a backend with 210 MB of address space, a statement ends by an error for which a text cannot be converted, or
-    flags cannot be copied, and the next one is answered."""
+    """In a backend with 210 MB of address space, a statement that has no memory to convert a text, or to copy flags,
+    ends by an error, and the next one is answered."""
     need("prlimit")
     long = "SELECT size_explain(convert_from(decode(repeat('e9', x), 'hex'), 'LATIN1'))"
     queries = [(long, 20000000), ("SELECT size_try('1', repeat(' ', x))", 90000000)]
