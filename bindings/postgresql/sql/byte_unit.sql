@@ -19,7 +19,7 @@ CREATE TABLE calls(call text, answer text);
 INSERT INTO calls VALUES
     ($$'1.5 KiB'::bytesize$$, '1.5 KiB'), ($$' 1536 '::bytesize$$, '1.5 KiB'), ($$'8 kb'::bytesize$$, '1 KB'),
     ($$'999999999999999999999999999999'::bytesize$$, '999999999999999999999999999.999 KB'),
-    ($$'9007199254740993 B'::bytesize = '9007199254740992 B'::bytesize$$, 'false'),
+    ($$'9007199254740993 B'::bytesize = '9007199254740992 B'::bytesize$$, 'false'), ($$pg_column_size('1 KB'::bytesize)$$, '16'),
     ($$'1 Ké'::bytesize$$, '22P02 invalid input syntax for type bytesize: "1 Ké": The character ''é'' is incorrect (''B'' or ''b'' or no character is expected) (character 4).'),
     ($$''::bytesize$$, '22P02 invalid input syntax for type bytesize: "": No value can be found (at the end of the text).'),
     ($$'1000 RB'::bytesize$$, '22003 invalid input syntax for type bytesize: "1000 RB": The value 1000 exceeds the valid range.'),
