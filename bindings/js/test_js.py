@@ -25,17 +25,29 @@ def test_lines(javascript, check_runner, kind):
     check_runner([*NODE, javascript / "checks/vectors.js"], kind, bytes_=False)
 
 
-def evaluated(javascript, code):
-    """Returns what an expression of the package's calls is, or what its promise becomes, as JSON, or the error."""
+def outcomes(javascript, codes):
+    """Returns what expressions of the package's calls are, or what their promises become, or their errors, in order, all
+    in one process. A BigInt has `n` after its digits; an error is its name and its message."""
     script = (f"import * as byteUnit from {json.dumps(str(javascript / 'index.js'))};\n"
-              f"const {{ {CALLS} }} = byteUnit, place = {json.dumps(javascript.as_uri())};\n"
-              f"let found;\ntry {{ found = await ({code}); }}\n"
-              "catch (error) { found = `${error.name}: ${error.message}`; }\n"
+              f"const {{ {CALLS} }} = byteUnit, place = {json.dumps(javascript.as_uri())}, found = [];\n"
+              f"for (const call of [{', '.join(f'async () => ({code})' for code in codes)}])\n"
+              "try { found.push(await call()); } catch (error) { found.push(`${error.name}: ${error.message}`); }\n"
               "console.log(JSON.stringify(found, (_, value) => typeof value === 'bigint' ? `${value}n` : value));\n")  # fmt: skip
     return json.loads(output(*NODE, "--input-type=module", "-e", script))
 
 
-@pytest.mark.parametrize("code, found", [
+def evaluated(javascript, code):
+    """Returns the outcome of one expression."""
+    return outcomes(javascript, [code])[0]
+
+
+def check(javascript, rows):
+    """Checks the outcomes of expressions."""
+    codes, wanted = zip(*rows)
+    assert [row for row in zip(codes, wanted, outcomes(javascript, codes)) if row[1] != row[2]] == []
+
+
+ROWS = [
     ("parse('10m', { binary: true, ignoreCase: true })", "10485760n"), ("parse('1 Kb', { bits: true })", "1000n"),
     ("parse('')", "SizeError: no value can be found (at the end of the text)"), ("parse(1)", "TypeError: 1 is no string"),
     ("parse('1', { ignorecase: true })", "TypeError: ignorecase is no option of this call"),
@@ -43,11 +55,13 @@ def evaluated(javascript, code):
     ("parseUnit('kib')", "Kib"), ("parseUnit('k', { bits: true })", "Kb"),
     ("byteUnit.version", sum(map(mul, map(int, read("VERSION").split(".")), (10**6, 10**3, 1)))),
     ("byteUnit.UNITS.length", 38), ("Object.isFrozen(byteUnit.UNITS)", True),
-    ("explain('1 KB')", None), ("explainUnit('KB')", None), ("explainUnit('k', { bits: true })", None), ("explainUnit('x').startsWith(\"the character 'x'\")", True),
+    ("explain('1 KB')", None), ("explainUnit('KB')", None), ("explainUnit('k', { bits: true })", None),
+    ("explainUnit('x').startsWith(\"the character 'x'\")", True),
     ("explain('1😀x').slice(-14)", " (character 2)"), ("explainUnit('K😀').slice(-14)", " (character 2)"),
     ("explain('1000 RB')", "the value 1000 exceeds the valid range"),
     ("text(10n ** 30n)", f"RangeError: {10**30} is no size: it is negative, or 10^30 or more"),
-    ("text(2n ** 64n + 1n)", "18446744073709551.617 KB"), ("text(2 ** 53 - 1)", "9007199254740.991 KB"),
+    ("text(0)", "0 B"), ("text(2n ** 64n + 1n)", "18446744073709551.617 KB"),
+    ("text(2 ** 53 - 1)", "9007199254740.991 KB"),
     *[(f"text({size})", f"TypeError: {value} is no BigInt, and no integer that a number holds exactly")
       for size, value in (("1.5", "1.5"), ("2 ** 53", 2**53), ("-(2 ** 53)", -(2**53)), ("'1'", '"1"'))],
     *[(f"text({size})", "RangeError: -1 is no size: it is negative, or 10^30 or more") for size in ("-1", "-1n")],
@@ -62,43 +76,44 @@ def evaluated(javascript, code):
                                              "codes": ["ok", "no_value", "not_number", "unit"]}),
     ("(() => { try { parse('é 1'); } catch (e) { return [e.code, e.character, e.position, e.text]; } })()",
      ["not_number", "é", 0, "é 1"]),
-    ("(() => { try { parse('1 K😀B'); } catch (e) { return [e.character, e.position, e.expected, e.alsoExpectNoCharacter]; } })()",
-     ["😀", 3, "Bb", True]),
+    ("(() => { try { parse('1 K😀B'); } catch (e) { return [e.character, e.position, e.expected, e.text]; } })()",
+     ["😀", 3, "Bb", "1 K😀B"]),
+    ("['1 x', '1 bix'].map(text => { try { parse(text); } catch (e) { return e.alsoExpectNoCharacter; } })", [True, False]),
     ("(() => { try { parse('1000 RB'); } catch (e) { return [e.code, e.position]; } })()", ["exceeded_bounds", None]),
     ("parse('0'.repeat(1000000) + '1')", "1n"), ("parseMany(Array(100000).fill('1.5 KiB')).sizes.length", 100000),
-])  # fmt: skip
-def test_calls(javascript, code, found):
-    """Evaluates expressions: a BigInt has `n` after its digits, an error is its name and its message."""
-    assert evaluated(javascript, code) == found
+]  # fmt: skip
 
 
-@pytest.mark.parametrize("call, options, error", [
-    *[("text(1, {})", f"{{ alternate: {value} }}", f"TypeError: alternate is {value}: true or false is expected")
-      for value in ('"no"', "0", "null")],
-    ("text(1, {})", '{ precision: "2" }', 'TypeError: precision is "2": an integer from 0 to 65535 is expected'),
-    ("text(1, {})", "{ width: 2n }", "TypeError: width is 2n: an integer from 0 to 65535 is expected"),
-    ("text(1, {})", "{ sign: 1 }", "TypeError: sign is 1: one of plus, minus is expected"),
-    ("text(1, {})", "{ align: true }", "TypeError: align is true: one of left, center, right is expected"),
-    *[(f"{call}(1, {{}})", options, error) for call in ("approximateText", "appropriateUnit") for options, error in (
-        ("{ unitType: null }", "TypeError: unitType is null: one of binary, decimal, both is expected"),
-        ("{ type: 'decimal' }", "TypeError: type is no option of this call"))],
-    *[("parse('1', {})", value, f"TypeError: {value} is no object with options") for value in ("true", "null", '"b"')],
-])  # fmt: skip
-def test_options_of_another_type(javascript, call, options, error):
+def test_calls(javascript):
+    check(javascript, ROWS)
+
+
+def test_options_of_another_type(javascript):
     """They are a TypeError, of which the message shows the value."""
-    assert evaluated(javascript, call.replace("{}", options)) == error
+    check(javascript, [(call.replace("{}", options), error) for call, options, error in (
+        *[("text(1, {})", f"{{ alternate: {value} }}", f"TypeError: alternate is {value}: true or false is expected")
+          for value in ('"no"', "0", "null")],
+        ("text(1, {})", '{ precision: "2" }', 'TypeError: precision is "2": an integer from 0 to 65535 is expected'),
+        ("text(1, {})", "{ width: 2n }", "TypeError: width is 2n: an integer from 0 to 65535 is expected"),
+        ("text(1, {})", "{ sign: 1 }", "TypeError: sign is 1: one of plus, minus is expected"),
+        ("text(1, {})", "{ align: true }", "TypeError: align is true: one of left, center, right is expected"),
+        *[(f"{call}(1, {{}})", options, error) for call in ("approximateText", "appropriateUnit") for options, error in (
+            ("{ unitType: null }", "TypeError: unitType is null: one of binary, decimal, both is expected"),
+            ("{ type: 'decimal' }", "TypeError: type is no option of this call"))],
+        *[("parse('1', {})", value, f"TypeError: {value} is no object with options")
+          for value in ("true", "null", '"b"')],
+    )])  # fmt: skip
 
 
-@pytest.mark.parametrize("call, names, text", [
-    ("text(1536, {})", "alternate bits precision width sign align", "1.5 KiB"),
-    ("adjustedText(1536, 'KiB', {})", "alternate bits precision width sign align", "1.5 KiB"),
-    ("approximateText(1536, {})", "alternate bits precision width sign align unitType", "1.5 KiB"),
-    ("appropriateUnit(1536, {})", "bits unitType", "KiB"), ("parse('10', {})", "bits ignoreCase binary", "10n"),
-])  # fmt: skip
-def test_options_that_are_undefined(javascript, call, names, text):
+def test_options_that_are_undefined(javascript):
     """They are as not given."""
-    options = ", ".join(f"{name}: undefined" for name in names.split())
-    assert evaluated(javascript, call.replace("{}", f"{{ {options} }}")) == text
+    undefined = lambda names: "{ %s }" % ": undefined, ".join([*names.split(), ""])
+    check(javascript, [(call.replace("{}", undefined(names)), text) for call, names, text in (
+        ("text(1536, {})", "alternate bits precision width sign align", "1.5 KiB"),
+        ("adjustedText(1536, 'KiB', {})", "alternate bits precision width sign align", "1.5 KiB"),
+        ("approximateText(1536, {})", "alternate bits precision width sign align unitType", "1.5 KiB"),
+        ("appropriateUnit(1536, {})", "bits unitType", "KiB"), ("parse('10', {})", "bits ignoreCase binary", "10n"),
+    )])  # fmt: skip
 
 
 # Calls with OPTIONS, each with the names that it takes; and for each name values, some of which would change a result.
@@ -176,52 +191,47 @@ def test_options_with_code(javascript):
         assert evaluated(javascript, code) == [text, 1]
 
 
-@pytest.mark.parametrize("strings, sizes", [
-    ("new Set(['1 KB', '2 KB'])", ["1000n", "2000n"]), ("new Map([['1 KB', 0]]).keys()", ["1000n"]),
-    ("(function* () { yield '1 KB'; parseMany(['3 KB', '4 KB']); yield 'x'; parse('5 KB'); })()", ["1000n", None]),
-    *[("Object.assign(['7', '8'], { *[Symbol.iterator]() { %s } })" % "".join(f"yield '{n}';" for n in range(count)),
-       [f"{n}n" for n in range(count)]) for count in (0, 1, 5)],
-])  # fmt: skip
-def test_iterables(javascript, strings, sizes):
+def test_iterables(javascript):
     """Their strings are read, as many as there are, after a column that is longer."""
-    assert evaluated(javascript, f"[parseMany(Array(9).fill('9 KB')), parseMany({strings}).sizes][1]") == sizes
+    longer = "[parseMany(Array(9).fill('9 KB')), parseMany(%s).sizes][1]"
+    check(javascript, [(longer % strings, sizes) for strings, sizes in (
+        ("new Set(['1 KB', '2 KB'])", ["1000n", "2000n"]), ("new Map([['1 KB', 0]]).keys()", ["1000n"]),
+        ("(function* () { yield '1 KB'; parseMany(['3 KB', '4 KB']); yield 'x'; parse('5 KB'); })()", ["1000n", None]),
+        *[("Object.assign(['7', '8'], { *[Symbol.iterator]() { %s } })" % "".join(f"yield '{n}';" for n in range(count)),
+           [f"{n}n" for n in range(count)]) for count in (0, 1, 5)],
+    )])  # fmt: skip
 
 
-@pytest.mark.parametrize("strings, error", [
-    *[(string, "TypeError: strings is one string: an array or another iterable of strings is expected")
-      for string in ("'1 KB'", "'1😀2'", "''", "new String('12')", "'1'.repeat(2000000)")],
-    ("['1 KB', 5]", "TypeError: 5 is no string"), ("new Map([['1 KB', '2 KB']])", "TypeError: 1 KB,2 KB is no string"),
-    ("{ length: 1, 0: '1 KB' }", "TypeError: strings is not iterable"), ("5", "TypeError: strings is not iterable"),
-])  # fmt: skip
-def test_no_iterables_of_strings(javascript, strings, error):
+def test_no_iterables_of_strings(javascript):
     """They are a TypeError, and later calls return what they should."""
-    code = (f"(() => {{ try {{ parseMany({strings}); }} catch (error) {{ "
-            "return [`${error.name}: ${error.message}`, parse('1.5 KiB'), text(1536)]; } })()")  # fmt: skip
-    assert evaluated(javascript, code) == [error, "1536n", "1.5 KiB"]
+    caught = ("(() => { try { parseMany(%s); } catch (error) { "
+              "return [`${error.name}: ${error.message}`, parse('1.5 KiB'), text(1536)]; } })()")  # fmt: skip
+    check(javascript, [(caught % strings, [error, "1536n", "1.5 KiB"]) for strings, error in (
+        *[(string, "TypeError: strings is one string: an array or another iterable of strings is expected")
+          for string in ("'1 KB'", "'1😀2'", "''", "new String('12')", "'1'.repeat(2000000)")],
+        ("['1 KB', 5]", "TypeError: 5 is no string"),
+        ("new Map([['1 KB', '2 KB']])", "TypeError: 1 KB,2 KB is no string"),
+        ("{ length: 1, 0: '1 KB' }", "TypeError: strings is not iterable"), ("5", "TypeError: strings is not iterable"),
+    )])  # fmt: skip
 
 
-@pytest.mark.parametrize("string, position", [
-    ("1\ud800", 1), ("\udc00", 0), ("\U0001f600\ud83d", 2), ("1 K\ude00\ud83d", 3), ("1 KB \ud800", 5),
-    ("\ufffd\ud800", 1), ("9" * 300 + "\udfff", 300), ("1\ufffd", None), ("1\U0001f600", None), ("1\ue000", None), ("1\ud7ff", None),
-])  # fmt: skip
-def test_lone_surrogates(javascript, string, position):
+def test_lone_surrogates(javascript):
     """They are told by a code of their own, with the place of the first; a real U+FFFD is a wrong character."""
-    code = f"""(string => {{
-        const errorOf = call => {{ try {{ call(string); }} catch (error) {{ return error; }} }};
-        const fields = call => {{
-            const {{ code, text, character, position, expected, message }} = errorOf(call);
-            return [code, text === string, character, position, expected, message];
-        }};
+    strings = {"1\ud800": 1, "\udc00": 0, "\U0001f600\ud83d": 2, "1 K\ude00\ud83d": 3, "1 KB \ud800": 5,
+               "\ufffd\ud800": 1, "9" * 300 + "\udfff": 300, **dict.fromkeys(("1\ufffd", "1\U0001f600", "1\ue000", "1\ud7ff"))}  # fmt: skip
+    code = """(string => {
+        const fields = call => { try { call(string); } catch ({ code, text, character, position, expected, message }) {
+            return [code, text === string, character, position, expected, message]; } };
         return [fields(parse), fields(parseUnit), explain(string), explainUnit(string), parseMany([string, '1']).codes];
-    }})({json.dumps(string)})"""
-    of_size, of_unit, *explained, codes = evaluated(javascript, code)
-    if position is not None:
-        said = "the text is not UTF-8"
-        assert of_size == of_unit == ["not_utf8", True, None, position, None, said]
-        assert [*explained, *codes] == [said, said, "not_utf8", "ok"]
-    else:
-        assert [of_size[0], of_size[2], of_size[3], *codes] == ["unit", string[1], 1, "unit", "ok"]
-        assert f"'{string[1]}'" in explained[0] or string[1] in "\ue000\ud7ff"
+    })"""
+    got = outcomes(javascript, [f"{code}({json.dumps(string)})" for string in strings])
+    said = "the text is not UTF-8"
+    for (string, position), (of_size, of_unit, *explained, codes) in zip(strings.items(), got):
+        if position is None:
+            assert [of_size[0], *of_size[2:4], *codes] == ["unit", string[1], 1, "unit", "ok"], string
+        else:
+            assert of_size == of_unit == ["not_utf8", True, None, position, None, said], string
+            assert [*explained, *codes] == [said, said, "not_utf8", "ok"], string
 
 
 def test_a_column_that_is_rejected(javascript):
