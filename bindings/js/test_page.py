@@ -120,7 +120,7 @@ def test_page_by_the_model(browser, place, seed):
     texts = [*EDGES, *(line for line in drawn if not re.search("[\0\r\n]", line))]
     calls = [(reading, text) for at, text in enumerate(texts) for reading in model.READINGS
              if at < len(EDGES) or reading in ("bytes", "bits")]  # fmt: skip
-    before = browser.execute_script("return history.length")
+    step = browser.execute_script("return navigation.currentEntry.key")
     got, marks = browser.execute_script(read("bindings/js/checks/shown.js"), calls)
     wrong = []
     for (reading, text), found in zip(calls, got):
@@ -132,8 +132,9 @@ def test_page_by_the_model(browser, place, seed):
     assert wrong == [], wrong[:5]
     for (*mark, of_name, of_line), (*known, at) in zip(marks, model.marks(), strict=True):
         assert mark == known and abs(of_name - at) < 0.1 and abs(of_line - at) < 0.2, mark
-    time.sleep(0.5)  # the address has the text after 0.2 s, in place of the one before
-    assert browser.execute_script("return [history.length, location.href]") == [before, wanted["copied"][-1]]
+    time.sleep(0.5)  # the address has the text after 0.2 s, and is no step of the history
+    found = browser.execute_script("return [navigation.currentEntry.key, location.href]")
+    assert found == [step, wanted["copied"][-1]]
 
 
 # The texts of the examples, with the first line of the result, or what is marked.
@@ -142,51 +143,68 @@ EXAMPLES = {"1.5 KiB": "1_536 bytes", "100 mb": "12_500_000 bytes", "10m": "10_0
             "1.": "␣", "999.999 RB": "999_999_000_000_000_000_000_000_000_000 bytes"}  # fmt: skip
 
 
-def test_controls(browser, place):
-    """Each does what it says, by the mouse and by keys, and leaves the page as it is."""
+ENTER, SPACE, DOWN, BACKSPACE = "\ue007", " ", "\ue015", "\ue003"
+
+
+def use(browser, selector, at=0, key=None):
+    """Clicks on an element, or focuses it and presses a key. Returns the text, the reading, and what is shown: the size,
+    or what is marked."""
+    element = browser.find_elements("css selector", selector)[at]
+    if key is None:
+        element.click()
+    else:
+        browser.execute_script("arguments[0].focus()", element)
+        browser.keys(key)
+    time.sleep(0.05)
+    return browser.execute_script("""
+        const shown = document.querySelector("mark") ?? document.querySelector(".value");
+        return [document.getElementById("text").value, document.forms[0].reading.value, shown.textContent];""")
+
+
+def test_examples_and_readings(browser, place):
+    """Each shows its result, by the mouse and by keys."""
     opened(browser, f"{place.as_uri()}#bytes=1")
-    browser.execute_script("window.stays = true; window.copied = []; "
-                           "navigator.clipboard.writeText = async text => { copied.push(text); }")  # fmt: skip
-
-    def use(selector, key=None, at=0):
-        """Clicks on an element, or focuses it and presses a key. Returns the text, the reading and the result."""
-        element = browser.find_elements("css selector", selector)[at]
-        if key is None:
-            element.click()
-        else:
-            browser.execute_script("arguments[0].focus()", element)
-            browser.keys(key)
-        time.sleep(0.05)
-        return browser.execute_script("return [document.getElementById('text').value, document.forms[0].reading.value, "
-            "(document.querySelector('mark') ?? document.querySelector('.value')).textContent, window.stays]")  # fmt: skip
-
-    enter, space, down = "\ue007", " ", "\ue015"
-    for key in (None, enter, space):
-        for at, (text, shown) in enumerate(EXAMPLES.items()):
-            assert use("#examples button", key, at) == [text, "bytes", shown.replace("_", NARROW_SPACE), True]
+    for keys in ([None] * len(EXAMPLES), [ENTER, SPACE]):
+        for at, (key, (text, shown)) in enumerate(zip(keys, EXAMPLES.items())):
+            assert use(browser, "#examples button", at, key) == [text, "bytes", shown.replace("_", NARROW_SPACE)]
     assert len(browser.find_elements("css selector", "#examples button")) == len(EXAMPLES)
-    use("#examples button", at=1)
-    for key in (None, down):
-        for at, size in enumerate(["12_500_000 bytes", "100_000_000 bytes", "104_857_600 bytes", "100_000_000 bits"]):
-            found = use("[name=reading]", None if key is None or at == 0 else key, max(at - (key is not None), 0))
-            assert found == ["100 mb", [*model.READINGS][at], size.replace("_", NARROW_SPACE), True]
-    for key in (None, enter, space):
-        for at, text in enumerate(["100000000", "100 Mb", f"{place.as_uri()}#bits=100%20mb"]):
-            use("[data-copy]", key, at)
-            assert browser.execute_script("return [copied.pop(), document.getElementById('copied').textContent]") == [
-                text, "Copied."]  # fmt: skip
-    browser.execute_script("navigator.clipboard.writeText = async () => { throw new Error(); }")
-    use("[data-copy]")
-    assert browser.find_element("id", "copied").text == "The browser does not allow it."
-    assert use("#text", "0") == ["100 mb0", "bits", "0", True] and browser.find_element("id", "copied").text == ""
-    assert use("#text", "\ue003" + enter) == ["100 mb", "bits", f"100{NARROW_SPACE}000{NARROW_SPACE}000 bits", True]
-    browser.execute_script("location.hash = '#case=2%20kb'")
-    assert use("h1") == ["2 kb", "case", f"2{NARROW_SPACE}000 bytes", True]
-    assert browser.execute_script("return location.search") == "" and browser.get_log("browser") == []
-    opened(browser, place.as_uri())  # whose clipboard is the browser's
-    use("[data-copy]")
+    use(browser, "#examples button", 1)
+    sizes = ["12_500_000 bytes", "100_000_000 bytes", "104_857_600 bytes", "100_000_000 bits"]
+    for key in (None, DOWN):
+        use(browser, "[name=reading]")
+        for at, (reading, size) in enumerate(zip(model.READINGS, sizes)):
+            how = (at - 1, key) if key and at else (at,)  # the key goes on from the reading before
+            assert use(browser, "[name=reading]", *how) == ["100 mb", reading, size.replace("_", NARROW_SPACE)]
+
+
+def test_copying(browser, place):
+    """Each button copies what it says, by the mouse and by keys, and says whether the browser allows it."""
+    opened(browser, f"{place.as_uri()}#bits=100%20mb")
+    said = "document.getElementById('copied').textContent"
+    use(browser, "[data-copy]")
     time.sleep(0.2)
-    assert browser.find_element("id", "copied").text in ("Copied.", "The browser does not allow it.")
+    assert browser.execute_script(f"return {said}") in ("Copied.", "The browser does not allow it.")
+    browser.execute_script("""
+        window.copied = [];
+        navigator.clipboard.writeText = async text => { if (copied.push(text) > 9) throw new Error(); }""")
+    for key in (None, ENTER, SPACE, None):
+        for at, text in enumerate(["100000000", "100 Mb", f"{place.as_uri()}#bits=100%20mb"]):
+            use(browser, "[data-copy]", at, key)
+            count, last, shown = browser.execute_script(f"return [copied.length, copied.at(-1), {said}]")
+            assert (last, shown) == (text, "Copied." if count < 10 else "The browser does not allow it.")
+    use(browser, "#text", 0, "0")
+    assert browser.execute_script(f"return {said}") == ""
+
+
+def test_enter_and_the_address(browser, place):
+    """Enter loads nothing; another fragment in the address is shown."""
+    opened(browser, f"{place.as_uri()}#bits=100%20m")
+    browser.execute_script("window.stays = true")
+    assert use(browser, "#text", 0, "b" + ENTER) == ["100 mb", "bits", "100_000_000 bits".replace("_", NARROW_SPACE)]
+    browser.execute_script("location.hash = '#case=2%20kb'")
+    assert use(browser, "h1") == ["2 kb", "case", f"2{NARROW_SPACE}000 bytes"]
+    assert browser.execute_script("return [stays, location.search]") == [True, ""]
+    assert browser.get_log("browser") == []
 
 
 def test_page_with_a_lone_surrogate(browser, place):
