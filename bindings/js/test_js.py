@@ -52,7 +52,8 @@ ROWS = [
     ("parse('')", "SizeError: no value can be found (at the end of the text)"), ("parse(1)", "TypeError: 1 is no string"),
     ("parse('1', { ignorecase: true })", "TypeError: ignorecase is no option of this call"),
     ("parse('1', { bits: 'no' })", 'TypeError: bits is "no": true or false is expected'),
-    ("parseUnit('Kx')", "SizeError: the character 'x' is incorrect ('B' or 'b' or no character is expected) (character 2)"),
+    ("parseUnit('Kx')",
+     "SizeError: the character 'x' is incorrect ('B' or 'b' or no character is expected) (character 2)"),
     ("parse('1Kx', { ignoreCase: true })",
      "SizeError: the character 'x' is incorrect ('B' or no character is expected) (character 3)"),
     ("parseUnit('kib')", "Kib"), ("parseUnit('k', { bits: true })", "Kb"),
@@ -71,8 +72,15 @@ ROWS = [
     ("text(1, { precision: -1 })", "RangeError: precision is -1: an integer from 0 to 65535 is expected"),
     ("text(1, { precision: 1.5 })", "RangeError: precision is 1.5: an integer from 0 to 65535 is expected"),
     ("text(1, { precision: 65536 })", "RangeError: precision is 65536: an integer from 0 to 65535 is expected"),
-    ("text(1, { sign: 'both' })", 'RangeError: sign is "both": one of plus, minus is expected'),
-    ("approximateText(1000)", "1000 B"), ("approximateText(1025000, { unitType: 'both' })", "1.0 MB"),
+    *[(f"text(1, {{ sign: '{sign}' }})", f'RangeError: sign is "{sign}": one of plus, minus is expected')
+      for sign in ("both", "constructor")],
+    ("text(1536, { sign: 'minus' })", "1.5KiB"), ("text(1536, { sign: 'plus', alternate: false })", "+1536"),
+    *[(f"text(5, {{ alternate: false, width: 4, align: '{align}' }})", f"{5:{mark}4}")
+      for align, mark in (("left", "<"), ("center", "^"), ("right", ">"))],
+    ("approximateText(1000)", "1000 B"), ("adjustedText(1536, 'KiB', { precision: 0 })", "2 KiB"),
+    *[(f"approximateText({size}, {{ unitType: '{kind}' }})", text) for size, kind, text in (
+        (1536, "both", "1.5 KiB"), (1536, "decimal", "1.5 KB"), (1000, "both", "1.0 KB"), (1000, "binary", "1000 B"))],
+    ("['\\u00a0x', '\\u3000x'].map(text => { try { parse(text); } catch (e) { return e.position; } })", [1, 1]),
     ("adjustedText(1, 'KiB', { precision: 65535 }).length", 65541),
     ("adjustedText(1, 'kib')", 'RangeError: "kib" is no name of a unit, such as KiB or MB'),
     ("adjustedText(1, 5)", "TypeError: 5 is no string"),
