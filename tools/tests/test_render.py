@@ -5,7 +5,7 @@ import re
 import pytest
 from byte_unit_dev import common, render
 from byte_unit_dev.common import Failure, output, read, write
-from byte_unit_dev.render import rust, rust_programs
+from byte_unit_dev.render import rust, rust_programs, vocabulary
 
 
 def of_library(name, crate):
@@ -36,12 +36,13 @@ def failure(monkeypatch, render, name, old, new):
     ("exponent.pow(2)", ".pow("), ("exponent.pow::<u8>(2)", ".pow("), ("exponent.await", ".await"),
     ("u8::swap(1)", "u8::swap"), ("unsafe { 1 }", "unsafe"), ("async { 1 }", "async"), ("'a: { 1 }", "'name:"),
     ("dyn Copy", "dyn"), ("proof!(1)", "proof!"), ("println!()", "println!"), ("old(exponent)", "old"),
-    ("f(rt; 1)", "f"), ("#[cfg(test)] 1", "#[cfg(test)]"), ("1 << requires", "requires"), ("1 << ensures", "ensures"),
+    ("exponent(rt; 1)", "rt"), ("#[cfg(test)] 1", "#[cfg(test)]"), ("1 << requires", "requires"), ("1 << ensures", "ensures"),
     ("1 << ghost", "ghost"), ("alloc", "alloc"), ("1 ⊕ exponent", "⊕"), ("::byte_unit_base::y", "::"),
     ("<u8>::y()", ">::y"), ("1 /* 2 */", "/*"), ("1 <<= 2", "<<="), ("1.5", "1.5"), ("1f64", "1f64"), ("1.", "."),
     ("0b1", "0b1"), ("1i8", "1i8"), ('r"x"', 'r"'), ('"\\x41"', "\\x"), ('write!(f, "{:>5}", 1)', "f"),
     ('"{:>5}"', ":>5"), ("exponent as f64", "as f64"), ("f64::MAX", "f64::MAX"), ("Vec::new()", "Vec::new"),
-    ("HashMap", "HashMap"), ("|x: f64| x", "f64"), ("let x: f64 = 1", "f64"),
+    ("HashMap", "HashMap"), ("|x: f64| x", "f64"), ("let x: f64 = 1", "f64"), ("match drop { _ => 1 }", "drop"),
+    ("match exponent { swap(_) => 1 }", "swap"),
 ])  # fmt: skip
 def test_unknown_form_is_seen(monkeypatch, code, form):
     """A form of code that is in no table is refused, with its file and line."""
@@ -94,6 +95,8 @@ def test_unknown_item_is_seen(monkeypatch, old, new, why):
     ("byte/src/byte/approximate", "UnitType,", "Unit,", "this file", "sizes.rs"),
     ("byte/src/byte/json", "FormatSpec::ALTERNATE)?", "FormatSpec::PLAIN)?", "this file", "serde_traits.rs"),
     ("byte/src/byte/adjusted/json", "size == Byte::MAX {", "size == Byte::MIN {", "this file", "serde_traits.rs"),
+    ("math/src/decimal", "\nimpl Model for", "\nimpl Clone for Decimal {}\n\nimpl Model for",
+     "impl Clone for Decimal", ""),
     ("base/src/errors", "JsonSizeError::NotString => J", "JsonSizeError::NotText => J", "impl Clone for JsonSizeError",
      "serde_traits.rs"),
 ])  # fmt: skip
@@ -101,8 +104,8 @@ def test_changed_code_that_is_by_hand_is_seen(monkeypatch, name, old, new, item,
     """A change of proved code in whose place there is other Rust is refused, until somebody has looked at that."""
     said = failure(monkeypatch, of_library, name, old, new)
     start = rf"crates/byte_unit_{name}.rt:\d+|LINE"
-    why = f"{item} has changed; after a look at bindings/rust/src/{by_hand}, which has it by hand, write "
-    assert re.fullmatch(rf"(?:{start}): {re.escape(why)}\w{{8}} in render/by_hand.py", said), said
+    why = f"{item} is new or has changed: see if bindings/rust/src/{by_hand} does the same by hand"
+    assert re.fullmatch(rf"(?:{start}): {re.escape(why)}, and write \w{{8}} in render/by_hand.py", said), said
 
 
 @pytest.mark.parametrize("old, new, why", [
@@ -121,13 +124,23 @@ def test_unknown_form_of_a_program_is_seen(monkeypatch, old, new, why):
 
 
 @pytest.mark.parametrize("packages", [rust, rust_programs], ids=["library", "programs"])
-@pytest.mark.parametrize("form", [".swap(", r"\brule\b", "base/src/unit.rt fn f"])
-def test_unused_form_is_seen(monkeypatch, packages, form):
+def test_unused_form_is_seen(monkeypatch, packages):
     """What no source has may be in no table: they are the vocabulary of the sources, and no more."""
     monkeypatch.setattr(rust, "formatted", str)
-    monkeypatch.setattr(packages.KNOWN, "unseen", {form})
-    with pytest.raises(Failure, match=re.escape(f"no source has what a table of the renderer has: {form}")):
+    monkeypatch.setattr(packages.KNOWN, "unseen", {".swap("})
+    with pytest.raises(Failure, match=re.escape("no source has what a table of the renderer has: .swap(")):
         [*packages.made()]
+
+
+@pytest.mark.parametrize("code, unseen", [
+    ("a rule 1", set()), ("a rule", {"1"}), ("1", {"a rule"}), ("0x1", {"1", "a rule"}),
+])  # fmt: skip
+def test_each_rule_and_word_is_needed(code, unseen):
+    """Of the words those of the last table."""
+    known, file = vocabulary.Vocabulary((), ["a rule"], [("{}", "0x1")], [("{}", "1")]), rust.Rendered("VERSION", "")
+    file.text = file.code = code
+    known.check(file, "a rule")
+    assert known.unseen == unseen
 
 
 FILE, OTHER = "// Rendered from a source.\n", "// Written by hand.\n"

@@ -46,6 +46,6 @@ def unchanged(file, start, end):
     digest = hashlib.sha256(" ".join(words).encode()).hexdigest()[:8]
     where, _, known = REPLACED.get(key, " ").partition(" ")
     if digest != known:
-        why = f"{item or 'this file'} has changed; after a look at bindings/rust/src/{where}, which has it by hand"
-        raise file.wrong(start, f"{why}, write {digest} in render/by_hand.py")
+        why = f"{item or 'this file'} is new or has changed: see if bindings/rust/src/{where} does the same by hand"
+        raise file.wrong(start, f"{why}, and write {digest} in render/by_hand.py")
     return key

@@ -43,12 +43,12 @@ MODULE = """//! The proved sources of the library as Rust, without their contrac
 )]
 
 """
-# What is known in the sources of these packages.
+LAYERS_MODULE = HEAD("crates/") + MODULE + "".join(f"pub mod {layer};\n" for layer in LAYERS)
+# What is known in the sources of these packages, and what of it they have to have.
 RULES = [rule[0] for rule in [*FORMS, *CONST_FORMS, *COMMENT_FORMS, *EXAMPLE_FORMS]]
 KNOWN = Vocabulary(HOMES, [*RULES, *REPLACED], LIBRARY)
 # What `exports` rewrites.
 EXTERN = r"\bpub extern\s+(?=fn )"
-LAYERS_MODULE = HEAD("crates/") + MODULE + "".join(f"pub mod {layer};\n" for layer in LAYERS)
 
 
 class Rendered(Source):
