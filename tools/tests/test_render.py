@@ -30,19 +30,19 @@ def failure(monkeypatch, render, name, old, new):
 
 @pytest.mark.parametrize("code, form", [
     ("(250u8..).take(9)", "a..)"), ("for n in (250u8.. ) {}", "a..)"), ("let x = 1..;", "a..;"), ("[1.., 2..]", "a..,"),
-    ("exponent[1..=]", "a..=]"), ("size_of::<(u32, u8)>()", "size_of"),
+    ("exponent[1..=]", "a..=]"), ("1..=exponent", "a..=b"), ("size_of::<(u32, u8)>()", "size_of"),
     ("core::mem::size_of::<u8>()", "core::mem::size_of"), ("size_of(1)", "size_of"),
     ("core::mem::drop(1)", "core::mem::drop"), ("std::mem::drop(1)", "std::mem::drop"), ("drop(1)", "drop"),
     ("exponent.pow(2)", ".pow("), ("exponent.pow::<u8>(2)", ".pow("), ("exponent.await", ".await"),
     ("u8::swap(1)", "u8::swap"), ("unsafe { 1 }", "unsafe"), ("async { 1 }", "async"), ("'a: { 1 }", "'name:"),
     ("dyn Copy", "dyn"), ("proof!(1)", "proof!"), ("println!()", "println!"), ("old(exponent)", "old"),
-    ("exponent(rt; 1)", "rt"), ("#[cfg(test)] 1", "#[cfg(test)]"), ("1 << requires", "requires"), ("1 << ensures", "ensures"),
-    ("1 << ghost", "ghost"), ("alloc", "alloc"), ("1 ⊕ exponent", "⊕"), ("::byte_unit_base::y", "::"),
-    ("<u8>::y()", ">::y"), ("1 /* 2 */", "/*"), ("1 <<= 2", "<<="), ("1.5", "1.5"), ("1f64", "1f64"), ("1.", "."),
-    ("0b1", "0b1"), ("1i8", "1i8"), ('r"x"', 'r"'), ('"\\x41"', "\\x"), ('write!(f, "{:>5}", 1)', "f"),
-    ('"{:>5}"', ":>5"), ("exponent as f64", "as f64"), ("f64::MAX", "f64::MAX"), ("Vec::new()", "Vec::new"),
-    ("HashMap", "HashMap"), ("|x: f64| x", "f64"), ("let x: f64 = 1", "f64"), ("match drop { _ => 1 }", "drop"),
-    ("match exponent { swap(_) => 1 }", "swap"),
+    ("exponent(rt; 1)", "rt"), ("#[cfg(test)] 1", "#[cfg(test)]"), ("1 << requires", "requires"),
+    ("1 << ensures", "ensures"), ("1 << ghost", "ghost"), ("alloc", "alloc"), ("1 ⊕ exponent", "⊕"),
+    ("::byte_unit_base::y", "::"), ("<u8>::y()", ">::y"), ("1 /* 2 */", "/*"), ("1 <<= 2", "<<="), ("1.5", "1.5"),
+    ("1f64", "1f64"), ("1.", "."), ("0b1", "0b1"), ("1i8", "1i8"), ('r"x"', 'r"'), ('"\\x41"', "\\x"),
+    ('write!(f, "{:>5}", 1)', "f"), ('"{:>5}"', ":>5"), ("exponent as f64", "as f64"), ("f64::MAX", "f64::MAX"),
+    ("Vec::new()", "Vec::new"), ("HashMap", "HashMap"), ("|x: f64| x", "f64"), ("let x: f64 = 1", "f64"),
+    ("match drop { _ => 1 }", "drop"), ("match exponent { swap(_) => 1 }", "swap"),
 ])  # fmt: skip
 def test_unknown_form_is_seen(monkeypatch, code, form):
     """A form of code that is in no table is refused, with its file and line."""

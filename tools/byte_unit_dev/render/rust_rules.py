@@ -69,7 +69,7 @@ FORMS = [
      "fmt::Display::fmt(&crate::rendered::math::Expansion::from_decimal(*value), f)",
      "a message ignores the flags of its formatter, and the `Display` of a decimal obeys them"),
     (r"#\[inline\(never\)\](?=\s*fn long_value\()", "#[inline(always)]", "fewer, since a call saves registers"),
-    (r"^( *)'\w+: (?=while\b|for\b|loop\b)", r"\1", "labels name loops for proofs alone"),
+    (r"^( *)'\w+: (?=while\b)", r"\1", "labels name loops for proofs alone"),
     (r"(pub fn (?:parse_str(?:_binary)?|error_position))\(s: &str((?:, \w+: bool)*\)[^{]*\{)",
      r"\1<S: AsRef<str>>(s: S\2 let s = s.as_ref();", "as in the original: any type of strings"),
 ]
@@ -146,4 +146,4 @@ PRELUDE = "# use byte_unit::rendered::{base::{size::parse_line, *}, bit::*, byte
 
 # A comment between blank lines: all of these are on ghost members.
 ALONE = r"(?<=\n\n)(?://(?![/!]).*\n)+(?=\n)"
-CLAUSE = r"^ *(requires|ensures|decreases|invariant)\b[^{;]*(?=\{)"
+CLAUSE = r"^ *(requires|ensures)\b[^{;]*(?=\{)"

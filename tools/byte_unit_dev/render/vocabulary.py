@@ -12,7 +12,8 @@ from ..common import Failure
 from ..source import sources
 
 # The forms of the library and the C API. A method of std is known by its name, a path of std as a whole, an attribute
-# by its text, a number as 1 with its prefix and suffix, and a range with what is on its sides: `a..` as an index alone.
+# by its text, a number as 1 with its prefix and suffix, and a range with what is on its sides: `a..` as an index
+# alone, and with the end included between literals.
 LIBRARY = [
     ("{}", """Self _ as break const continue crate else enum false fn for if impl in let macro_rules! match mod mut pub
         return self static struct super true type use while expr ident literal tt"""),
@@ -37,7 +38,7 @@ LIBRARY = [
         .to_bitmask("""),
     # Literals, with what is escaped and formatted in them; ranges, and what is left out of a pattern; marks.
     ("{}", r"""1 0x1 1u8 1u64 " ' b" b' \ \' \0 \\ \u :? :x"""),
-    ("{}", "a..b a..=b a..] [..b (..b ,..b ,..] ,..} @..]"),
+    ("{}", "a..b 1..=1 a..] [..b (..b ,..b ,..] ,..} @..]"),
     ("{}", """+ - * / % += -= /= == != < <= > >= ! & && | || ^ = => -> ? @ $ : ::{ ::< ::$ >:: , ; ( ) [ ] { }"""),
 ]
 # The forms that the programs have beside those. What `rattle` and `clap` declare is by hand, in the package.
@@ -122,8 +123,10 @@ def of_word(text, left, right):
 
 def of_mark(text, left, right):
     """Returns a range with what is on its sides, and other marks; a point before a name is a part of it."""
+    if text == "..=" and re.match("b?'|\\d", left) and re.match("b?'|\\d", right):
+        return ["1..=1"]
     if text[:2] == "..":
-        before = "a" if left[-1] in "'\")]" or left[-1].isalnum() else left
+        before = "a" if re.match(r"[\w'\")\]]", left) else left
         return [before + text + (right if re.match(r"[)}\],;]|=>", right) else "b")]
     return [text] if text != "." or not re.match(r"\w", right) else []
 
