@@ -137,5 +137,6 @@ fn values_of_adjusted_sizes_are_the_nearest_floats() {
         }
     }
     assert_eq!(f64::from(Byte::MAX.get_adjusted_unit(Unit::RB)), 1000.0);
+    assert_eq!(f64::from(Bit::from_u64(1536).get_adjusted_unit(Unit::KiB)), 0.1875);
     assert_eq!(Byte::MIN.get_adjusted_unit(Unit::RB).get_value(), 0.0);
 }

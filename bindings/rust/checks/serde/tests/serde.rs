@@ -28,6 +28,8 @@ fn errors_name_the_reason() {
     assert!(error.contains("the character 'y' is incorrect ('i' or no character is expected)"), "{error}");
     let error = from_str::<Byte>("true").unwrap_err().to_string();
     assert!(error.contains("expected a string such as \"123\", \"123KiB\", \"50.84 MB\""), "{error}");
+    let error = from_str::<Bit>("true").unwrap_err().to_string();
+    assert!(error.contains("expected a string such as \"123\", \"123Kib\", \"50.84 Mb\""), "{error}");
     assert!(from_str::<Unit>("\"KX\"").is_err() && from_str::<AdjustedByte>("null").is_err());
 }
 
@@ -133,6 +135,8 @@ fn each_type_of_integer_is_read() {
     let error = from_number::<Byte, _>(1.5f64).unwrap_err().to_string();
     assert_eq!(error, format!("invalid type: floating point `1.5`, {EXPECTED}{FLOAT}"));
     assert!(from_number::<Bit, _>(2.0f32).is_err());
+    // As RON has it.
+    assert_eq!(from_number('1'), Ok(Byte::BYTE));
 }
 
 /// A number of 64 bits in a format that is not human-readable, as CBOR has it.
@@ -277,8 +281,8 @@ fn flattened_fields_and_enums_have_sizes() {
 
 #[test]
 fn units_and_adjusted_sizes_are_strings() {
-    assert_eq!(to_string(&Unit::Kibit).unwrap(), "\"Kib\"");
-    assert_eq!(from_str::<Unit>("\"MiB\"").unwrap(), Unit::MiB);
+    assert_eq!(to_string(&[Unit::Kibit, Unit::KB]).unwrap(), "[\"Kib\",\"KB\"]");
+    assert_eq!(from_str::<[Unit; 2]>("[\"MiB\", \"Mb\"]").unwrap(), [Unit::MiB, Unit::Mbit]);
     let adjusted = Byte::from_u64(1536).get_adjusted_unit(Unit::KB);
     assert_eq!(to_string(&adjusted).unwrap(), "\"1.536 KB\"");
     assert_eq!(from_str::<AdjustedByte>("\"1.536 KB\"").unwrap(), adjusted);
