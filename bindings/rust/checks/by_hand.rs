@@ -190,7 +190,7 @@ macro_rules! vectors {
 
 /// Drawn vectors, texts that may not fit, and conversions.
 fn of_std(checks: &mut Checks) {
-    for _ in 0..DRAWN {
+    for n in 0..DRAWN {
         vectors!(checks, u8x8 8 u8x16 16 u8x32 32);
         let (four, eight) = (checks.bytes::<4>(), checks.bytes::<8>());
         let words = (
@@ -198,7 +198,8 @@ fn of_std(checks: &mut Checks) {
             lanes::u64x1::from_le_bytes(lanes::u8x8::from_array(eight)).to_array(),
         );
         checks.same("from_le_bytes", (four, eight), words, ([u32::from_le_bytes(four)], [u64::from_le_bytes(eight)]));
-        let wide = (i128::from(checks.next()) - (1 << 63)) << checks.below(60);
+        let near = [i128::MIN, -1, 0, 1, i128::from(u64::MAX), 1 << 64, i128::MAX];
+        let wide = near.get(n).copied().unwrap_or((i128::from(checks.next()) - (1 << 63)) << checks.below(60));
         let converted = (support::u128_of(wide), support::u64_of(wide as u128));
         checks.same("u128_of, u64_of", wide, converted, (u128::try_from(wide).ok(), u64::try_from(wide as u128).ok()));
         let parts: [_; 3] = from_fn(|_| &"12345678"[..checks.below(9)]);
