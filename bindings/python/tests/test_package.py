@@ -162,6 +162,7 @@ class Arguments(unittest.TestCase):
         self.assert_message("adjusted_text() missing 1 required positional argument: 'size'", adjusted, unit="B")
         both = "adjusted_text() missing 2 required positional arguments: 'size' and 'unit'"
         self.assert_message(both, adjusted, precision=1)
+        self.assert_message("text must be str or bytes, not bytearray", parse, bytearray(b"1"))
         self.assert_message("adjusted_text() takes 2 positional arguments but 3 were given", adjusted, 1, "B", 1)
         for call in map(byte_unit.__dict__.get, CALLS):
             for arguments in ((), (1, 2, 3, 4)):
@@ -325,13 +326,14 @@ class NoMemory(unittest.TestCase):
         for number, call in enumerate(KINDS):
             wanted = outcome(call)
             with self.subTest(number, wanted=wanted):
-                self.assertGreater(self.fail_in_turn(call, wanted) + self.fail_in_turn(call, wanted), 1)
-                gc.collect()
-                before = sys.getallocatedblocks()
-                for _ in range(10):
+                self.assertGreater(self.fail_in_turn(call, wanted), 0)
+                rounds = none_left = 0
+                while none_left < 3 and rounds < 60:  # in some of the first ones CPython fills its caches
+                    before, rounds = sys.getallocatedblocks(), rounds + 1
                     self.fail_in_turn(call, wanted)
-                gc.collect()
-                self.assertLess(sys.getallocatedblocks() - before, 5)  # not one for each of the ten
+                    gc.collect()
+                    none_left = none_left + 1 if sys.getallocatedblocks() <= before else 0
+                self.assertEqual(none_left, 3, "each round leaves a block or more")
 
     def test_the_first_null_of_pandas(self) -> None:
         """It is null, or raises MemoryError; the next ones are null."""

@@ -24,7 +24,7 @@ ERRORS = [
 ]
 
 # the index of the first wrong character, and the text
-POSITIONS = [(2, "1."), (4, "  1.  "), (4, "\u30001 K\u00d6B"), (3, "1 K\U0001f600"), (30, "1." + "0" * 29),
+POSITIONS = [(2, "1."), (4, "  1.  "), (1, "\u00a0x"), (4, "\u30001 K\u00d6B"), (3, "1 K\U0001f600"), (30, "1." + "0" * 29),
              (None, "1000.5 RB"), (None, "1\ud800"), (None, b"\xff")]  # fmt: skip
 UNIT_POSITIONS = [(4, " Kbi "), (1, "K\u00d6B"), (1, "\u3000\u00e9"), (None, "\ud800")]
 
