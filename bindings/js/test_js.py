@@ -83,7 +83,7 @@ ROWS = [
     ("['\\u00a0x', '\\u3000x'].map(text => { try { parse(text); } catch (e) { return e.position; } })", [1, 1]),
     ("adjustedText(1, 'KiB', { precision: 65535 }).length", 65541),
     ("adjustedText(1, 'kib')", 'RangeError: "kib" is no name of a unit, such as KiB or MB'),
-    ("adjustedText(1, 5)", "TypeError: 5 is no string"),
+    ("adjustedText(1, 5)", "TypeError: 5 is no string"), ("adjustedText(9, 'b')", "72 b"),
     ("parseMany([])", {"sizes": [], "codes": []}),
     ("parseMany(['1 KB', '', 'x', '1e3'])", {"sizes": ["1000n", None, None, None],
                                              "codes": ["ok", "no_value", "not_number", "unit"]}),
