@@ -74,6 +74,7 @@ ROWS = [
     ("text(1, { precision: 65536 })", "RangeError: precision is 65536: an integer from 0 to 65535 is expected"),
     *[(f"text(1, {{ sign: '{sign}' }})", f'RangeError: sign is "{sign}": one of plus, minus is expected')
       for sign in ("both", "constructor")],
+    *[(f"text(1, {{ width: {width}, align: 'right' }})", "1 B".rjust(width)) for width in (256, 257)],
     ("text(1536, { sign: 'minus' })", "1.5KiB"), ("text(1536, { sign: 'plus', alternate: false })", "+1536"),
     *[(f"text(5, {{ alternate: false, width: 4, align: '{align}' }})", f"{5:{mark}4}")
       for align, mark in (("left", "<"), ("center", "^"), ("right", ">"))],
