@@ -140,11 +140,16 @@ def test_memory_of_texts_that_wait(program, made_by, tmp_path, words, line):
     assert int(held.read_text()) <= most // 1024
 
 
-def test_time_of_fields_and_ranges(program):
-    """It is linear in both, in any order of the ranges: the product would take 0.5 s and more."""
-    ranges = [f"--field={','.join(map(str, order))}" for order in (range(1, 40_002, 2), range(40_001, 0, -2))]
-    for words in (["-d,", listed] for listed in ranges):
-        before = resource.getrusage(resource.RUSAGE_CHILDREN)
-        assert ended(program, *words, input=b"1," * 40_000 + b"1\n")[1] == b"1 B,1," * 20_000 + b"1 B\n"
-        after = resource.getrusage(resource.RUSAGE_CHILDREN)
-        assert after.ru_utime + after.ru_stime - before.ru_utime - before.ru_stime < 0.2
+@pytest.mark.parametrize("listed, data, wanted", [
+    *((order, b"1," * 40_000 + b"1\n", b"1 B,1," * 20_000 + b"1 B\n")
+      for order in (range(1, 40_002, 2), range(40_001, 0, -2))),
+    ([1] * 65_000, b"1,2,3\n" * 10_000, b"1 B,2,3\n" * 10_000),
+    (range(22_000, 0, -1), b"1,2,3\n" * 30_000, b"1 B,2 B,3 B\n" * 30_000),
+    (range(1, 44_000, 2), b"1,2,3\n" * 30_000, b"1 B,2,3 B\n" * 30_000)],
+    ids=["rising", "falling", "the same", "touching", "apart"])
+def test_time_of_fields_and_ranges(program, listed, data, wanted):
+    """It is linear in the fields and, once, in the ranges: the products would take 0.5 s and more."""
+    before = resource.getrusage(resource.RUSAGE_CHILDREN)
+    assert ended(program, "-d,", f"--field={','.join(map(str, listed))}", input=data)[1] == wanted
+    after = resource.getrusage(resource.RUSAGE_CHILDREN)
+    assert after.ru_utime + after.ru_stime - before.ru_utime - before.ru_stime < 0.2

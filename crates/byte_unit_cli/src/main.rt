@@ -214,7 +214,7 @@ fn answer(rt: &HostRuntime) -> io::Result<u8> {
         };
         return Ok(report(rt, &wrong)?);
     };
-    match options_of(&values_of(&matches), fields.as_slice()) {
+    match options_of(&values_of(&matches), &fields) {
         Ok(options) => Ok(convert_call(rt, &matches, &options)?),
         Err(wrong) => Ok(report(rt, &wrong)?),
     }

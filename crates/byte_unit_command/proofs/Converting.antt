@@ -5,8 +5,9 @@ use Rattle.std.proofs.Common.{refl, sym, ap, subst, ◌∙◌, arith, append_ass
 use Rattle.byte_unit_command.specs.CallEnds.{AddsFields, Appends, Ends, IsEarly, IsEarlyAt, Keeps}
 use Rattle.byte_unit_command.specs.Converted.{IsRejected, converting}
 use Rattle.byte_unit_command.specs.Field.{Found}
-use Rattle.byte_unit_command.specs.Fields.{IsChosenField, between_of, fields_of}
+use Rattle.byte_unit_command.specs.Fields.{between_of, fields_of}
 use Rattle.byte_unit_command.specs.Output.{IsField, IsRecord, Output, Passes, copied, messages_in, other, together}
+use Rattle.byte_unit_command.specs.Ranges.{IsChosenField}
 use Rattle.byte_unit_command.specs.State.{RunState, next_place}
 use Rattle.byte_unit_command.specs.Sums.{Counts}
 use Rattle.byte_unit_command.specs.declared.error.Reason.{Reason}

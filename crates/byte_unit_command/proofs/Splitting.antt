@@ -6,12 +6,13 @@ use Rattle.std.proofs.lemmas.List.Concat.{flat_map-append}
 use Rattle.std.proofs.lemmas.List.Splits.{join_with_byte-slice_split}
 use Rattle.std.specs.List.{flat_map, join_with_byte, onto_first}
 use Rattle.byte_unit_command.specs.Field.{Found}
-use Rattle.byte_unit_command.specs.Fields.{IsChosenField, at_blanks, begins_blank, between_of, blank_fields}
+use Rattle.byte_unit_command.specs.Fields.{at_blanks, begins_blank, between_of, blank_fields}
 use Rattle.byte_unit_command.specs.Fields.{bytes_between, fields_by, fields_of, is_blank}
 use Rattle.byte_unit_command.specs.Output.{AreFields, IsField, Output, Passes, copied, found_in, joined, messages_in}
 use Rattle.byte_unit_command.specs.Output.{other, together}
 use Rattle.byte_unit_command.specs.Sums.{has_rejected}
 use Rattle.byte_unit_command.specs.CallEnds.{AddsFields, Aborts, Appends, IsEarly}
+use Rattle.byte_unit_command.specs.Ranges.{IsChosenField}
 use Rattle.byte_unit_command.specs.State.{Place, RunState}
 use Rattle.byte_unit_stream.specs.Records.{split_by}
 use Rattle.byte_unit_stream.specs.Steps.{Progress}

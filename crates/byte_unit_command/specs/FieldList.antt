@@ -1,9 +1,8 @@
 -- A list of fields, as `--field` takes it: ranges between commas.
 use Rattle.std.specs.Prelude.{◌≡◌, ℕ, ◌≤◌, ◌⊎◌, ⊤, List, [], ◌∷◌, ◌++◌, ◌==◌, Option, None, Some}
 use Rattle.std.specs.List.{slice_split}
-use Rattle.std.specs.List.Sorted.{IsPermutation}
-use Rattle.byte_unit_command.specs.Fields.{IsInOrder}
 use Rattle.byte_unit_command.specs.Positive.{IsPositive}
+use Rattle.byte_unit_command.specs.Ranges.{ChooseSame}
 use Rattle.byte_unit_command.specs.declared.options.FieldRange.{FieldRange}
 
 -- the first field of a range, before its hyphen: 1 if nothing is there
@@ -34,13 +33,7 @@ AreRanges (text ∷ texts) (range ∷ ranges) = IsRange text range × AreRanges 
 abbrev pub IsFieldList : List ℕ → List FieldRange → Type 0
 IsFieldList text ranges = AreRanges (slice_split (λ c. c == 44) text) ranges
 
--- the listed ranges, sorted by their first field
-pub record IsSortedFrom (listed ranges : List FieldRange) : Type 0 where
-  pub permutation : IsPermutation listed ranges
-  pub in_order : IsInOrder ranges
-
--- the ranges of a list of fields, sorted, or `None` if the text is no such list
+-- the fields of a list, as ranges, or `None` if the text is no such list
 abbrev pub IsListReading : List ℕ → Option (List FieldRange) → Type 0
 IsListReading text None = (ranges : List FieldRange) → ¬ IsFieldList text ranges
-IsListReading text (Some ranges) =
-    (listed : List FieldRange) × IsFieldList text listed × IsSortedFrom listed ranges
+IsListReading text (Some fields) = (listed : List FieldRange) × IsFieldList text listed × ChooseSame listed fields

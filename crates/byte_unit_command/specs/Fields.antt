@@ -1,8 +1,7 @@
--- The fields of a record, and which of them are converted.
-use Rattle.std.specs.Prelude.{ℕ, ◌-◌, ◌≤◌, ◌⊎◌, ◌↔◌, ⊤, Bool, true, false, not, ◌&&◌, ◌||◌, cond, nat_lt, List, [], ◌∷◌}
-use Rattle.std.specs.Prelude.{◌==◌, length, take, Option, None, Some, MatchOption}
+-- The fields of a record.
+use Rattle.std.specs.Prelude.{ℕ, ◌-◌, Bool, true, false, not, ◌&&◌, ◌||◌, cond, nat_lt, List, [], ◌∷◌}
+use Rattle.std.specs.Prelude.{◌==◌, length, take, Option, None, Some}
 use Rattle.std.specs.List.{onto_first, slice_split}
-use Rattle.byte_unit_command.specs.declared.options.FieldRange.{FieldRange}
 use Rattle.byte_unit_command.specs.declared.options.Options.{Options}
 
 -- whether a byte is a blank: a space or a tab
@@ -75,30 +74,3 @@ width_by false width number field = width
 -- the least number of columns of a size in place of this field, by the options
 abbrev pub width_of : Options → ℕ → List ℕ → ℕ
 width_of options number field = width_by (at_blanks options) options.width number field
-
--- the number of a field, counted from 1, is in this range; a range without a last field goes to the end of the record
-abbrev pub InRange : FieldRange → ℕ → Type 0
-InRange range number = (range.first ≤ number) × MatchOption range.last ⊤ (λ last. number ≤ last)
-
--- the field with this number is converted: it is in one of the ranges
-abbrev pub IsChosenField : List FieldRange → ℕ → Type 0
-IsChosenField [] number = ⊥
-IsChosenField (range ∷ ranges) number = InRange range number ⊎ IsChosenField ranges number
-
--- the ranges begin in their order
-abbrev pub IsInOrder : List FieldRange → Type 0
-IsInOrder [] = ⊤
-IsInOrder (range ∷ []) = ⊤
-IsInOrder (range ∷ next ∷ ranges) = (range.first ≤ next.first) × IsInOrder (next ∷ ranges)
-
--- the first of the ranges does not end before the field with this number
-abbrev pub GoesTo : List FieldRange → ℕ → Type 0
-GoesTo [] number = ⊤
-GoesTo (range ∷ ranges) number = MatchOption range.last ⊤ (λ last. number ≤ last)
-
--- from the field with this number on, the ranges that are left choose the same fields; the first of them does not end
--- before it, and they are in order if all are
-pub record AreRangesFrom (ranges : List FieldRange) (number : ℕ) (left : List FieldRange) : Type 0 where
-  pub same : (later : ℕ) → number ≤ later → IsChosenField ranges later ↔ IsChosenField left later
-  pub in_order : IsInOrder ranges → IsInOrder left
-  pub goes : GoesTo left number

@@ -1,5 +1,6 @@
 -- The definitions that the contracts of this crate are written in: the call, the run and what it writes.
 pub mod Ending
+pub mod Ranges
 pub mod Fields
 pub mod Field
 pub mod Laws

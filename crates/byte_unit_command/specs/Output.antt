@@ -2,8 +2,9 @@
 use Rattle.std.specs.Prelude.{◌≡◌, ℕ, zero, suc, ◌+◌, ⊤, true, false, List, [], ◌∷◌, ◌++◌, None, Some, length, map}
 use Rattle.std.specs.List.{flat_map}
 use Rattle.byte_unit_command.specs.Field.{Found, IsNoSize, IsPlaced, IsSize}
-use Rattle.byte_unit_command.specs.Fields.{IsChosenField, fields_of, between_of}
+use Rattle.byte_unit_command.specs.Fields.{fields_of, between_of}
 use Rattle.byte_unit_command.specs.Messages.{AreLimitMessages, IsRejectMessage}
+use Rattle.byte_unit_command.specs.Ranges.{IsChosenField}
 use Rattle.byte_unit_command.specs.State.{Place}
 use Rattle.byte_unit_command.specs.Sums.{has_rejected}
 use Rattle.byte_unit_command.specs.declared.options.Invalid.TheVariants.{Abort}

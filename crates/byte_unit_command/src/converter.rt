@@ -1,9 +1,9 @@
 //! Converts records field by field, and finds the fields to convert.
 
-ghost use Rattle.std.specs.Prelude.{◌≡◌, ◌≤◌, ◌∷◌, ℕ, [], Some, MatchResult, IsTrue, IsFalse};
+ghost use Rattle.std.specs.Prelude.{◌≡◌, ◌+◌, ◌≤◌, ◌∷◌, ℕ, [], Some, MatchResult, IsTrue, IsFalse};
 ghost use Rattle.byte_unit_command.specs.Field.{IsNoSize};
-ghost use Rattle.byte_unit_command.specs.Fields.{AreRangesFrom, GoesTo, InRange, IsChosenField, IsInOrder, at_blanks};
-ghost use Rattle.byte_unit_command.specs.Fields.{fields_of};
+ghost use Rattle.byte_unit_command.specs.Fields.{at_blanks, fields_of};
+ghost use Rattle.byte_unit_command.specs.Ranges.{AreApart, AreRangesFrom, GoesTo, InRange, IsChosenField};
 ghost use Rattle.byte_unit_command.specs.CallEnds.{Ends, IsEarlyAt, Keeps, TellsLimits, state_of};
 ghost use Rattle.byte_unit_command.specs.Converted.{converting};
 ghost use Rattle.byte_unit_stream.specs.Steps.{Adds};
@@ -11,6 +11,7 @@ ghost use Rattle.byte_unit_stream.specs.declared.run.RunError.{RunError};
 
 use crate::blanks::{between, end_of_first, gap_of, width_of};
 use crate::error::{Reason, RunError, RunResult};
+use crate::field_list::FieldList;
 use crate::notice::{Notices, Place, add_limit_notice, add_reject_notice};
 use crate::options::{FieldRange, Invalid, Options};
 use crate::size::accepted;
@@ -79,7 +80,7 @@ impl<'a, A: Allocator> Converter<'a, A> {
         let options = self.place.options;
         match options.delimiter {
             // The whole record is field 1.
-            None => self.add_field::<false>(1, bytes, is_in_one(options.fields, 1)),
+            None => self.add_field::<false>(1, bytes, chooses_first(options.fields)),
             Some(delimiter) if options.blanks => self.add_split::<true>(delimiter, bytes),
             Some(delimiter) => self.add_split::<false>(delimiter, bytes),
         }
@@ -100,26 +101,25 @@ impl<'a, A: Allocator> Converter<'a, A> {
         // For the proof: there are fewer fields than a `u64` counts.
         let _len = bytes.len();
         let options = self.place.options;
-        let in_order = is_in_order(options.fields);
-        let fields = ranges_from(options.fields, 1);
+        let fields = ranges_after(options.fields.as_slice(), 0);
         let mark = [delimiter];
         let between = between(options, BLANKS, delimiter, &mark);
         let mut ranges = fields;
         let mut rest = bytes;
         let mut number = 1u64;
         while let Some(n) = end_of_first(options, BLANKS, delimiter, rest) {
-            let chosen = is_chosen(ranges, in_order, number);
+            let chosen = is_chosen(ranges, number);
             self.add_field::<BLANKS>(number, &rest[..n], chosen)?;
             self.waiting.extend_from_slice(between)?;
             rest = &rest[n + between.len()..];
+            ranges = ranges_after(ranges, number);
             number += 1;
-            ranges = ranges_from(ranges, number);
             if ranges.is_empty() {
                 self.waiting.extend_from_slice(rest)?;
                 return Ok(());
             }
         }
-        let chosen = is_chosen(ranges, in_order, number);
+        let chosen = is_chosen(ranges, number);
         self.add_field::<BLANKS>(number, rest, chosen)
     }
 
@@ -197,99 +197,45 @@ impl<'a, A: Allocator> Converter<'a, A> {
     }
 }
 
+/// Returns `true` if the first field is in the list.
+#[inline(always)]
+fn chooses_first(fields: &FieldList) -> bool
+    ensures yes { IsTrue result → IsChosenField fields.now 1 }
+    ensures no { IsFalse result → ¬ IsChosenField fields.now 1 }
+{
+    is_chosen(ranges_after(fields.as_slice(), 0), 1)
+}
+
 /// Returns `true` if the field with this number is in one of the ranges.
 ///
-/// Precondition (proved at every call): if `in_order`, the ranges are, and the first does not end before the field.
+/// Preconditions (proved at every call): the ranges are apart, and the first does not end before the field.
 #[inline(always)]
-fn is_chosen(ranges: &[FieldRange], in_order: bool, number: u64) -> bool
-    requires order { IsTrue in_order → IsInOrder ranges.now }
-    requires goes { IsTrue in_order → GoesTo ranges.now number }
+fn is_chosen(ranges: &[FieldRange], number: u64) -> bool
+    requires apart { AreApart ranges.now }
+    requires goes { GoesTo ranges.now number }
     ensures yes { IsTrue result → IsChosenField ranges.now number }
     ensures no { IsFalse result → ¬ IsChosenField ranges.now number }
 {
-    if !in_order {
-        return is_in_one(ranges, number);
-    }
     match ranges {
         [] => false,
         [range, ..] => range.first <= number,
     }
 }
 
-/// Returns `true` if the field with this number is in one of the ranges.
-fn is_in_one(ranges: &[FieldRange], number: u64) -> bool
-    ensures yes { IsTrue result → IsChosenField ranges.now number }
-    ensures no { IsFalse result → ¬ IsChosenField ranges.now number }
-{
-    match ranges {
-        [] => false,
-        [range, others @ ..] => in_range(range, number) || is_in_one(others, number),
-    }
-}
-
-/// Returns `true` if the field with this number is in the range.
-fn in_range(range: &FieldRange, number: u64) -> bool
-    ensures yes { IsTrue result → InRange range.now number }
-    ensures no { IsFalse result → ¬ InRange range.now number }
-{
-    if number < range.first {
-        return false;
-    }
-    match range.last {
-        None => true,
-        Some(last) => number <= last,
-    }
-}
-
-/// Returns `true` if the ranges begin in their order.
-fn is_in_order(ranges: &[FieldRange]) -> bool
-    ensures { IsTrue result → IsInOrder ranges.now }
-{
-    match ranges {
-        [] => true,
-        [range, others @ ..] => begins_before(*range, others) && is_in_order(others),
-    }
-}
-
-/// Returns `true` if the range begins before the first of the others, or with it, or there is none.
-fn begins_before(range: FieldRange, others: &[FieldRange]) -> bool
-    ensures { IsTrue result → IsInOrder others.now → IsInOrder (range ∷ others.now) }
-{
-    match others {
-        [] => true,
-        [next, ..] => range.first <= next.first,
-    }
-}
-
-/// Returns the ranges without those at the beginning that end before the field with this number.
+/// Returns the ranges without the first one, if it ends with the field with this number.
+///
+/// Preconditions (proved at every call): the ranges are apart, and the first does not end before the field.
 #[inline(always)]
-fn ranges_from(ranges: &[FieldRange], number: u64) -> &[FieldRange]
-    ensures { AreRangesFrom ranges.now number result.now }
+fn ranges_after(ranges: &[FieldRange], number: u64) -> &[FieldRange]
+    requires apart { AreApart ranges.now }
+    requires goes { GoesTo ranges.now number }
+    ensures { AreRangesFrom ranges.now (number + 1) result.now }
 {
     match ranges {
         [] => ranges,
         [range, others @ ..] => {
-            if !ends_before(*range, number) {
-                return ranges;
-            }
-            if others.is_empty() {
-                return others;
-            }
-            others_from(others, number)
-        }
-    }
-}
-
-/// Does what [`ranges_from`] does. Only this function is recursive, so that the other one can be inlined.
-#[inline(never)]
-fn others_from(ranges: &[FieldRange], number: u64) -> &[FieldRange]
-    ensures { AreRangesFrom ranges.now number result.now }
-{
-    match ranges {
-        [] => ranges,
-        [range, others @ ..] => {
-            if ends_before(*range, number) {
-                others_from(others, number)
+            if ends_by(*range, number) {
+                others
             } else {
                 ranges
             }
@@ -297,13 +243,13 @@ fn others_from(ranges: &[FieldRange], number: u64) -> &[FieldRange]
     }
 }
 
-/// Returns `true` if the range ends before the field with this number.
-fn ends_before(range: FieldRange, number: u64) -> bool
-    ensures yes { IsTrue result → (later : ℕ) → number ≤ later → ¬ InRange range later }
-    ensures no { IsFalse result → GoesTo (range ∷ []) number }
+/// Returns `true` if no field after the one with this number is in the range.
+fn ends_by(range: FieldRange, number: u64) -> bool
+    ensures yes { IsTrue result → (later : ℕ) → number + 1 ≤ later → ¬ InRange range later }
+    ensures no { IsFalse result → GoesTo (range ∷ []) (number + 1) }
 {
     match range.last {
         None => false,
-        Some(last) => last < number,
+        Some(last) => last <= number,
     }
 }

@@ -13,8 +13,8 @@ ghost use Rattle.byte_unit_command.specs.Meaning.{IsMode, MeansNothing, IsLimit,
 ghost use Rattle.byte_unit_command.specs.Prefixes.{IsReadingBy};
 ghost use Rattle.byte_unit_command.specs.Values.{text_of};
 
-use crate::field_list::positive_of;
-use crate::options::{FieldRange, Form, Invalid, Kind, Options, Unit, UnitType};
+use crate::field_list::{FieldList, positive_of};
+use crate::options::{Form, Invalid, Kind, Options, Unit, UnitType};
 use crate::size::ignores_case;
 use crate::values::Values;
 use crate::wrong::{ValueError, Wrong};
@@ -29,10 +29,7 @@ const DECIMAL_PLACES: u16 = 28;
 ///
 /// Returns the first option that is wrong, in the order of `--from`, `--to`, `--precision`, `--no-unit`, `--delimiter`,
 /// `--field`, `--padding`, `--invalid`, `--max` and `--min`.
-pub fn options_of<'a>(
-    values: &Values<'a>,
-    fields: &'a [FieldRange],
-) -> Result<Options<'a>, Wrong<'a>>
+pub fn options_of<'a>(values: &Values<'a>, fields: &'a FieldList) -> Result<Options<'a>, Wrong<'a>>
     ensures ok { IfOk result (AreOptions values.now fields.now) }
     ensures err { IfErr result (IsFirstWrong values.now) }
 {

@@ -1,5 +1,6 @@
 //! What a call of the program is to do.
 
+use crate::field_list::FieldList;
 pub use byte_unit::{Kind, Unit, UnitType};
 
 /// How a size is formatted.
@@ -66,7 +67,7 @@ pub struct Options<'a> {
     /// Whether fields are between blanks, if there is a delimiter: its byte then has no meaning.
     pub blanks: bool,
     /// The fields that are converted.
-    pub fields: &'a [FieldRange],
+    pub fields: &'a FieldList,
     /// The byte that ends a record of the input.
     pub record_end: u8,
     /// The byte that ends a record of the output, and the total.

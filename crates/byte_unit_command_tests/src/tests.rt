@@ -3,7 +3,8 @@
 mod uses;
 
 use byte_unit_command::error::RunError;
-use byte_unit_command::options::{FieldRange, Form, Invalid, Kind, Options};
+use byte_unit_command::field_list::{FieldList, fields_of};
+use byte_unit_command::options::{Form, Invalid, Kind, Options};
 use byte_unit_command::run::{Buffers, run_with_buffers};
 use byte_unit_command::streams::Streams;
 use byte_unit_command::tally::Tally;
@@ -13,37 +14,34 @@ use byte_unit_stream::paced::{
 use byte_unit_stream::{Reading, Writing};
 use std::process::Abort;
 
-/// The options of a call that copies the first two lines and goes on at a rejected field.
-const HEADER: Options<'static> = Options {
-    header: 2,
-    invalid: Invalid::Warn,
-    ..PLAIN
-};
+/// Whether a call copies the first two lines, and goes on at a rejected field.
+const HEADER: bool = true;
 
-/// The options of a call without options.
-const PLAIN: Options<'static> = Options {
-    kind: Kind::Byte,
-    ignore_case: false,
-    binary: false,
-    form: Form::Exact,
-    precision: None,
-    suffix: b"",
-    width: 0,
-    align_left: false,
-    delimiter: None,
-    blanks: false,
-    fields: &[FieldRange {
-        first: 1,
-        last: Some(1),
-    }],
-    record_end: b'\n',
-    output_end: b'\n',
-    header: 0,
-    invalid: Invalid::Abort,
-    total: false,
-    max: None,
-    min: None,
-};
+const PLAIN: bool = false;
+
+/// Returns the options of a call that converts these fields.
+fn options_of<'a>(fields: &'a FieldList, has_header: bool) -> Options<'a> {
+    Options {
+        kind: Kind::Byte,
+        ignore_case: false,
+        binary: false,
+        form: Form::Exact,
+        precision: None,
+        suffix: b"",
+        width: 0,
+        align_left: false,
+        delimiter: None,
+        blanks: false,
+        fields,
+        record_end: b'\n',
+        output_end: b'\n',
+        header: if has_header { 2 } else { 0 },
+        invalid: if has_header { Invalid::Warn } else { Invalid::Abort },
+        total: false,
+        max: None,
+        min: None,
+    }
+}
 
 /// Streams in memory: the input, the output, and the messages.
 type MemoryStreams<'a> = Streams<MemoryReader<'a>, MemoryWriter, Vec<u8>>;
@@ -79,10 +77,10 @@ fn output_of(streams: MemoryStreams<'_>) -> (Vec<u8>, Vec<u8>) {
     (writer.into_inner().taken, errors.into_inner())
 }
 
-/// The options, the paces of reads and of writes, and the input; the sum and whether a field was rejected, or why the
-/// run ends early; the output and the messages.
+/// Whether there is a header, the paces of reads and of writes, and the input; the sum and whether a field was rejected,
+/// or why the run ends early; the output and the messages.
 type Row = (
-    Options<'static>,
+    bool,
     (Pace, Pace),
     &'static [u8],
     Result<(u128, bool), RunError>,
@@ -209,8 +207,14 @@ const ROWS: &[Row] = &[
 
 #[test]
 fn runs_in_the_same_buffers(rt: HostRuntime) {
-    let mut buffers = Buffers::new(rt.alloc(), &PLAIN);
-    for (number, (options, paces, input, wanted, output, messages)) in ROWS.iter().enumerate() {
+    let Ok(Some(fields)) = fields_of(rt.alloc(), None) else {
+        panic!(rt; "out of memory");
+    };
+    let plain = options_of(&fields, PLAIN);
+    let with_header = options_of(&fields, HEADER);
+    let mut buffers = Buffers::new(rt.alloc(), &plain);
+    for (number, (has_header, paces, input, wanted, output, messages)) in ROWS.iter().enumerate() {
+        let options = if *has_header { &with_header } else { &plain };
         let mut streams = streams_of(&rt, input, *paces);
         let end = run_with_buffers(&mut buffers, options, &mut [0u8; 80], &mut streams);
         let (written, told) = output_of(streams);

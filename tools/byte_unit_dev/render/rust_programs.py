@@ -28,8 +28,8 @@ LEFT_OUT = {
 ITEMS_LEFT_OUT = r"(?:pub )?mod (?:laws|tests|paced);|impl(?:<[^>]*>)? Model for"
 # Modules of Rattle's std with names or calls that Rust's has not, and names that every file of Rattle has.
 OWN, PRELUDE = r"(?:alloc|env|io)", ["HostRuntime", "String", "Vec", "eprint!", "eprintln!", "format!"]
-# Traits for calls that a type of `rattle` has by itself.
-TRAITS_LEFT_OUT = ["std::fmt::Write", "std::io::IsTerminal"]
+# Traits for calls that a type of `rattle` has by itself, and the one for contracts.
+TRAITS_LEFT_OUT = ["std::fmt::Write", "std::io::IsTerminal", "std::marker::Model"]
 # Forms of code: a pattern, what is in its place, and why.
 FORMS = [
     (r"^fn main\(", "pub fn main(", "a `main` by hand calls it, with the runtime"),

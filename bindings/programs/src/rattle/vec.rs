@@ -5,6 +5,7 @@ use std::marker::PhantomData;
 use std::ops::{Deref, DerefMut};
 
 /// A vector.
+#[derive(Debug)]
 pub struct Vec<T, A: Allocator = Global> {
     items: std::vec::Vec<T>,
     alloc: PhantomData<A>,
@@ -21,6 +22,10 @@ impl<T, A: Allocator> Vec<T, A> {
         self.items.try_reserve(1)?;
         self.items.push(item);
         Ok(())
+    }
+
+    pub fn pop(&mut self) -> Option<T> {
+        self.items.pop()
     }
 
     #[inline]

@@ -192,7 +192,7 @@ fn answer(rt: &HostRuntime) -> io::Result<u8> {
         let wrong = Wrong { option: "--field", value: Some(value), reason: ValueError::Fields };
         return Ok(report(rt, &wrong)?);
     };
-    match options_of(&values_of(&matches), fields.as_slice()) {
+    match options_of(&values_of(&matches), &fields) {
         Ok(options) => Ok(convert_call(rt, &matches, &options)?),
         Err(wrong) => Ok(report(rt, &wrong)?),
     }

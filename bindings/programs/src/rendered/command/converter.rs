@@ -6,6 +6,7 @@ use crate::rattle::Vec;
 use crate::rattle::alloc::Allocator;
 use crate::rendered::command::blanks::{between, end_of_first, gap_of, width_of};
 use crate::rendered::command::error::{Reason, RunError, RunResult};
+use crate::rendered::command::field_list::FieldList;
 use crate::rendered::command::notice::{Notices, Place, add_limit_notice, add_reject_notice};
 use crate::rendered::command::options::{FieldRange, Invalid, Options};
 use crate::rendered::command::size::accepted;
@@ -65,7 +66,7 @@ impl<'a, A: Allocator> Converter<'a, A> {
         let options = self.place.options;
         match options.delimiter {
             // The whole record is field 1.
-            None => self.add_field::<false>(1, bytes, is_in_one(options.fields, 1)),
+            None => self.add_field::<false>(1, bytes, chooses_first(options.fields)),
             Some(delimiter) if options.blanks => self.add_split::<true>(delimiter, bytes),
             Some(delimiter) => self.add_split::<false>(delimiter, bytes),
         }
@@ -81,26 +82,25 @@ impl<'a, A: Allocator> Converter<'a, A> {
         // For the proof: there are fewer fields than a `u64` counts.
         let _len = bytes.len();
         let options = self.place.options;
-        let in_order = is_in_order(options.fields);
-        let fields = ranges_from(options.fields, 1);
+        let fields = ranges_after(options.fields.as_slice(), 0);
         let mark = [delimiter];
         let between = between(options, BLANKS, delimiter, &mark);
         let mut ranges = fields;
         let mut rest = bytes;
         let mut number = 1u64;
         while let Some(n) = end_of_first(options, BLANKS, delimiter, rest) {
-            let chosen = is_chosen(ranges, in_order, number);
+            let chosen = is_chosen(ranges, number);
             self.add_field::<BLANKS>(number, &rest[..n], chosen)?;
             self.waiting.extend_from_slice(between)?;
             rest = &rest[n + between.len()..];
+            ranges = ranges_after(ranges, number);
             number += 1;
-            ranges = ranges_from(ranges, number);
             if ranges.is_empty() {
                 self.waiting.extend_from_slice(rest)?;
                 return Ok(());
             }
         }
-        let chosen = is_chosen(ranges, in_order, number);
+        let chosen = is_chosen(ranges, number);
         self.add_field::<BLANKS>(number, rest, chosen)
     }
 
@@ -159,80 +159,33 @@ impl<'a, A: Allocator> Converter<'a, A> {
     }
 }
 
+/// Returns `true` if the first field is in the list.
+#[inline(always)]
+fn chooses_first(fields: &FieldList) -> bool {
+    is_chosen(ranges_after(fields.as_slice(), 0), 1)
+}
+
 /// Returns `true` if the field with this number is in one of the ranges.
 ///
-/// Precondition: if `in_order`, the ranges are, and the first does not end before the field.
+/// Preconditions: the ranges are apart, and the first does not end before the field.
 #[inline(always)]
-fn is_chosen(ranges: &[FieldRange], in_order: bool, number: u64) -> bool {
-    if !in_order {
-        return is_in_one(ranges, number);
-    }
+fn is_chosen(ranges: &[FieldRange], number: u64) -> bool {
     match ranges {
         [] => false,
         [range, ..] => range.first <= number,
     }
 }
 
-/// Returns `true` if the field with this number is in one of the ranges.
-fn is_in_one(ranges: &[FieldRange], number: u64) -> bool {
-    match ranges {
-        [] => false,
-        [range, others @ ..] => in_range(range, number) || is_in_one(others, number),
-    }
-}
-
-/// Returns `true` if the field with this number is in the range.
-fn in_range(range: &FieldRange, number: u64) -> bool {
-    if number < range.first {
-        return false;
-    }
-    match range.last {
-        None => true,
-        Some(last) => number <= last,
-    }
-}
-
-/// Returns `true` if the ranges begin in their order.
-fn is_in_order(ranges: &[FieldRange]) -> bool {
-    match ranges {
-        [] => true,
-        [range, others @ ..] => begins_before(*range, others) && is_in_order(others),
-    }
-}
-
-/// Returns `true` if the range begins before the first of the others, or with it, or there is none.
-fn begins_before(range: FieldRange, others: &[FieldRange]) -> bool {
-    match others {
-        [] => true,
-        [next, ..] => range.first <= next.first,
-    }
-}
-
-/// Returns the ranges without those at the beginning that end before the field with this number.
+/// Returns the ranges without the first one, if it ends with the field with this number.
+///
+/// Preconditions: the ranges are apart, and the first does not end before the field.
 #[inline(always)]
-fn ranges_from(ranges: &[FieldRange], number: u64) -> &[FieldRange] {
+fn ranges_after(ranges: &[FieldRange], number: u64) -> &[FieldRange] {
     match ranges {
         [] => ranges,
         [range, others @ ..] => {
-            if !ends_before(*range, number) {
-                return ranges;
-            }
-            if others.is_empty() {
-                return others;
-            }
-            others_from(others, number)
-        }
-    }
-}
-
-/// Does what [`ranges_from`] does. Only this function is recursive, so that the other one can be inlined.
-#[inline(never)]
-fn others_from(ranges: &[FieldRange], number: u64) -> &[FieldRange] {
-    match ranges {
-        [] => ranges,
-        [range, others @ ..] => {
-            if ends_before(*range, number) {
-                others_from(others, number)
+            if ends_by(*range, number) {
+                others
             } else {
                 ranges
             }
@@ -240,10 +193,10 @@ fn others_from(ranges: &[FieldRange], number: u64) -> &[FieldRange] {
     }
 }
 
-/// Returns `true` if the range ends before the field with this number.
-fn ends_before(range: FieldRange, number: u64) -> bool {
+/// Returns `true` if no field after the one with this number is in the range.
+fn ends_by(range: FieldRange, number: u64) -> bool {
     match range.last {
         None => false,
-        Some(last) => last < number,
+        Some(last) => last <= number,
     }
 }

@@ -6,32 +6,118 @@ use crate::rattle::Vec;
 use crate::rattle::alloc::{AllocError, Global};
 use crate::rendered::command::options::FieldRange;
 
-/// Returns the fields that are converted: those of a list, or the first field if there is no list. Returns `None` if
-/// the list is wrong.
+/// The fields that are converted: ranges in their order, with a field in each of them and between each two.
 ///
-/// A list is ranges between commas: `N`, `N-`, `N-M`, `-M` or `-`, where the numbers are decimal digits, from 1 to
-/// 2^64 - 1, and the first is not above the last. All else is wrong, also a number of 2^64 or more.
+/// So a run goes along the fields of a record and the ranges at the same time.
+#[derive(Debug)]
+pub struct FieldList {
+    ranges: Vec<FieldRange>,
+}
+
+impl FieldList {
+    /// Creates the list of the fields that are in one of the ranges. These may have any order, and fields in common.
+    ///
+    /// # Errors
+    ///
+    /// Returns `AllocError` if allocation fails.
+    pub fn new(alloc: Global, mut ranges: Vec<FieldRange>) -> Result<FieldList, AllocError> {
+        ranges.sort_unstable_by_key(|range| range.first);
+        let merged = merge(alloc, ranges.as_slice())?;
+        Ok(FieldList { ranges: merged })
+    }
+
+    /// Returns the ranges.
+    pub fn as_slice(&self) -> &[FieldRange] {
+        &self.ranges
+    }
+}
+
+/// Returns the ranges of the fields that are in one of these ranges.
 ///
-/// The ranges are sorted by their first field. A run takes any order; with sorted ranges its time for a record is
-/// linear in the fields and the ranges.
+/// Precondition: no range begins before the one before it.
 ///
 /// # Errors
 ///
 /// Returns `AllocError` if allocation fails.
-pub fn fields_of(alloc: Global, list: Option<&str>) -> Result<Option<Vec<FieldRange>>, AllocError> {
-    let mut fields = Vec::new(alloc);
+fn merge(alloc: Global, ranges: &[FieldRange]) -> Result<Vec<FieldRange>, AllocError> {
+    let mut merged = Vec::new(alloc);
+    for range in ranges {
+        add_range(&mut merged, *range)?;
+    }
+    Ok(merged)
+}
+
+/// Adds a range: to the last one, if no field is between the two, and else after it.
+///
+/// Preconditions: the ranges are apart, and none begins after the new one.
+///
+/// # Errors
+///
+/// Returns `AllocError` if allocation fails.
+fn add_range(ranges: &mut Vec<FieldRange>, range: FieldRange) -> Result<(), AllocError> {
+    if !has_field(range) {
+        return Ok(());
+    }
+    let Some(last) = ranges.pop() else {
+        ranges.push(range)?;
+        return Ok(());
+    };
+    match union(last, range) {
+        Some(both) => ranges.push(both)?,
+        None => {
+            ranges.push(last)?;
+            ranges.push(range)?;
+        }
+    }
+    Ok(())
+}
+
+/// Returns `true` if a field is in the range.
+fn has_field(range: FieldRange) -> bool {
+    match range.last {
+        None => true,
+        Some(last) => range.first <= last,
+    }
+}
+
+/// Returns the range of the fields that are in one of the two ranges, or `None` if a field is between them.
+///
+/// Precondition: the second range does not begin before the first one.
+fn union(range: FieldRange, next: FieldRange) -> Option<FieldRange> {
+    let Some(last) = range.last else {
+        return Some(range);
+    };
+    if last.saturating_add(1) < next.first {
+        return None;
+    }
+    let last = match next.last {
+        None => None,
+        Some(other) => Some(last.max(other)),
+    };
+    Some(FieldRange { first: range.first, last })
+}
+
+/// Returns the fields of a list, or the first field if there is no list. Returns `None` if the list is wrong.
+///
+/// A list is ranges between commas: `N`, `N-`, `N-M`, `-M` or `-`, where the numbers are decimal digits, from 1 to
+/// 2^64 - 1, and the first is not above the last. All else is wrong, also a number of 2^64 or more.
+///
+/// # Errors
+///
+/// Returns `AllocError` if allocation fails.
+pub fn fields_of(alloc: Global, list: Option<&str>) -> Result<Option<FieldList>, AllocError> {
+    let mut ranges = Vec::new(alloc);
     let Some(list) = list else {
-        fields.push(FieldRange { first: 1, last: Some(1) })?;
-        return Ok(Some(fields));
+        ranges.push(FieldRange { first: 1, last: Some(1) })?;
+        return Ok(Some(FieldList::new(alloc, ranges)?));
     };
     for item in list.split(',') {
         match range_of(item) {
-            Some(range) => fields.push(range)?,
+            Some(range) => ranges.push(range)?,
             None => return Ok(None),
         }
     }
-    fields.sort_unstable_by_key(|range| range.first);
-    Ok(Some(fields))
+    Ok(Some(FieldList::new(alloc, ranges)?))
 }
 
 /// Returns the range that one item of a list is, or `None` if it is none.

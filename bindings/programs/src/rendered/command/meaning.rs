@@ -2,8 +2,8 @@
 
 //! What the values of the options of a call mean.
 
-use crate::rendered::command::field_list::positive_of;
-use crate::rendered::command::options::{FieldRange, Form, Invalid, Kind, Options, Unit, UnitType};
+use crate::rendered::command::field_list::{FieldList, positive_of};
+use crate::rendered::command::options::{Form, Invalid, Kind, Options, Unit, UnitType};
 use crate::rendered::command::size::ignores_case;
 use crate::rendered::command::values::Values;
 use crate::rendered::command::wrong::{ValueError, Wrong};
@@ -18,7 +18,7 @@ const DECIMAL_PLACES: u16 = 28;
 ///
 /// Returns the first option that is wrong, in the order of `--from`, `--to`, `--precision`, `--no-unit`, `--delimiter`,
 /// `--field`, `--padding`, `--invalid`, `--max` and `--min`.
-pub fn options_of<'a>(values: &Values<'a>, fields: &'a [FieldRange]) -> Result<Options<'a>, Wrong<'a>> {
+pub fn options_of<'a>(values: &Values<'a>, fields: &'a FieldList) -> Result<Options<'a>, Wrong<'a>> {
     let kind = values.kind;
     let binary = from_of(values.from)?;
     let given = form_of(values)?;

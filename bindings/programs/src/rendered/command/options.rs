@@ -2,6 +2,7 @@
 
 //! What a call of the program is to do.
 
+use crate::rendered::command::field_list::FieldList;
 pub use byte_unit::rendered::base::{Kind, Unit};
 pub use byte_unit::rendered::choice::UnitType;
 
@@ -69,7 +70,7 @@ pub struct Options<'a> {
     /// Whether fields are between blanks, if there is a delimiter: its byte then has no meaning.
     pub blanks: bool,
     /// The fields that are converted.
-    pub fields: &'a [FieldRange],
+    pub fields: &'a FieldList,
     /// The byte that ends a record of the input.
     pub record_end: u8,
     /// The byte that ends a record of the output, and the total.

@@ -1,15 +1,12 @@
--- The items of the loop are the substrings of the list between its commas. A sort leaves no range that begins after the
--- next one.
+-- The items of the loop are the substrings of the list between its commas.
 use Rattle.std.proofs.Common.{◌≡◌, ℕ, List, ◌++◌, [], ◌∷◌, map, length, ap, sym, subst, lit<, Bor, Option, None, Some}
-use Rattle.std.proofs.Common.{codes, rules, option_map, unwrap_or}
+use Rattle.std.proofs.Common.{codes, option_map, unwrap_or}
 use Rattle.std.proofs.lemmas.List.{map-append}
-use Rattle.std.proofs.lemmas.List.Sorted.{IsNonDecreasingBy-from_sort_by_key, all_adjacent_from_non_decreasing}
 use Rattle.std.proofs.lemmas.Iterator.Consumers.{YieldsList-turn, YieldsList-end}
 use Rattle.std.proofs.lemmas.Iterator.Splits.{YieldsList-from_str_split}
-use Rattle.byte_unit_command.specs.FieldList.{IsSortedFrom, IsListReading, IsRange, AreRanges}
+use Rattle.byte_unit_command.specs.FieldList.{IsListReading, IsRange, AreRanges}
 use Rattle.byte_unit_command.specs.declared.options.FieldRange.{FieldRange}
 use Rattle.byte_unit_command.proofs.Items.{AreRanges-append, AreRanges-at}
-use Rattle.byte_unit_command.proofs.Ranges.{in_order-adjacent}
 use Rattle.byte_unit_command.proofs.field_list.fields_of.Goals as goal
 
 -- a list that is given is read
@@ -31,7 +28,7 @@ with_item items item ranges more range are is more_is =
 -- the ranges so far are those of the items so far, after one more item
 pub loop-item-preserved : goal.loop-item-preserved
 loop-item-preserved c =
-    with_item c.loop-item.yielded c.in-Some-item.item c.loop-item.fields.items _ c.in-Some-range_of.range
+    with_item c.loop-item.yielded c.in-Some-item.item c.loop-item.ranges.items _ c.in-Some-range_of.range
     c.loop-item.invariant c.in-Some-range_of.ensures c.in_ok-push-in-Some-range_of.ensures.items
 
 -- an item is no range, so the text is no list of ranges
@@ -47,21 +44,12 @@ returns-in-None-range_of c =
     let range = AreRanges-at _ ranges c.in-Some-item.item.now (length c.loop-item.yielded) are turn.0 turn.1 in
     c.in-None-range_of.ensures range.0 range.1)
 
--- all items are ranges, and the sorted ranges are the reading of the list
+-- all items are ranges, of which the list of fields is made
 pub returns : goal.returns
 returns c =
     let parts = YieldsList-from_str_split 44 c.in-Some.list.now (lit< tt) (cc) (cc) (cc) in
     let end = YieldsList-end parts c.loop-item.yielded _ c.loop-item.yielded_by _ _ c.in-None.is c.next.ensures.steps in
     let text = list_text c.args.list c.in-Some.list c.in-Some.is in
-    let listed = c.loop-item.fields.items in
-    let ranges = c.sort_unstable_by_key.new.self.items in
-    -- no range begins after the next one; the key of a range is its first field
-    let rising = IsNonDecreasingBy-from_sort_by_key (λ range. range.first) _ c.sort_unstable_by_key.ensures.sorted
-    (λ a r q k. search rules) in
-    let sorted : IsSortedFrom listed ranges = record {
-      permutation = c.sort_unstable_by_key.ensures.permutation;
-      in_order =
-          in_order-adjacent ranges (all_adjacent_from_non_decreasing (λ range. range.first) _ rising);
-    } in
-    subst (λ text. IsListReading text (Some ranges)) text
-    (listed, subst (λ texts. AreRanges texts listed) end.0 c.loop-item.invariant, sorted)
+    let listed = c.loop-item.ranges.items in
+    subst (λ text. IsListReading text (Some c.in_ok-new-2.field-0)) text
+    (listed, subst (λ texts. AreRanges texts listed) end.0 c.loop-item.invariant, c.in_ok-new-2.ensures)

@@ -5,8 +5,10 @@ use Rattle.std.proofs.Common.{◌≤◌, ◌+◌, ◌∷◌, [], ℕ, take, drop
 use Rattle.std.proofs.Common.{subst, arith, eqb-true}
 use Rattle.std.proofs.lemmas.List.{nil_from_length, take_rest}
 use Rattle.std.proofs.lemmas.Result.{MatchResult-weaker}
-use Rattle.byte_unit_command.specs.Fields.{IsChosenField, between_of, fields_of}
+use Rattle.byte_unit_command.specs.Fields.{between_of, fields_of}
 use Rattle.byte_unit_command.specs.CallEnds.{IsEarly, state_of}
+use Rattle.byte_unit_command.specs.Ranges.{AreRangesFrom, IsChosenField}
+use Rattle.byte_unit_command.proofs.Ranges.{AreRangesFrom-step}
 use Rattle.byte_unit_command.proofs.Results.{error-passed}
 use Rattle.byte_unit_command.proofs.Splitting.{AddsFields-last, AddsFields-copied, IsEarly-next}
 use Rattle.byte_unit_command.proofs.Splitting.{IsSplitting-start, IsSplitting-step}
@@ -16,9 +18,8 @@ use Rattle.byte_unit_command.proofs.converter.Converter.add_split.Goals as goal
 pub loop-n-init : goal.loop-n-init
 loop-n-init g c = (
   IsSplitting-start c.args.bytes.now (state_of c.args.self.now),
-  c.ranges_from-fields.ensures.same,
-  λ yes. c.ranges_from-fields.ensures.in_order (c.is_in_order-in_order.ensures yes),
-  c.ranges_from-fields.ensures.goes,
+  subst (λ ranges. AreRangesFrom ranges 1 c.ranges_after-fields.result.now) c.as_slice.ensures.view
+      c.ranges_after-fields.ensures,
 )
 
 -- a field before the last was rejected in the mode `abort`, and so the record is; or the call was out of memory
@@ -42,12 +43,7 @@ loop-n-preserved g c =
       IsSplitting-step c.loop-n.invariant.0 between.result.now between.ensures place c.in-Some.ensures.some
           (state_of c.add_field.new.self) c.in_ok-add_field.ensures c.extend_from_slice.new.self.items
           c.in_ok-extend_from_slice.ensures.items _ (take_rest rest (place + length between.result.now)),
-      λ later high.
-          let so_far = c.loop-n.invariant.1 later (omega (arith, high)) in
-          let step = c.ranges_from-ranges.ensures.same later high in
-          (λ chosen. step.0 (so_far.0 chosen), λ chosen. so_far.1 (step.1 chosen)),
-      λ yes. c.ranges_from-ranges.ensures.in_order (c.loop-n.invariant.2 yes),
-      c.ranges_from-ranges.ensures.goes,
+      AreRangesFrom-step _ _ _ c.loop-n.number c.loop-n.invariant.1 c.ranges_after-ranges.ensures,
     )
 
 -- no range is left: the other fields are copied at once
@@ -61,12 +57,12 @@ returns-then-is_empty g c =
     let stepped = IsSplitting-step c.loop-n.invariant.0 between.result.now between.ensures place c.in-Some.ensures.some
     (state_of c.add_field.new.self) c.in_ok-add_field.ensures c.extend_from_slice.new.self.items
     c.in_ok-extend_from_slice.ensures.items _ (take_rest rest (place + length between.result.now)) in
-    let ranges = c.ranges_from-ranges.result.now in
+    let ranges = c.ranges_after-ranges.result.now in
     let none = nil_from_length ranges (eqb-true (length ranges) 0 (sym c.if-is_empty.ensures)) in
     let past : (later : ℕ) → number + 1 ≤ later → ¬ IsChosenField options.fields.now later =
     λ later high chosen.
-    let left = (c.ranges_from-ranges.ensures.same later high).0
-    ((c.loop-n.invariant.1 later (omega (arith, high))).0 chosen) in
+    let left = (c.ranges_after-ranges.ensures.same later high).0
+    ((c.loop-n.invariant.1.same later (omega (arith, high))).0 chosen) in
     subst (λ ranges. IsChosenField ranges later) none left in
     AddsFields-copied stepped c.args.delimiter c.requires.delimiter past
     c.extend_from_slice-then-is_empty.new.self.items c.in_ok-extend_from_slice-2.ensures.items
