@@ -2,6 +2,7 @@
 
 import os
 import re
+import signal
 import subprocess
 from concurrent.futures import ThreadPoolExecutor
 from itertools import count
@@ -95,6 +96,24 @@ def test_program(program_of, shim, crate, words, data, on):
                 assert got == wanted or failed and is_out_of_memory(got, wanted, end), number
             if not all(failed for _, failed in runs):
                 break
+
+
+@pytest.mark.parametrize("words, data", [("", b"1 KB\n"), ("--nothing", b""), ("--invalid=warn", b"x\n" * 3_000)])
+def test_program_in_little_address_space(program, made_by, words, data):
+    """A call is right or out of memory, unless it ends before it begins: by the loader of shared libraries, with status
+    127, or, if cargo has built the program, by an abort without memory for Rust's runtime, the words or clap."""
+    early = [127, *[-signal.SIGABRT] * (made_by == "rustc")]
+    wanted = ended(program, *words.split(), input=data)
+
+    def limited(most):
+        return ended("sh", "-c", f'ulimit -v {most}; exec "$0" "$@"', program, *words.split(), input=data)
+
+    sizes = range(2_000, 4_000, 5)  # in KiB
+    with ThreadPoolExecutor(LANES) as pool:
+        runs = list(pool.map(limited, sizes))
+    for most, got in zip(sizes, runs):
+        assert got == wanted or is_out_of_memory(got, wanted, b"\n") or got[0] in early and got[1] == b"", (most, got)
+    assert runs[0][0] == 127 and runs[-1] == wanted
 
 
 @pytest.mark.parametrize("most", [1, 2, 3, 8, 100])

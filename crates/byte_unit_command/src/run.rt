@@ -47,7 +47,8 @@ pub fn run<R: Read, W: Write, E: Write>(
     ensures write_failed { IsErrOf result RunError.Write
         → IsTrue (writing_failed streams.new.writer) }
 {
-    let mut buffer = [0u8; CHUNK];
+    let mut buffer = Vec::new(alloc);
+    buffer.resize(CHUNK, 0)?;
     // By reference, so that the functions for messages are others than those for wrong calls, and inlined.
     let mut buffers = Buffers::new(&alloc, options);
     run_with_buffers(&mut buffers, options, &mut buffer, streams)

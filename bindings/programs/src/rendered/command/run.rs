@@ -38,7 +38,8 @@ pub fn run<R: Read, W: Write, E: Write>(
     options: &Options,
     streams: &mut Streams<R, W, E>,
 ) -> Result<Tally, RunError> {
-    let mut buffer = [0u8; CHUNK];
+    let mut buffer = Vec::new(alloc);
+    buffer.resize(CHUNK, 0)?;
     // By reference, so that the functions for messages are others than those for wrong calls, and inlined.
     let mut buffers = Buffers::new(&alloc, options);
     run_with_buffers(&mut buffers, options, &mut buffer, streams)
