@@ -2,8 +2,8 @@
 
 Each catalogue is a file mutants.edits outside crates/. In it each mutant has a line `== TITLE`, which says what a user
 would see; then `file: NAME`, from the catalogue's folder, and one or more pairs of lines `old: TEXT`, which is in the
-file once, and `new: TEXT`. A line `test: WORDS`, here or before the first mutant, has the words of `tools/dev test` that
-run the tests which see it. One that no user can see has a line `equal: WHY`, and is not tried.
+file once, and `new: TEXT`. Lines `test: WORDS`, here or else before the first mutant, are calls of `tools/dev`, one of
+which fails with the mutant. One that no user can see has a line `equal: WHY`, and is not tried.
 """
 
 import os
@@ -19,13 +19,12 @@ from .common import Failure, call, files, output, part_of, path, read, report, w
 
 CATALOGUE = re.compile(r"(?!crates/).*/mutants\.edits")
 PAIR = re.compile(r"^old: (.*)\nnew: ?(.*)$", re.M)
-Mutant = namedtuple("Mutant", "catalogue title file pairs test equal")
+Mutant = namedtuple("Mutant", "catalogue title file pairs tests equal")
 
 
-def field(text, name):
-    """Returns what follows a word at the beginning of a line, or an empty text."""
-    found = re.search(rf"^{name}: (.*)$", text, re.M)
-    return found[1] if found else ""
+def fields(text, name):
+    """Returns what follows a word at the beginning of each line that begins with it."""
+    return re.findall(rf"^{name}: (.*)$", text, re.M)
 
 
 def mutants():
@@ -33,9 +32,9 @@ def mutants():
     for name in filter(CATALOGUE.fullmatch, files()):
         head, *edits = re.split("^== ", read(name), flags=re.M)
         for edit in edits:
-            file = os.path.normpath(os.path.join(os.path.dirname(name), field(edit, "file")))
-            test = field(edit, "test") or field(head, "test")
-            yield Mutant(name, edit.partition("\n")[0], file, PAIR.findall(edit), test, field(edit, "equal"))
+            file = os.path.normpath(os.path.join(os.path.dirname(name), *fields(edit, "file")))
+            tests = tuple(fields(edit, "test") or fields(head, "test"))
+            yield Mutant(name, edit.partition("\n")[0], file, PAIR.findall(edit), tests, fields(edit, "equal"))
 
 
 def edited(mutant, text):
@@ -59,7 +58,7 @@ def listed():
                 yield f"{name}: there is no file {mutant.file}"
         except Failure as failure:
             yield str(failure)
-        if not mutant.pairs or not mutant.test:
+        if not mutant.pairs or not mutant.tests:
             yield f"{name}: no `test:`, or no pair of `old:` and `new:`"
         if name in seen:
             yield f"{name}: twice"
@@ -86,27 +85,24 @@ def copied(folder):
 
 
 def passes(tree, here, test):
-    """Runs a test in the copy. Returns whether some passed and none failed, and what it printed."""
-    got = call("tools/dev", "test", *shlex.split(test), cwd=tree, env=here)
-    return bool(re.search(r"^[1-9]\d* passed, 0 failed", got.stdout, re.M)), got.stdout
+    """Tells whether a call of `tools/dev` passes in the copy; of tests some have to pass."""
+    got = call("tools/dev", *shlex.split(test), cwd=tree, env=here)
+    return got.returncode == 0 and "\n0 passed" not in got.stdout, got.stdout
 
 
 def tried(chosen):
-    """Tries mutants in a copy of the repository, and yields what is wrong. Each test passes without a mutant, which is
+    """Tries mutants in a copy of the repository, and yields what is wrong. Each call passes without a mutant, which is
     seen once for each."""
     with tempfile.TemporaryDirectory() as folder:
         tree, here = copied(folder)
-        sound = {}
+        for test in dict.fromkeys(test for mutant in chosen for test in mutant.tests):
+            sound, said = passes(tree, here, test)
+            if not sound:
+                yield f"mutants: without a mutant, `tools/dev {test}` does not pass:\n{said}"
         for mutant in chosen:
-            if mutant.test not in sound:
-                sound[mutant.test], said = passes(tree, here, mutant.test)
-                if not sound[mutant.test]:
-                    yield f"{mutant.catalogue}: `tools/dev test {mutant.test}` does not pass:\n{said}"
-            if not sound[mutant.test]:
-                continue
             text = read(tree / mutant.file)
             write(tree / mutant.file, edited(mutant, text))
-            survives, _ = passes(tree, here, mutant.test)
+            survives = all(passes(tree, here, test)[0] for test in mutant.tests)
             write(tree / mutant.file, text)
             print(f"{'SURVIVES' if survives else 'killed'}: {mutant.catalogue}: {mutant.title}", flush=True)
             if survives:

@@ -45,7 +45,7 @@ LIBRARY = [
 PROGRAMS = [
     ("{}", "loop trait Copy Infallible std::convert std::process std::str"),
     (".{}(", """all any as_slice bytes ends_with extend_from_slice is_ascii_digit is_none is_ok is_some is_some_and
-        push push_str resize skip sort_unstable_by_key split split_once starts_with strip_prefix trim_end truncate
+        pop push push_str resize skip sort_unstable_by_key split split_once starts_with strip_prefix trim_end truncate
         windows"""),
     # By hand, in `support`, `rattle` and `clap`.
     ("{}", """AllocError Allocator ErrorKind ExitCode ExitCode::from Global HostRuntime String String::new Vec Vec::new
