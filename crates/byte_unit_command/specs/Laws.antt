@@ -1,9 +1,10 @@
--- Laws of the texts of sizes: what is formatted can be read again.
-use Rattle.std.specs.Prelude.{◌≡◌, ℕ, ◌<◌, ⊤, true, List}
+-- Laws of the texts of sizes: what is formatted can be read again; and of totals.
+use Rattle.std.specs.Prelude.{◌≡◌, ℕ, ◌+◌, ◌*◌, ◌<◌, ⊤, true, min, List, ◌++◌, replicate, Some}
 use Rattle.byte_unit.specs.Bounds.{size_limit}
-use Rattle.byte_unit_command.specs.Field.{ignores_case, without_suffix}
+use Rattle.byte_unit_command.specs.Field.{Found, ignores_case, without_suffix}
 use Rattle.byte_unit_command.specs.Prefixes.{IsAcceptedBy}
 use Rattle.byte_unit_command.specs.Formatted.{IsFormatted}
+use Rattle.byte_unit_command.specs.Sums.{tally_of}
 use Rattle.byte_unit_command.specs.declared.options.Form.{Form}
 use Rattle.byte_unit_command.specs.declared.options.Form.TheVariants.{Exact, Plain, InUnit, NumberOf, Largest}
 use Rattle.byte_unit_command.specs.declared.options.Options.{Options}
@@ -38,3 +39,10 @@ ExactTwiceIsOnce =
     (options : Options) (size : ℕ) (text : List ℕ) → size < size_limit → options.form ≡ Exact → options.width ≡ 0
     → IsFormatted options size text → (again : ℕ) (text_again : List ℕ)
     → IsReadAs options text again → IsFormatted options again text_again → text_again ≡ text
+
+-- law: fields of the same size raise the total by their number times the size, or up to 10^30
+abbrev pub TotalsAddUp : Type 0
+TotalsAddUp =
+    (options : Options) (found : List Found) (count size : ℕ)
+    → (tally_of options (found ++ replicate count (Some size))).total
+    ≡ min ((tally_of options found).total + count * size) size_limit

@@ -1,6 +1,6 @@
-//! Laws of the texts of sizes. The contract of each function is the law; its body calls the laws that it follows from.
+//! Laws of the texts of sizes and of totals. The contract of each function is the law; its body calls the laws that it follows from.
 
-ghost use Rattle.byte_unit_command.specs.Laws.{FormattedSizesAreRead, ExactTwiceIsOnce};
+ghost use Rattle.byte_unit_command.specs.Laws.{FormattedSizesAreRead, ExactTwiceIsOnce, TotalsAddUp};
 
 use byte_unit::laws;
 
@@ -20,3 +20,8 @@ pub fn exact_twice_is_once()
     formatted_sizes_are_read();
     laws::size_has_one_form();
 }
+
+/// States that fields of the same size raise a total by their number times the size, up to 10^30.
+pub fn totals_add_up()
+    ensures { TotalsAddUp }
+{}

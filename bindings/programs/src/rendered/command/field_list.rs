@@ -90,11 +90,10 @@ fn union(range: FieldRange, next: FieldRange) -> Option<FieldRange> {
     if last.saturating_add(1) < next.first {
         return None;
     }
-    let last = match next.last {
-        None => None,
-        Some(other) => Some(last.max(other)),
+    let Some(other) = next.last else {
+        return Some(FieldRange { first: range.first, last: None });
     };
-    Some(FieldRange { first: range.first, last })
+    Some(FieldRange { first: range.first, last: Some(last.max(other)) })
 }
 
 /// Returns the fields of a list, or the first field if there is no list. Returns `None` if the list is wrong.
