@@ -6,7 +6,7 @@ import shutil
 from pathlib import Path
 
 import pytest
-from byte_unit_dev.fixtures import CARGO_PROGRAMS, CONFIG, copied, ended, environment, need, output, write
+from byte_unit_dev.fixtures import CARGO_PROGRAMS, CONFIG, compiled, copied, ended, environment, need, output, write
 from byte_unit_dev.needs import DEBIAN_RUST
 
 NAMES = ["bits", "ignore-case", "from", "to", "no-unit", "suffix", "precision", "human-readable", "delimiter", "blanks",
@@ -89,3 +89,13 @@ def test_wrong_calls_are_answered_alike(program_of, programs_by_cargo, check_dra
         return ""
 
     check_drawn(lambda rng: [some_word(rng) for _ in range(rng.randint(1, 3))], wrong)
+
+
+@pytest.mark.parametrize("words", [["--to=plain"], ["--to=plain", "12000"]], ids=["lines", "operand"])
+def test_streams_without_other_descriptors(programs_by_cargo, tmp_path, words):
+    """If the system gives no other descriptor of a stream, it is read and written all the same."""
+    write(tmp_path / "shim.c", "#include <errno.h>\nint fcntl(int file, int what, ...) { errno = EMFILE; return -1; }\n")
+    shim = compiled("cc", tmp_path / "shim.so", "-shared", "-fPIC", tmp_path / "shim.c")
+    lines = b"".join(b"%d\n" % number for number in range(100_000))
+    got = ended(programs_by_cargo / "byte-unit", *words, input=lines, env={**os.environ, "LD_PRELOAD": str(shim)})
+    assert got == (0, lines if len(words) == 1 else b"12000\n", b"")

@@ -29,7 +29,8 @@ TOO_LARGE = b"byte-unit: the total is 10^30 or more\n"
     *(("2> /dev/full", [word], b"", (2, b"", b"")) for word in ("--nothing", "--to=x", "-p29", "-d,,")),
     ("2> /dev/full", ["5", "KB"], b"", (2, b"5 B\n", b"")),
     ("0<&-", [], b"", (1, b"", READ_FAILED)), ("0< /", [], b"", (1, b"", READ_FAILED)),
-    ("1>&-", [], b"1 KB\n", (1, b"", WRITE_FAILED))], ids=lambda value: str(value)[:20])
+    ("1>&-", [], b"1 KB\n", (1, b"", WRITE_FAILED)), ("2>&-", ["--invalid=fail", "x"], b"", (2, b"x\n", b"")),
+    ("0<&- 1>&- 2>&-", ["1 KB"], b"", (1, b"", b""))], ids=lambda value: str(value)[:20])
 def test_stream_that_fails(program, how, words, data, wanted):
     assert redirected(how, program, *words, data=data) == wanted
 
@@ -153,3 +154,10 @@ def test_time_of_fields_and_ranges(program, listed, data, wanted):
     assert ended(program, "-d,", f"--field={','.join(map(str, listed))}", input=data)[1] == wanted
     after = resource.getrusage(resource.RUSAGE_CHILDREN)
     assert after.ru_utime + after.ru_stime - before.ru_utime - before.ru_stime < 0.2
+
+
+@pytest.mark.parametrize("words", [["1.5 KiB"], []], ids=["operand", "line"])
+def test_few_descriptors(program, words):
+    """One more than the three streams is enough, which the loader of shared libraries needs, too."""
+    words = ["-c", 'ulimit -n 4; exec "$0" "$@"', program, *words]
+    assert ended("sh", *words, input=b"1.5 KiB\n") == (0, b"1.5 KiB\n", b"")
