@@ -48,7 +48,8 @@ fn comparisons() {
     assert!(Byte::KIBIBYTE == 1024u64 && 1024u128 == Byte::KIBIBYTE && Byte::KIBIBYTE != 1023u64);
     assert!(Byte::KIBIBYTE > 1000u64 && 2000u128 > Byte::KIBIBYTE && Byte::KILOBYTE < Byte::KIBIBYTE);
     assert!(Byte::KIBIBYTE != 1025u64 && Byte::KIBIBYTE < 1025u64 && 1023u64 < Byte::KIBIBYTE);
-    assert!(Byte::MAX != u64::MAX && u64::MAX != Byte::MAX && Byte::MAX > u64::MAX && u64::MAX < Byte::MAX);
+    assert_eq!((Byte::MAX.eq(&u64::MAX), u64::MAX.eq(&Byte::MAX)), (false, false));
+    assert_eq!((Byte::MAX.gt(&u64::MAX), u64::MAX.lt(&Byte::MAX)), (true, true));
     assert_eq!(HashSet::from([Byte::KILOBYTE, Byte::from_u64(1000), Byte::KIBIBYTE]).len(), 2);
     let (a, b) = (Byte::KILOBYTE.get_adjusted_unit(Unit::KB), Byte::KILOBYTE.get_adjusted_unit(Unit::Bit));
     assert!(a == b && a < Byte::KIBIBYTE.into() && HashSet::from([a, b]).len() == 1);
