@@ -135,6 +135,7 @@ def test_random_pairs_beside_numeric(server):
         " AS a, trunc((random() * 1e15)::numeric * power(10::numeric, (random() * 11)::int)) AS b,"
         " trunc((random() * 1000)::numeric, (random() * 3)::int) + 0.001 AS n FROM generate_series(1, 200000);",
         "INSERT INTO pairs SELECT a, a, n FROM pairs LIMIT 1000;",
+        "INSERT INTO pairs SELECT 0, a, n FROM pairs LIMIT 100; INSERT INTO pairs SELECT a, 0, n FROM pairs LIMIT 100;",
         "SELECT count(*) FROM (SELECT *, a::bytesize AS x, b::bytesize AS y FROM pairs) AS sized WHERE"
         " (x = y) <> (a = b) OR (x <> y) <> (a <> b) OR (x < y) <> (a < b) OR (x <= y) <> (a <= b) OR (x > y) <> (a > b)"
         " OR (x >= y) <> (a >= b) OR x::numeric <> a OR x::text::bytesize <> x OR (x + y)::numeric <> a + b"

@@ -64,6 +64,7 @@ INSERT INTO calls VALUES
     ($$concat_ws('|', count(*), sum(x::bytesize), avg(x::bytesize), min(x::bytesize), max(x::bytesize)) FROM generate_series(1, 1000) AS x$$, '1000|500.5 KB|500 B|1 B|1 KB'),
     ($$concat(sum(x::bytesize) IS NULL, avg(x::bytesize) IS NULL, max(x::bytesize) IS NULL) FROM generate_series(1, 0) AS x$$, 'ttt'),
     ($$avg(x) FROM (VALUES ('1 B'::bytesize), (NULL), ('2 B')) AS rows(x)$$, '1 B'),
+    ($$concat_ws('|', avg(x), sum(x), min(x), max(x)) FROM (VALUES ('0 B'::bytesize), ('3 B'), ('0 B')) AS rows(x)$$, '1 B|3 B|0 B|3 B'),
     ($$avg('999999999999999999999999999999'::bytesize) FROM generate_series(1, 2000)$$, '999999999999999999999999999.999 KB'),
     ($$string_agg(s::text, ' ') FROM (SELECT sum(x::bytesize) OVER (ORDER BY x) AS s FROM generate_series(1, 4) AS x) AS sums$$, '1 B 3 B 6 B 10 B');
 SELECT count(*) AS asked, string_agg(call || ' = ' || found, E'\n') FILTER (WHERE found IS DISTINCT FROM answer) AS wrong
