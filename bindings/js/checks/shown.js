@@ -23,6 +23,7 @@ const shown = arguments[0].map(([reading, text]) => {
         label: document.querySelector("#scale .label").textContent,
         axis: $("scale").getAttribute("aria-label"),
         place: placeOf(document.querySelector("#scale .here")),
+        placeOfLabel: placeOf(document.querySelector("#scale .label")),
     };
     return { answer: texts($("answer").children), mark: document.querySelector("mark")?.textContent ?? null, copied,
         invalid: $("text").getAttribute("aria-invalid"), rules: rows($("rules")), ...size };

@@ -135,7 +135,7 @@ class Ranges(unittest.TestCase):
             with self.assertRaises(ByteUnitError):
                 byte_unit.from_unit(count, unit)
         for count in FAR:
-            with self.assertRaises(ByteUnitError):
+            with self.assertRaisesRegex(ByteUnitError, r"^count must be from 0 to 2\*\*128 - 1, not "):
                 byte_unit.from_unit(count, "B")
         for bits in (False, True):
             with self.assertRaises(ByteUnitError) as caught:
