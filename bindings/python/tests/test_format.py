@@ -90,6 +90,12 @@ class Texts(unittest.TestCase):
                 with self.assertRaises(ByteUnitError):
                     byte_unit.from_unit(count, unit, bits=bits)
 
+    def test_either_kind(self) -> None:
+        """A kilobit is a unit for 125 bytes, but not of their kind."""
+        for choice in (byte_unit.exact_unit, byte_unit.recoverable_unit):
+            self.assertEqual((choice(125), choice(125, either_kind=True)), ((125, "B"), (1, "Kb")))
+            self.assertEqual((choice(8000, bits=True), choice(8000, bits=True, either_kind=True)), ((8, "Kb"), (1, "KB")))
+
     def test_counts_are_decimals(self) -> None:
         for size, precision, number, unit in [
             (10**30 - 1, 27, "999.999999999999999999999999999", "RB"),
