@@ -280,7 +280,9 @@ class Memory(unittest.TestCase):
 
     def test_nothing_is_kept(self) -> None:
         """Neither results nor errors leave blocks or references."""
-        kept = [None, "unit", True, False, byte_unit.UNITS, byte_unit.ERROR_NAMES, byte_unit.SizeError, *WRONG]
+        kept = ["unit", byte_unit.UNITS, byte_unit.ERROR_NAMES, byte_unit.SizeError, *WRONG]
+        if sys.version_info < (3, 12):
+            kept += [None, True, False]  # from 3.12 on they are never freed, and not all of their uses are counted
 
         def work() -> None:
             for call in KINDS * 1000:
