@@ -4,7 +4,7 @@ import math
 import re
 from urllib.parse import quote
 
-from .answers import in_unit, numbered, position, text_of
+from .answers import in_unit, located, position, text_of
 from .exact import BITS, SCALE, UNITS, WHITE_SPACE, Rejected, read, size_of
 
 NARROW_SPACE, END = "\u202f", "␣"
@@ -45,7 +45,7 @@ def reason(text, reading):
 
 def of_error(text, size):
     """Returns the answer to a text that is no size, and what is marked in it."""
-    message = numbered(text.encode(), size)
+    message = located(text.encode(), size)
     said = f"Not a size: {message[0].upper()}{message[1:]}."
     if size.name == "out of range":
         return [text, said], None
@@ -57,7 +57,7 @@ def of_error(text, size):
 def row_of_reading(text, reading, chosen):
     name, kind, *how = READINGS[reading]
     size = size_of(text.encode(), kind, *how)
-    cells = [numbered(text.encode(), size)] if isinstance(size, Rejected) else [
+    cells = [located(text.encode(), size)] if isinstance(size, Rejected) else [
         counted(size, kind), sized(text_of(kind, size, "{:#}"))]  # fmt: skip
     return ["chosen" * (reading == chosen), name, *cells]
 
