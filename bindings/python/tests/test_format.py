@@ -96,6 +96,12 @@ class Texts(unittest.TestCase):
             self.assertEqual((choice(125), choice(125, either_kind=True)), ((125, "B"), (1, "Kb")))
             self.assertEqual((choice(8000, bits=True), choice(8000, bits=True, either_kind=True)), ((8, "Kb"), (1, "KB")))
 
+    def test_defaults_and_types(self) -> None:
+        self.assertEqual(byte_unit.recoverable_unit(1555), (Decimal("1.555"), "KB"))
+        for size, units in ((1536, ["KiB", "KB", "KiB"]), (1000, ["B", "KB", "KB"])):
+            for unit_type, unit in zip(TYPES, units, strict=True):
+                self.assertEqual(byte_unit.appropriate_unit(size, unit_type=unit_type), unit)
+
     def test_counts_are_decimals(self) -> None:
         for size, precision, number, unit in [
             (10**30 - 1, 27, "999.999999999999999999999999999", "RB"),
