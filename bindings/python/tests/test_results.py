@@ -51,6 +51,7 @@ class Nulls(unittest.TestCase):
         self.assertEqual(list(column.codes), CODES)
         self.assertEqual(column.ints(), SIZES)
         self.assertEqual(column.sizes, b"".join((size or 0).to_bytes(16, "little") for size in SIZES))
+        self.assertEqual(bytes(column.mask()), bytes(code != 0 for code in CODES))
         self.assertEqual(byte_unit.ERROR_NAMES[7], "null")
         self.assertEqual([byte_unit.ERROR_NAMES[code] for code in CODES[1:4]], ["no_value", "null", "unit"])
 
