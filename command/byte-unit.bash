@@ -11,8 +11,7 @@ _byte_unit() {
     fi
     case $prev in
     --to)
-        mapfile -t COMPREPLY < <(compgen -W 'exact plain si iec auto
-            B KB KiB MB MiB GB GiB TB TiB PB PiB EB EiB b Kb Kib Mb Mib Gb Gib Tb Tib' -- "$cur")
+        mapfile -t COMPREPLY < <(compgen -W "exact plain si iec auto B b $(echo {K,M,G,T,P,E,Z,Y,R}{,i}{B,b})" -- "$cur")
         return
         ;;
     --from)

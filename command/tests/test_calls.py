@@ -11,9 +11,9 @@ import shlex
 
 import pytest
 from byte_unit_dev.fixtures import ended, need, output, path, read
-from byte_unit_dev.model.exact import some_unit
+from byte_unit_dev.model.exact import UNITS, some_unit
 from calls import some_call
-from model import OPTIONS, result_of
+from model import FORMS, OPTIONS, result_of
 from program import run
 from rows import LARGE, MODELLED, OTHERS
 
@@ -58,8 +58,34 @@ def test_memory(program, source, word, size, most):
     assert (status, int(written)) == (0, size) and int(memory) // 1024 <= most
 
 
-def test_completions():
-    output("bash", "-n", path("command/byte-unit.bash"))
+def in_bash(script, *words):
+    """Returns the lines that bash prints with the completions loaded."""
+    return output("bash", "-c", f'source "$0"; {script}', path("command/byte-unit.bash"), *words).splitlines()
+
+
+def completed(*words):
+    """Returns what bash offers for the last of the words, which it splits at `=`, after what it calls `compopt` with."""
+    return in_bash('compopt() { echo "$*"; }; COMP_WORDS=(byte-unit "$@"); COMP_CWORD=$#; _byte_unit; '
+                   'printf "%s\\n" "${COMPREPLY[@]}"', *words)  # fmt: skip
+
+
+@pytest.mark.parametrize("name, values", [("to", [*FORMS, *UNITS]), ("from", ["auto", "si", "iec", "iec-i"]),
+                                          ("invalid", ["abort", "fail", "warn", "ignore"])])
+def test_completed_values(program, name, values):
+    """Each value that the option takes is offered, and each that is offered is accepted."""
+    assert sorted(completed(f"--{name}", "=")) == sorted(completed(f"--{name}", "")) == sorted(values)
+    for word in values:
+        begun = [other for other in values if other.startswith(word[0])]
+        assert sorted(completed(f"--{name}", "=", word[0])) == sorted(completed(f"--{name}", word[0])) == sorted(begun)
+        assert ended(program, f"--{name}={word}", "1 KB")[0] == 0
+
+
+def test_completed_options():
+    """Each option, with `=` if it takes a value, after which no space comes."""
+    names = [f"--{name}" + "=" * (option.alone is None) for name, option in OPTIONS.items()]
+    assert sorted(completed("--")) == sorted([*names, "--help", "--version"]) and completed("") == [""]
+    assert completed("--fr") == ["-o nospace", "--from="] and completed("--tot") == ["--total"]
+    assert in_bash("complete -p byte-unit") == ["complete -F _byte_unit byte-unit"]
 
 
 def test_manual_page():
