@@ -1,17 +1,18 @@
 /* byte_unit: exact sizes in bytes and in bits. The C API of a library that is written in Rattle and proved.
  *
  * Link libbyte_unit.a or libbyte_unit.so (`tools/make-libraries DIR` builds both), which run on every x86-64 processor.
- * The library calls memcpy, memmove and memset, and one function of libgcc, __udivti3; built by cargo, it names abort
- * in place of the latter. It does not allocate, keeps no state between calls and never ends the program, so every call
- * may be made from any thread.
+ * The library calls memcpy, memmove and memset, and one function of libgcc, __udivti3. It does not allocate and keeps
+ * no state between calls, so every call may be made from any thread. No call ends the program: built by cargo, the
+ * library names abort in place of __udivti3, for checks that rustc adds, and it is proved of the sources that none of
+ * them fails.
  *
  * Preconditions of every call, which nothing checks:
  *
  * - A pointer is valid for its type and its length: `text` for reading `len` bytes, `out` for writing `out_len` bytes,
  *   arrays for their number of elements. With a length of 0 it may be NULL, as an empty std::string_view, Go slice or
  *   Arrow buffer has it. `error` may be NULL. `size`, `unit`, `position` and `count`, as pointers, may not.
- * - What is written overlaps no other argument of the call, and no other thread uses it during the call. No other
- *   thread writes what is read.
+ * - What is written overlaps no other argument of the call, and no other thread uses it during the call. It need not be
+ *   initialized. No other thread writes what is read.
  *
  * Every other argument is checked: a size that is out of range, an unknown code or flag, an invalid spec, offsets that
  * do not fit and, where a text is parsed, bytes that are not UTF-8 are reported, and nothing is written but what a call

@@ -42,6 +42,12 @@ def test_processor_without_sse4(program_in_c, name, processor):
     output("qemu-x86_64", "-cpu", processor, program_in_c(SOURCES[name]))
 
 
+def test_memory_without_values(program_in_c):
+    """No call reads what it writes to, and what it says it writes has a value."""
+    need("valgrind")
+    output("valgrind", "--quiet", "--error-exitcode=1", program_in_c("checks/memory.c"))
+
+
 @pytest.mark.parametrize("kind", ["byte", "bit"])
 def test_lines(runner_in_c, check_runner, kind):
     check_runner([runner_in_c], kind)

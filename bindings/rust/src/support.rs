@@ -43,6 +43,27 @@ pub fn value_of_eight(word: u64) -> u64 {
     fours.wrapping_mul(1 + (10_000 << 32)) >> 32
 }
 
+/// A place for a byte of a text: in Rust a byte. In C's memory it may have no value before it is written.
+pub trait Place: Copy {
+    /// Makes a place of its byte.
+    fn of(byte: u8) -> Self;
+
+    /// Copies bytes to as many places.
+    fn copy(places: &mut [Self], bytes: &[u8]);
+}
+
+impl Place for u8 {
+    #[inline(always)]
+    fn of(byte: u8) -> u8 {
+        byte
+    }
+
+    #[inline(always)]
+    fn copy(places: &mut [u8], bytes: &[u8]) {
+        places.copy_from_slice(bytes);
+    }
+}
+
 /// Returns the character at an index, or `None` at the end.
 #[inline(always)]
 pub fn char_at(text: &str, index: usize) -> Option<char> {

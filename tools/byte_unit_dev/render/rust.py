@@ -8,6 +8,7 @@ from concurrent.futures import ThreadPoolExecutor
 from ..common import Failure, files, output, path, read
 from ..source import Source, blanked, sources
 from .by_hand import REPLACED, unchanged
+from .rust_outputs import outputs
 from .rust_rules import (
     ALONE, BY_HAND, CLAUSE, COMMENT_FORMS, CONST, CONST_FORMS, DERIVED, EXAMPLE_FORMS, FORMS, HIDDEN, INLINED,
     HIDDEN_EXAMPLES, ITEMS_BY_HAND, ITEMS_LEFT_OUT, LEFT_OUT, NAMES_LEFT_OUT, PRELUDE, PUBLIC, STD, TRAITS,
@@ -212,12 +213,14 @@ def exports(file):
 
     def change(found):
         slices = re.findall(r"(\w+): &(mut )?\[\w+\]", found[1])
-        lets = "".join(f" let {name} = unsafe {{ crate::slices::slice{'_mut' * bool(mut)}({name}, {name}_len) }};"
-                       for name, mut in slices)  # fmt: skip
+        made = {name: f"crate::slices::slice{'_mut' * bool(mut)}({name}, {name}_len)" for name, mut in slices}
+        parts = [("({})" if len(made) > 1 else "{}").format(", ".join(part)) for part in (made, made.values())]
+        let = "\n// SAFETY: the caller's promise.\nlet {} = unsafe {{ {} }};".format(*parts) * bool(slices)
         head = re.sub(r"(\w+): &(mut )?\[(\w+)\]", argument, found[1])
         body = file.code.index("{", found.end())
-        file.put(body, body + 1, "{" + lets)
+        file.put(body, body + 1, "{" + let)
         file.put(found.start(1), found.end(1), head)
+        file.put(found.start(), found.start() + 3, "pub" + " unsafe" * bool(slices))
 
     file.each(r"pub extern\s+fn \w+(\([^)]*\))", change)
 
@@ -288,6 +291,7 @@ def rendered(name, crate, exported):
         calls_of_exports(file, exported)
         exports(file)
     file.rewrite(FORMS)
+    outputs(file)
     functions(file)
     return file.finished(examples(file))
 

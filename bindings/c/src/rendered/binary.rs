@@ -8,6 +8,7 @@ use crate::rendered::error::{Error, INVALID_ARGUMENT};
 use crate::rendered::flags::binary_flags_at;
 use crate::rendered::parse::parse_as;
 use crate::rendered::values::Number;
+use crate::slices::Out;
 
 /// Parses as `byte_unit_parse_to` does, with the flag `BINARY_PREFIXES` (8) beside the others: a decimal prefix means
 /// the binary one, so `K` and `KB` are by 1024, as `Ki` and `KiB` are.
@@ -16,16 +17,16 @@ use crate::rendered::values::Number;
 ///
 /// For example, `10m` in bytes gives `OK` and the size 10,485,760.
 #[unsafe(no_mangle)]
-pub extern "C" fn byte_unit_parse_binary_to(
+pub unsafe extern "C" fn byte_unit_parse_binary_to(
     text: *const u8,
     text_len: usize,
     flags: u32,
-    size: &mut Number,
+    size: &mut Out<Number>,
     error: *mut Error,
     error_len: usize,
 ) -> u32 {
-    let text = unsafe { crate::slices::slice(text, text_len) };
-    let error = unsafe { crate::slices::slice_mut(error, error_len) };
+    // SAFETY: the caller's promise.
+    let (text, error) = unsafe { (crate::slices::slice(text, text_len), crate::slices::slice_mut(error, error_len)) };
     match binary_flags_at(flags) {
         Some(asked) => parse_as::<true>(text, asked, size, error),
         None => INVALID_ARGUMENT,

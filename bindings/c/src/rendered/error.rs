@@ -3,6 +3,7 @@
 //! The errors of parsing in the C API: a code, and a struct of details.
 
 use crate::rendered::values::DecimalParts;
+use crate::slices::Out;
 use byte_unit::rendered::base::{Expected, ValueParseError};
 
 /// The details of a parse error. A field that the error's code does not use is zero.
@@ -81,9 +82,9 @@ impl Error {
     }
 
     /// Writes the details to the first of `errors`, if it is not empty.
-    pub fn write(self, errors: &mut [Error]) {
+    pub fn write(self, errors: &mut [Out<Error>]) {
         if !errors.is_empty() {
-            errors[0] = self;
+            errors[0] = Out::new(self);
         }
     }
 }

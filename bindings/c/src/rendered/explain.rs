@@ -6,6 +6,7 @@ use crate::rendered::flags::{ParseFlags, binary_flags_at, parse_flags_at};
 use crate::rendered::message::write_message;
 use crate::rendered::parse::{read_unit, unit_flags};
 use crate::rendered::texts::write;
+use crate::slices::Out;
 use byte_unit::rendered::base::{LocatedError, ParseError, Quoted, location_at, size};
 use byte_unit::support::InlineText;
 
@@ -20,15 +21,15 @@ use byte_unit::support::InlineText;
 ///
 /// For example, `-1` gives 47, the length of `the character '-' is not a number (character 1)`.
 #[unsafe(no_mangle)]
-pub extern "C" fn byte_unit_explain(
+pub unsafe extern "C" fn byte_unit_explain(
     text: *const u8,
     text_len: usize,
     flags: u32,
     out: *mut u8,
     out_len: usize,
 ) -> usize {
-    let text = unsafe { crate::slices::slice(text, text_len) };
-    let out = unsafe { crate::slices::slice_mut(out, out_len) };
+    // SAFETY: the caller's promise.
+    let (text, out) = unsafe { (crate::slices::slice(text, text_len), crate::slices::slice_mut(out, out_len)) };
     match parse_flags_at(flags) {
         Some(asked) => explain_as::<false>(text, asked, out),
         None => match binary_flags_at(flags) {
@@ -39,7 +40,7 @@ pub extern "C" fn byte_unit_explain(
 }
 
 /// Explains as `byte_unit_explain` does, with known flags. With `BINARY` a decimal prefix means the binary one.
-fn explain_as<const BINARY: bool>(text: &[u8], asked: ParseFlags, out: &mut [u8]) -> usize {
+fn explain_as<const BINARY: bool>(text: &[u8], asked: ParseFlags, out: &mut [Out<u8>]) -> usize {
     // By reference: the error is large, and would be copied.
     match &size::explain::<BINARY>(text, asked.ignore_case, asked.kind) {
         Some(Ok(_)) => 0,
@@ -57,15 +58,15 @@ fn explain_as<const BINARY: bool>(text: &[u8], asked: ParseFlags, out: &mut [u8]
 /// For example, `Kx` gives 85, the length of
 /// `the character 'x' is incorrect ('B' or 'b' or no character is expected) (character 2)`.
 #[unsafe(no_mangle)]
-pub extern "C" fn byte_unit_explain_unit(
+pub unsafe extern "C" fn byte_unit_explain_unit(
     text: *const u8,
     text_len: usize,
     flags: u32,
     out: *mut u8,
     out_len: usize,
 ) -> usize {
-    let text = unsafe { crate::slices::slice(text, text_len) };
-    let out = unsafe { crate::slices::slice_mut(out, out_len) };
+    // SAFETY: the caller's promise.
+    let (text, out) = unsafe { (crate::slices::slice(text, text_len), crate::slices::slice_mut(out, out_len)) };
     match parse_flags_at(flags) {
         Some(asked) => explain_unit_as(text, asked, out),
         None => write(b"a flag is unknown", out),
@@ -73,7 +74,7 @@ pub extern "C" fn byte_unit_explain_unit(
 }
 
 /// Explains as `byte_unit_explain_unit` does, with known flags.
-fn explain_unit_as(text: &[u8], asked: ParseFlags, out: &mut [u8]) -> usize {
+fn explain_unit_as(text: &[u8], asked: ParseFlags, out: &mut [Out<u8>]) -> usize {
     let flags = unit_flags(asked);
     match read_unit(text, flags) {
         Some(Ok(_)) => 0,
@@ -96,9 +97,9 @@ fn explain_unit_as(text: &[u8], asked: ParseFlags, out: &mut [u8]) -> usize {
 ///
 /// For example, `1` with a tab gives 6, the length of `1\u{9}`.
 #[unsafe(no_mangle)]
-pub extern "C" fn byte_unit_quote(text: *const u8, text_len: usize, out: *mut u8, out_len: usize) -> usize {
-    let text = unsafe { crate::slices::slice(text, text_len) };
-    let out = unsafe { crate::slices::slice_mut(out, out_len) };
+pub unsafe extern "C" fn byte_unit_quote(text: *const u8, text_len: usize, out: *mut u8, out_len: usize) -> usize {
+    // SAFETY: the caller's promise.
+    let (text, out) = unsafe { (crate::slices::slice(text, text_len), crate::slices::slice_mut(out, out_len)) };
     let quoted = InlineText::<482>::of(&Quoted(text));
     write(quoted.as_str().as_bytes(), out)
 }

@@ -6,6 +6,7 @@ use crate::rendered::error::{Error, INVALID_ARGUMENT, NOT_UTF8, OK, UNIT};
 use crate::rendered::flags::{MOST_PLAIN, ParseFlags, binary_flags_at, plain_flags};
 use crate::rendered::offsets::Offsets;
 use crate::rendered::values::Number;
+use crate::slices::Out;
 use byte_unit::rendered::base::{ParseError, size};
 
 /// Parses many texts, each as `byte_unit_parse_to` does. Text `i` is the bytes of `data` from `offsets[i]` up to
@@ -17,7 +18,7 @@ use byte_unit::rendered::base::{ParseError, size};
 ///
 /// For example, the data `1 KB2x` with the offsets 0, 4, 6 gives the codes `OK` and `UNIT` and the sizes 1000 and 0.
 #[unsafe(no_mangle)]
-pub extern "C" fn byte_unit_parse_many_to(
+pub unsafe extern "C" fn byte_unit_parse_many_to(
     data: *const u8,
     data_len: usize,
     offsets: *const i64,
@@ -28,16 +29,21 @@ pub extern "C" fn byte_unit_parse_many_to(
     codes: *mut u8,
     codes_len: usize,
 ) -> u32 {
-    let data = unsafe { crate::slices::slice(data, data_len) };
-    let offsets = unsafe { crate::slices::slice(offsets, offsets_len) };
-    let sizes = unsafe { crate::slices::slice_mut(sizes, sizes_len) };
-    let codes = unsafe { crate::slices::slice_mut(codes, codes_len) };
+    // SAFETY: the caller's promise.
+    let (data, offsets, sizes, codes) = unsafe {
+        (
+            crate::slices::slice(data, data_len),
+            crate::slices::slice(offsets, offsets_len),
+            crate::slices::slice_mut(sizes, sizes_len),
+            crate::slices::slice_mut(codes, codes_len),
+        )
+    };
     parse_many(data, Offsets::Long(offsets), flags, sizes, codes)
 }
 
 /// Parses many texts, as `byte_unit_parse_many_to` does, with offsets of 32 bits.
 #[unsafe(no_mangle)]
-pub extern "C" fn byte_unit_parse_many_32_to(
+pub unsafe extern "C" fn byte_unit_parse_many_32_to(
     data: *const u8,
     data_len: usize,
     offsets: *const i32,
@@ -48,15 +54,20 @@ pub extern "C" fn byte_unit_parse_many_32_to(
     codes: *mut u8,
     codes_len: usize,
 ) -> u32 {
-    let data = unsafe { crate::slices::slice(data, data_len) };
-    let offsets = unsafe { crate::slices::slice(offsets, offsets_len) };
-    let sizes = unsafe { crate::slices::slice_mut(sizes, sizes_len) };
-    let codes = unsafe { crate::slices::slice_mut(codes, codes_len) };
+    // SAFETY: the caller's promise.
+    let (data, offsets, sizes, codes) = unsafe {
+        (
+            crate::slices::slice(data, data_len),
+            crate::slices::slice(offsets, offsets_len),
+            crate::slices::slice_mut(sizes, sizes_len),
+            crate::slices::slice_mut(codes, codes_len),
+        )
+    };
     parse_many(data, Offsets::Short(offsets), flags, sizes, codes)
 }
 
 /// Parses many texts, as `byte_unit_parse_many_to` does, with offsets of either width.
-fn parse_many(data: &[u8], offsets: Offsets<'_>, flags: u32, sizes: &mut [Number], codes: &mut [u8]) -> u32 {
+fn parse_many(data: &[u8], offsets: Offsets<'_>, flags: u32, sizes: &mut [Out<Number>], codes: &mut [Out<u8>]) -> u32 {
     if !is_layout(data, offsets, sizes.len(), codes.len()) {
         return INVALID_ARGUMENT;
     }
@@ -85,13 +96,13 @@ fn parse_each<const BINARY: bool>(
     data: &[u8],
     offsets: Offsets<'_>,
     asked: ParseFlags,
-    sizes: &mut [Number],
-    codes: &mut [u8],
+    sizes: &mut [Out<Number>],
+    codes: &mut [Out<u8>],
 ) {
     for i in 0..codes.len() {
         let (code, size) = parse_one::<BINARY>(offsets.text_at(data, i), asked);
-        codes[i] = code;
-        sizes[i] = size;
+        codes[i] = Out::new(code);
+        sizes[i] = Out::new(size);
     }
 }
 

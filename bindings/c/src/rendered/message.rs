@@ -3,6 +3,7 @@
 //! The messages of errors, with their locations.
 
 use crate::rendered::texts::write;
+use crate::slices::Out;
 use byte_unit::rendered::base::{Expected, LocatedError, Location, ParseError, ValueParseError};
 use byte_unit::rendered::format::put;
 use byte_unit::rendered::math::{decimal_len, put_u128};
@@ -18,7 +19,7 @@ const END: &[u8] = b" (at the end of the text)";
 /// five times as long.
 ///
 /// Precondition: `error.expected` is what the error names as expected.
-pub fn write_message(error: &LocatedError, out: &mut [u8]) -> usize {
+pub fn write_message(error: &LocatedError, out: &mut [Out<u8>]) -> usize {
     match quoted(error) {
         Some((character, rest)) => write_quoted(character, rest, error.location, out),
         None => write_formatted(error, out),
@@ -28,7 +29,7 @@ pub fn write_message(error: &LocatedError, out: &mut [u8]) -> usize {
 /// Writes a message as `write_message` does, by its `Display`. Not inlined, since its memory would be cleared first.
 #[cold]
 #[inline(never)]
-fn write_formatted(error: &LocatedError, out: &mut [u8]) -> usize {
+fn write_formatted(error: &LocatedError, out: &mut [Out<u8>]) -> usize {
     write(some_message(message_of(error).as_str().as_bytes()), out)
 }
 
@@ -71,7 +72,7 @@ fn rest_of_message(expected: Expected, may_end: bool) -> Option<&'static [u8]> {
 
 /// Writes `the character '`, a character of ASCII, the rest of a message and the words for a location to the start of
 /// `out` if they fit, and returns their length.
-fn write_quoted(character: u8, rest: &[u8], location: Location, out: &mut [u8]) -> usize {
+fn write_quoted(character: u8, rest: &[u8], location: Location, out: &mut [Out<u8>]) -> usize {
     // The beginning has 15 bytes, and the character one.
     let len = 16 + rest.len() + location_len(location);
     if len <= out.len() {
@@ -91,7 +92,7 @@ fn location_len(location: Location) -> usize {
 }
 
 /// Writes what `write_quoted` does so that it ends before the index `end`, and returns the index where it begins.
-fn put_quoted(character: u8, rest: &[u8], location: Location, out: &mut [u8], end: usize) -> usize {
+fn put_quoted(character: u8, rest: &[u8], location: Location, out: &mut [Out<u8>], end: usize) -> usize {
     let after = put_location(location, out, end);
     let quote = put(rest, out, after);
     let beginning = put(&[character], out, quote);
@@ -99,7 +100,7 @@ fn put_quoted(character: u8, rest: &[u8], location: Location, out: &mut [u8], en
 }
 
 /// Writes the words for a location so that they end before the index `end`, and returns the index where they begin.
-fn put_location(location: Location, out: &mut [u8], end: usize) -> usize {
+fn put_location(location: Location, out: &mut [Out<u8>], end: usize) -> usize {
     match location {
         Location::Whole => end,
         Location::Character(number) => {

@@ -6,6 +6,7 @@ use crate::rendered::codes::unit_code;
 use crate::rendered::error::{Error, INVALID_ARGUMENT, NOT_UTF8, OK, UNIT, bytes_of};
 use crate::rendered::flags::{ParseFlags, parse_flags_at};
 use crate::rendered::values::Number;
+use crate::slices::Out;
 use byte_unit::rendered::base::{Flags, Kind, Reason, Stop, Unit, UnitStop, ValueParseError, read_unit_text, size};
 use byte_unit::rendered::math::Decimal;
 use core::str;
@@ -20,16 +21,16 @@ use core::str;
 ///
 /// For example, `1.5 KiB` in bytes gives `OK` and the size 1536, and `1 x` gives `UNIT` with the character `x`.
 #[unsafe(no_mangle)]
-pub extern "C" fn byte_unit_parse_to(
+pub unsafe extern "C" fn byte_unit_parse_to(
     text: *const u8,
     text_len: usize,
     flags: u32,
-    size: &mut Number,
+    size: &mut Out<Number>,
     error: *mut Error,
     error_len: usize,
 ) -> u32 {
-    let text = unsafe { crate::slices::slice(text, text_len) };
-    let error = unsafe { crate::slices::slice_mut(error, error_len) };
+    // SAFETY: the caller's promise.
+    let (text, error) = unsafe { (crate::slices::slice(text, text_len), crate::slices::slice_mut(error, error_len)) };
     match parse_flags_at(flags) {
         Some(asked) => parse_as::<false>(text, asked, size, error),
         None => INVALID_ARGUMENT,
@@ -39,7 +40,12 @@ pub extern "C" fn byte_unit_parse_to(
 /// Parses as `byte_unit_parse_to` does, with known flags. With `BINARY` a decimal prefix means the binary one: a call
 /// without it takes no instruction more for it.
 #[inline(always)]
-pub fn parse_as<const BINARY: bool>(text: &[u8], asked: ParseFlags, size: &mut Number, errors: &mut [Error]) -> u32 {
+pub fn parse_as<const BINARY: bool>(
+    text: &[u8],
+    asked: ParseFlags,
+    size: &mut Out<Number>,
+    errors: &mut [Out<Error>],
+) -> u32 {
     let flags = size::flags_for(asked.kind, asked.ignore_case);
     match size::read_text(text, flags) {
         Some(Ok(found)) => write_size::<BINARY>(found, asked, size, errors),
@@ -56,12 +62,12 @@ pub fn parse_as<const BINARY: bool>(text: &[u8], asked: ParseFlags, size: &mut N
 fn write_size<const BINARY: bool>(
     found: (Unit, Decimal),
     asked: ParseFlags,
-    size: &mut Number,
-    errors: &mut [Error],
+    size: &mut Out<Number>,
+    errors: &mut [Out<Error>],
 ) -> u32 {
     match size::size_of::<BINARY>((found.1, found.0), asked.kind) {
         Ok(in_kind) => {
-            *size = Number::new(in_kind);
+            *size = Out::new(Number::new(in_kind));
             OK
         }
         Err(_) => write_value(ValueParseError::ExceededBounds(found.1), 0, errors),
@@ -72,7 +78,7 @@ fn write_size<const BINARY: bool>(
 ///
 /// `#[inline(always)]`: the error of a unit, whose parts are written, is then never in memory.
 #[inline(always)]
-fn write_stop(stop: Stop, flags: Flags, errors: &mut [Error]) -> u32 {
+fn write_stop(stop: Stop, flags: Flags, errors: &mut [Out<Error>]) -> u32 {
     match stop.reason {
         Reason::InNumber(reason) => write_value(reason.error_before(stop.next), stop.index, errors),
         Reason::InUnit(reason) => {
@@ -84,7 +90,7 @@ fn write_stop(stop: Stop, flags: Flags, errors: &mut [Error]) -> u32 {
 
 /// Writes the details of an error in a number with its position, and returns its code.
 #[inline(always)]
-fn write_value(error: ValueParseError, position: usize, errors: &mut [Error]) -> u32 {
+fn write_value(error: ValueParseError, position: usize, errors: &mut [Out<Error>]) -> u32 {
     let (code, details) = Error::of_value(error, position);
     details.write(errors);
     code
@@ -92,7 +98,7 @@ fn write_value(error: ValueParseError, position: usize, errors: &mut [Error]) ->
 
 /// Writes the error of a parser of a unit that stops at this place, by the character there.
 #[inline(always)]
-fn write_unit_stop(stop: UnitStop, next: Option<char>, flags: Flags, place: usize, errors: &mut [Error]) {
+fn write_unit_stop(stop: UnitStop, next: Option<char>, flags: Flags, place: usize, errors: &mut [Out<Error>]) {
     let expected = bytes_of(stop.expected_before(next, flags));
     let error = stop.error_before(next, flags);
     let may_end = error.also_expect_no_character;
@@ -109,16 +115,16 @@ fn write_unit_stop(stop: UnitStop, next: Option<char>, flags: Flags, place: usiz
 ///
 /// For example, `KiB` gives `OK` and the unit 5, and `Kx` gives `UNIT` with the character `x`.
 #[unsafe(no_mangle)]
-pub extern "C" fn byte_unit_parse_unit_to(
+pub unsafe extern "C" fn byte_unit_parse_unit_to(
     text: *const u8,
     text_len: usize,
     flags: u32,
-    unit: &mut u32,
+    unit: &mut Out<u32>,
     error: *mut Error,
     error_len: usize,
 ) -> u32 {
-    let text = unsafe { crate::slices::slice(text, text_len) };
-    let error = unsafe { crate::slices::slice_mut(error, error_len) };
+    // SAFETY: the caller's promise.
+    let (text, error) = unsafe { (crate::slices::slice(text, text_len), crate::slices::slice_mut(error, error_len)) };
     match parse_flags_at(flags) {
         Some(asked) => parse_unit_as(text, asked, unit, error),
         None => INVALID_ARGUMENT,
@@ -126,11 +132,11 @@ pub extern "C" fn byte_unit_parse_unit_to(
 }
 
 /// Parses as `byte_unit_parse_unit_to` does, with known flags.
-fn parse_unit_as(text: &[u8], asked: ParseFlags, unit: &mut u32, errors: &mut [Error]) -> u32 {
+fn parse_unit_as(text: &[u8], asked: ParseFlags, unit: &mut Out<u32>, errors: &mut [Out<Error>]) -> u32 {
     let flags = unit_flags(asked);
     match read_unit(text, flags) {
         Some(Ok(found)) => {
-            *unit = unit_code(found);
+            *unit = Out::new(unit_code(found));
             OK
         }
         Some(Err(stopped)) => {

@@ -2,6 +2,7 @@
 
 //! Where a string that is rejected is wrong.
 
+use crate::slices::Out;
 use byte_unit::rendered::base::{Unit, size};
 use core::str;
 
@@ -15,7 +16,8 @@ use core::str;
 ///
 /// For example, `1 byte` gives the index 3, of its `y`, and `1.` gives 2.
 #[unsafe(no_mangle)]
-pub extern "C" fn byte_unit_error_position(text: *const u8, text_len: usize, position: &mut usize) -> bool {
+pub unsafe extern "C" fn byte_unit_error_position(text: *const u8, text_len: usize, position: &mut Out<usize>) -> bool {
+    // SAFETY: the caller's promise.
     let text = unsafe { crate::slices::slice(text, text_len) };
     match str::from_utf8(text) {
         Ok(text) => write_position(size::error_position(text), position),
@@ -28,7 +30,12 @@ pub extern "C" fn byte_unit_error_position(text: *const u8, text_len: usize, pos
 ///
 /// For example, `Kx` gives the index 1, and `bi` gives 2.
 #[unsafe(no_mangle)]
-pub extern "C" fn byte_unit_unit_error_position(text: *const u8, text_len: usize, position: &mut usize) -> bool {
+pub unsafe extern "C" fn byte_unit_unit_error_position(
+    text: *const u8,
+    text_len: usize,
+    position: &mut Out<usize>,
+) -> bool {
+    // SAFETY: the caller's promise.
     let text = unsafe { crate::slices::slice(text, text_len) };
     match str::from_utf8(text) {
         Ok(text) => write_position(Unit::error_position(text), position),
@@ -37,10 +44,10 @@ pub extern "C" fn byte_unit_unit_error_position(text: *const u8, text_len: usize
 }
 
 /// Writes the position, if there is one, and returns whether there is.
-fn write_position(found: Option<usize>, position: &mut usize) -> bool {
+fn write_position(found: Option<usize>, position: &mut Out<usize>) -> bool {
     match found {
         Some(place) => {
-            *position = place;
+            *position = Out::new(place);
             true
         }
         None => false,

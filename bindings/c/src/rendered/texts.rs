@@ -6,9 +6,11 @@ use crate::rendered::codes::{type_at, unit_at};
 use crate::rendered::flags::kind_at;
 use crate::rendered::spec::Spec;
 use crate::rendered::values::Number;
+use crate::slices::Out;
 use byte_unit::rendered::base::size;
 use byte_unit::rendered::choice::appropriate_unit;
 use byte_unit::rendered::format::{write_adjusted, write_text};
+use byte_unit::support::Place;
 
 /// Formats a size to the start of `out`, and returns the length of the text. The size is in bytes, or in bits with the
 /// flag `BITS` (1). Returns the length and writes nothing if `out` is shorter. Returns 0 and writes nothing if the size
@@ -16,7 +18,8 @@ use byte_unit::rendered::format::{write_adjusted, write_text};
 ///
 /// For example, 1536 bytes with an alternate spec gives 7, the length of `1.5 KiB`.
 #[unsafe(no_mangle)]
-pub extern "C" fn byte_unit_text(size: Number, flags: u32, spec: Spec, out: *mut u8, out_len: usize) -> usize {
+pub unsafe extern "C" fn byte_unit_text(size: Number, flags: u32, spec: Spec, out: *mut u8, out_len: usize) -> usize {
+    // SAFETY: the caller's promise.
     let out = unsafe { crate::slices::slice_mut(out, out_len) };
     match (size::bounded(size.get()), kind_at(flags), spec.get()) {
         (Some(size), Some(kind), Some(spec)) => write_text(size, kind, spec, out),
@@ -31,7 +34,7 @@ pub extern "C" fn byte_unit_text(size: Number, flags: u32, spec: Spec, out: *mut
 ///
 /// For example, 1536 bytes in the unit 4 (`KB`) with a zeroed spec gives 8, the length of `1.536 KB`.
 #[unsafe(no_mangle)]
-pub extern "C" fn byte_unit_adjusted_text(
+pub unsafe extern "C" fn byte_unit_adjusted_text(
     size: Number,
     flags: u32,
     unit: u32,
@@ -39,6 +42,7 @@ pub extern "C" fn byte_unit_adjusted_text(
     out: *mut u8,
     out_len: usize,
 ) -> usize {
+    // SAFETY: the caller's promise.
     let out = unsafe { crate::slices::slice_mut(out, out_len) };
     let (size, kind) = (size::bounded(size.get()), kind_at(flags));
     match (size, kind, unit_at(unit), spec.get()) {
@@ -55,7 +59,7 @@ pub extern "C" fn byte_unit_adjusted_text(
 ///
 /// For example, 10,000 bytes with the unit type 0 and the precision 1 gives 7, the length of `9.8 KiB`.
 #[unsafe(no_mangle)]
-pub extern "C" fn byte_unit_approximate_text(
+pub unsafe extern "C" fn byte_unit_approximate_text(
     size: Number,
     flags: u32,
     unit_type: u32,
@@ -63,6 +67,7 @@ pub extern "C" fn byte_unit_approximate_text(
     out: *mut u8,
     out_len: usize,
 ) -> usize {
+    // SAFETY: the caller's promise.
     let out = unsafe { crate::slices::slice_mut(out, out_len) };
     let (size, kind) = (size::bounded(size.get()), kind_at(flags));
     match (size, kind, type_at(unit_type), spec.get()) {
@@ -79,7 +84,8 @@ pub extern "C" fn byte_unit_approximate_text(
 ///
 /// For example, the code 5 gives 3, the length of `KiB`.
 #[unsafe(no_mangle)]
-pub extern "C" fn byte_unit_unit_name(unit: u32, out: *mut u8, out_len: usize) -> usize {
+pub unsafe extern "C" fn byte_unit_unit_name(unit: u32, out: *mut u8, out_len: usize) -> usize {
+    // SAFETY: the caller's promise.
     let out = unsafe { crate::slices::slice_mut(out, out_len) };
     match unit_at(unit) {
         Some(unit) => write(unit.as_str().as_bytes(), out),
@@ -88,10 +94,10 @@ pub extern "C" fn byte_unit_unit_name(unit: u32, out: *mut u8, out_len: usize) -
 }
 
 /// Copies bytes to the start of `out` if they fit, and returns their number.
-pub fn write(text: &[u8], out: &mut [u8]) -> usize {
+pub fn write(text: &[u8], out: &mut [Out<u8>]) -> usize {
     let len = text.len();
     if len <= out.len() {
-        out[..len].copy_from_slice(text);
+        Place::copy(&mut out[..len], text);
     }
     len
 }

@@ -5,6 +5,7 @@
 use crate::rendered::codes::{type_at, unit_at, unit_code};
 use crate::rendered::flags::{choice_flags_at, kind_at};
 use crate::rendered::values::{DecimalParts, Number};
+use crate::slices::Out;
 use byte_unit::rendered::base::size;
 use byte_unit::rendered::choice::{appropriate_unit, exact_unit, recoverable_unit};
 use byte_unit::rendered::math::Steps;
@@ -19,12 +20,12 @@ pub const NO_UNIT: u32 = u32::MAX;
 ///
 /// For example, 50,840,000 bytes gives 4, the code of `KB`, with the count 50,840.
 #[unsafe(no_mangle)]
-pub extern "C" fn byte_unit_exact_unit(size: Number, flags: u32, count: &mut Number) -> u32 {
+pub extern "C" fn byte_unit_exact_unit(size: Number, flags: u32, count: &mut Out<Number>) -> u32 {
     let (Some(size), Some(asked)) = (size::bounded(size.get()), choice_flags_at(flags)) else {
         return NO_UNIT;
     };
     let (whole, unit) = exact_unit(size, asked.kind, asked.of_either);
-    *count = Number::new(whole);
+    *count = Out::new(Number::new(whole));
     unit_code(unit)
 }
 
@@ -40,14 +41,14 @@ pub extern "C" fn byte_unit_recoverable_unit(
     size: Number,
     flags: u32,
     precision: usize,
-    count: &mut DecimalParts,
+    count: &mut Out<DecimalParts>,
 ) -> u32 {
     let (Some(size), Some(asked)) = (size::bounded(size.get()), choice_flags_at(flags)) else {
         return NO_UNIT;
     };
     let steps = &mut Steps::new();
     let (number, unit) = recoverable_unit(size, asked.kind, asked.of_either, precision, steps);
-    *count = DecimalParts::new(number);
+    *count = Out::new(DecimalParts::new(number));
     unit_code(unit)
 }
 
@@ -71,13 +72,13 @@ pub extern "C" fn byte_unit_appropriate_unit(size: Number, flags: u32, unit_type
 ///
 /// For example, 17 of the unit 0 (`bit`) in bytes gives `true` and the size 3.
 #[unsafe(no_mangle)]
-pub extern "C" fn byte_unit_from_unit(count: Number, unit: u32, flags: u32, size: &mut Number) -> bool {
+pub extern "C" fn byte_unit_from_unit(count: Number, unit: u32, flags: u32, size: &mut Out<Number>) -> bool {
     let (Some(kind), Some(unit)) = (kind_at(flags), unit_at(unit)) else {
         return false;
     };
     match size::with_unit(count.get(), unit, kind) {
         Some(found) => {
-            *size = Number::new(found);
+            *size = Out::new(Number::new(found));
             true
         }
         None => false,

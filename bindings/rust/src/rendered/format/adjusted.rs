@@ -7,6 +7,7 @@ use crate::rendered::format::FormatSpec;
 use crate::rendered::format::layout::{layout_parts, write_layout};
 use crate::rendered::format::parts::{Fraction, TextParts};
 use crate::rendered::math::{Expansion, Ties, div_rem, power_of_ten, rounded_quotient, short_expansion};
+use crate::support::Place;
 use core::fmt;
 use core::fmt::Display;
 
@@ -45,7 +46,7 @@ enum Rounding {
 /// assert_eq!(adjusted_len(1536, Kind::Byte, Unit::KB, unset), "1.536 KB".len());
 /// ```
 pub fn adjusted_len(size: u128, kind: Kind, unit: Unit, spec: FormatSpec) -> usize {
-    write_adjusted(size, kind, unit, spec, &mut [])
+    write_adjusted(size, kind, unit, spec, &mut [0u8; 0])
 }
 
 /// Writes what `append_adjusted` appends to the beginning of `out`, and returns its length. Writes nothing if it does
@@ -63,7 +64,7 @@ pub fn adjusted_len(size: u128, kind: Kind, unit: Unit, spec: FormatSpec) -> usi
 /// assert!(out == *b"1.536 KB.");
 /// ```
 #[inline(always)]
-pub fn write_adjusted(size: u128, kind: Kind, unit: Unit, spec: FormatSpec, out: &mut [u8]) -> usize {
+pub fn write_adjusted(size: u128, kind: Kind, unit: Unit, spec: FormatSpec, out: &mut [impl Place]) -> usize {
     let rounding = rounding_of(unit, spec);
     match short_parts(size, kind, unit, rounding, spec) {
         Some(parts) => parts.write(out),
@@ -85,7 +86,14 @@ pub fn display_adjusted(size: u128, kind: Kind, unit: Unit, f: &mut fmt::Formatt
 
 /// Writes as `write_adjusted`, by all digits of the number: the slow path.
 #[inline(never)]
-fn write_full(size: u128, kind: Kind, unit: Unit, rounding: Rounding, spec: FormatSpec, out: &mut [u8]) -> usize {
+fn write_full(
+    size: u128,
+    kind: Kind,
+    unit: Unit,
+    rounding: Rounding,
+    spec: FormatSpec,
+    out: &mut [impl Place],
+) -> usize {
     let mut number = number_in_unit(size, kind, unit);
     let places = round(&mut number, rounding);
     write_layout(&number, places, unit, spec, out)

@@ -6,6 +6,7 @@ use crate::rendered::base::{Kind, prefix_letter};
 use crate::rendered::format::parts::put;
 use crate::rendered::format::thousandths::{UnitFraction, split};
 use crate::rendered::math::{decimal_len, put_u128};
+use crate::support::Place;
 
 /// The most bytes of a text without a width: 27 digits, a point, 5 digits, a space and three letters, as of some sizes
 /// in `KiB` at a precision of 5.
@@ -13,7 +14,7 @@ pub(crate) const NARROW_TEXT: usize = 37;
 
 /// Writes the size in its unit to the beginning of `out`, and returns its length.
 #[inline(always)]
-pub(crate) fn put_form(size: u128, kind: Kind, out: &mut [u8]) -> usize {
+pub(crate) fn put_form(size: u128, kind: Kind, out: &mut [impl Place]) -> usize {
     let (whole, fraction) = split(size);
     put_split(whole, fraction, kind, out)
 }
@@ -21,7 +22,7 @@ pub(crate) fn put_form(size: u128, kind: Kind, out: &mut [u8]) -> usize {
 /// Writes a whole part and what follows it to the beginning of `out`, and returns their length. The whole part has at
 /// most 27 digits, since a size of 1000 or more is exact in a unit with a prefix.
 #[inline(always)]
-pub(crate) fn put_split(whole: u128, fraction: UnitFraction, kind: Kind, out: &mut [u8]) -> usize {
+pub(crate) fn put_split(whole: u128, fraction: UnitFraction, kind: Kind, out: &mut [impl Place]) -> usize {
     let point = decimal_len(whole);
     let end = put_unit_fraction(fraction, kind, out, point);
     put_u128(whole, out, point);
@@ -32,7 +33,7 @@ pub(crate) fn put_split(whole: u128, fraction: UnitFraction, kind: Kind, out: &m
 /// point are written as four bytes; the space and the unit, at most four bytes, then overwrite what is too much of
 /// these.
 #[inline(always)]
-fn put_unit_fraction(fraction: UnitFraction, kind: Kind, out: &mut [u8], point: usize) -> usize {
+fn put_unit_fraction(fraction: UnitFraction, kind: Kind, out: &mut [impl Place], point: usize) -> usize {
     let own = own_letter(kind);
     match fraction {
         // A space and one letter.

@@ -10,6 +10,7 @@ use crate::rendered::format::parts::{Fraction, TextParts};
 use crate::rendered::format::plain::plain_parts;
 use crate::rendered::format::spec::FormatSpec;
 use crate::rendered::math::Steps;
+use crate::support::Place;
 
 /// The precision of the alternate form if none is set, as in the Rust crate.
 const DEFAULT_PRECISION: usize = 3;
@@ -18,7 +19,7 @@ const DEFAULT_PRECISION: usize = 3;
 ///
 /// Precondition: the size is below 10^30.
 pub fn text_len(size: u128, kind: Kind, spec: FormatSpec) -> usize {
-    write_text(size, kind, spec, &mut [])
+    write_text(size, kind, spec, &mut [0u8; 0])
 }
 
 /// Writes what `append_text` appends to the beginning of `out`, and returns its length: at most 37 if no width is set.
@@ -36,7 +37,7 @@ pub fn text_len(size: u128, kind: Kind, spec: FormatSpec) -> usize {
 /// assert!(out == *b"1.5 KiB.");
 /// ```
 #[inline(always)]
-pub fn write_text(size: u128, kind: Kind, spec: FormatSpec, out: &mut [u8]) -> usize {
+pub fn write_text(size: u128, kind: Kind, spec: FormatSpec, out: &mut [impl Place]) -> usize {
     if spec == FormatSpec::ALTERNATE && out.len() >= NARROW_TEXT {
         return put_form(size, kind, out);
     }

@@ -6,6 +6,7 @@ use crate::rendered::base::Unit;
 use crate::rendered::format::parts::{Fraction, TextParts};
 use crate::rendered::format::spec::{Align, FormatSpec, Sign};
 use crate::rendered::math::{Expansion, decimal_len};
+use crate::support::Place;
 
 /// Returns the length in bytes of a decimal with `places` digits after the point and its unit. Does not allocate.
 pub fn layout_len(e: &Expansion, places: u32, unit: Unit, spec: FormatSpec) -> usize {
@@ -15,7 +16,7 @@ pub fn layout_len(e: &Expansion, places: u32, unit: Unit, spec: FormatSpec) -> u
 /// Writes what `append_layout` appends to the beginning of `out`, and returns its length. Writes nothing if it does not
 /// fit. Does not allocate.
 #[inline(always)]
-pub fn write_layout(e: &Expansion, places: u32, unit: Unit, spec: FormatSpec, out: &mut [u8]) -> usize {
+pub fn write_layout(e: &Expansion, places: u32, unit: Unit, spec: FormatSpec, out: &mut [impl Place]) -> usize {
     layout_parts(e.whole(), Fraction::First(e, places), unit, spec).write(out)
 }
 

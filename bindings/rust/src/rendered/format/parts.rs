@@ -3,6 +3,7 @@
 //! The parts of a formatted text, and writing backwards into a buffer.
 
 use crate::rendered::math::{Expansion, glyphs_of, put_fraction, put_u128};
+use crate::support::Place;
 
 /// The digits after the point, and their number.
 #[derive(Clone, Copy)]
@@ -35,7 +36,7 @@ pub(crate) struct TextParts<'a> {
 impl TextParts<'_> {
     /// Writes the parts to the beginning of `out` if they fit, and returns their length.
     #[inline(always)]
-    pub(crate) fn write(&self, out: &mut [u8]) -> usize {
+    pub(crate) fn write(&self, out: &mut [impl Place]) -> usize {
         if self.len <= out.len() {
             self.put(out, self.len);
         }
@@ -44,7 +45,7 @@ impl TextParts<'_> {
 
     /// Writes the parts so that they end before the index `end`, and returns the index where they begin.
     #[inline(always)]
-    fn put(&self, out: &mut [u8], end: usize) -> usize {
+    fn put(&self, out: &mut [impl Place], end: usize) -> usize {
         let name = put(self.name.as_bytes(), out, end);
         let behind = put_run(b' ', self.after, out, name);
         let point = match self.fraction {
@@ -69,7 +70,7 @@ impl Fraction<'_> {
 }
 
 /// Writes the point and `places` digits of an expansion, or nothing if `places` is 0.
-fn put_first(e: &Expansion, places: u32, out: &mut [u8], end: usize) -> usize {
+fn put_first(e: &Expansion, places: u32, out: &mut [impl Place], end: usize) -> usize {
     if places == 0 {
         return end;
     }
@@ -91,16 +92,16 @@ fn put_first(e: &Expansion, places: u32, out: &mut [u8], end: usize) -> usize {
 /// assert_eq!(&out, b"..KiB.");
 /// ```
 #[inline(always)]
-pub fn put(bytes: &[u8], out: &mut [u8], end: usize) -> usize {
+pub fn put(bytes: &[u8], out: &mut [impl Place], end: usize) -> usize {
     let start = end - bytes.len();
-    out[start..end].copy_from_slice(bytes);
+    Place::copy(&mut out[start..end], bytes);
     start
 }
 
 /// Writes `count` copies of a byte so that they end before the index `end`, and returns the index where they begin.
 #[inline(always)]
-fn put_run(byte: u8, count: usize, out: &mut [u8], end: usize) -> usize {
+fn put_run(byte: u8, count: usize, out: &mut [impl Place], end: usize) -> usize {
     let start = end - count;
-    out[start..end].fill(byte);
+    out[start..end].fill(Place::of(byte));
     start
 }

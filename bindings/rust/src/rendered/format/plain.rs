@@ -5,6 +5,7 @@
 use crate::rendered::format::parts::{Fraction, TextParts};
 use crate::rendered::format::spec::{Align, FormatSpec, Sign};
 use crate::rendered::math::decimal_len;
+use crate::support::Place;
 
 /// Returns the length in bytes of a number's digits with their sign, padded to the width. Does not allocate.
 pub fn plain_len(size: u128, spec: FormatSpec) -> usize {
@@ -13,7 +14,7 @@ pub fn plain_len(size: u128, spec: FormatSpec) -> usize {
 
 /// Writes what `append_plain` appends to the beginning of `out`, and returns its length. Writes nothing if it does not
 /// fit. Does not allocate.
-pub fn write_plain(size: u128, spec: FormatSpec, out: &mut [u8]) -> usize {
+pub fn write_plain(size: u128, spec: FormatSpec, out: &mut [impl Place]) -> usize {
     plain_parts(size, spec).write(out)
 }
 

@@ -7,6 +7,7 @@ use crate::rendered::format::alternate::{own_letter, put_split};
 use crate::rendered::format::parts::put;
 use crate::rendered::format::thousandths::{UnitFraction, binary_power, in_eighths};
 use crate::rendered::math::{PADDED_DIGITS, put_padded_digits};
+use crate::support::Place;
 use crate::support::lanes::*;
 
 /// Writes the digits of a size, `between`, and the size in its unit (the alternate form with no other option) to the
@@ -26,7 +27,7 @@ use crate::support::lanes::*;
 /// assert_eq!(&out[..len], b"1536 = 1.5 KiB".as_slice());
 /// ```
 #[inline(always)]
-pub fn write_with_digits(size: u128, kind: Kind, between: [u8; 3], out: &mut [u8]) -> usize {
+pub fn write_with_digits(size: u128, kind: Kind, between: [u8; 3], out: &mut [impl Place]) -> usize {
     // The cast tells the compiler that it can divide in 64 bits.
     if size < 1 << 64 {
         put_with_digits(u128::from(size as u64), kind, between, out)
@@ -37,7 +38,7 @@ pub fn write_with_digits(size: u128, kind: Kind, between: [u8; 3], out: &mut [u8
 
 /// Writes as `write_with_digits`.
 #[inline(always)]
-fn put_with_digits(size: u128, kind: Kind, between: [u8; 3], out: &mut [u8]) -> usize {
+fn put_with_digits(size: u128, kind: Kind, between: [u8; 3], out: &mut [impl Place]) -> usize {
     let mut digits = [b'0'; PADDED_DIGITS];
     let len = put_padded_digits(size, &mut digits);
     put(&digits, out, PADDED_DIGITS);
@@ -48,13 +49,13 @@ fn put_with_digits(size: u128, kind: Kind, between: [u8; 3], out: &mut [u8]) -> 
 
 /// Writes as `write_with_digits`: the slow path, for a size of more than 64 bits.
 #[inline(never)]
-fn put_with_digits_wide(size: u128, kind: Kind, between: [u8; 3], out: &mut [u8]) -> usize {
+fn put_with_digits_wide(size: u128, kind: Kind, between: [u8; 3], out: &mut [impl Place]) -> usize {
     put_with_digits(size, kind, between, out)
 }
 
 /// Writes the size in its unit, by its digits, to the beginning of `out`, and returns the length of this text.
 #[inline(always)]
-fn put_form_of(digits: &[u8; PADDED_DIGITS], len: usize, size: u128, kind: Kind, out: &mut [u8]) -> usize {
+fn put_form_of(digits: &[u8; PADDED_DIGITS], len: usize, size: u128, kind: Kind, out: &mut [impl Place]) -> usize {
     // The position of the largest decimal prefix that is not above the size.
     let most = ((len - 1) / 3) as u32;
     if most == 0 {
@@ -84,7 +85,7 @@ fn significant(digits: &[u8; PADDED_DIGITS]) -> usize {
 /// Writes the first digits up to the index `cut`, a point and the digits from there up to `used`, if there are any, and
 /// `unit`, a space and the name of a unit, to the beginning of `out`, and returns the length of this text.
 #[inline(always)]
-fn put_decimal(digits: &[u8; PADDED_DIGITS], cut: usize, used: usize, unit: [u8; 3], out: &mut [u8]) -> usize {
+fn put_decimal(digits: &[u8; PADDED_DIGITS], cut: usize, used: usize, unit: [u8; 3], out: &mut [impl Place]) -> usize {
     put(digits, out, PADDED_DIGITS);
     // The fraction is written as four bytes; the unit overwrites what is not used of them.
     let end = if used > cut {

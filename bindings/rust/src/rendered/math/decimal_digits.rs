@@ -5,6 +5,7 @@
 use crate::rendered::math::dividing::split_last_16_digits;
 use crate::rendered::math::lanes::put_16_digits;
 use crate::rendered::math::tens::power_of_ten;
+use crate::support::Place;
 use core::{fmt, str};
 
 /// The most decimal digits of a `u128`.
@@ -89,7 +90,7 @@ fn decimal_len_u64(n: u64) -> usize {
 /// assert_eq!(&bytes, b".1536.");
 /// ```
 #[inline(always)]
-pub fn put_u128(n: u128, bytes: &mut [u8], end: usize) -> usize {
+pub fn put_u128(n: u128, bytes: &mut [impl Place], end: usize) -> usize {
     if n <= u128::from(u64::MAX) {
         return put_u64(n as u64, bytes, end);
     }
@@ -111,19 +112,19 @@ pub fn put_u128(n: u128, bytes: &mut [u8], end: usize) -> usize {
 /// assert_eq!(put_fraction(0, 0, &mut bytes, 4), 4);
 /// ```
 #[inline(always)]
-pub fn put_fraction(digits: u128, places: u32, bytes: &mut [u8], end: usize) -> usize {
+pub fn put_fraction(digits: u128, places: u32, bytes: &mut [impl Place], end: usize) -> usize {
     if places == 0 {
         return end;
     }
     // A leading 1 keeps the zeros after it, and becomes the point.
     let point = put_u128(power_of_ten(places) + digits, bytes, end);
-    bytes[point] = b'.';
+    bytes[point] = Place::of(b'.');
     point
 }
 
 /// Writes digits as `put_u128`, 16 at a time: the slow path, for numbers of more than 64 bits.
 #[inline(never)]
-fn put_u128_wide(n: u128, bytes: &mut [u8], end: usize) -> usize {
+fn put_u128_wide(n: u128, bytes: &mut [impl Place], end: usize) -> usize {
     let mut start = end;
     let mut rest = n;
     while rest > u128::from(u64::MAX) {
@@ -136,7 +137,7 @@ fn put_u128_wide(n: u128, bytes: &mut [u8], end: usize) -> usize {
 
 /// Writes the digits of a number of 64 bits as `put_u128`.
 #[inline(always)]
-fn put_u64(n: u64, bytes: &mut [u8], end: usize) -> usize {
+fn put_u64(n: u64, bytes: &mut [impl Place], end: usize) -> usize {
     // Four digits at a time from the end; of the first one to four, two if they are more than two, and then two or one.
     let mut start = end;
     let mut rest = n;
@@ -153,22 +154,22 @@ fn put_u64(n: u64, bytes: &mut [u8], end: usize) -> usize {
         return put_2_digits(few, bytes, start);
     }
     start -= 1;
-    bytes[start] = b'0' + few as u8;
+    bytes[start] = Place::of(b'0' + few as u8);
     start
 }
 
 /// Writes four digits, leading zeros included, and returns the index where they begin.
 #[inline]
-fn put_4_digits(n: u32, bytes: &mut [u8], end: usize) -> usize {
+fn put_4_digits(n: u32, bytes: &mut [impl Place], end: usize) -> usize {
     let middle = put_2_digits(n % 100, bytes, end);
     put_2_digits(n / 100, bytes, middle)
 }
 
 /// Writes two digits, a leading zero included, and returns the index where they begin.
 #[inline]
-fn put_2_digits(n: u32, bytes: &mut [u8], end: usize) -> usize {
+fn put_2_digits(n: u32, bytes: &mut [impl Place], end: usize) -> usize {
     let start = end - 2;
     let pair = n as usize * 2;
-    bytes[start..end].copy_from_slice(&PAIRS[pair..pair + 2]);
+    Place::copy(&mut bytes[start..end], &PAIRS[pair..pair + 2]);
     start
 }

@@ -4,6 +4,7 @@
 
 use crate::rendered::math::decimal_digits::decimal_len;
 use crate::rendered::math::dividing::{TEN_POW_16, TEN_POW_16_INVERSE, div_rem_by_inverse};
+use crate::support::Place;
 use crate::support::lanes::*;
 
 /// The length of the array of [`put_padded_digits`]: two groups of 16 digits, since a number has up to 30.
@@ -48,9 +49,9 @@ fn digits_with_zeros(n: u128) -> ([u8; 48], usize) {
 
 /// Writes sixteen digits, leading zeros included, and returns the index where they begin.
 #[inline(always)]
-pub(crate) fn put_16_digits(n: u64, bytes: &mut [u8], end: usize) -> usize {
+pub(crate) fn put_16_digits(n: u64, bytes: &mut [impl Place], end: usize) -> usize {
     let start = end - 16;
     let digits: u8x16 = last_16_digits(n);
-    bytes[start..end].copy_from_slice(&digits.to_array());
+    Place::copy(&mut bytes[start..end], &digits.to_array());
     start
 }
