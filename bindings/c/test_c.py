@@ -90,9 +90,11 @@ def uses_of(header):
 def comments(each_library, tmp_path):
     """Writes what checks/comments.c includes: code in comments of byte_unit.h, and initializers there and in README."""
     header, page = read(f"{each_library}/byte_unit.h"), read("bindings/c/README.md")
+    words = f"{comments_of(header)}\n{page}"
+    places = [re.search(form, words)[1] for form in (r"precision of at most (\d+)", r"up to precision (\d+)")]
     uses, specs = uses_of(header), [("{ 0 }", "{}"), *specs_of(comments_of(header)), *specs_of(page)]
     assert uses, "the comments have code beside initializers of specs"
     write(f"{tmp_path}/uses.inc", "\n".join(uses) + "\n")
     write(f"{tmp_path}/specs.inc", "".join(
         '{ byte_unit_spec spec = %s; wrong += is_wrong(spec, "%s", "%s"); }\n' % (spec, *TEXTS[form])
-        for spec, form in specs))  # fmt: skip
+        for spec, form in specs) + "".join(f"wrong += is_too_long({most});\n" for most in places))  # fmt: skip

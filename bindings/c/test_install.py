@@ -2,6 +2,7 @@
 
 import os
 import re
+import shlex
 import shutil
 from pathlib import Path
 
@@ -31,14 +32,14 @@ def files_in(folder):
 def flags(prefix, *words):
     """Returns what pkg-config prints of the library in a prefix."""
     env = {**os.environ, "PKG_CONFIG_PATH": f"{prefix}/lib/pkgconfig"}
-    return output("pkg-config", *words, "byte_unit", env=env).split()
+    return shlex.split(output("pkg-config", *words, "byte_unit", env=env))
 
 
 @pytest.fixture(scope="module")
 def prefix(each_library, tmp_path_factory):
     """A new folder in which the library is installed, that of each compiler."""
     need("gcc", "nm", "readelf", "pkg-config")
-    made = tmp_path_factory.mktemp("installed") / "prefix"
+    made = tmp_path_factory.mktemp("installed") / "a prefix"
     output(*INSTALL, "--from", each_library, made)
     return made
 
@@ -91,6 +92,8 @@ def test_manual_page(prefix):
     assert sorted(re.findall(r"^\w+ (byte_unit_\w+)\(", text, re.M)) == calls
     assert {page.stem for page in (prefix / PAGE).parent.iterdir()} == {*calls, "byte_unit"}
     assert re.search(r"`\\eu\{a0\}`", text)
+    macros = [re.findall(r"^#define (\w+) ", part, re.M) for part in (read(prefix / HEADER), text)]
+    assert macros[0] == macros[1]
     need("mandoc")
     assert output("mandoc", "-T", "lint", prefix / PAGE) == ""
 
@@ -100,7 +103,7 @@ def test_extension(prefix):
     need("sqlite3", "sqlite3ext.h")
     file = prefix / "lib/sqlite3/byte_unit"
     assert output("nm", "-D", "--defined-only", f"{file}.so").split()[2::3] == ["sqlite3_byteunit_init"]
-    assert output("sqlite3", "-cmd", f".load {file}", ":memory:", "SELECT size_parse('1.5 KiB');") == "1536\n"
+    assert output("sqlite3", "-cmd", f".load '{file}'", ":memory:", "SELECT size_parse('1.5 KiB');") == "1536\n"
 
 
 def fails(folder, reason, *words, **more):
@@ -212,6 +215,23 @@ def test_library_for_bindings(library, tmp_path, way):
     assert (got.returncode, got.stdout) == (0, "")
     for name in ("libbyte_unit.a", "byte_unit.h"):
         assert (tmp_path / "new/folder" / name).read_bytes() == Path(library, name).read_bytes()
+
+
+def test_library_of_makefiles(library, tmp_path):
+    """They take that of a prefix; or their own, which is built again if a source of it is newer."""
+    need("make", "sqlite3ext.h")
+    sqlite, c, rust = (copied(part, tmp_path) for part in ("sqlite", "c", "rust"))
+    output(*INSTALL, "--from", library, "--without-sqlite", tmp_path / "prefix")
+    output("make", "-C", sqlite, f"LIBRARY={tmp_path}/prefix/lib", env=environment())
+    assert os.path.exists(f"{sqlite}/byte_unit.so")
+    write(f"{sqlite}/library/libbyte_unit.a", "")
+    words = ["make", "-n", "-C", sqlite, "library/libbyte_unit.a"]
+    assert "library.sh" not in output(*words)
+    for source in (f"{c}/byte_unit.h", f"{c}/src/slices.rs", f"{rust}/src/rendered/math/tens.rs"):
+        before = os.stat(source)
+        os.utime(source, (2**32, 2**32))
+        assert "library.sh" in output(*words)
+        os.utime(source, ns=(before.st_atime_ns, before.st_mtime_ns))
 
 
 def test_library_by_cargo(cargo, tmp_path):
