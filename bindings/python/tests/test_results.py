@@ -1,5 +1,6 @@
 """What a column of many texts gives: nulls, errors, numbers of each kind, sums, a sequence; with numpy."""
 
+import contextlib
 import copy
 import importlib.util
 import math
@@ -95,6 +96,15 @@ class Nulls(unittest.TestCase):
                     self.assertEqual(set(column.codes), {0, 7})
             if start == 0:
                 self.assertEqual(column.validity(), packed[: len(column.validity())])
+
+    def test_buffers_are_released(self) -> None:
+        """They can grow again after the call, whether it returns or not."""
+        for text, bits in ((b"12", b"\3"), (b"1x", b"\3"), (b"12", b"")):
+            data, offsets, validity = bytearray(text), array("q", [0, 1, 2]), bytearray(bits)
+            with contextlib.suppress(ByteUnitError):
+                byte_unit.parse_buffers(data, offsets, validity=validity, errors="raise")
+            for buffer in (data, offsets, validity):
+                buffer.append(1)  # type: ignore[attr-defined]
 
     def test_validity_that_does_not_fit(self) -> None:
         offsets = array("q", [0, 1, 2])
