@@ -96,6 +96,7 @@ class Nulls(unittest.TestCase):
                     self.assertEqual(set(column.codes), {0, 7})
             if start == 0:
                 self.assertEqual(column.validity(), packed[: len(column.validity())])
+            self.assertEqual(column.sizes, column_of(column.ints()).sizes)  # that of a null is zero
 
     def test_buffers_are_released(self) -> None:
         """They can grow again after the call, whether it returns or not."""
@@ -333,8 +334,9 @@ class Sequences(unittest.TestCase):
                 view[0] = view[1]
         with self.assertRaises(TypeError):
             Column(bytearray(16), b"\0")  # type: ignore[arg-type]
-        with self.assertRaises(ByteUnitError):
-            Column(bytes(15), bytes(1))
+        for sizes, codes in ((15, 1), (17, 1), (16, 0), (16, 2)):
+            with self.assertRaises(ByteUnitError):
+                Column(bytes(sizes), bytes(codes))
 
 
 @unittest.skipUnless(HAS_NUMPY, "numpy is not installed")
