@@ -93,7 +93,10 @@ def test_manual_page(prefix):
     assert {page.stem for page in (prefix / PAGE).parent.iterdir()} == {*calls, "byte_unit"}
     assert re.search(r"`\\eu\{a0\}`", text)
     macros = [re.findall(r"^#define (\w+) ", part, re.M) for part in (read(prefix / HEADER), text)]
-    assert macros[0] == macros[1]
+    assert macros[0] == macros[1] and "#include <byte_unit.h>" in text.partition(".SH EXAMPLES")[2]
+    (version,) = flags(prefix, "--modversion")
+    date = re.search(rf"^## \[{version}\] - (.*)$", read("CHANGELOG.md"), re.M)[1]
+    assert text.startswith(f'.TH BYTE_UNIT 3 "{date}" "byte_unit {version}"\n')
     need("mandoc")
     assert output("mandoc", "-T", "lint", prefix / PAGE) == ""
 
@@ -227,7 +230,10 @@ def test_library_of_makefiles(library, tmp_path):
     write(f"{sqlite}/library/libbyte_unit.a", "")
     words = ["make", "-n", "-C", sqlite, "library/libbyte_unit.a"]
     assert "library.sh" not in output(*words)
-    for source in (f"{c}/byte_unit.h", f"{c}/src/slices.rs", f"{rust}/src/rendered/math/tens.rs"):
+    by_rattle = f"{tmp_path}/crates/byte_unit_c/out/libbyte_unit_c.a"
+    write(by_rattle, "")
+    os.utime(by_rattle, (0, 0))
+    for source in (f"{c}/byte_unit.h", f"{c}/src/slices.rs", f"{rust}/src/rendered/math/tens.rs", by_rattle):
         before = os.stat(source)
         os.utime(source, (2**32, 2**32))
         assert "library.sh" in output(*words)
