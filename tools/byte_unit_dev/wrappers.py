@@ -85,8 +85,8 @@ def copied(folder):
 
 
 def passes(tree, here, test):
-    """Tells whether a call of `tools/dev` passes in the copy; of tests some have to pass."""
-    got = call("tools/dev", *shlex.split(test), cwd=tree, env=here)
+    """Tells whether a call of `tools/dev` passes in the copy; of tests some have to pass. One that hangs is ended."""
+    got = call("timeout", "900", "tools/dev", *shlex.split(test), cwd=tree, env=here)
     return got.returncode == 0 and "\n0 passed" not in got.stdout, got.stdout
 
 
