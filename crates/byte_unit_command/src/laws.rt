@@ -1,4 +1,5 @@
-//! Laws of the texts of sizes and of totals. The contract of each function is the law; its body calls the laws that it follows from.
+//! Laws of the texts of sizes and of totals. The contract of each function is the law; its body calls the laws that it
+//! follows from.
 
 ghost use Rattle.byte_unit_command.specs.Laws.{FormattedSizesAreRead, ExactTwiceIsOnce, TotalsAddUp};
 

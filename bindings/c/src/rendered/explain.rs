@@ -16,8 +16,8 @@ use byte_unit::support::InlineText;
 /// message is `a flag is unknown`.
 ///
 /// Unless only the size is too large or the bytes are not UTF-8, the message ends with the number, from 1, of the first
-/// wrong character, the one at the position that `byte_unit_error_position` writes, or with `(at the end of the text)` if
-/// the string, without white space at its ends, ends too early.
+/// wrong character, the one at the position that `byte_unit_error_position` writes, or with `(at the end of the text)`
+/// if the string, without white space at its ends, ends too early.
 ///
 /// For example, `-1` gives 47, the length of `the character '-' is not a number (character 1)`.
 #[unsafe(no_mangle)]
