@@ -40,6 +40,7 @@ ldconfig
 cc -Wall -Werror -o program program.c $(pkg-config --cflags --libs byte_unit)
 test "$(./program)" = "1.5 KiB"
 fails_with "$wrong" ./program "1 x"
+# What is in /usr/local is found without pkg-config, too.
 CARGO=/nowhere PKG_CONFIG_LIBDIR=/nowhere bindings/c/library.sh made
 cmp made/libbyte_unit.a /usr/local/lib/libbyte_unit.a
 tools/dev install --uninstall /usr/local
