@@ -81,7 +81,8 @@ ROWS = [
     ("approximateText(1000)", "1000 B"), ("adjustedText(1536, 'KiB', { precision: 0 })", "2 KiB"),
     *[(f"approximateText({size}, {{ unitType: '{kind}' }})", text) for size, kind, text in (
         (1536, "both", "1.5 KiB"), (1536, "decimal", "1.5 KB"), (1000, "both", "1.0 KB"), (1000, "binary", "1000 B"))],
-    ("['\\u00a0x', '\\u3000x'].map(text => { try { parse(text); } catch (e) { return e.position; } })", [1, 1]),
+    *[(f"(() => {{ try {{ parse('{text}'); }} catch (e) {{ return e.position; }} }})()", position)
+      for text, position in (("\u00a0\u00a0\u00a0x", 3), ("\u3000x", 1))],
     ("adjustedText(1, 'KiB', { precision: 65535 }).length", 65541),
     ("adjustedText(1, 'kib')", 'RangeError: "kib" is no name of a unit, such as KiB or MB'),
     ("adjustedText(1, 5)", "TypeError: 5 is no string"), ("adjustedText(9, 'b')", "72 b"),
@@ -232,7 +233,8 @@ def test_no_iterables_of_strings(javascript):
 def test_lone_surrogates(javascript):
     """They are told by a code of their own, with the place of the first; a real U+FFFD is a wrong character."""
     strings = {"1\ud800": 1, "\udc00": 0, "\U0001f600\ud83d": 2, "1 K\ude00\ud83d": 3, "1 KB \ud800": 5,
-               "\ufffd\ud800": 1, "9" * 300 + "\udfff": 300, **dict.fromkeys(("1\ufffd", "1\U0001f600", "1\ue000", "1\ud7ff"))}  # fmt: skip
+               "\ufffd\ud800": 1, "9" * 300 + "\udfff": 300,
+               **dict.fromkeys(("1\ufffd", "1\U0001f600", "1\ue000", "1\ud7ff"))}  # fmt: skip
     code = """(string => {
         const fields = call => { try { call(string); } catch ({ code, text, character, position, expected, message }) {
             return [code, text === string, character, position, expected, message]; } };
