@@ -61,6 +61,10 @@ class Lists(unittest.TestCase):
         for wrong in ("1 KB", b"1 KB", 3, None, bytearray(b"1"), object()):
             with self.subTest(wrong=wrong), self.assertRaises(TypeError):
                 byte_unit.parse_many(wrong)
+        for text in ("1 KB", b"1 KB"):
+            message = f"^texts must be an iterable of texts, not one {type(text).__name__}$"
+            with self.subTest(text), self.assertRaisesRegex(TypeError, message):
+                byte_unit.parse_many(text)
         for wrong in (1, 1.5, float("inf"), ["1"], bytearray(b"1"), object()):
             message = rf"texts\[1\] must be str, bytes or null, not {type(wrong).__name__}$"
             with self.subTest(wrong=wrong), self.assertRaisesRegex(TypeError, message):
