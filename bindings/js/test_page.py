@@ -78,7 +78,7 @@ def typed(browser, text, reading="bytes"):
     ("10m", "binary", ["10_485_760 bytes", "Exactly 10 MiB", "m is MiB"], None),
     ("1.5 Kb", "bits", ["1_500 bits", "Exactly 1.5 Kb"], None), ("0.3 b", "bytes", ["1 byte\n"], None),
     ("12 Kiq", "bytes", ["Not a size", "(character 6)", "'B' or 'b'"], "q"), ("1..5", "bytes", ["(character 3)"], "."),
-    ("1.", "bytes", ["The text ends too early"], "␣"), ("1.5 €", "bytes", ["(character 5)"], "€"),
+    ("1.", "bytes", ["(at the end of the text)"], "␣"), ("1.5 €", "bytes", ["(character 5)"], "€"),
     ("1000 RB", "bytes", ["Not a size: The value 1000 exceeds the valid range"], None),
     ("999.999 RB", "bytes", ["999_999_000_000_000_000_000_000_000_000 bytes"], None),
 ])  # fmt: skip

@@ -51,7 +51,7 @@ def of_error(text, size):
         return [text, said], None
     place = len(text.encode()[: int(position("byte", text))].decode())
     is_end = place == len(text)
-    return [text + END * is_end, said + " The text ends too early." * is_end], END if is_end else text[place]
+    return [text + END * is_end, said], END if is_end else text[place]
 
 
 def row_of_reading(text, reading, chosen):
