@@ -36,7 +36,11 @@ fn options_of<'a>(fields: &'a FieldList, has_header: bool) -> Options<'a> {
         record_end: b'\n',
         output_end: b'\n',
         header: if has_header { 2 } else { 0 },
-        invalid: if has_header { Invalid::Warn } else { Invalid::Abort },
+        invalid: if has_header {
+            Invalid::Warn
+        } else {
+            Invalid::Abort
+        },
         total: false,
         max: None,
         min: None,
@@ -77,8 +81,8 @@ fn output_of(streams: MemoryStreams<'_>) -> (Vec<u8>, Vec<u8>) {
     (writer.into_inner().taken, errors.into_inner())
 }
 
-/// Whether there is a header, the paces of reads and of writes, and the input; the sum and whether a field was rejected,
-/// or why the run ends early; the output and the messages.
+/// Whether there is a header, the paces of reads and of writes, and the input; the sum and whether a field was
+/// rejected, or why the run ends early; the output and the messages.
 type Row = (
     bool,
     (Pace, Pace),
@@ -210,12 +214,16 @@ fn runs_in_the_same_buffers(rt: HostRuntime) {
     let Ok(Some(fields)) = fields_of(rt.alloc(), None) else {
         panic!(rt; "out of memory");
     };
-    let plain = options_of(&fields, PLAIN);
-    let with_header = options_of(&fields, HEADER);
-    let mut buffers = Buffers::new(rt.alloc(), &plain);
+    let both = [options_of(&fields, PLAIN), options_of(&fields, HEADER)];
+    runs_with(&rt, &both);
+}
+
+/// Runs all rows, with the options of a call without a header and of one with it.
+fn runs_with<'a>(rt: &(impl Abort + AllocGlobal), [plain, with_header]: &'a [Options<'a>; 2]) {
+    let mut buffers = Buffers::new(rt.alloc(), plain);
     for (number, (has_header, paces, input, wanted, output, messages)) in ROWS.iter().enumerate() {
-        let options = if *has_header { &with_header } else { &plain };
-        let mut streams = streams_of(&rt, input, *paces);
+        let options = if *has_header { with_header } else { plain };
+        let mut streams = streams_of(rt, input, *paces);
         let end = run_with_buffers(&mut buffers, options, &mut [0u8; 80], &mut streams);
         let (written, told) = output_of(streams);
         let counted = match end {
