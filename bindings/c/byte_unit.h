@@ -225,8 +225,8 @@ bool byte_unit_unit_error_position(const char *text, size_t len, size_t *positio
 /* Writes the error message for a string that byte_unit_parse rejects, at most 256 bytes of UTF-8. It ends with the
  * number, counted from 1, of the character at the index that byte_unit_error_position writes: for `-1` it is
  * `the character '-' is not a number (character 1)`. If the string, without white space at its ends, ends too early,
- * as `1.`, it ends with `(at the end of the text)`, and with neither if the size is 10^30 or more, if the bytes are not
- * UTF-8, or if a flag is unknown. Returns 0 if and only if all flags are known and the string represents a size: an
+ * as `1.`, the message ends with `(at the end of the text)`; it has neither if the size is 10^30 or more, if the bytes
+ * are not UTF-8, or if a flag is unknown. Returns 0 if and only if all flags are known and the string represents a size: an
  * unknown flag has a message too.
  * Flags: BITS, IGNORE_CASE, BINARY_PREFIXES. */
 size_t byte_unit_explain(const char *text, size_t len, uint32_t flags, char *out, size_t out_len);

@@ -57,14 +57,16 @@ class WithLibrary(sdist):
 
     def make_release_tree(self, base_dir, files):
         super().make_release_tree(base_dir, files)
-        left_out = shutil.ignore_patterns("target", "Cargo.lock", "checks", "examples", "test_*", "__pycache__")
+        left_out = shutil.ignore_patterns("target", "Cargo.lock", "checks", "examples", "test_*", "__pycache__",
+                                          "mutants.edits")
         for name in ("c", "rust"):
             shutil.copytree(os.path.join(SOURCES, name), os.path.join(base_dir, "library", name), ignore=left_out)
         shutil.copy(os.path.join(TOP, "CHANGELOG.md"), base_dir)
 
 
 # A source distribution has no archive, and the version of its sources.
-found = (os.path.join(SOURCES, "c", HEADER), ARCHIVE) if "sdist" in sys.argv else library()
+builds = {"build", "build_ext", "bdist_wheel", "install"} & set(sys.argv)
+found = (os.path.join(SOURCES, "c", HEADER), ARCHIVE) if "sdist" in sys.argv and not builds else library()
 # The functions of glibc that the module needs are older than 2.17: tests/test_package.py.
 machine = sysconfig.get_platform().removeprefix("linux-")
 tag = {"plat_name": f"manylinux_2_17_{machine}"} if platform.libc_ver()[0] == "glibc" else {}

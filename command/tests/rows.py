@@ -250,7 +250,7 @@ QUOTED = [
     field("1\u0301".encode(), "1\u0301", unit("\\u{301}"), 2),
     field(b"1\t\x00", "1\\u{9}\\u{0}", unit("\\t"), 2),
     field("\u3000 1 Ké".encode(), "\\u{3000} 1 Ké", unit("é", "('B' or 'b' or no character is expected)"), 6),
-    field(b" 1. ", " 1. ", digit("."), 4), field(b"1 bi", "1 bi", unit("i", "(no character is expected)"), 5),
+    field(b" 1. ", " 1. ", digit("."), END), field(b"1 bi", "1 bi", unit("i", "(no character is expected)"), END),
     field("\u3000\u00a0".encode(), "\\u{3000}\\u{a0}", BLANK, END),
     *(field(text, text.decode(), "value number is too long", at)
       for text, at in ((b" 5192296858534827628530496329220096x", 35), (b"00" + b"1" * 40, 37), (b"1." + b"0" * 29, 31))),

@@ -1,4 +1,4 @@
-"""Installs the C library where compilers, pkg-config, man and SQLite look for it, and the command byte-unit.
+"""Installs the C library where compilers, pkg-config, man and SQLite look for it, and the command if Rattle is there.
 
 Proves and builds the library by `tools/make-libraries`, and the command by `rt run` in crates/byte_unit_cli. What
 `rt check`, `rt lib` or `rt run` has proved is not proved again; what `rt ci` alone has proved is. Without the toolchain

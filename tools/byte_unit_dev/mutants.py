@@ -16,7 +16,7 @@ byte_unit_bit is rendered from all mutants of byte_unit_byte when it is tried.
 A mutant may be rejected for its form alone: because a name that a proof cites is gone, or a proof no longer fits. So
 each one of must-fail/ has a control: after each line `new: TEXT` a line `control: TEXT`, which `rt` passes over, with
 right code in the same place. It has to be proved without a change of any proof. Each check begins with what `rt check`
-of the crate has kept in out/, or from nothing. And a line `goal: WORDS` has words of the message with which the mutant
+of the crate has kept in out/, or from nothing. And a line `goal: WORDS`, if there is one, has words of the message with which the mutant
 is rejected: the name of the goal that is open then, or of the contract's clause.
 
 A title is `module.function.what`: the function whose contract rejects the mutant, and what it does wrong. `module` is
@@ -154,6 +154,9 @@ def compared(printed):
         named += bool(goal)
         if goal and goal[1] not in why:
             wrong.append(f"mutants: {crate}: {title}: rejected, but not for the goal {goal[1]}: {why}")
+    told = {(crate, title) for crate, title, _ in REJECTED.findall(printed)}
+    wrong += [f"mutants: {crate}: {title}: nothing says why it was rejected" for crate in with_mutants()
+              for title, text in in_every_run(crate).items() if "\ngoal: " in text and (crate, title) not in told]
     return report(wrong, f"mutants: {named} were rejected for the goals that they name")
 
 
@@ -183,7 +186,7 @@ def run(action: ("list", "try", "controls", "put", "remove", "reasons",
     if action == "reasons":
         return compared(sys.stdin.read())
     if action == "bindings" or all_:
-        return wrappers.run(part)
+        return wrappers.run((1, 1) if all_ else part)
     if action == "list":
         return listed(crates)
     remove()

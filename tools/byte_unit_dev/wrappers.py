@@ -19,7 +19,7 @@ from .common import Failure, call, files, output, part_of, path, read, report, w
 
 CATALOGUE = re.compile(r"(?!crates/).*/mutants\.edits")
 PAIR = re.compile(r"^old: (.*)\nnew: ?(.*)$", re.M)
-Mutant = namedtuple("Mutant", "catalogue title file pairs tests equal")
+Mutant = namedtuple("Mutant", "catalogue title file pairs olds tests equal")
 
 
 def fields(text, name):
@@ -34,7 +34,8 @@ def mutants():
         for edit in edits:
             file = os.path.normpath(os.path.join(os.path.dirname(name), *fields(edit, "file")))
             tests = tuple(fields(edit, "test") or fields(head, "test"))
-            yield Mutant(name, edit.partition("\n")[0], file, PAIR.findall(edit), tests, fields(edit, "equal"))
+            pairs, olds = PAIR.findall(edit), len(fields(edit, "old"))
+            yield Mutant(name, edit.partition("\n")[0], file, pairs, max(1, olds), tests, fields(edit, "equal"))
 
 
 def edited(mutant, text):
@@ -58,8 +59,8 @@ def listed():
                 yield f"{name}: there is no file {mutant.file}"
         except Failure as failure:
             yield str(failure)
-        if not mutant.pairs or not mutant.tests:
-            yield f"{name}: no `test:`, or no pair of `old:` and `new:`"
+        if len(mutant.pairs) < mutant.olds or not mutant.tests:
+            yield f"{name}: no `test:`, or a line `old:` without a line `new:` after it"
         if name in seen:
             yield f"{name}: twice"
         seen.add(name)
@@ -84,25 +85,40 @@ def copied(folder):
     return tree, environment(PATH=os.pathsep.join(folders))
 
 
-def passes(tree, here, test):
-    """Tells whether a call of `tools/dev` passes in the copy; of tests some have to pass. One that hangs is ended."""
+def ended(tree, here, test):
+    """Calls `tools/dev` in the copy. Returns whether it passed, and what it printed. One that hangs is ended."""
     got = call("timeout", "900", "tools/dev", *shlex.split(test), cwd=tree, env=here)
-    return got.returncode == 0 and "\n0 passed" not in got.stdout, got.stdout
+    return got.returncode == 0, got.stdout
+
+
+def unsound(tree, here, tests):
+    """Returns, of the calls that do not pass without a mutant, or have no test that does, what is wrong; or that something
+    is missing, in lines `skipped: `."""
+    found = {}
+    for test in tests:
+        passed, said = ended(tree, here, test)
+        skips = re.findall("^skipped: .*", said, re.M)
+        if skips:
+            found[test] = "\n".join(skips)
+        elif not passed or re.search("^0 passed", said, re.M):
+            found[test] = f"mutants: without a mutant, `tools/dev {test}` does not pass:\n{said}"
+    return found
 
 
 def tried(chosen):
-    """Tries mutants in a copy of the repository, and yields what is wrong. Each call passes without a mutant, which is
-    seen once for each."""
+    """Tries mutants in a copy of the repository, and yields what is wrong."""
     with tempfile.TemporaryDirectory() as folder:
         tree, here = copied(folder)
-        for test in dict.fromkeys(test for mutant in chosen for test in mutant.tests):
-            sound, said = passes(tree, here, test)
-            if not sound:
-                yield f"mutants: without a mutant, `tools/dev {test}` does not pass:\n{said}"
+        wrong = unsound(tree, here, dict.fromkeys(test for mutant in chosen for test in mutant.tests))
+        skipped = [why for why in wrong.values() if why.startswith("skipped: ")]
+        print(*skipped, sep="\n", end="\n" * bool(skipped))
+        yield from set(wrong.values()) - set(skipped)
         for mutant in chosen:
+            if wrong.keys() & set(mutant.tests):
+                continue
             text = read(tree / mutant.file)
             write(tree / mutant.file, edited(mutant, text))
-            survives = all(passes(tree, here, test)[0] for test in mutant.tests)
+            survives = all(ended(tree, here, test)[0] for test in mutant.tests)
             write(tree / mutant.file, text)
             print(f"{'SURVIVES' if survives else 'killed'}: {mutant.catalogue}: {mutant.title}", flush=True)
             if survives:

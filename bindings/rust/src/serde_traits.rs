@@ -147,11 +147,11 @@ where
 
     /// Reads an XML element, which is a map of its attributes and its text. A comment, for one, makes it two texts.
     fn visit_map<A: MapAccess<'de>>(self, mut map: A) -> Result<T, A::Error> {
-        let no_size = |_| A::Error::invalid_type(Unexpected::Map, &self);
+        let no_size = || A::Error::invalid_type(Unexpected::Map, &self);
         let mut size = None;
         while let Some(IsText(is_text)) = map.next_key_seed(Parser(PhantomData))? {
             if !is_text {
-                let Attribute = map.next_value_seed(Parser(PhantomData)).map_err(no_size)?;
+                let Attribute = map.next_value_seed(Parser(PhantomData)).map_err(|_| no_size())?;
             } else if size.is_some() {
                 return Err(A::Error::duplicate_field("$text"));
             } else {
@@ -160,7 +160,7 @@ where
         }
         match size {
             Some(Text(size)) => size.map_err(A::Error::custom),
-            None => Err(A::Error::invalid_type(Unexpected::Map, &self)),
+            None => Err(no_size()),
         }
     }
 }
