@@ -16,8 +16,8 @@ byte_unit_bit is rendered from all mutants of byte_unit_byte when it is tried.
 A mutant may be rejected for its form alone: because a name that a proof cites is gone, or a proof no longer fits. So
 each one of must-fail/ has a control: after each line `new: TEXT` a line `control: TEXT`, which `rt` passes over, with
 right code in the same place. It has to be proved without a change of any proof. Each check begins with what `rt check`
-of the crate has kept in out/, or from nothing. And a line `goal: WORDS`, if there is one, has words of the message with which the mutant
-is rejected: the name of the goal that is open then, or of the contract's clause.
+of the crate has kept in out/, or from nothing. A line `goal: WORDS`, if there is one, has words of the message with
+which the mutant is rejected: the name of the goal that is open then, or of the contract's clause.
 
 A title is `module.function.what`: the function whose contract rejects the mutant, and what it does wrong. `module` is
 the file of the function or a folder that this file is in; of several the one with the shortest path is meant. A

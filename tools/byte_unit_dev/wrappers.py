@@ -92,8 +92,8 @@ def ended(tree, here, test):
 
 
 def unsound(tree, here, tests):
-    """Returns, of the calls that do not pass without a mutant, or have no test that does, what is wrong; or that something
-    is missing, in lines `skipped: `."""
+    """Returns, for each call that does not pass without a mutant, what is wrong, or lines `skipped: ` if something is
+    missing."""
     found = {}
     for test in tests:
         passed, said = ended(tree, here, test)
