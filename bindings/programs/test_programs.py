@@ -94,7 +94,7 @@ def test_wrong_calls_are_answered_alike(program_of, programs_by_cargo, check_dra
 @pytest.mark.parametrize("words", [["--to=plain"], ["--to=plain", "12000"]], ids=["lines", "operand"])
 def test_streams_without_other_descriptors(programs_by_cargo, tmp_path, words):
     """If the system gives no other descriptor of a stream, it is read and written all the same."""
-    write(tmp_path / "shim.c", "#include <errno.h>\nint fcntl(int file, int what, ...) { errno = EMFILE; return -1; }\n")
+    write(tmp_path / "shim.c", "#include <errno.h>\nint fcntl(int file, int how, ...) { errno = EMFILE; return -1; }\n")
     shim = compiled("cc", tmp_path / "shim.so", "-shared", "-fPIC", tmp_path / "shim.c")
     lines = b"".join(b"%d\n" % number for number in range(100_000))
     got = ended(programs_by_cargo / "byte-unit", *words, input=lines, env={**os.environ, "LD_PRELOAD": str(shim)})

@@ -64,7 +64,7 @@ def in_bash(script, *words):
 
 
 def completed(*words):
-    """Returns what bash offers for the last of the words, which it splits at `=`, after what it calls `compopt` with."""
+    """Returns what bash, which splits words at `=`, offers for the last one, after the words of a call of `compopt`."""
     return in_bash('compopt() { echo "$*"; }; COMP_WORDS=(byte-unit "$@"); COMP_CWORD=$#; _byte_unit; '
                    'printf "%s\\n" "${COMPREPLY[@]}"', *words)  # fmt: skip
 

@@ -8,7 +8,7 @@ from concurrent.futures import ThreadPoolExecutor
 from itertools import count
 
 import pytest
-from byte_unit_dev.fixtures import call, compiled, copy_to, ended, path, read, write
+from byte_unit_dev.fixtures import BY_CARGO, call, compiled, copy_to, ended, path, read, write
 
 # How many calls run at once.
 LANES = int(os.environ.get("RT_JOBS") or min(4, os.cpu_count()))
@@ -96,6 +96,34 @@ def test_program(program_of, shim, crate, words, data, on):
                 assert got == wanted or failed and is_out_of_memory(got, wanted, end), number
             if not all(failed for _, failed in runs):
                 break
+
+
+@pytest.mark.parametrize("crate, words, data", [
+    ("byte_unit_cli", "--invalid=warn -d , --field=2,4- --padding=50", b"1 x,2 x,3,4 KB\n" * 30),
+    ("byte_unit_cli", "1.5KiB 100MB", b""), ("byte_unit_cli", "--field=2", b""), ("byte_unit_lines", "", MANY),
+    ("byte_unit_lines", "byte", b"1 KB\n2 KB\n" + b"1" * 1_000_000), ("byte_unit_lines", "x y", b"")],
+    ids=["fields", "operands", "a wrong list", "lines", "a long line", "wrong words"])
+def test_program_by_cargo(programs_by_cargo, shim, crate, words, data):
+    """Rust's runtime is aborted and so is clap, before anything is written. For what the program itself asks, it says
+    that it is out of memory: for the words, which byte-unit copies before clap reads them, and for all after clap."""
+    program, found = programs_by_cargo / BY_CARGO[crate], ""
+    wanted, _ = failing_call(program, shim, words, data, 0, False)
+
+    def kind(number):
+        got, failed = failing_call(program, shim, words, data, number, False, RUST_BACKTRACE="0")
+        if got == wanted:
+            return "r" if failed else "-"
+        if failed and is_out_of_memory(got, wanted, b"\n"):
+            return "o"
+        return "a" if got[:2] == (-signal.SIGABRT, b"") else f"{number}: {got}"
+
+    with ThreadPoolExecutor(LANES) as pool:
+        for start in count(1, 32):
+            found += "".join(pool.map(kind, range(start, start + 32)))
+            if found.endswith("-"):
+                break
+    # Right, aborted, out of memory, or no allocation failed.
+    assert re.fullmatch("[ra]*o+[ra]+o+-+" if crate == "byte_unit_cli" else "[ra]*o+-+", found)
 
 
 @pytest.mark.parametrize("words, data", [("", b"1 KB\n"), ("--nothing", b""), ("--invalid=warn", b"x\n" * 3_000)])

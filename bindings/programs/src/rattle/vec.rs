@@ -42,10 +42,6 @@ impl<T, A: Allocator> Vec<T, A> {
     pub fn as_slice(&self) -> &[T] {
         &self.items
     }
-
-    pub fn try_reserve_exact(&mut self, more: usize) -> Result<(), AllocError> {
-        Ok(self.items.try_reserve_exact(more)?)
-    }
 }
 
 impl<T: Copy, A: Allocator> Vec<T, A> {
