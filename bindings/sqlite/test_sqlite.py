@@ -163,7 +163,7 @@ VALUES = {
 REASONS = {
     "A": "is not a size: TEXT or an INTEGER is expected",
     "B": r"is not a size: the character '.' is not a number \(character 1\)",
-    "C": r"is not a size: no value can be found \(character 1\)", "M": "is not a size: it is negative",
+    "C": r"is not a size: no value can be found \(at the end of the text\)", "M": "is not a size: it is negative",
     "N": "is not an INTEGER such as size_parse returns", "U": "is not a unit such as 'KiB' or 'MB'",
     "X": "is not a unit: the character '.' is incorrect .*", "F": "is not a text of flags",
     "O": "has flags other than 'bits'.*", "P": "is not a precision: an INTEGER from 0 to 65535 is expected",

@@ -120,7 +120,7 @@ def test_contracts_and_comments_of_such_code_may_change(monkeypatch, old, new):
 
 @pytest.mark.parametrize("old, new, why", [
     ("use byte_unit::ParseError;", "use byte_unit::Parse;", "name that no rule knows: byte_unit::Parse"),
-    ("use byte_unit_base::{NumberedError, size};", "use std::simd::u8x1;", "form that no rule knows: std::simd"),
+    ("use byte_unit_base::{LocatedError, size};", "use std::simd::u8x1;", "form that no rule knows: std::simd"),
     ("#[inline(always)]", "#[cfg(test)]", "form that no rule knows: #[cfg(test)]"),
     *((None, code, f"form that no rule knows: {form}") for code, form in (
         ("std::io::x", "std::io::x"), ("laws::x()", "laws::x"), ("1 ⊕ 2", "⊕"), ("1 << requires", "requires"),
