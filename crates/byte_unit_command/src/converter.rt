@@ -198,7 +198,9 @@ impl<'a, A: Allocator> Converter<'a, A> {
 }
 
 /// Returns `true` if the first field is in the list.
-#[inline(always)]
+///
+/// `#[inline(never)]`: with it inlined, a record of one field takes 5 % more instructions.
+#[inline(never)]
 fn chooses_first(fields: &FieldList) -> bool
     ensures yes { IsTrue result → IsChosenField fields.now 1 }
     ensures no { IsFalse result → ¬ IsChosenField fields.now 1 }
