@@ -122,8 +122,8 @@ def test_program_by_cargo(programs_by_cargo, shim, crate, words, data):
             found += "".join(pool.map(kind, range(start, start + 32)))
             if found.endswith("-"):
                 break
-    # Right, aborted, out of memory, or no allocation failed.
-    assert re.fullmatch("[ra]*o+[ra]+o+-+" if crate == "byte_unit_cli" else "[ra]*o+-+", found)
+    # Right, aborted, out of memory, or no allocation failed; how many there are depends on how the pipe cuts the input.
+    assert re.fullmatch("[ra]*o+[ra]+o[o-]*" if crate == "byte_unit_cli" else "[ra]*o[o-]*", found)
 
 
 @pytest.mark.parametrize("words, data", [("", b"1 KB\n"), ("--nothing", b""), ("--invalid=warn", b"x\n" * 3_000)])
