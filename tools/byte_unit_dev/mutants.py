@@ -16,8 +16,8 @@ byte_unit_bit is rendered from all mutants of byte_unit_byte when it is tried.
 A mutant may be rejected for its form alone: because a name that a proof cites is gone, or a proof no longer fits. So
 each one of must-fail/ has a control: after each line `new: TEXT` a line `control: TEXT`, which `rt` passes over, with
 right code in the same place. It has to be proved without a change of any proof. Each check begins with what `rt check`
-of the crate has kept in out/, or from nothing. A line `goal: WORDS`, if there is one, has words of the message with
-which the mutant is rejected: the name of the goal that is open then, or of the contract's clause.
+of the crate has kept in out/, or from nothing. And it has a line `goal: NAME`, the goal that is open with the mutant:
+its message names it.
 
 A title is `module.function.what`: the function whose contract rejects the mutant, and what it does wrong. `module` is
 the file of the function or a folder that this file is in; of several the one with the shortest path is meant. A
@@ -105,6 +105,8 @@ def misfits(crate, title, text, has_control):
         if has_control and not control:
             yield f"{crate}: {title}: no control"
         edited = edited.replace(old, new)
+    if has_control and not re.search("^goal: .", text, re.M):
+        yield f"{crate}: {title}: no goal"
 
 
 def listed(crates):
@@ -152,7 +154,7 @@ def compared(printed):
     for crate, title, why in REJECTED.findall(printed):
         goal = re.search(r"^goal: (.*)$", {**by_turns(crate), **in_every_run(crate)}.get(title, ""), re.M)
         named += bool(goal)
-        if goal and goal[1] not in why:
+        if goal and f"`{goal[1]}`" not in why:
             wrong.append(f"mutants: {crate}: {title}: rejected, but not for the goal {goal[1]}: {why}")
     told = {(crate, title) for crate, title, _ in REJECTED.findall(printed)}
     wrong += [f"mutants: {crate}: {title}: nothing says why it was rejected" for crate in with_mutants()
