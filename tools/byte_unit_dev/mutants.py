@@ -6,7 +6,7 @@
     tools/dev mutants put K/N                 copies a part of the catalogues to must-fail/, where `rt ci` tries it
     tools/dev mutants remove                  deletes these copies, which git ignores
     tools/dev mutants reasons < PRINTED       compares why mutants were rejected, in what `rt ci` has printed
-    tools/dev mutants bindings [K/N]          tries the mutants of what is written by hand, by the tests that see them
+    tools/dev mutants bindings [K/N] [FOLDER..]  tries the mutants of what is written by hand, or those of these folders
     tools/dev mutants --all bindings          the same, all of them
 
 A mutant is an edit for `rt must-fail`. Each run of the gate tries the files crates/CRATE/must-fail/TITLE.edit, and a
@@ -170,12 +170,12 @@ def remove():
 
 
 def part_or_crate(word):
-    """Returns the two numbers of a part K/N, or the name of a crate with mutants."""
+    """Returns the two numbers of a part K/N, or the name of a crate or a folder with mutants."""
     found = re.fullmatch(r"([1-9][0-9]{0,3})/([1-9][0-9]{0,3})", word)
     if found and int(found[1]) <= int(found[2]):
         return int(found[1]), int(found[2])
-    if word not in with_mutants():
-        raise argparse.ArgumentTypeError(f"'{word}' is no crate with mutants, and no part, such as 1/8 to 8/8")
+    if word not in [*with_mutants(), *wrappers.folders()]:
+        raise argparse.ArgumentTypeError(f"'{word}' is no crate or folder with mutants, and no part, such as 1/8")
     return word
 
 
@@ -188,7 +188,7 @@ def run(action: ("list", "try", "controls", "put", "remove", "reasons",
     if action == "reasons":
         return compared(sys.stdin.read())
     if action == "bindings" or all_:
-        return wrappers.run((1, 1) if all_ else part)
+        return wrappers.run((1, 1) if all_ else part, [word for word in words if isinstance(word, str)])
     if action == "list":
         return listed(crates)
     remove()

@@ -29,7 +29,7 @@ def fields(text, name):
 
 def mutants():
     """Yields all mutants, in the order of their catalogues."""
-    for name in filter(CATALOGUE.fullmatch, files()):
+    for name in (f"{folder}/mutants.edits" for folder in folders()):
         head, *edits = re.split("^== ", read(name), flags=re.M)
         for edit in edits:
             file = os.path.normpath(os.path.join(os.path.dirname(name), *fields(edit, "file")))
@@ -125,11 +125,17 @@ def tried(chosen):
                 yield f"{mutant.catalogue}: no test sees this: {mutant.title}"
 
 
-def run(part):
-    """Tries the part K/N of the mutants."""
+def folders():
+    """Returns the folders of the catalogues."""
+    return [os.path.dirname(name) for name in filter(CATALOGUE.fullmatch, files())]
+
+
+def run(part, chosen_folders):
+    """Tries the part K/N of the mutants, of those of some folders if any are given."""
     wrong = [*listed()]
     if wrong:
         return report(wrong, "")
-    every = [mutant for mutant in mutants() if not mutant.equal]
+    every = [mutant for mutant in mutants() if not mutant.equal
+             and os.path.dirname(mutant.catalogue) in (chosen_folders or folders())]  # fmt: skip
     chosen = part_of(every, part)
     return report([*tried(chosen)], f"mutants: {len(chosen)} of {len(every)} of what is written by hand, each seen")
