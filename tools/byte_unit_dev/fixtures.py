@@ -108,15 +108,22 @@ def pytest_generate_tests(metafunc):
         metafunc.parametrize("made_by", ["rattle", *["rustc"] * both], scope="session")
 
 
+@contextlib.contextmanager
+def shared(tmp_path_factory, name):
+    """A folder that the processes of one run share, of which one at a time fills it."""
+    here = tmp_path_factory.getbasetemp()
+    folder = (here.parent if "PYTEST_XDIST_WORKER" in os.environ else here) / name
+    folder.mkdir(exist_ok=True)
+    with open(f"{folder}.lock", "w", encoding="utf-8") as lock:
+        fcntl.flock(lock, fcntl.LOCK_EX)
+        yield folder
+
+
 @pytest.fixture(scope="session")
 def programs_by_cargo(tmp_path_factory):
     """The folder where `cargo install` has put the programs. The processes of one run share it."""
     need(*CARGO_PROGRAMS)
-    here = tmp_path_factory.getbasetemp()
-    folder = (here.parent if "PYTEST_XDIST_WORKER" in os.environ else here) / "programs"
-    folder.mkdir(exist_ok=True)
-    with open(folder / "lock", "w", encoding="utf-8") as lock:
-        fcntl.flock(lock, fcntl.LOCK_EX)
+    with shared(tmp_path_factory, "programs") as folder:
         return programs(folder)
 
 
@@ -251,6 +258,24 @@ def javascript(tmp_path_factory):
     """A copy of the package for JavaScript."""
     need("node")
     return Path(copied("js", tmp_path_factory.mktemp("js")))
+
+
+@pytest.fixture(scope="session")
+def unpacked(tmp_path_factory):
+    """A Debian 12 with its newest Rust, the sources of its library, and its Node, as `program` of debian.py runs them.
+    The processes of one run share it."""
+    need("mmdebstrap", "unshare")
+    with shared(tmp_path_factory, "debian-12") as root:
+        if not os.listdir(root):
+            debian.make(root, ["rustc-web", "rust-web-src", "nodejs"], debian.UNPACKED)
+        return root
+
+
+@pytest.fixture(scope="session")
+def newest_rustc(unpacked):
+    """Debian's newest rustc, which has the sources of `core`, for targets of which this machine has no library."""
+    need("cargo")
+    return debian.program(unpacked, "rustc")
 
 
 @pytest.fixture(scope="session")

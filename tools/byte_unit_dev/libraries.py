@@ -9,10 +9,12 @@ and does not see what has changed since.
 With --cargo, and wherever the toolchain (rt) is missing, proves nothing: cargo builds the archive, offline, from the
 proved sources as they are rendered in Rust (bindings/c/src/rendered).
 
-With --target, the crate byte_unit_c is proved for another target, over the same libraries. What a call proves is kept
-in crates/byte_unit_c/out/targets, and the next takes it. For wasm64-unknown-unknown, FOLDER then has byte_unit.wasm
-alone, which bindings/js needs; for aarch64-unknown-linux-gnu the archive and the header, and the shared library if
-Debian's aarch64-linux-gnu-gcc is there.
+With --target, the library is built for another target. For aarch64-unknown-linux-gnu the crate byte_unit_c is proved,
+over the same libraries: what a call proves is kept in crates/byte_unit_c/out/targets, and the next takes it. For any
+other target of rustc, cargo builds the rendered Rust: `core` comes with the compiler (`rustup target add`), or is built
+from its sources, with which they come (Debian: rust-web-src). FOLDER then has the archive and the header, and the shared
+library if Debian's gcc for the target is there; or, for wasm32-unknown-unknown, byte_unit.wasm alone, which bindings/js
+needs, and byte_unit.wasm.rustc, which names the compiler.
 """
 
 import fcntl
@@ -21,14 +23,19 @@ import re
 import shutil
 from pathlib import Path
 
-from .common import Failure, call, output, path, read, shown
+from .common import Failure, call, output, path, read, shown, write
 from .source import below, crates
 
 ARCHIVE, HEADER, EXTENSION = "libbyte_unit.a", "byte_unit.h", "sqlite3/byte_unit.so"
 # Every x86-64 processor. The default of rt, x86-64-v2, ends a program on the processors qemu64 and kvm64 by SIGILL.
 CPU = "x86-64"
-WASM, AARCH64 = "wasm64-unknown-unknown", "aarch64-unknown-linux-gnu"
-MODULE = "byte_unit.wasm"
+WASM, AARCH64 = "wasm32-unknown-unknown", "aarch64-unknown-linux-gnu"
+# The linker that Debian has for the module: a compiler by rustup has its own.
+MODULE, WASM_LINKER = "byte_unit.wasm", "wasm-ld-19"
+# The compilers of C for other targets, as Debian has them.
+TARGET_CC = {AARCH64: "aarch64-linux-gnu-gcc", "i686-unknown-linux-gnu": "i686-linux-gnu-gcc",
+             "armv7-unknown-linux-gnueabihf": "arm-linux-gnueabihf-gcc",
+             "s390x-unknown-linux-gnu": "s390x-linux-gnu-gcc"}  # fmt: skip
 
 
 def run(folder, *, after_ci=False, cargo=False, target=""):
@@ -46,21 +53,49 @@ def run(folder, *, after_ci=False, cargo=False, target=""):
 
 
 def build_for(target, folder, after_ci):
-    """Proves byte_unit_c for another target, and builds what is used there."""
-    if target not in (WASM, AARCH64):
-        raise Failure(f"'{target}' is no target; these are: {WASM} {AARCH64}")
-    if not after_ci:
-        proved("rt", "lib", f"--cpu={CPU}")
-    if target == WASM:
-        archive, kit = folder / "libbyte_unit_wasm64.a", kit_folder()
-        proved(*words_after_ci(archive, "--target", target))
-        words = ["--target", target, "--toolchain", f"{kit}/toolchain", "-o", folder / MODULE, archive]
-        output(f"{kit}/bin/rattle-link", *words)
-        archive.unlink()
+    """Builds the library for another target, and links what is used there."""
+    if target == AARCH64:
+        if not after_ci:
+            proved("rt", "lib", f"--cpu={CPU}")
+        proved(*words_after_ci(folder / ARCHIVE, "--target", target))
+    elif target == WASM:
+        shutil.copy(built_by_cargo(target, "cdylib", MODULE), folder)
+        write(folder / f"{MODULE}.rustc", output(rustc(), "--version"))
         return
-    proved(*words_after_ci(folder / ARCHIVE, "--target", target))
+    else:
+        shutil.copy(built_by_cargo(target, "staticlib", ARCHIVE), folder)
     shutil.copy(path("bindings/c", HEADER), folder)
-    link_shared(folder, "aarch64-linux-gnu-gcc")
+    link_shared(folder, TARGET_CC.get(target, "no compiler of C"))
+
+
+def rustc():
+    """Returns the rustc that builds the rendered Rust."""
+    return os.environ.get("RUSTC") or "rustc"
+
+
+def built_by_cargo(target, kind, name):
+    """Has cargo build the rendered Rust for a target, and returns the path of what it has made."""
+    library = Path(output(rustc(), "--print", "sysroot").strip(), "lib/rustlib/src/rust/library")
+    core = Path(output(rustc(), "--print", "target-libdir", "--target", target).strip())
+    # A path in the module would make it another one in each folder.
+    flags = [f"--remap-path-prefix={path()}=", f"--remap-path-prefix={library}=library",
+             *["-Cstrip=symbols"] * (target == WASM)]  # fmt: skip
+    words, here = [], {"CARGO_ENCODED_RUSTFLAGS": "\x1f".join(flags)}
+    if not list(core.glob("libcore-*.rlib")):
+        if not (library / "core").is_dir():
+            raise Failure(f"{rustc()} has no core for {target}: `rustup target add {target}`, or install the sources of "
+                          "its library (Debian: rust-web-src)")  # fmt: skip
+        # A stable compiler builds its own library only so.
+        here["RUSTC_BOOTSTRAP"] = "1"
+        words = ["-Z", "build-std=core", "--config", 'source.crates-io.replace-with="its-own"',
+                 "--config", f'source.its-own.directory="{library}/vendor"']  # fmt: skip
+    if target == WASM and shutil.which(WASM_LINKER):
+        words += ["--config", f'target.{WASM}.linker="{WASM_LINKER}"']
+    made = path("bindings/c/target")
+    output(os.environ.get("CARGO") or "cargo", "rustc", "--release", "--offline", "--quiet", "--manifest-path",
+           path("bindings/c/Cargo.toml"), "--target-dir", made, "--target", target, "--crate-type", kind, *words,
+           env={**os.environ, **here})  # fmt: skip
+    return Path(made, target, "release", name)
 
 
 def proved(*words):

@@ -44,9 +44,6 @@
 #![no_std]
 #![warn(missing_docs)]
 
-#[cfg(not(target_pointer_width = "64"))]
-compile_error!("byte-unit is proved for pointers of 64 bits, which this platform does not have");
-
 #[cfg(feature = "std")]
 extern crate std;
 
