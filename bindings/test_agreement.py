@@ -8,7 +8,7 @@ import sqlite3
 
 import pytest
 from byte_unit_dev import postgresql
-from byte_unit_dev.fixtures import NODE, ended, environment, need, output
+from byte_unit_dev.fixtures import ended, environment, need, output
 from byte_unit_dev.model.exact import BITS, SIZE_LIMIT, UNITS, best_unit, largest, value_of
 from byte_unit_dev.needs import POSTGRESQL
 
@@ -16,7 +16,7 @@ TYPES = {"binary": "iec", "decimal": "si", "both": "auto"}
 PYTHON = """import byte_unit, json, sys
 for name, words, options in json.load(sys.stdin):
     print(getattr(byte_unit, name)(*words, **options))"""
-JAVASCRIPT = """import * as byteUnit from "./index.js";
+JAVASCRIPT = """import * as byteUnit from "./node.js";
 import { readFileSync } from "node:fs";
 const camel = name => name.replace(/_./g, part => part[1].toUpperCase());
 for (const [name, [size, ...words], options] of JSON.parse(readFileSync(0, "utf8"))) {
@@ -128,7 +128,7 @@ def test_python(drawn, python):
 def test_javascript(drawn, javascript):
     def answers(calls):
         rows = [(name, [str(words[0]), *words[1:]], options) for name, words, options in calls]
-        words = [*NODE, "--input-type=module", "-e", JAVASCRIPT]
+        words = ["node", "--input-type=module", "-e", JAVASCRIPT]
         return output(*words, input=json.dumps(rows), cwd=javascript).splitlines()
 
     check(drawn, answers, units=True)

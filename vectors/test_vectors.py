@@ -7,7 +7,7 @@ import re
 from itertools import product
 
 import pytest
-from byte_unit_dev.fixtures import NODE, ended, environment, path, read
+from byte_unit_dev.fixtures import ended, environment, path, read
 from byte_unit_dev.model.answers import answer
 from byte_unit_dev.model.exact import LETTERS
 from byte_unit_dev.rows import FILE, Row, check, rows
@@ -113,4 +113,4 @@ def test_python_aarch64(python_aarch64):
 
 
 def test_javascript(javascript):
-    check_program([*NODE, javascript / "checks/vectors.js"], BY_JAVASCRIPT)
+    check_program(["node", javascript / "checks/vectors.js"], BY_JAVASCRIPT)

@@ -1,17 +1,13 @@
-// Loads byte_unit.wasm beside this file, and exports the calls of the library.
+// Fetches byte_unit.wasm from beside this file, and exports the calls of the library. Node has node.js in its place.
 import { instantiate } from "./library.js";
 
-/** Returns the bytes of the module: a file is read by Node, whose `fetch` takes no `file:` URL; others are fetched. */
+/** Returns the bytes of the module. */
 async function bytesBeside() {
-    const place = new URL("byte_unit.wasm", import.meta.url);
-    if (place.protocol !== "file:") {
-        const response = await fetch(place);
-        if (!response.ok)
-            throw new Error(`byte_unit: ${place.href} cannot be loaded: status ${response.status}`);
-        return response.arrayBuffer();
-    }
-    const { readFile } = await import("node:fs/promises");
-    return readFile(place);
+    // Bundlers find the module by this expression, and keep it with what they make.
+    const place = new URL("byte_unit.wasm", import.meta.url), response = await fetch(place);
+    if (!response.ok)
+        throw new Error(`byte_unit: ${place.href} cannot be loaded: status ${response.status}`);
+    return response.arrayBuffer();
 }
 
 const library = await instantiate(await bytesBeside());
@@ -19,4 +15,4 @@ const library = await instantiate(await bytesBeside());
 export const {
     version, parse, parseUnit, parseMany, explain, explainUnit, text, adjustedText, approximateText, appropriateUnit,
 } = library;
-export { SizeError, UNITS } from "./library.js";
+export { CODES, SizeError, UNITS } from "./library.js";

@@ -1,2 +1,9 @@
-// What `require` takes of the package: it cannot wait for the module of WebAssembly, which `import` loads.
-throw new Error("byte-unit cannot be loaded by require: write `const byteUnit = await import('byte-unit')`");
+// What `require` takes of the package: the module node.js, which Node can load so since 20.19 and 22.12.
+try {
+    module.exports = require("./node.js");
+} catch (error) {
+    if (error.code !== "ERR_REQUIRE_ESM")
+        throw error;
+    throw new Error("byte-unit cannot be loaded by require in Node before 20.19: write "
+        + "`const byteUnit = await import('byte-unit')`", { cause: error });
+}

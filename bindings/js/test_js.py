@@ -2,38 +2,60 @@
 
 import json
 import re
+import shutil
 from operator import mul
 from pathlib import Path
 
 import pytest
-from byte_unit_dev.fixtures import NODE, ended, environment, need, output, path, read
+from byte_unit_dev.fixtures import ended, environment, need, output, path, read
 from byte_unit_dev.libraries import MODULE, WASM
 
 # The calls that the package exports.
 CALLS = "parse, parseUnit, parseMany, explain, explainUnit, text, adjustedText, approximateText, appropriateUnit"
 
 
-def test_types(javascript):
-    """Compiles checks/types.ts, which is not run."""
+@pytest.mark.parametrize("kind", ["module", "script"])
+def test_types(javascript, tmp_path, kind):
+    """Compiles checks/types.ts as a module, or as what `require` loads, in the folder of a program. It is not run."""
     need("tsc")
-    words = ["tsc", "--noEmit", "--strict", "--target", "es2022", "--module", "es2022", "--moduleResolution", "node"]
-    output(*words, "--lib", "es2022,dom", javascript / "checks/types.ts")
+    install(javascript, tmp_path)
+    (tmp_path / "package.json").write_text(json.dumps({"type": kind.replace("script", "commonjs")}), encoding="utf-8")
+    shutil.copy(javascript / "checks/types.ts", tmp_path)
+    words = ["tsc", "--noEmit", "--strict", "--target", "es2022", "--module", "node16", "--lib", "es2022,dom"]
+    output(*words, tmp_path / "types.ts")
+
+
+@pytest.fixture(scope="module", params=["the newest", "Debian 12's"])
+def each_node(request, javascript):
+    """The words that run a Node, and the folder where it finds the package."""
+    if request.param == "the newest":
+        return ["node"], javascript
+    root = request.getfixturevalue("unpacked")
+    shutil.copytree(javascript, f"{root}/package", dirs_exist_ok=True)
+    return ["env", "--unset=NODE_EXTRA_CA_CERTS", "chroot", root, "/usr/bin/node"], Path("/package")
 
 
 @pytest.mark.parametrize("kind", ["byte", "bit"])
-def test_lines(javascript, check_runner, kind):
-    check_runner([*NODE, javascript / "checks/vectors.js"], kind, bytes_=False)
+def test_lines(each_node, check_runner, kind):
+    node, package = each_node
+    check_runner([*node, package / "checks/vectors.js"], kind, bytes_=False)
 
 
-def outcomes(javascript, codes):
-    """Returns what expressions of the package's calls are, or what their promises become, or their errors, in order, all
-    in one process. A BigInt has `n` after its digits; an error is its name and its message."""
-    script = (f"import * as byteUnit from {json.dumps(str(javascript / 'index.js'))};\n"
-              f"const {{ {CALLS} }} = byteUnit, place = {json.dumps(javascript.as_uri())}, found = [];\n"
-              f"for (const call of [{', '.join(f'async () => ({code})' for code in codes)}])\n"
-              "try { found.push(await call()); } catch (error) { found.push(`${error.name}: ${error.message}`); }\n"
-              "console.log(JSON.stringify(found, (_, value) => typeof value === 'bigint' ? `${value}n` : value));\n")  # fmt: skip
-    return json.loads(output(*NODE, "--input-type=module", "-e", script))
+def script_of(package, codes, end):
+    """Returns a module that finds what expressions of the package's calls are, or what their promises become, or their
+    errors, in order, and passes it to `end` as JSON. A BigInt has `n` after its digits; an error is its name and its
+    message."""
+    return (f"import * as byteUnit from {json.dumps(package)};\n"
+            f"const {{ {CALLS} }} = byteUnit, found = [];\n"
+            f"for (const call of [{', '.join(f'async () => ({code})' for code in codes)}])\n"
+            "try { found.push(await call()); } catch (error) { found.push(`${error.name}: ${error.message}`); }\n"
+            f"{end}(JSON.stringify(found, (_, value) => typeof value === 'bigint' ? `${{value}}n` : value));\n")  # fmt: skip
+
+
+def outcomes(javascript, codes, node=("node",)):
+    """Returns the outcomes of expressions in one process of Node. `place` is where the package is."""
+    script = f"const place = {json.dumps(javascript.as_uri())};\n" + script_of(f"{javascript}/node.js", codes, "console.log")
+    return json.loads(output(*node, "--input-type=module", "-e", script))
 
 
 def evaluated(javascript, code):
@@ -41,10 +63,10 @@ def evaluated(javascript, code):
     return outcomes(javascript, [code])[0]
 
 
-def check(javascript, rows):
+def check(javascript, rows, **node):
     """Checks the outcomes of expressions."""
     codes, wanted = zip(*rows)
-    assert [row for row in zip(codes, wanted, outcomes(javascript, codes)) if row[1] != row[2]] == []
+    assert [row for row in zip(codes, wanted, outcomes(javascript, codes, **node)) if row[1] != row[2]] == []
 
 
 ROWS = [
@@ -99,8 +121,9 @@ ROWS = [
 ]  # fmt: skip
 
 
-def test_calls(javascript):
-    check(javascript, ROWS)
+def test_calls(each_node):
+    node, package = each_node
+    check(package, ROWS, node=node)
 
 
 def test_options_of_another_type(javascript):
@@ -170,6 +193,51 @@ def test_options_that_are_inherited(javascript):
         delete Object.prototype[name];
         return got === wanted ? [] : [[String(call), name, String(value), got, wanted]];
     }})))"""
+    assert evaluated(javascript, code) == []
+
+
+# Calls of all kinds, of which one grows the memory.
+ANY_CALLS = ["parse('1.5 KiB')", "parse('10m', { binary: true, ignoreCase: true })", "parse('1 K\U0001f600')", "parse(LONG)",
+             "parse('1 \\ud800')", "parse(5)", "parse('1', { nosuch: 1 })", "parseUnit('kib')", "parseUnit('Kx')",
+             "explain('1Kx')", "explainUnit('K')", "text(1536)", "text(-1n)", "text(2 ** 53)", "approximateText(123456789)",
+             "text(10n ** 29n, { precision: 28, width: 400, sign: 'plus' })", "adjustedText(1536n, 'KiB')",
+             "adjustedText(1, 'nosuch')", "appropriateUnit(1536)", "parseMany(['1 KB', 'x', '999 RB', 'é']).sizes",
+             "parseMany(['1 KB', 'x']).codes", "parseMany([]).sizes", "parseMany(['1 KB', 'x'], { typed: true }).sizes",
+             "parseMany((function* () { yield '1 KB'; yield '2 KB'; })()).sizes"]  # fmt: skip
+# The functions of the language's objects, each with its object, its name and what describes it.
+FUNCTIONS = """[Object, Array, String, Number, BigInt, Map, Set, RegExp, Uint8Array, Uint32Array, BigUint64Array, DataView,
+    Math, Reflect, JSON, TextEncoder, TextDecoder, Object.getPrototypeOf(Uint8Array)]
+    .flatMap(one => [one, one.prototype ?? {}]).flatMap(one => Reflect.ownKeys(one).map(
+        name => ({ one, name, was: Object.getOwnPropertyDescriptor(one, name) })))
+    .filter(({ name, was }) => was.configurable && typeof was.value === "function" && name !== "constructor")"""
+# Properties that every object is made to inherit.
+INHERITED = """[0, 1, 2, "bits", "binary", "typed", "precision", "width", "codes", "sizes", "found", "code", "position",
+    "alsoExpectNoCharacter", "get", "value", "at", "length"].map(name => ({ one: Object.prototype, name }))"""
+
+
+@pytest.mark.parametrize("changed, thrower", [(FUNCTIONS, "value: thrown"), (INHERITED, "get: thrown, set: thrown")],
+                         ids=["functions", "inherited"])  # fmt: skip
+def test_changes_of_the_language(javascript, changed, thrower):
+    """What a program puts in place of functions, or has objects inherit, changes no result: here each throws."""
+    code = f"""(() => {{
+        const LONG = "0".repeat(200000) + "1", calls = [{", ".join(f"() => {call}" for call in ANY_CALLS)}];
+        const outcome = call => {{ try {{ return {{ value: call() }}; }} catch (error) {{ return {{ error }}; }} }};
+        const shown = ({{ value, error }}) => String(error ?? (value?.join ? value.join() : value));
+        const wanted = calls.map(call => shown(outcome(call))), found = calls.map(() => null), count = calls.length;
+        const changed = {changed}, define = Object.defineProperty, thrown = () => {{ throw new Error("changed"); }};
+        const made = {{ __proto__: null, configurable: true, {thrower} }};
+        let done = 0;
+        for (const length = changed.length; done < length; done++)
+            define(changed[done].one, changed[done].name, made);
+        for (let at = 0; at < count; at++)
+            found[at] = outcome(calls[at]);
+        while (done-- > 0)
+            if (changed[done].was === undefined)
+                delete changed[done].one[changed[done].name];
+            else
+                define(changed[done].one, changed[done].name, changed[done].was);
+        return calls.map((call, at) => [String(call), wanted[at], shown(found[at])]).filter(([, was, is]) => was !== is);
+    }})()"""
     assert evaluated(javascript, code) == []
 
 
@@ -257,19 +325,25 @@ def test_a_column_that_is_rejected(javascript):
         const made = WebAssembly.instantiate;
         WebAssembly.instantiate = async (...given) => {
             const { exports } = (await made(...given)).instance;
-            return { instance: { exports: { ...exports, byte_unit_parse_many_to: () => 7 } } };
+            return { instance: { exports: { ...exports, byte_unit_parse_many_32_to: () => 7 } } };
         };
         return (await instantiate(await readFile(new URL(`${place}/byte_unit.wasm`)))).parseMany(["1"]);
     })()"""
-    assert evaluated(javascript, code) == "Error: byte_unit: byte_unit_parse_many_to returned invalid_argument"
+    assert evaluated(javascript, code) == "Error: byte_unit: byte_unit_parse_many_32_to returned invalid_argument"
 
 
-def test_module(request, tmp_path):
-    """The module in the tree is byte for byte the one that is built of the crates."""
-    words = ["--target", WASM, *["--after-ci"] * request.config.getoption("after_ci")]
-    output(path("tools/make-libraries"), tmp_path, *words)
-    what = f"bindings/js/{MODULE} is not as built: `tools/dev make-libraries bindings/js --target {WASM}` makes it anew"
-    assert (tmp_path / MODULE).read_bytes() == Path(path("bindings/js", MODULE)).read_bytes(), what
+def test_module(javascript, newest_rustc, check_runner, tmp_path):
+    """The module in the tree is byte for byte what its compiler makes of the rendered Rust; what another one makes
+    answers as the exact model does."""
+    output(path("tools/make-libraries"), tmp_path, "--target", WASM, env=environment(RUSTC=newest_rustc))
+    if read(tmp_path / f"{MODULE}.rustc") == read(f"bindings/js/{MODULE}.rustc"):
+        what = f"bindings/js/{MODULE} is not as built: `tools/dev make-libraries bindings/js --target {WASM}` makes it anew"
+        assert (tmp_path / MODULE).read_bytes() == Path(path("bindings/js", MODULE)).read_bytes(), what
+        return
+    shutil.copytree(javascript, tmp_path / "js")
+    shutil.copy(tmp_path / MODULE, tmp_path / "js")
+    for kind in ("byte", "bit"):
+        check_runner(["node", tmp_path / "js/checks/vectors.js"], kind, bytes_=False, count=100_000)
 
 
 def test_npm(javascript, tmp_path):
@@ -277,25 +351,40 @@ def test_npm(javascript, tmp_path):
     need("npm")
     offline = environment(npm_config_offline="true", npm_config_cache=tmp_path / "cache", npm_config_audit="false")
     (packed,) = json.loads(output("npm", "pack", "--json", javascript, cwd=tmp_path, env=offline))
-    assert {file["path"] for file in packed["files"]} == {*json.loads(read("bindings/js/package.json"))["files"],
-                                                          "package.json", "README.md"}  # fmt: skip
+    assert {file["path"] for file in packed["files"]} == {
+        "LICENSE", "README.md", "package.json", "byte_unit.wasm", "index.js", "node.js", "require.cjs", "library.js",
+        "memory.js", "options.js", *(f"{name}.d.{kind}" for name in ("index", "library") for kind in ("ts", "cts"))}  # fmt: skip
     for package in (str(javascript), str(tmp_path / packed["filename"])):
         project = tmp_path / f"project-{len(package)}"
         project.mkdir()
         (project / "package.json").write_text("{}", encoding="utf-8")
         output("npm", "install", package, cwd=project, env=offline)
         script = "import('byte-unit').then(({ parse }) => console.log(parse('1.5 KiB')))"
-        assert output(*NODE, "-e", script, cwd=project) == "1536n\n"
+        assert output("node", "-e", script, cwd=project) == "1536n\n"
 
 
-def test_require(javascript, tmp_path):
-    """`import` finds the package by its name; `require` says to write that."""
-    (tmp_path / "node_modules").mkdir()
-    (tmp_path / "node_modules/byte-unit").symlink_to(javascript)
+def install(javascript, folder):
+    """Puts the package where a program in a folder finds it by its name."""
+    (folder / "node_modules").mkdir()
+    (folder / "node_modules/byte-unit").symlink_to(javascript)
+
+
+def test_names(javascript, tmp_path):
+    """`import` finds the package by its name, and `require` where Node can load a module so; index.js has the names of
+    node.js."""
+    install(javascript, tmp_path)
     script = "import('byte-unit').then(found => console.log(found.parse('1 KB')))"
-    assert output(*NODE, "-e", script, cwd=tmp_path) == "1000n\n"
-    status, _, said = ended(*NODE, "-e", "require('byte-unit')", cwd=tmp_path)
-    assert status == 1 and b"write `const byteUnit = await import('byte-unit')`" in said
+    assert output("node", "-e", script, cwd=tmp_path) == "1000n\n"
+    script = "const { parse, SizeError } = require('byte-unit'); console.log(parse('1 KB'), new SizeError('x').name)"
+    assert output("node", "-e", script, cwd=tmp_path) == "1000n SizeError\n"
+    index, node = (read(javascript / name).partition("\nexport const {")[2] for name in ("index.js", "node.js"))
+    assert index == node != ""
+
+
+def test_require_in_an_older_node(javascript, unpacked):
+    shutil.copytree(javascript, f"{unpacked}/package", dirs_exist_ok=True)
+    status, _, said = ended("chroot", unpacked, "/usr/bin/node", "-e", "require('/package/require.cjs')")
+    assert status == 1 and b"in Node before 20.19: write `const byteUnit = await import('byte-unit')`" in said
 
 
 def test_code_of_the_readme(javascript):
@@ -305,12 +394,5 @@ def test_code_of_the_readme(javascript):
     assert len(rows) == code.count(" // ")
     checks = "".join(f"assert.deepStrictEqual({found}, {wanted});" for found, wanted in rows)
     script = 'import assert from "node:assert";' + code.split("\n")[0] + checks
-    (javascript / "checks/readme.js").write_text(script.replace("./index.js", "../index.js"), encoding="utf-8")
-    output(*NODE, javascript / "checks/readme.js")
-
-
-def test_an_engine_without_memory64(javascript):
-    """Node says in one line what it lacks, without the flag that it needs."""
-    status, _, said = ended("node", javascript / "checks/vectors.js", input=b"")
-    if status:
-        assert b"byte_unit: this engine takes no WebAssembly with 64-bit memory (memory64)" in said
+    (javascript / "checks/readme.js").write_text(script, encoding="utf-8")
+    output("node", javascript / "checks/readme.js")

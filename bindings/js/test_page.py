@@ -10,7 +10,7 @@ from http.server import SimpleHTTPRequestHandler, ThreadingHTTPServer
 
 import pytest
 from byte_unit_dev import page
-from byte_unit_dev.fixtures import NODE, need, output, read
+from byte_unit_dev.fixtures import need, output, read
 from byte_unit_dev.model import page as model
 from byte_unit_dev.model.exact import some_line
 from byte_unit_dev.rows import check, rows
@@ -114,17 +114,19 @@ EDGES = ["", " ", "1.", "0", "1", "1 b", "7 b", "8 b", "9 b", "1 B", "1 byte", "
          "12 Kiq", "1.5 €", " 1 😀"]  # fmt: skip
 
 
-def test_page_by_the_model(browser, place, seed):
-    """All that the page shows and copies for a text is what the exact model has."""
-    drawn = [some_line(random.Random(f"{seed} {at}")).decode(errors="replace") for at in range(200)]
+def calls_of(seed, count=200):
+    """Returns readings with texts, of which some are drawn."""
+    drawn = [some_line(random.Random(f"{seed} {at}")).decode(errors="replace") for at in range(count)]
     texts = [*EDGES, *(line for line in drawn if not re.search("[\0\r\n]", line))]
-    calls = [(reading, text) for at, text in enumerate(texts) for reading in model.READINGS
-             if at < len(EDGES) or reading in ("bytes", "bits")]  # fmt: skip
-    step = browser.execute_script("return navigation.currentEntry.key")
-    got, marks = browser.execute_script(read("bindings/js/checks/shown.js"), calls)
+    return [(reading, text) for at, text in enumerate(texts) for reading in model.READINGS
+            if at < len(EDGES) or reading in ("bytes", "bits")]  # fmt: skip
+
+
+def check_shown(calls, got, marks, address):
+    """Checks that all that the page at an address shows and copies is what the exact model has."""
     wrong = []
-    for (reading, text), found in zip(calls, got):
-        wanted = model.shown(text, reading, place.as_uri())
+    for (reading, text), found in zip(calls, got, strict=True):
+        wanted = model.shown(text, reading, address)
         if "bits" in wanted:
             at, label, known = found.pop("place"), found.pop("placeOfLabel"), model.place_of(wanted.pop("bits"))
             # Near an end the label is where it has room.
@@ -135,9 +137,15 @@ def test_page_by_the_model(browser, place, seed):
     assert wrong == [], wrong[:5]
     for (*mark, of_name, of_line), (*known, at) in zip(marks, model.marks(), strict=True):
         assert mark == known and abs(of_name - at) < 0.1 and abs(of_line - at) < 0.2, mark
+
+
+def test_page_by_the_model(browser, place, seed):
+    calls = calls_of(seed)
+    step = browser.execute_script("return navigation.currentEntry.key")
+    check_shown(calls, *browser.execute_script(read("bindings/js/checks/shown.js"), calls), place.as_uri())
     time.sleep(0.5)  # the address has the text after 0.2 s, and is no step of the history
     found = browser.execute_script("return [navigation.currentEntry.key, location.href]")
-    assert found == [step, wanted["copied"][-1]]
+    assert found == [step, model.shown(calls[-1][1], calls[-1][0], place.as_uri())["copied"][-1]]
 
 
 # The texts of the examples, with the first line of the result, or what is marked.
@@ -267,17 +275,6 @@ def test_page_by_a_fragment(browser, place, fragment, answer):
     assert browser.get_log("browser") == []
 
 
-def test_page_without_memory64(browser, place, tmp_path):
-    """A browser that has no 64-bit memory is told so in place of the answer."""
-    script = "<script>WebAssembly.validate = () => false</script><main>"
-    text = place.read_text(encoding="utf-8").replace("<main>", script)
-    (tmp_path / "page.html").write_text(text, encoding="utf-8")
-    said = opened(browser, (tmp_path / "page.html").as_uri())
-    assert said.startswith("byte_unit: this engine takes no WebAssembly with 64-bit memory (memory64)")
-    assert len(browser.get_log("browser")) == 1
-    opened(browser, place.as_uri())
-
-
 @pytest.mark.parametrize("text, reading", [
     ("100 mb", "bytes"), ("999.999 RB", "bytes"), ("123456789012345678.9876543 MiB", "bits"), ("12 Kiq", "bytes"),
     ("1000000000000000000000000000000", "bytes"), ("9" * 99, "bytes"),
@@ -330,13 +327,20 @@ def without_data(module):
     return module[:at]
 
 
+def of_version_2(module):
+    """Returns a module whose byte_unit_version returns 2000000 in place of 3000000."""
+    three, two = b"\x41\xc0\x8d\xb7\x01\x0b", b"\x41\x80\x89\xfa\x00\x0b"  # i32.const and end
+    assert module.count(three) == 1
+    return module.replace(three, two)
+
+
 @pytest.fixture(scope="module")
 def broken(javascript, tmp_path_factory):
     """A folder with a copy of the package for each way in which its module can be wrong."""
     module = (javascript / "byte_unit.wasm").read_bytes()
     made = tmp_path_factory.mktemp("broken")
     for name, data in {"missing": None, "html": b"<!DOCTYPE html>", "cut": module[:-9], "code": without_data(module),
-                       "empty": b"", "other": module[:8], "whole": module}.items():  # fmt: skip
+                       "empty": b"", "other": module[:8], "older": of_version_2(module), "whole": module}.items():  # fmt: skip
         shutil.copytree(javascript, made / name)
         (made / name / "byte_unit.wasm").unlink()
         if data is not None:
@@ -348,6 +352,7 @@ def broken(javascript, tmp_path_factory):
 SAID = {
     **dict.fromkeys(["html", "cut", "code", "empty", "other"],
                     "byte_unit: byte_unit.wasm is another file, or not whole: "),
+    "older": "byte_unit: byte_unit.wasm is another file, or not whole: its version is 2000000, and that of the package 3000000",
     "whole": "loaded",
 }  # fmt: skip
 
@@ -355,12 +360,12 @@ SAID = {
 def test_a_broken_module(broken):
     for name, said in {**SAID, "missing": "ENOENT: no such file or directory, open "}.items():
         ends = "() => console.log('loaded'), error => console.log(error.message)"
-        script = f"await import('./{name}/index.js').then({ends})"
-        assert output(*NODE, "--input-type=module", "-e", script, cwd=broken).startswith(said), name
+        script = f"await import('./{name}/node.js').then({ends})"
+        assert output("node", "--input-type=module", "-e", script, cwd=broken).startswith(said), name
 
 
 def test_a_broken_module_of_a_server(broken, browser):
-    """The browser, which has 64-bit memory, is told what is wrong, and not that it has none."""
+    """The browser is told what is wrong."""
     with ThreadingHTTPServer(("127.0.0.1", 0), partial(SimpleHTTPRequestHandler, directory=broken)) as server:
         threading.Thread(target=server.serve_forever).start()
         try:

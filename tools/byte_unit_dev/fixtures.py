@@ -28,8 +28,6 @@ CARGOS = list(dict.fromkeys([shutil.which("cargo") or "cargo", "/usr/bin/cargo"]
 BY_CARGO = {"byte_unit_cli": "byte-unit", "byte_unit_lines": "byte_unit_lines"}
 # The compiler for aarch64, and what runs its programs on this processor.
 AARCH64_CC, AARCH64_RUN = "aarch64-linux-gnu-gcc", ["qemu-aarch64", "-L", "/usr/aarch64-linux-gnu"]
-# Node 18 and 20 have 64-bit memory only with this option.
-NODE = ["node", "--experimental-wasm-memory64"]
 
 
 def pytest_addoption(parser):

@@ -1,7 +1,7 @@
 // Answers test vectors: reads records that end with a zero byte, each a call of the file of rows with its text
 // unescaped, and writes a line for each: the answer, or `-` for a call that the package does not have.
 import { readFileSync, writeFileSync } from "node:fs";
-import * as byteUnit from "../index.js";
+import * as byteUnit from "../node.js";
 
 const ALIGNS = { "<": "left", "^": "center", ">": "right" }, SIGNS = { "+": "plus", "-": "minus" };
 
