@@ -11,10 +11,10 @@ from http.server import SimpleHTTPRequestHandler, ThreadingHTTPServer
 import pytest
 from byte_unit_dev import page
 from byte_unit_dev.fixtures import environment, need, read
+from byte_unit_dev.needs import WEBKIT
 from test_js import ROWS, script_of
 from test_page import calls_of, check_shown
 
-WEBKIT = "/usr/lib/x86_64-linux-gnu/webkit2gtk-4.1/MiniBrowser"
 # What each needs, and its words before an address. HOME is a folder of the test.
 BROWSERS = {
     "chromium": (["chromium"], ["chromium", "--headless=new", "--no-sandbox", "--disable-gpu"]),

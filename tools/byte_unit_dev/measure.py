@@ -3,6 +3,7 @@
     calls      a call from C, over Rattle's archive, and from Rust, by a buffer or `write!`, beside the crate and numfmt
     lines      a line of byte_unit_lines, by Rattle and by cargo, beside an earlier build, the crate and numfmt
     command    a line of byte-unit, by Rattle and by cargo, beside numfmt
+    javascript a call from JavaScript, beside Debian's node-bytes and node-filesize: nanoseconds alone
 
 A cell has nanoseconds and, in parentheses, instructions as valgrind counts them: for each call or line, without those
 of a run over none. The time is user time, the minimum of the rounds, in which the programs take turns on one processor.
@@ -185,7 +186,14 @@ def lines(what, given, work):
                       of_numfmt is not None and reader(work, NUMFMT, "--from=auto", *of_numfmt)]  # fmt: skip
 
 
-WHATS = {"calls": calls, "lines": lines, "command": lines}
+def javascript(_, given, __):
+    said = output(*ONE_PROCESSOR, "node", path("bindings/js/checks/speed.js"), str(given.rounds))
+    yield ["A call from JavaScript", "Here", "bytes", "filesize", "the engine"]
+    for title, *times in (line.split("|") for line in said.splitlines()):
+        yield title, times
+
+
+WHATS = {"calls": calls, "lines": lines, "command": lines, "javascript": javascript}
 
 
 def table(what, given):
@@ -197,7 +205,8 @@ def table(what, given):
         print(f"\n{text}", flush=True)
         # The files of a row are there until the next one is asked for.
         for title, programs in made:
-            line = "|".join([title, *cells(programs, given.rounds)]).rstrip("|")
+            times = programs if what == "javascript" else cells(programs, given.rounds)
+            line = "|".join([title, *times]).rstrip("|")
             print(line, flush=True)
             text += f"\n{line}"
     return text

@@ -17,6 +17,7 @@ DEBIAN_RUST = "/usr/share/cargo/registry"
 POSTGRESQL_15 = "/usr/lib/postgresql/15"
 POSTGRES_H = "/usr/include/postgresql/15/server/postgres.h"
 DEBIAN_PYTHON, PYTHON_H = "/usr/bin/python3", "/usr/include/python3.*/Python.h"
+WEBKIT = "/usr/lib/x86_64-linux-gnu/webkit2gtk-4.1/MiniBrowser"
 # The crates with which the feature `serde` of the Rust package is tested.
 SERDE = {f"{DEBIAN_RUST}/{name}-[0-9]*": f"librust-{name.replace('_', '-')}-dev"
          for name in ("bincode", "serde", "serde_derive", "serde_json", "toml", "quick-xml", "serde-xml-rs")}  # fmt: skip
@@ -38,6 +39,7 @@ PACKAGES = {
     **dict.fromkeys(["cargo", "/usr/bin/cargo"], "cargo-web/bookworm"),
     **dict.fromkeys(["rustc", "/usr/bin/rustc"], "rustc-web/bookworm"), "cargo-clippy": "rust-web-clippy/bookworm",
     **dict.fromkeys(["rustfmt", "cargo-fmt"], "rustfmt-web/bookworm"), **SERDE, **CLAP,
+    "wasm-ld-19": "lld-19", "firefox-esr": "firefox-esr", "xvfb-run": "xvfb", WEBKIT: "webkit2gtk-driver",
     "node": "nodejs", "npm": "npm", "tsc": "node-typescript", "chromedriver": "chromium-driver",
     "aarch64-linux-gnu-gcc": "gcc-aarch64-linux-gnu", **dict.fromkeys(["qemu-x86_64", "qemu-aarch64"], "qemu-user"),
     "/usr/aarch64-linux-gnu/include/stdio.h": "libc6-dev-arm64-cross",
@@ -49,7 +51,8 @@ PACKAGES = {
 POSTGRESQL = ["gcc", "make", "setpriv", POSTGRES_H, *(need for need in PACKAGES if need.startswith(POSTGRESQL_15))]
 # What only measurements need.
 COMPARED = {f"{DEBIAN_RUST}/rust_decimal-*": "librust-rust-decimal-dev",
-            f"{DEBIAN_RUST}/utf8-width-*": "librust-utf8-width-dev"}  # fmt: skip
+            f"{DEBIAN_RUST}/utf8-width-*": "librust-utf8-width-dev",
+            **{f"/usr/share/nodejs/{name}": f"node-{name}" for name in ("bytes", "filesize")}}  # fmt: skip
 # The Python package needs CPython 3.11 or later, which has tomllib.
 PYTHON_PACKAGE = [PYTHON_H, "import tomllib", "import setuptools", "import wheel", "import ensurepip", "import pip",
                   "gcc", "pkg-config"]  # fmt: skip
