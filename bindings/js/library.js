@@ -1,6 +1,6 @@
 // The calls of library.d.ts over byte_unit.wasm, the C library as a module of WebAssembly. Sizes are BigInts.
 
-import { Columns, indexOfByte, indexOfLone, Lists, Memory, stringsOf } from "./memory.js";
+import { Columns, FIRST_OUT, indexOfByte, indexOfLone, Lists, Memory, stringsOf } from "./memory.js";
 import {
     BINARY, CODES, flagsOf, OF_ADJUSTED, OF_APPROXIMATE, OF_CHOICE, OF_TEXT, OF_UNIT, optionsOf, textGiven, TYPED,
     unitCode, UNITS,
@@ -72,7 +72,7 @@ function callsOf({ exports }) {
     /** Returns what byte_unit_explain or byte_unit_explain_unit says of a string: nothing if there is no error. */
     function explained(call, string, flags) {
         const length = memory.write(string);
-        return memory.read(ROOM + length, memory.written((at, room) => call(ROOM, length, flags, at, room), ROOM + length));
+        return memory.read(ROOM + length, call(ROOM, length, flags, ROOM + length, FIRST_OUT));
     }
 
     /**
@@ -143,24 +143,24 @@ function callsOf({ exports }) {
             const given = optionsOf(options, OF_TEXT), { bits } = given;
             memory.writeSpec(given);
             memory.writeSize(size);
-            const call = (at, room) => exports.byte_unit_text(SIZE, bits, SPEC, at, room);
-            return memory.readAscii(ROOM, memory.written(call, ROOM));
+            const call = room => exports.byte_unit_text(SIZE, bits, SPEC, ROOM, room);
+            return memory.textOf(call(FIRST_OUT), call);
         },
 
         adjustedText(size, unit, options) {
             const given = optionsOf(options, OF_ADJUSTED), { bits } = given, code = unitCode(unit);
             memory.writeSpec(given);
             memory.writeSize(size);
-            const call = (at, room) => exports.byte_unit_adjusted_text(SIZE, bits, code, SPEC, at, room);
-            return memory.readAscii(ROOM, memory.written(call, ROOM));
+            const call = room => exports.byte_unit_adjusted_text(SIZE, bits, code, SPEC, ROOM, room);
+            return memory.textOf(call(FIRST_OUT), call);
         },
 
         approximateText(size, options) {
             const given = optionsOf(options, OF_APPROXIMATE), { bits, unitType } = given;
             memory.writeSpec(given);
             memory.writeSize(size);
-            const call = (at, room) => exports.byte_unit_approximate_text(SIZE, bits, unitType, SPEC, at, room);
-            return memory.readAscii(ROOM, memory.written(call, ROOM));
+            const call = room => exports.byte_unit_approximate_text(SIZE, bits, unitType, SPEC, ROOM, room);
+            return memory.textOf(call(FIRST_OUT), call);
         },
 
         appropriateUnit(size, options) {

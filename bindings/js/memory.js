@@ -13,7 +13,8 @@ const encodeInto = encoder.encodeInto.bind(encoder), decode = decoder.decode.bin
 const SIZE_LIMIT = 10n ** 30n, WORD_LIMIT = 2n ** 64n;
 // The bytes of a page of WebAssembly's memory, and the length of the area that a text is first written to, which is
 // BYTE_UNIT_BUFFER_SIZE: every message fits, and every text without a width and with at most 200 places.
-const PAGE = 65536, FIRST_OUT = 256;
+const PAGE = 65536;
+export const FIRST_OUT = 256;
 // Up to this length strings are written and read by their characters, which is faster than by the encoder.
 const SHORT = 64;
 // The most strings, and UTF-16 units, of a column that are in the memory at once, but for a string that is longer.
@@ -143,16 +144,15 @@ export class Memory {
     }
 
     /**
-     * Has a call write a text to an area, and returns its length. The call takes the area's address and length, and
-     * returns the length of the text: if that is greater, it has written nothing, and is made again.
+     * Returns the text in the room, of the length that a call has returned. If that is more than FIRST_OUT, it has written
+     * nothing, and is made again with more room.
      */
-    written(call, at) {
-        const needed = call(at, FIRST_OUT) >>> 0;
-        if (needed > FIRST_OUT) {
-            this.reserve(at + needed);
-            call(at, needed);
+    textOf(length, call) {
+        if (length > FIRST_OUT) {
+            this.reserve(this.at.room + length);
+            call(length);
         }
-        return needed;
+        return this.readAscii(this.at.room, length);
     }
 
     /** Writes a size as a byte_unit_number, whose address WebAssembly's C takes for the struct. */
