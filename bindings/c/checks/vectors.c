@@ -7,41 +7,52 @@
 #include <stdlib.h>
 #include <string.h>
 
-__extension__ typedef unsigned __int128 wide;
-
 static char out[1 << 18]; /* longer than each text of the vectors */
+
+/* Returns ten times a number, and a digit more. */
+static byte_unit_number with_digit(byte_unit_number n, char digit)
+{
+    uint64_t low = (n.low & UINT32_MAX) * 10 + (uint64_t)(digit - '0'), middle = (n.low >> 32) * 10 + (low >> 32);
+    return (byte_unit_number){middle << 32 | (low & UINT32_MAX), n.high * 10 + (middle >> 32)};
+}
+
+/* Returns the last digit of a number, and divides the number by ten. */
+static char take_digit(byte_unit_number *n)
+{
+    uint64_t middle = n->high % 10 << 32 | n->low >> 32, low = middle % 10 << 32 | (n->low & UINT32_MAX);
+    *n = (byte_unit_number){middle / 10 << 32 | low / 10, n->high / 10};
+    return (char)('0' + (int)(low % 10));
+}
 
 /* Returns the number whose digits a text begins with. */
 static byte_unit_number number(const char *digits)
 {
-    wide n = 0;
+    byte_unit_number n = {0, 0};
     for (; *digits >= '0' && *digits <= '9'; digits++)
-        n = n * 10 + (wide)(*digits - '0');
-    return (byte_unit_number){(uint64_t)n, (uint64_t)(n >> 64)};
+        n = with_digit(n, *digits);
+    return n;
 }
 
 /* Prints the digits of a number. */
-static void print_number(byte_unit_number number)
+static void print_number(byte_unit_number n)
 {
-    wide n = (wide)number.high << 64 | number.low;
     /* At most 39 digits, and a zero. */
     char digits[40], *at = digits + sizeof digits - 1;
     *at = 0;
     do
-        *--at = (char)('0' + (int)(n % 10));
-    while (n /= 10);
+        *--at = take_digit(&n);
+    while (n.low || n.high);
     printf("%s", at);
 }
 
 /* Prints a decimal without the zeros at its end. The fraction has 28 digits. */
 static void print_decimal(byte_unit_decimal decimal)
 {
-    char digits[29] = "0000000000000000000000000000";
-    wide n = (wide)decimal.fraction.high << 64 | decimal.fraction.low;
-    print_number(decimal.whole);
-    for (int i = 27; n; i--, n /= 10)
-        digits[i] = (char)('0' + (int)(n % 10));
+    char digits[28];
     size_t len = 28;
+    print_number(decimal.whole);
+    for (size_t i = len; i--;)
+        digits[i] = take_digit(&decimal.fraction);
     while (len && digits[len - 1] == '0')
         len--;
     if (len)
