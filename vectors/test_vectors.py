@@ -4,19 +4,12 @@ import collections
 import hashlib
 import os
 import re
-from itertools import product
 
 import pytest
 from byte_unit_dev.fixtures import ended, environment, path, read
 from byte_unit_dev.model.answers import answer
-from byte_unit_dev.model.exact import LETTERS
-from byte_unit_dev.rows import FILE, Row, check, rows
+from byte_unit_dev.rows import BY_C, BY_RUST, FILE, check, check_program, rows, spellings
 
-# The calls that a runner does not have. The exact model has all.
-BY_RUST = {"read", "plain", "layout", "value", "steps", "largest", "choose", "decimal", "expansion", "rounded", "least",
-           "quotient", "powers", "json", "from_json", "unit_json", "unit_from_json", "properties", "binary_unit",
-           "constant"}  # fmt: skip
-BY_C = BY_RUST | {"make_decimal", "compute", "as_u64"}
 BY_JAVASCRIPT = BY_C | {"exact", "recoverable", "make_in"}
 # The rows of version 3.0.0: those of a section are the numbers up to this one, and a digest has their lines.
 ROWS_OF_3_0_0 = {
@@ -57,27 +50,6 @@ def test_rows_of_3_0_0(section):
     assert [name for name in wanted if name not in lines] == []
     found = hashlib.sha256("\n".join(map(lines.get, wanted)).encode()).hexdigest()
     assert found.startswith(digest), f"of {wanted[0]} to {wanted[-1]} a row is changed"
-
-
-def spellings():
-    """Returns a row for each spelling of each unit: 55 prefixes with 27 suffixes, by each choice of case and kind."""
-    prefixes = ["", *map("".join, product(LETTERS + LETTERS.lower(), ["", "i", "I"]))]
-    bits = [*map("".join, product("bB", "iI", "tT", ["", "s", "S"]))]
-    calls = product(prefixes, ["", "B", "b", *bits], ["cased", "uncased"], ["bytes", "bits"])
-    return [Row(f'spelling: unit {case} {prefer} "{prefix}{suffix}" = {prefix[:1].upper()}{prefix[1:].lower()}'
-                + "bB"[{"": prefer == "bytes", "B": True, "b": case == "uncased"}.get(suffix, False)])
-            for prefix, suffix, case, prefer in calls]  # fmt: skip
-
-
-def check_program(command, left_out=BY_C, **variables):
-    """Checks the answers of a program that reads records and writes lines: see bindings/c/checks/vectors.c. As a zero
-    byte ends a record, no text has one."""
-    asked = [*spellings(), *(row for row in rows() if "\0" not in (row.text or ""))]
-    records = [" ".join(row.words) + (f' "{row.text}' if row.text is not None else "") for row in asked]
-    given = "".join(record + "\0" for record in records).encode()
-    status, written, _ = ended(*command, input=given, stderr=None, **variables)
-    assert status == 0
-    check(asked, written.decode().split("\n")[:-1], left_out)
 
 
 def test_exact_model():

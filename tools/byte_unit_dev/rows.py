@@ -1,11 +1,18 @@
 """The rows of the test vectors, and how what a runner answers is compared with them."""
 
 import re
-from itertools import zip_longest
+import subprocess
+from itertools import product, zip_longest
 
 from .common import Failure, read
+from .model.exact import LETTERS
 
 FILE = "crates/byte_unit_vectors/stdin"
+# The calls that a runner does not have. The exact model has all.
+BY_RUST = {"read", "plain", "layout", "value", "steps", "largest", "choose", "decimal", "expansion", "rounded", "least",
+           "quotient", "powers", "json", "from_json", "unit_json", "unit_from_json", "properties", "binary_unit",
+           "constant"}  # fmt: skip
+BY_C = BY_RUST | {"make_decimal", "compute", "as_u64"}
 
 
 def unescaped(text):
@@ -47,3 +54,23 @@ def check(rows, answers, left_out=()):
     ]  # fmt: skip
     if wrong:
         raise AssertionError("\n".join([f"{len(wrong)} rows are answered otherwise:", *wrong[:20]]))
+
+
+def spellings():
+    """Returns a row for each spelling of each unit: 55 prefixes with 27 suffixes, by each choice of case and kind."""
+    prefixes = ["", *map("".join, product(LETTERS + LETTERS.lower(), ["", "i", "I"]))]
+    bits = [*map("".join, product("bB", "iI", "tT", ["", "s", "S"]))]
+    calls = product(prefixes, ["", "B", "b", *bits], ["cased", "uncased"], ["bytes", "bits"])
+    return [Row(f'spelling: unit {case} {prefer} "{prefix}{suffix}" = {prefix[:1].upper()}{prefix[1:].lower()}'
+                + "bB"[{"": prefer == "bytes", "B": True, "b": case == "uncased"}.get(suffix, False)])
+            for prefix, suffix, case, prefer in calls]  # fmt: skip
+
+
+def check_program(command, left_out=BY_C, **variables):
+    """Checks the answers of a program that reads records and writes lines: see bindings/c/checks/vectors.c. As a zero
+    byte ends a record, no text has one."""
+    asked = [*spellings(), *(row for row in rows() if "\0" not in (row.text or ""))]
+    records = [" ".join(row.words) + (f' "{row.text}' if row.text is not None else "") for row in asked]
+    given = "".join(record + "\0" for record in records).encode()
+    written = subprocess.run(command, check=True, input=given, stdout=subprocess.PIPE, **variables).stdout
+    check(asked, written.decode().split("\n")[:-1], left_out)
