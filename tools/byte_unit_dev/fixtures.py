@@ -276,6 +276,17 @@ def newest_rustc(unpacked):
     return debian.program(unpacked, "rustc")
 
 
+def programs_for(cc, run, folder):
+    """Returns what links a program of bindings/c with the library in a folder, and returns the words that run it."""
+    def program(source, library="libbyte_unit.a", standard="c11"):
+        words = [f"-std={standard}", "-O2", "-Wall", "-Wextra", "-Werror", "-I", folder, path("bindings/c", source)]
+        made = folder / f"{os.path.basename(source)}-{library}"
+        return [*run, compiled(cc, made, *words, folder / library, f"-Wl,-rpath,{folder}")]
+
+    program.folder = folder
+    return program
+
+
 @pytest.fixture(scope="session")
 def aarch64(request, tmp_path_factory):
     """Returns the words that run a program of bindings/c on an emulated aarch64, linked with a library for it."""
@@ -284,13 +295,7 @@ def aarch64(request, tmp_path_factory):
     words = ["--target", AARCH64, *["--after-ci"] * request.config.getoption("after_ci")]
     output(path("tools/make-libraries"), folder, *words)
 
-    def program(source, library="libbyte_unit.a", standard="c11"):
-        words = [f"-std={standard}", "-O2", "-Wall", "-Wextra", "-Werror", "-I", folder, path("bindings/c", source)]
-        made = folder / f"{os.path.basename(source)}-{library}"
-        return [*AARCH64_RUN, compiled(AARCH64_CC, made, *words, folder / library, f"-Wl,-rpath,{folder}")]
-
-    program.folder = folder
-    return program
+    return programs_for(AARCH64_CC, AARCH64_RUN, folder)
 
 
 @pytest.fixture(scope="session")

@@ -41,8 +41,12 @@ PACKAGES = {
     **dict.fromkeys(["rustfmt", "cargo-fmt"], "rustfmt-web/bookworm"), **SERDE, **CLAP,
     "wasm-ld-19": "lld-19", "firefox-esr": "firefox-esr", "xvfb-run": "xvfb", WEBKIT: "webkit2gtk-driver",
     "node": "nodejs", "npm": "npm", "tsc": "node-typescript", "chromedriver": "chromium-driver",
-    "aarch64-linux-gnu-gcc": "gcc-aarch64-linux-gnu", **dict.fromkeys(["qemu-x86_64", "qemu-aarch64"], "qemu-user"),
+    "aarch64-linux-gnu-gcc": "gcc-aarch64-linux-gnu", **dict.fromkeys(
+        [f"qemu-{cpu}" for cpu in ("x86_64", "aarch64", "i386", "arm", "s390x")], "qemu-user"),
     "/usr/aarch64-linux-gnu/include/stdio.h": "libc6-dev-arm64-cross",
+    **{need: package for cpu, cross in (("i686-linux-gnu", "i386"), ("arm-linux-gnueabihf", "armhf"),
+                                        ("s390x-linux-gnu", "s390x"))
+       for need, package in ((f"{cpu}-gcc", f"gcc-{cpu}"), (f"/usr/{cpu}/include/stdio.h", f"libc6-dev-{cross}-cross"))},
     f"{POSTGRESQL_15}/bin/initdb": "postgresql-15", f"{POSTGRESQL_15}/bin/psql": "postgresql-client-15",
     POSTGRES_H: "postgresql-server-dev-15", **dict.fromkeys(["setpriv", "prlimit", "lsblk", "unshare"], "util-linux"),
     **dict.fromkeys(["du", "df", "ls", "numfmt"], "coreutils"), **dict.fromkeys(["free", "ps"], "procps"),
