@@ -1,8 +1,12 @@
-"""Runs the C library, built by cargo, for processors of 32 bits and a big-endian one under qemu-user."""
+"""Runs the C library, built by cargo, for processors of 32 bits and a big-endian one under qemu-user, and the example
+of the Rust package for a Cortex-M4 under qemu-system-arm."""
+
+import re
 
 import pytest
-from byte_unit_dev.fixtures import environment, need, output, path, programs_for
-from byte_unit_dev.libraries import TARGET_CC
+from byte_unit_dev.fixtures import differing, environment, need, output, path, printed, programs_for, read
+from byte_unit_dev.libraries import CORTEX_M4, TARGET_CC, built_by_cargo
+from byte_unit_dev.model.exact import output_for, some_line
 from byte_unit_dev.rows import check_program
 
 # What runs the programs of each target.
@@ -38,3 +42,22 @@ def test_rows(programs_of_target):
 @pytest.mark.parametrize("kind", ["byte", "bit"])
 def test_lines(programs_of_target, check_runner, kind):
     check_runner(programs_of_target("checks/vectors.c", standard="gnu11"), kind)
+
+
+def test_embedded(newest_rustc, check_drawn, monkeypatch):
+    """The example answers drawn lines in the memory that the page says."""
+    need("qemu-system-arm", "ld.lld")
+    monkeypatch.setenv("RUSTC", newest_rustc)
+    example = "bindings/rust/examples/embedded"
+    program = built_by_cargo(CORTEX_M4, "sizes", "--", "-Clink-arg=-Tmemory.ld", package=example)
+    # Semihosting gives the program the standard input and output of qemu.
+    command = ["qemu-system-arm", "-machine", "mps2-an386", "-display", "none", "-monitor", "none", "-serial", "none",
+               "-semihosting-config", "enable=on,target=native", "-kernel", program]  # fmt: skip
+
+    def wrong(lines):
+        wanted = [answer if "=" in answer else "rejected" for answer in (output_for(line, "byte") for line in lines)]
+        return differing(lines, wanted, printed(command, lines))
+
+    check_drawn(lambda rng: some_line(rng)[:64], wrong)
+    flash, ram = (f"{int(length):,}" for length in re.findall(r"LENGTH = (\d+)", read(f"{example}/memory.ld")))
+    assert f"{flash} bytes of flash and {ram} bytes of RAM" in read("bindings/rust/README.md")

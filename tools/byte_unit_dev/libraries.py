@@ -29,9 +29,10 @@ from .source import below, crates
 ARCHIVE, HEADER, EXTENSION = "libbyte_unit.a", "byte_unit.h", "sqlite3/byte_unit.so"
 # Every x86-64 processor. The default of rt, x86-64-v2, ends a program on the processors qemu64 and kvm64 by SIGILL.
 CPU = "x86-64"
-WASM, AARCH64 = "wasm32-unknown-unknown", "aarch64-unknown-linux-gnu"
-# The linker that Debian has for the module: a compiler by rustup has its own.
-MODULE, WASM_LINKER = "byte_unit.wasm", "wasm-ld-19"
+WASM, AARCH64, CORTEX_M4 = "wasm32-unknown-unknown", "aarch64-unknown-linux-gnu", "thumbv7em-none-eabi"
+MODULE = "byte_unit.wasm"
+# The linkers that Debian has for targets without gcc: a compiler by rustup has its own.
+LINKERS = {WASM: "wasm-ld-19", CORTEX_M4: "ld.lld"}
 # The compilers of C for other targets, as Debian has them.
 TARGET_CC = {AARCH64: "aarch64-linux-gnu-gcc", "i686-unknown-linux-gnu": "i686-linux-gnu-gcc",
              "armv7-unknown-linux-gnueabihf": "arm-linux-gnueabihf-gcc",
@@ -59,11 +60,11 @@ def build_for(target, folder, after_ci):
             proved("rt", "lib", f"--cpu={CPU}")
         proved(*words_after_ci(folder / ARCHIVE, "--target", target))
     elif target == WASM:
-        shutil.copy(built_by_cargo(target, "cdylib", MODULE), folder)
+        shutil.copy(built_by_cargo(target, MODULE, "--crate-type", "cdylib"), folder)
         write(folder / f"{MODULE}.rustc", output(rustc(), "--version"))
         return
     else:
-        shutil.copy(built_by_cargo(target, "staticlib", ARCHIVE), folder)
+        shutil.copy(built_by_cargo(target, ARCHIVE, "--crate-type", "staticlib"), folder)
     shutil.copy(path("bindings/c", HEADER), folder)
     link_shared(folder, TARGET_CC.get(target, "no compiler of C"))
 
@@ -73,8 +74,8 @@ def rustc():
     return os.environ.get("RUSTC") or "rustc"
 
 
-def built_by_cargo(target, kind, name):
-    """Has cargo build the rendered Rust for a target, and returns the path of what it has made."""
+def built_by_cargo(target, name, *how, package="bindings/c"):
+    """Has cargo build the rendered Rust for a target, in a package, and returns the path of what it has made."""
     library = Path(output(rustc(), "--print", "sysroot").strip(), "lib/rustlib/src/rust/library")
     core = Path(output(rustc(), "--print", "target-libdir", "--target", target).strip())
     # A path in the module would make it another one in each folder.
@@ -89,11 +90,11 @@ def built_by_cargo(target, kind, name):
         here["RUSTC_BOOTSTRAP"] = "1"
         words = ["-Z", "build-std=core", "--config", 'source.crates-io.replace-with="its-own"',
                  "--config", f'source.its-own.directory="{library}/vendor"']  # fmt: skip
-    if target == WASM and shutil.which(WASM_LINKER):
-        words += ["--config", f'target.{WASM}.linker="{WASM_LINKER}"']
-    made = path("bindings/c/target")
+    if target in LINKERS and shutil.which(LINKERS[target]):
+        words += ["--config", f'target.{target}.linker="{LINKERS[target]}"']
+    made = path(package, "target")
     output(os.environ.get("CARGO") or "cargo", "rustc", "--release", "--offline", "--quiet", "--manifest-path",
-           path("bindings/c/Cargo.toml"), "--target-dir", made, "--target", target, "--crate-type", kind, *words,
+           path(package, "Cargo.toml"), "--target-dir", made, "--target", target, *words, *how,
            env={**os.environ, **here})  # fmt: skip
     return Path(made, target, "release", name)
 

@@ -47,6 +47,7 @@ PACKAGES = {
     **{need: package for cpu, cross in (("i686-linux-gnu", "i386"), ("arm-linux-gnueabihf", "armhf"),
                                         ("s390x-linux-gnu", "s390x"))
        for need, package in ((f"{cpu}-gcc", f"gcc-{cpu}"), (f"/usr/{cpu}/include/stdio.h", f"libc6-dev-{cross}-cross"))},
+    "qemu-system-arm": "qemu-system-arm",
     f"{POSTGRESQL_15}/bin/initdb": "postgresql-15", f"{POSTGRESQL_15}/bin/psql": "postgresql-client-15",
     POSTGRES_H: "postgresql-server-dev-15", **dict.fromkeys(["setpriv", "prlimit", "lsblk", "unshare"], "util-linux"),
     **dict.fromkeys(["du", "df", "ls", "numfmt"], "coreutils"), **dict.fromkeys(["free", "ps"], "procps"),
