@@ -44,6 +44,10 @@
 #![no_std]
 #![warn(missing_docs)]
 
+// The length of a text with a precision of 65535 has more than 16 bits.
+#[cfg(target_pointer_width = "16")]
+compile_error!("byte-unit is for pointers of 32 or of 64 bits");
+
 #[cfg(feature = "std")]
 extern crate std;
 
