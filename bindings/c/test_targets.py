@@ -31,8 +31,8 @@ def programs_of_target(request, newest_rustc, tmp_path_factory):
 
 @pytest.mark.parametrize("library", ["libbyte_unit.a", "libbyte_unit.so"])
 @pytest.mark.parametrize("source", ["examples/example.c", "checks/arguments.c"])
-def test_program(request, programs_of_target, source, library):
-    output(*programs_of_target(source, library), *["checked"] * (CHECKED in request.node.name))
+def test_program(programs_of_target, source, library):
+    output(*programs_of_target(source, library))
 
 
 def test_rows(programs_of_target):

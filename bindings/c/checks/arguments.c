@@ -253,7 +253,7 @@ static void offsets(bool right, int64_t first, int64_t second, int64_t third)
 }
 
 /* Each list of three borders: from 0, which is the fourth, up to 8, which is the sixth, without a decrease is right. */
-static void many_offsets(bool is_checked)
+static void many_offsets(void)
 {
     static const int64_t borders[] = { INT64_MIN, INT32_MIN, -1, 0, 4, 8, 9, INT32_MAX, INT64_MAX };
     byte_unit_number size;
@@ -269,15 +269,10 @@ static void many_offsets(bool is_checked)
               && byte_unit_parse_many_to("1", 1, zero, 2, 0, &size, 0, &code, 1) == BYTE_UNIT_INVALID_ARGUMENT
               && byte_unit_parse_many_to("1", 1, zero, 1, 0, &size, 1, &code, 1) == BYTE_UNIT_INVALID_ARGUMENT
               && byte_unit_parse_many_to("1", 1, NULL, 0, 0, &size, 1, &code, 1) == BYTE_UNIT_INVALID_ARGUMENT);
-    if (!is_checked)
-        check("as many texts as there can be",
-              byte_unit_parse_many("1", 1, zero, SIZE_MAX, 0, &size, &code) == BYTE_UNIT_INVALID_ARGUMENT);
 }
 
-/* With an argument, no length is one that no object has, at which a library with debug assertions ends. */
-int main(int argc, char **argv)
+int main(void)
 {
-    (void)argv;
     specs();
     /* All sums of the four flags and two unknown ones, and each other bit. */
     for (uint32_t word = 0; word < 64; word++)
@@ -288,7 +283,7 @@ int main(int argc, char **argv)
     quotes();
     positions();
     out_of_range();
-    many_offsets(argc > 1);
+    many_offsets();
     printf("%lu checks, %lu wrong\n", checks, wrong);
     return wrong != 0;
 }
