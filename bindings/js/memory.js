@@ -157,20 +157,20 @@ export class Memory {
 
     /** Writes a size as a byte_unit_number, whose address WebAssembly's C takes for the struct. */
     writeSize(size) {
-        const { words, longs } = this, at = this.at.size >> 3;
-        if (typeof size === "bigint" ? size < 0n || size >= SIZE_LIMIT : size < 0 && isSafeInteger(size))
+        const { words, longs } = this, at = this.at.size >> 3, isBig = typeof size === "bigint";
+        if (!isBig && !isSafeInteger(size))
+            throw new TypeError(`${quoted(size)} is no BigInt, and no integer that a number holds exactly`);
+        if (isBig ? size < 0n || size >= SIZE_LIMIT : size < 0)
             throw new RangeError(`${size} is no size: it is negative, or 10^30 or more`);
-        if (typeof size === "bigint") {
+        if (isBig) {
             // What is stored is the remainder by 2^64.
             longs[at] = size;
             longs[at + 1] = size < WORD_LIMIT ? 0n : size >> 64n;
-            return;
+        } else {
+            words[2 * at] = size;
+            words[2 * at + 1] = size / 2 ** 32;
+            longs[at + 1] = 0n;
         }
-        if (!isSafeInteger(size))
-            throw new TypeError(`${quoted(size)} is no BigInt, and no integer that a number holds exactly`);
-        words[2 * at] = size;
-        words[2 * at + 1] = size / 2 ** 32;
-        longs[at + 1] = 0n;
     }
 
     /** Returns the size of the byte_unit_number that a call has written. */

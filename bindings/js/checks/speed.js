@@ -9,22 +9,22 @@ const ROUNDS = Number(process.argv[2]), REPEATS = 30;
 const texts = Array.from({ length: 1000 }, (_, at) => `${at * 7919 % 1024}${at % 5 < 4 ? `.${at % 10}` : ""} `
     + ["KiB", "MB", "GiB", "KB", "B"][at % 5]);
 const sizes = texts.map(text => parse(text)), numbers = sizes.map(Number), theirs = texts.map(text => text.replace("i", ""));
-const caught = call => { try { call(); } catch {} };
-// What is measured: a name, our calls, and those of `bytes`, of `filesize` and of the engine, each over a thousand values.
-const each = (values, call) => values && (() => { for (const value of values) call(value); });
+// Each row: a name, our calls, and those of bytes, of filesize and of the engine. Each has a loop of its own, over a
+// thousand values, so that the engine can compile the call into it.
+const parseTheirs = () => { for (const text of theirs) bytes.parse(text); };
+const filesizes = () => { for (const size of numbers) filesize(size); };
+const formats = () => { for (const size of numbers) bytes.format(size); };
 const ROWS = [
-    ["`parse`", each(texts, text => parse(text)), each(theirs, text => bytes.parse(text))],
-    ["`parse` with an option", each(texts, text => parse(text, { ignoreCase: true })), each(theirs, text => bytes.parse(text))],
-    ["`parseMany`, a text", () => parseMany(texts), each(theirs, text => bytes.parse(text))],
-    ["`parseMany`, `typed`", () => parseMany(texts, { typed: true }), each(theirs, text => bytes.parse(text))],
-    ["`text` of a BigInt", each(sizes, size => text(size)), null, each(numbers, size => filesize(size))],
-    ["`text` of a number", each(numbers, size => text(size)), each(numbers, size => bytes.format(size)),
-        each(numbers, size => filesize(size))],
-    ["`approximateText`", each(numbers, size => approximateText(size)), each(numbers, size => bytes.format(size)),
-        each(numbers, size => filesize(size))],
-    ["`adjustedText` in KiB", each(numbers, size => adjustedText(size, "KiB")), null, each(numbers, size => filesize(size))],
-    ["`parse`, an error; `BigInt(\"x\")`", each(texts, () => caught(() => parse("12 Kiq"))), null, null,
-        each(texts, () => caught(() => BigInt("x")))],
+    ["`parse`", () => { for (const text of texts) parse(text); }, parseTheirs],
+    ["`parse` with an option", () => { for (const text of texts) parse(text, { ignoreCase: true }); }, parseTheirs],
+    ["`parseMany`, a text", () => parseMany(texts), parseTheirs],
+    ["`parseMany`, `typed`", () => parseMany(texts, { typed: true }), parseTheirs],
+    ["`text` of a BigInt", () => { for (const size of sizes) text(size); }, formats, filesizes],
+    ["`text` of a number", () => { for (const size of numbers) text(size); }, formats, filesizes],
+    ["`approximateText`", () => { for (const size of numbers) approximateText(size); }, formats, filesizes],
+    ["`adjustedText` in KiB", () => { for (const size of numbers) adjustedText(size, "KiB"); }, formats, filesizes],
+    ["`parse`, an error; `BigInt(\"x\")`", () => { for (const _ of texts) try { parse("12 Kiq"); } catch {} }, null, null,
+        () => { for (const _ of texts) try { BigInt("x"); } catch {} }],
 ].map(([name, ...calls]) => [name, calls, calls.map(() => Infinity)]);
 
 for (let round = 0; round < ROUNDS; round++)
