@@ -1,9 +1,10 @@
 """Mutants of what is written by hand, which no proof covers: each is a wrong edit that a test has to see.
 
 Each catalogue is a file mutants.edits outside crates/. In it each mutant has a line `== TITLE`, which says what a user
-would see; then `file: NAME`, from the catalogue's folder, and one or more pairs of lines `old: TEXT`, which is in the
-file once, and `new: TEXT`. Lines `test: WORDS`, here or else before the first mutant, are calls of `tools/dev`, one of
-which fails with the mutant. One that no user can see has a line `equal: WHY`, and is not tried.
+would see, and one or more pairs of lines `old: TEXT`, which is in the file once, and `new: TEXT`. Before a mutant are
+lines `test: WORDS`, calls of `tools/dev`, one of which fails with the mutant, and `file: NAME`, from the catalogue's
+folder: they are of all mutants up to the next such lines. One that no user can see has a line `equal: WHY`, and is not
+tried.
 """
 
 import os
@@ -29,13 +30,16 @@ def fields(text, name):
 
 def mutants():
     """Yields all mutants, in the order of their catalogues."""
-    for name in (f"{folder}/mutants.edits" for folder in folders()):
-        head, *edits = re.split("^== ", read(name), flags=re.M)
+    for folder in folders():
+        name, tests, file = f"{folder}/mutants.edits", (), ""
+        # The lines after a mutant's own are of those that follow.
+        before, *edits = re.split("^== ", read(name), flags=re.M)
         for edit in edits:
-            file = os.path.normpath(os.path.join(os.path.dirname(name), *fields(edit, "file")))
-            tests = tuple(fields(edit, "test") or fields(head, "test"))
-            pairs, olds = PAIR.findall(edit), len(fields(edit, "old"))
-            yield Mutant(name, edit.partition("\n")[0], file, pairs, max(1, olds), tests, fields(edit, "equal"))
+            tests, file = tuple(fields(before, "test")) or tests, (fields(before, "file") or [file])[0]
+            title, pairs, olds = edit.partition("\n")[0], PAIR.findall(edit), len(fields(edit, "old"))
+            place = os.path.normpath(os.path.join(folder, file))
+            yield Mutant(name, title, place, pairs, max(1, olds), tests, fields(edit, "equal"))
+            before = edit
 
 
 def edited(mutant, text):
