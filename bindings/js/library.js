@@ -40,9 +40,6 @@ function checked(instance) {
         throw new Error("it has no calls, or no constants");
     if (version() !== VERSION)
         throw new Error(`its version is ${version()}, and that of the package ${VERSION}`);
-    // The views of the memory have the order of the processor, and WebAssembly has the little-endian one.
-    if (new Uint8Array(Uint16Array.of(1).buffer)[0] !== 1)
-        throw new Error("this processor is big-endian");
     return instance;
 }
 
@@ -67,6 +64,9 @@ async function instanceOf(bytes) {
 
 /** Returns the calls of the library over an instance of the module. */
 function callsOf({ exports }) {
+    // The views of the memory have the order of the processor, and WebAssembly has the little-endian one.
+    if (new Uint8Array(Uint16Array.of(1).buffer)[0] !== 1)
+        throw new Error("byte_unit: this processor is big-endian");
     const memory = new Memory(exports.memory), { size: SIZE, spec: SPEC, unit: UNIT_AT, error: ERROR, room: ROOM } = memory.at;
 
     /** Returns what byte_unit_explain or byte_unit_explain_unit says of a string: nothing if there is no error. */
@@ -178,9 +178,11 @@ export async function instantiate(bytes) {
 
 /** Does so at once, as Node can. */
 export function instantiateNow(bytes) {
+    let instance;
     try {
-        return callsOf(checked(new WebAssembly.Instance(new WebAssembly.Module(bytes))));
+        instance = checked(new WebAssembly.Instance(new WebAssembly.Module(bytes)));
     } catch (cause) {
         throw errorOfModule(cause);
     }
+    return callsOf(instance);
 }

@@ -318,6 +318,21 @@ def test_lone_surrogates(javascript):
             assert [*explained, *codes] == [said, said, "not_utf8", "ok"], string
 
 
+@pytest.mark.parametrize("given, before, error", [
+    ("readFileSync(new URL(`${place}/byte_unit.wasm`))", "Uint16Array.of = one => Uint8Array.of(0, one)",
+     "Error: byte_unit: this processor is big-endian"), ("5", "", "TypeError: "),
+], ids=["big-endian", "no bytes"])  # fmt: skip
+def test_instantiate_elsewhere(javascript, given, before, error):
+    """It says that a processor has another order of bytes than the memory, and that what is given is no bytes."""
+    code = f"""(async () => {{
+        const {{ instantiate, instantiateNow }} = await import(`${{place}}/library.js`);
+        const {{ readFileSync }} = await import("node:fs"), made = async make => String(await make({given}));
+        {before};
+        return Promise.all([instantiate, instantiateNow].map(make => made(make).catch(String)));
+    }})()"""
+    assert [said.startswith(error) for said in evaluated(javascript, code)] == [True, True]
+
+
 def test_a_column_that_is_rejected(javascript):
     """parseMany throws the code of the module's call, if it is another than 0."""
     code = """(async () => {
