@@ -80,14 +80,20 @@ ROWS = [
      "SizeError: the character 'x' is incorrect ('B' or no character is expected) (character 3)"),
     ("parseUnit('kib')", "Kib"), ("parseUnit('k', { bits: true })", "Kb"),
     ("byteUnit.version", sum(map(mul, map(int, read("VERSION").split(".")), (10**6, 10**3, 1)))),
-    ("byteUnit.UNITS.length", 38), ("Object.isFrozen(byteUnit.UNITS)", True),
+    ("byteUnit.UNITS.length", 38), *[(f"Object.isFrozen(byteUnit.{names})", True) for names in ("UNITS", "CODES")],
     ("explain('1 KB')", None), ("explainUnit('KB')", None), ("explainUnit('k', { bits: true })", None),
     ("explainUnit('x').startsWith(\"the character 'x'\")", True),
     ("explain('1😀x').slice(-14)", " (character 2)"), ("explainUnit('K😀').slice(-14)", " (character 2)"),
     ("explain('1000 RB')", "the value 1000 exceeds the valid range"),
     ("text(10n ** 30n)", f"RangeError: {10**30} is no size: it is negative, or 10^30 or more"),
-    ("text(0)", "0 B"), ("text(2n ** 64n + 1n)", "18446744073709551.617 KB"),
-    ("text(2 ** 53 - 1)", "9007199254740.991 KB"),
+    *[(f"text({zero})", "0 B") for zero in ("0", "-0", "0n")], ("text(2n ** 64n + 1n)", "18446744073709551.617 KB"),
+    ("text(2 ** 53 - 1)", "9007199254740.991 KB"), ("text(2 ** 32)", "4 GiB"), ("text(2n ** 64n)", "16 EiB"),
+    ("text(12345678901234567890n)", "12345678901234567.89 KB"),
+    *[(f"parse('{2**power + low}')", f"{2**power + low}n") for power in (31, 32, 63, 64, 95, 96) for low in (0, 1)],
+    # Strings of 63 to 65 characters: in ASCII, or with a space beyond it at either end.
+    *[(f"parse('{text}')", "9n") for length in (63, 64, 65) for text in (
+        f"{9:0{length}}", f"\u3000{9:0{length - 1}}", f"{9:0{length - 1}}\u3000")],
+    ("text(1, { valueOf: undefined })", "TypeError: valueOf is no option of this call"),
     *[(f"text({size})", f"TypeError: {value} is no BigInt, and no integer that a number holds exactly")
       for size, value in (("1.5", "1.5"), ("2 ** 53", 2**53), ("-(2 ** 53)", -(2**53)), ("'1'", '"1"'))],
     *[(f"text({size})", "RangeError: -1 is no size: it is negative, or 10^30 or more") for size in ("-1", "-1n")],
@@ -138,7 +144,7 @@ def test_options_of_another_type(javascript):
         *[(f"{call}(1, {{}})", options, error) for call in ("approximateText", "appropriateUnit") for options, error in (
             ("{ unitType: null }", "TypeError: unitType is null: one of binary, decimal, both is expected"),
             ("{ type: 'decimal' }", "TypeError: type is no option of this call"))],
-        *[("parse('1', {})", value, f"TypeError: {value} is no object with options")
+        *[(call, value, f"TypeError: {value} is no object with options") for call in ("parse('1', {})", "text(1, {})")
           for value in ("true", "null", '"b"')],
     )])  # fmt: skip
 
@@ -156,14 +162,15 @@ def test_options_that_are_undefined(javascript):
 
 # Calls with OPTIONS, each with the names that it takes; and for each name values, some of which would change a result.
 CALLS_WITH_OPTIONS = {
-    "parse('1 Kb', OPTIONS)": "bits ignoreCase binary", "parseMany(['1 kb'], OPTIONS).sizes": "bits ignoreCase binary",
+    "parse('1 Kb', OPTIONS)": "bits ignoreCase binary",
+    "parseMany(['1 kb', 'x'], OPTIONS).sizes": "bits ignoreCase binary typed",
     "explain('200 RB', OPTIONS)": "bits ignoreCase binary", "explainUnit('Kx', OPTIONS)": "bits ignoreCase",
     "parseUnit('k', OPTIONS)": "bits ignoreCase", "text(1536, OPTIONS)": "bits precision width sign align alternate",
     "adjustedText(1537, 'KiB', OPTIONS)": "bits precision width sign align alternate",
     "approximateText(1280, OPTIONS)": "bits precision width sign align alternate unitType",
     "appropriateUnit(1000, OPTIONS)": "bits unitType",
 }  # fmt: skip
-VALUES = {**dict.fromkeys(["bits", "ignoreCase", "binary", "alternate"], "true, false, 1, 7"),
+VALUES = {**dict.fromkeys(["bits", "ignoreCase", "binary", "typed", "alternate"], "true, false, 1, 7"),
           "precision": "0, 70000, 'x'", "width": "30, 70000", "sign": "'minus', 2, 7", "align": "'right', 3, 7",
           "unitType": "'decimal', 1, 7"}  # fmt: skip
 # What gives a call an object that has or inherits `bits`, or none; RESULT if it is taken as `{ bits: true }`.
@@ -210,13 +217,17 @@ FUNCTIONS = """[Object, Array, String, Number, BigInt, Map, Set, RegExp, Uint8Ar
     .flatMap(one => [one, one.prototype ?? {}]).flatMap(one => Reflect.ownKeys(one).map(
         name => ({ one, name, was: Object.getOwnPropertyDescriptor(one, name) })))
     .filter(({ name, was }) => was.configurable && typeof was.value === "function" && name !== "constructor")"""
+# The constructors that the package calls.
+CONSTRUCTORS = """["Array", "BigUint64Array", "Uint8Array", "Uint32Array"].map(
+    name => ({ one: globalThis, name, was: Object.getOwnPropertyDescriptor(globalThis, name) }))"""
 # Properties that every object is made to inherit.
 INHERITED = """[0, 1, 2, "bits", "binary", "typed", "precision", "width", "codes", "sizes", "found", "code", "position",
     "alsoExpectNoCharacter", "get", "value", "at", "length"].map(name => ({ one: Object.prototype, name }))"""
 
 
-@pytest.mark.parametrize("changed, thrower", [(FUNCTIONS, "value: thrown"), (INHERITED, "get: thrown, set: thrown")],
-                         ids=["functions", "inherited"])  # fmt: skip
+@pytest.mark.parametrize("changed, thrower", [
+    (FUNCTIONS, "value: thrown"), (CONSTRUCTORS, "value: thrown"), (INHERITED, "get: thrown, set: thrown")],
+    ids=["functions", "constructors", "inherited"])  # fmt: skip
 def test_changes_of_the_language(javascript, changed, thrower):
     """What a program puts in place of functions, or has objects inherit, changes no result: here each throws."""
     code = f"""(() => {{
@@ -268,10 +279,14 @@ def test_options_of_each_kind_of_object(javascript):
 def test_options_with_code(javascript):
     """A getter that makes calls of its own changes no size, and is called once."""
     getter = "get width() { calls++; parse('7 KB'); text(10n ** 29n, { width: 30, precision: 2 }); return 12; }"
-    for call, text in (("text(1536, OPTIONS)", "1.5      KiB"), ("adjustedText(1536, 'B', OPTIONS)", "1536       B"),
-                       ("approximateText(1536, OPTIONS)", "1.5      KiB")):  # fmt: skip
-        code = f"(() => {{ let calls = 0; return [{call.replace('OPTIONS', f'{{ {getter} }}')}, calls]; }})()"
-        assert evaluated(javascript, code) == [text, 1]
+    of_bits = getter.replace("get width", "get bits").replace("return 12", "return true")
+    check(javascript, [
+        (f"(() => {{ let calls = 0; return [{call.replace('OPTIONS', f'{{ {option} }}')}, calls]; }})()", [wanted, 1])
+        for call, option, wanted in (
+            ("text(1536, OPTIONS)", getter, "1.5      KiB"), ("adjustedText(1536, 'B', OPTIONS)", getter, "1536       B"),
+            ("approximateText(1536, OPTIONS)", getter, "1.5      KiB"), ("parse('3 Kb', OPTIONS)", of_bits, "3000n"),
+            ("parseMany(['3 Kb'], OPTIONS).sizes", of_bits, ["3000n"]), ("parseUnit('m', OPTIONS)", of_bits, "Mb"),
+        )])  # fmt: skip
 
 
 def test_iterables(javascript):
@@ -316,6 +331,37 @@ def test_lone_surrogates(javascript):
         else:
             assert of_size == of_unit == ["not_utf8", True, None, position, None, said], string
             assert [*explained, *codes] == [said, said, "not_utf8", "ok"], string
+
+
+# Columns with rows after the first batch, which is of 4,096 strings, or of 2^20 UTF-16 units if they are long.
+COLUMNS = {
+    "many": "Array.from({ length: 9000 }, (_, n) => n % 7 ? `${n}.5 GB` : n % 2 ? `${n} x` : `${BigInt(n) << 84n}`)",
+    "long": "Array.from({ length: 40 }, (_, n) => `${n % 2 ? '' : '\\u3000'}${'0'.repeat(99999)}${n}`)",
+    "too long": "[1, 2, 3].flatMap(n => [`${n}`, `${n}x`, '0'.repeat(2 ** 21) + n, '\\u3000'.repeat(2 ** 20)])",
+}  # fmt: skip
+
+
+@pytest.mark.parametrize("strings", COLUMNS.values(), ids=COLUMNS)
+def test_columns(javascript, strings):
+    """Each row of parseMany has what parse returns or throws, as has each of the typed arrays."""
+    code = """(strings => {
+        const options = { bits: true, binary: true };
+        const { sizes, codes } = parseMany(strings, options), typed = parseMany(strings, { ...options, typed: true });
+        const rows = strings.map(string => {
+            try { return [parse(string, options), "ok"]; } catch ({ code }) { return [null, code]; } });
+        const wrong = rows.findIndex(([size, code], at) => sizes[at] !== size || codes[at] !== code
+            || (typed.high[at] << 64n | typed.sizes[at]) !== (size ?? 0n) || byteUnit.CODES[typed.codes[at]] !== code);
+        return [wrong, ...[sizes, codes, typed.sizes, typed.high, typed.codes].map(
+            column => `${column.constructor.name} ${column.length - rows.length}`)];
+    })"""
+    names = ["Array", "Array", "BigUint64Array", "BigUint64Array", "Uint8Array"]
+    assert evaluated(javascript, f"{code}({strings})") == [-1, *(f"{name} 0" for name in names)]
+
+
+def test_a_text_that_fills_the_memory(javascript):
+    """The message of its error is after it, where the memory has to grow: the 3 × 21,760 bytes end with a page."""
+    said = "no value can be found (at the end of the text)"
+    assert evaluated(javascript, "explain('\\u3000'.repeat(21760))") == said
 
 
 @pytest.mark.parametrize("given, before, error", [
@@ -385,15 +431,26 @@ def install(javascript, folder):
 
 
 def test_names(javascript, tmp_path):
-    """`import` finds the package by its name, and `require` where Node can load a module so; index.js has the names of
-    node.js."""
+    """`import` finds the package by its name, and `require` where Node can load a module so; elsewhere an error says what
+    to write."""
     install(javascript, tmp_path)
     script = "import('byte-unit').then(found => console.log(found.parse('1 KB')))"
     assert output("node", "-e", script, cwd=tmp_path) == "1000n\n"
     script = "const { parse, SizeError } = require('byte-unit'); console.log(parse('1 KB'), new SizeError('x').name)"
     assert output("node", "-e", script, cwd=tmp_path) == "1000n SizeError\n"
-    index, node = (read(javascript / name).partition("\nexport const {")[2] for name in ("index.js", "node.js"))
-    assert index == node != ""
+    status, _, said = ended("node", "--no-experimental-require-module", "-e", script, cwd=tmp_path)
+    assert status == 1 and b"in Node before 20.19: write `const byteUnit = await import('byte-unit')`" in said
+
+
+def test_names_of_index(javascript):
+    """index.js, which Node does not take by itself, has the names of node.js, and its calls."""
+    code = """(async () => {
+        const { readFileSync } = await import("node:fs");
+        globalThis.fetch = async place => new Response(readFileSync(place));
+        const index = await import(`${place}/index.js`);
+        return [Object.keys(index).join() === Object.keys(byteUnit).join(), index.parse("1 KB")];
+    })()"""
+    assert evaluated(javascript, code) == [True, "1000n"]
 
 
 def test_require_in_an_older_node(javascript, unpacked):

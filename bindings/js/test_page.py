@@ -234,6 +234,16 @@ def test_page_with_a_lone_surrogate(browser, place):
     assert browser.get_log("browser") == []
 
 
+def test_page_with_a_policy(browser, place, tmp_path):
+    """A policy that forbids WebAssembly is told in place of a result."""
+    policy = """<meta http-equiv="Content-Security-Policy" content="script-src 'unsafe-inline'">"""
+    (tmp_path / "page.html").write_text(policy + place.read_text(encoding="utf-8"), encoding="utf-8")
+    said = opened(browser, (tmp_path / "page.html").as_uri())
+    browser.get_log("browser")  # has the error, too
+    opened(browser, place.as_uri())
+    assert said.startswith("byte_unit: the Content-Security-Policy of this page forbids WebAssembly: ")
+
+
 def test_page_for_all(browser):
     """Every field has a label, each table a name; keys reach all; a link opens the same state; no message."""
     unnamed = "[...document.querySelectorAll('input')].filter(input => !input.labels.length), " \
@@ -360,8 +370,9 @@ SAID = {
 def test_a_broken_module(broken):
     for name, said in {**SAID, "missing": "ENOENT: no such file or directory, open "}.items():
         ends = "() => console.log('loaded'), error => console.log(error.message)"
-        script = f"await import('./{name}/node.js').then({ends})"
-        assert output("node", "--input-type=module", "-e", script, cwd=broken).startswith(said), name
+        for file in ("node.js", "require.cjs"):
+            script = f"await import('./{name}/{file}').then({ends})"
+            assert output("node", "--input-type=module", "-e", script, cwd=broken).startswith(said), (name, file)
 
 
 def test_a_broken_module_of_a_server(broken, browser):
