@@ -43,10 +43,10 @@ function checked(instance) {
     return instance;
 }
 
-/** Returns the error of bytes of which no instance could be made. */
-function errorOfModule(cause) {
-    return cause instanceof TypeError ? cause
-        : new Error(`byte_unit: byte_unit.wasm is another file, or not whole: ${cause.message}`, { cause });
+/** Returns the error of bytes of which no instance could be made. Throws a TypeError if they are no bytes. */
+function errorOfModule(bytes, cause) {
+    WebAssembly.validate(bytes);
+    return new Error(`byte_unit: byte_unit.wasm is another file, or not whole: ${cause.message}`, { cause });
 }
 
 /** Makes an instance of the module. An error says whether it is the bytes, or that a page may have no module at all. */
@@ -58,7 +58,7 @@ async function instanceOf(bytes) {
             throw new Error("byte_unit: the Content-Security-Policy of this page forbids WebAssembly: 'wasm-unsafe-eval' "
                 + "in its script-src allows it", { cause });
         });
-        throw errorOfModule(cause);
+        throw errorOfModule(bytes, cause);
     }
 }
 
@@ -182,7 +182,7 @@ export function instantiateNow(bytes) {
     try {
         instance = checked(new WebAssembly.Instance(new WebAssembly.Module(bytes)));
     } catch (cause) {
-        throw errorOfModule(cause);
+        throw errorOfModule(bytes, cause);
     }
     return callsOf(instance);
 }

@@ -344,13 +344,18 @@ def of_version_2(module):
     return module.replace(three, two)
 
 
+# A module that imports the function `b` of a module `a`.
+IMPORTS = b"\0asm\1\0\0\0" b"\1\4\1\x60\0\0" b"\2\7\1\1a\1b\0\0"
+
+
 @pytest.fixture(scope="module")
 def broken(javascript, tmp_path_factory):
     """A folder with a copy of the package for each way in which its module can be wrong."""
     module = (javascript / "byte_unit.wasm").read_bytes()
     made = tmp_path_factory.mktemp("broken")
     for name, data in {"missing": None, "html": b"<!DOCTYPE html>", "cut": module[:-9], "code": without_data(module),
-                       "empty": b"", "other": module[:8], "older": of_version_2(module), "whole": module}.items():  # fmt: skip
+                       "empty": b"", "other": module[:8], "imports": IMPORTS, "older": of_version_2(module),
+                       "whole": module}.items():  # fmt: skip
         shutil.copytree(javascript, made / name)
         (made / name / "byte_unit.wasm").unlink()
         if data is not None:
@@ -360,7 +365,7 @@ def broken(javascript, tmp_path_factory):
 
 # What an import says of them.
 SAID = {
-    **dict.fromkeys(["html", "cut", "code", "empty", "other"],
+    **dict.fromkeys(["html", "cut", "code", "empty", "other", "imports"],
                     "byte_unit: byte_unit.wasm is another file, or not whole: "),
     "older": "byte_unit: byte_unit.wasm is another file, or not whole: its version is 2000000, and that of the package 3000000",
     "whole": "loaded",
