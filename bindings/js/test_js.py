@@ -358,6 +358,13 @@ def test_columns(javascript, strings):
     assert evaluated(javascript, f"{code}({strings})") == [-1, *(f"{name} 0" for name in names)]
 
 
+@pytest.mark.whole
+def test_a_column_beyond_the_memory(javascript):
+    """A column may be of more bytes than the module's memory can have: 4 GiB, with room for 3 of each character."""
+    code = "parseMany(Array(1400).fill('x'.repeat(2 ** 20)), { typed: true }).codes.every(code => code === 2)"
+    assert evaluated(javascript, code) is True
+
+
 def test_a_text_that_fills_the_memory(javascript):
     """The message of its error is after it, where the memory has to grow: the 3 × 21,760 bytes end with a page."""
     said = "no value can be found (at the end of the text)"

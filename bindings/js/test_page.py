@@ -364,11 +364,11 @@ def broken(javascript, tmp_path_factory):
 
 
 # What an import says of them.
+OTHER = "byte_unit: byte_unit.wasm is another file, or not whole: "
 SAID = {
-    **dict.fromkeys(["html", "cut", "code", "empty", "other", "imports"],
-                    "byte_unit: byte_unit.wasm is another file, or not whole: "),
-    "older": "byte_unit: byte_unit.wasm is another file, or not whole: its version is 2000000, and that of the package 3000000",
-    "whole": "loaded",
+    **dict.fromkeys(["html", "cut", "empty", "imports"], OTHER),
+    **dict.fromkeys(["code", "other"], f"{OTHER}it has no calls, or no constants"),
+    "older": f"{OTHER}its version is 2000000, and that of the package 3000000", "whole": "loaded",
 }  # fmt: skip
 
 
