@@ -117,7 +117,7 @@ export class Memory {
         if (index === length)
             return length;
         const { written } = encodeInto(string, new Bytes(this.buffer, at, 3 * length));
-        if (indexOfLone(string) >= 0)
+        if (written > length && indexOfLone(string) >= 0)
             bytes[at] = 0xff;
         return written;
     }
