@@ -9,7 +9,7 @@ from ..source import line_of, source
 from .pages import with_parts
 
 TABLES, SCAN = "crates/byte_unit_base/src/unit/tables.rt", "crates/byte_unit_base/src/unit/scan.rt"
-HEADER, JAVASCRIPT = "bindings/c/byte_unit.h", "bindings/js/library.js"
+HEADER, JAVASCRIPT = "bindings/c/byte_unit.h", "bindings/js/options.js"
 ERROR = "crates/byte_unit_c/src/error.rt"
 
 
