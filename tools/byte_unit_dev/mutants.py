@@ -10,8 +10,9 @@
     tools/dev mutants --all bindings          the same, all of them
 
 A mutant is an edit for `rt must-fail`. Each run of the gate tries the files crates/CRATE/must-fail/TITLE.edit, and a
-part of the catalogues crates/CRATE/mutants.edits, which have the others, each after a line `== TITLE`. The catalogue of
-byte_unit_bit is rendered from all mutants of byte_unit_byte when it is tried.
+part of the catalogues crates/CRATE/mutants.edits, which have the others, each after a line `== TITLE`, and a line
+`file:` before all mutants of a file. The catalogue of byte_unit_bit is rendered from all mutants of byte_unit_byte when
+it is tried.
 
 A mutant may be rejected for its form alone: because a name that a proof cites is gone, or a proof no longer fits. So
 each one of must-fail/ has a control: after each line `new: TEXT` a line `control: TEXT`, which `rt` passes over, with
@@ -48,6 +49,7 @@ IMPL = re.compile(r"^impl(?:<[^>]*>)? (\w+)", re.M)
 # What `rt` says of a mutant that is rejected.
 REJECTED = re.compile(rf"must-fail (\w+)/(?:{re.escape(COPY)})?(.+)\.edit: refused, as it must be(.*)$", re.M)
 # A replacement of a mutant: what is old, what is new, and what the control has there.
+FILE = re.compile(r"^file: .*\n", re.M)
 REPLACED = re.compile(r"^old: (.*)\nnew: ?(.*)$(?:\ncontrol: ?(.*)$)?", re.M)
 
 
@@ -63,8 +65,14 @@ def by_turns(crate):
         made = "byte_unit_byte"
         return dict(bits.mutant(*found) for found in [*in_every_run(made).items(), *by_turns(made).items()])
     name = path("crates", crate, "mutants.edits")
-    edits = re.split("^== ", read(name), flags=re.M)[1:] if os.path.exists(name) else []
-    found = dict(edit.rstrip("\n").split("\n", 1) for edit in edits)
+    before, *edits = re.split("^== ", read(name), flags=re.M) if os.path.exists(name) else [""]
+    found, file = {}, ""
+    for edit in edits:
+        # A line `file:` is of all mutants after it, so the one after a mutant's own lines is of those that follow.
+        file = "".join(FILE.findall(before)) or file
+        title, text = edit.split("\n", 1)
+        found[title] = file + FILE.sub("", text).rstrip("\n")
+        before = edit
     if len(found) < len(edits):
         raise Failure(f"{name}: two mutants have one title")
     return found
