@@ -30,3 +30,5 @@ pub mod UnitLetters
 pub mod NumberEnds
 pub mod UnitEnds
 pub mod Positions
+pub mod PutTexts
+pub mod QuotedTexts

@@ -33,6 +33,7 @@ pub mod ParsedLaws
 pub mod Versions
 -- private: no contract that `byte_unit` exports cites these
 pub mod Quoted
+pub mod PutAfter
 pub mod ParserEnds
 pub mod Expected
 pub mod Outcome

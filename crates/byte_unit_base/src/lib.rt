@@ -8,7 +8,7 @@ pub use crate::errors::{
     ValueParseError,
 };
 pub use crate::kind::Kind;
-pub use crate::quoted::Quoted;
+pub use crate::quoted::{MAX_QUOTE_LEN, Quoted, quote};
 pub use crate::read::read_size;
 pub use crate::read::stop::{NumberStop, Reason, Stop, error_at, location_at};
 pub use crate::unit::parse::read_unit_text;

@@ -18,7 +18,7 @@ LIBRARY = [
     ("{}", """Self _ as break const continue crate else enum false fn for if impl in let macro_rules! match mod mut pub
         return self static struct super true type use while expr ident literal tt"""),
     ("{}", "bool char i8 i16 i32 i64 i128 isize str u8 u16 u32 u64 u128 usize"),
-    ("as {}", "char i64 u8 u16 u32 u64 u128 usize"),
+    ("as {}", "i64 u8 u16 u32 u64 u128 usize"),
     ("#[{}]", "cold doc(hidden) inline inline(always) inline(never) repr(C) unsafe(no_mangle)"),
     ("#[derive({})]", "Clone Copy Debug Drop Eq Hash Ord PartialEq PartialOrd"),
     ("{}!", "concat matches write"),
@@ -37,7 +37,7 @@ LIBRARY = [
         u8x32::splat u8x4::from_slice u8x8::from_slice u32x1::from_le_bytes u64x1::from_le_bytes .simd_ne( .to_array(
         .to_bitmask("""),
     # Literals, with what is escaped and formatted in them; ranges, and what is left out of a pattern; marks.
-    ("{}", r"""1 0x1 1u8 1u64 " ' b" b' \ \' \0 \\ \u :? :x"""),
+    ("{}", r"""1 0x1 1u8 1u64 " ' b" b' \ \' \0 \\ \u :?"""),
     ("{}", "a..b 1..=1 a..] [..b (..b ,..b ,..] ,..} @..]"),
     ("{}", """+ - * / % += -= /= == != < <= > >= ! & && | || ^ = => -> ? @ $ : ::{ ::< ::$ >:: , ; ( ) [ ] { }"""),
 ]

@@ -8,7 +8,7 @@ pub use crate::rendered::base::errors::{
     ExceededBoundsError, LocatedError, Location, ParseError, UnitParseError, ValueParseError,
 };
 pub use crate::rendered::base::kind::Kind;
-pub use crate::rendered::base::quoted::Quoted;
+pub use crate::rendered::base::quoted::{MAX_QUOTE_LEN, Quoted, quote};
 pub use crate::rendered::base::read::read_size;
 pub use crate::rendered::base::read::stop::{NumberStop, Reason, Stop, error_at, location_at};
 pub use crate::rendered::base::unit::parse::read_unit_text;

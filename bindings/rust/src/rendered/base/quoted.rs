@@ -8,6 +8,9 @@ use core::{fmt, str};
 /// The most bytes of a text that a message quotes, so that a message about a long text is short.
 const MAX_LEN: usize = 80;
 
+/// The most bytes of a text as a message quotes it: six for each byte, as `\u{1b}`, and two dots.
+pub const MAX_QUOTE_LEN: usize = 482;
+
 /// A text that `Display` writes for a message: at most its first 80 bytes, in whole characters, and two dots if there
 /// are more.
 ///
@@ -25,10 +28,22 @@ pub struct Quoted<'a>(pub &'a [u8]);
 
 impl<'a> fmt::Display for Quoted<'a> {
     fn fmt(&self, f: &mut fmt::Formatter<'_>) -> fmt::Result {
-        let len = quoted_len(self.0);
-        write_escaped(&self.0[..len], f)?;
-        f.write_str(if len < self.0.len() { ".." } else { "" })
+        f.write_str(quote(self.0, &mut [0; MAX_QUOTE_LEN]))
     }
+}
+
+/// Writes a text as [`Quoted`] does, but into a buffer, and returns what is written, at most 482 bytes.
+///
+/// # Examples
+/// ```
+/// # use byte_unit::rendered::{base::{size::parse_line, *}, bit::*, byte::*, choice::*, format::*, math::*};
+/// assert_eq!(quote(b"5\tKB", &mut [0; MAX_QUOTE_LEN]), "5\\u{9}KB");
+/// ```
+pub fn quote<'a>(text: &[u8], buffer: &'a mut [u8; MAX_QUOTE_LEN]) -> &'a str {
+    let len = quoted_len(text);
+    let end = put_escaped(&text[..len], buffer, 0);
+    let end = put(dots(len < text.len()), buffer, end);
+    str::from_utf8(&buffer[..end]).unwrap()
 }
 
 /// Returns the number of bytes of a text that are quoted: at most 80, and of a UTF-8 text as many of these as cut no
@@ -51,24 +66,82 @@ fn quoted_len(text: &[u8]) -> usize {
     }
 }
 
-/// Writes bytes: by characters if they are UTF-8, and else byte by byte.
-fn write_escaped(bytes: &[u8], f: &mut fmt::Formatter<'_>) -> fmt::Result {
+/// Returns the two dots after a text that is cut, or nothing.
+fn dots(is_cut: bool) -> &'static [u8] {
+    if is_cut { b".." } else { b"" }
+}
+
+/// Writes bytes as a message has them to a buffer from the index `begin`, and returns the index where they end: by
+/// characters if they are UTF-8, and else byte by byte.
+fn put_escaped(bytes: &[u8], buffer: &mut [u8], begin: usize) -> usize {
     match str::from_utf8(bytes) {
-        Ok(text) => write_chars(text, f),
-        Err(_) => write_bytes(bytes, f),
+        Ok(text) => put_chars(text, buffer, begin),
+        Err(_) => put_bytes(bytes, buffer, begin),
     }
 }
 
 /// Writes a text with what is not seen in it escaped: its control and format characters and its separators.
-fn write_chars(text: &str, f: &mut fmt::Formatter<'_>) -> fmt::Result {
+fn put_chars(text: &str, buffer: &mut [u8], begin: usize) -> usize {
+    let mut end = begin;
     for c in text.chars() {
-        if c.is_control() || is_unseen(c) {
-            write!(f, "\\u{{{:x}}}", c as u32)?;
-        } else {
-            f.write_str(c.encode_utf8(&mut [0; 4]))?;
-        }
+        end = put_char(c, buffer, end);
     }
-    Ok(())
+    end
+}
+
+/// Writes bytes: printable ASCII characters as they are, and any other byte escaped.
+fn put_bytes(bytes: &[u8], buffer: &mut [u8], begin: usize) -> usize {
+    let mut end = begin;
+    for byte in bytes {
+        end = put_byte(*byte, buffer, end);
+    }
+    end
+}
+
+/// Writes a character, escaped if it is not seen.
+fn put_char(c: char, buffer: &mut [u8], begin: usize) -> usize {
+    if c.is_control() || is_unseen(c) {
+        return put_code(c as u32, buffer, begin);
+    }
+    put(c.encode_utf8(&mut [0; 4]).as_bytes(), buffer, begin)
+}
+
+/// Writes the code of a character in hexadecimal, between `\u{` and `}`.
+fn put_code(code: u32, buffer: &mut [u8], begin: usize) -> usize {
+    let digits = put(b"\\u{", buffer, begin);
+    let end = put_hexadecimal(code, buffer, digits);
+    put(b"}", buffer, end)
+}
+
+/// Writes a byte: a printable ASCII character as it is, and any other byte as `\x` and two hexadecimal digits.
+fn put_byte(byte: u8, buffer: &mut [u8], begin: usize) -> usize {
+    if matches!(byte, b' '..=b'~') {
+        return put(&[byte], buffer, begin);
+    }
+    let high = put(b"\\x", buffer, begin);
+    let low = put_hexadecimal(u32::from(byte / 16), buffer, high);
+    put_hexadecimal(u32::from(byte % 16), buffer, low)
+}
+
+/// Writes the hexadecimal digits of a number, in lower case.
+fn put_hexadecimal(n: u32, buffer: &mut [u8], begin: usize) -> usize {
+    if n < 16 {
+        return put(&[hexadecimal_digit(n)], buffer, begin);
+    }
+    let last = put_hexadecimal(n / 16, buffer, begin);
+    put(&[hexadecimal_digit(n % 16)], buffer, last)
+}
+
+/// Returns a hexadecimal digit, in lower case.
+fn hexadecimal_digit(digit: u32) -> u8 {
+    if digit < 10 { b'0' + digit as u8 } else { b'a' + (digit - 10) as u8 }
+}
+
+/// Writes bytes to a buffer from the index `begin`, and returns the index where they end.
+fn put(bytes: &[u8], buffer: &mut [u8], begin: usize) -> usize {
+    let end = begin + bytes.len();
+    buffer[begin..end].copy_from_slice(bytes);
+    end
 }
 
 /// Returns `true` if the character is a format character (category `Cf` of Unicode 16), or a separator (`Zs`, `Zl` and
@@ -82,16 +155,4 @@ fn is_unseen(c: char) -> bool {
         | '\u{110bd}' | '\u{110cd}' | '\u{13430}'..='\u{1343f}' | '\u{1bca0}'..='\u{1bca3}'
         | '\u{1d173}'..='\u{1d17a}' | '\u{e0001}' | '\u{e0020}'..='\u{e007f}'
     )
-}
-
-/// Writes bytes: printable ASCII characters as they are, and any other byte escaped.
-fn write_bytes(bytes: &[u8], f: &mut fmt::Formatter<'_>) -> fmt::Result {
-    for byte in bytes {
-        if matches!(byte, b' '..=b'~') {
-            write!(f, "{}", *byte as char)?;
-        } else {
-            write!(f, "\\x{:x}{:x}", byte / 16, byte % 16)?;
-        }
-    }
-    Ok(())
 }
