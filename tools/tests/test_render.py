@@ -40,7 +40,7 @@ def failure(monkeypatch, render, name, old, new):
     ("dyn Copy", "dyn"), ("proof!(1)", "proof!"), ("println!()", "println!"), ("old(exponent)", "old"),
     ("exponent(rt; 1)", "rt"), ("#[cfg(test)] 1", "#[cfg(test)]"), ("1 << requires", "requires"),
     ("1 << ensures", "ensures"), ("1 << ghost", "ghost"), ("alloc", "alloc"), ("1 ⊕ exponent", "⊕"),
-    ("::byte_unit_base::y", "::"), ("<u8>::y()", ">::y"), ("1 /* 2 */", "/*"), ("1 <<= 2", "<<="), ("1.5", "1.5"),
+    ("::byte_unit_base::y", "::"), ("<u8>::y()", ">::"), ("1 /* 2 */", "/*"), ("1 <<= 2", "<<="), ("1.5", "1.5"),
     ("1f64", "1f64"), ("1.", "."), ("0b1", "0b1"), ("1i8", "1i8"), ('r"x"', 'r"'), ('"\\x41"', "\\x"),
     ('write!(f, "{:>5}", 1)', "f"), ('"{:>5}"', ":>5"), ("exponent as f64", "as f64"), ("f64::MAX", "f64::MAX"),
     ("Vec::new()", "Vec::new"), ("HashMap", "HashMap"), ("|x: f64| x", "f64"), ("let x: f64 = 1", "f64"),

@@ -1,7 +1,6 @@
 //! Messages for strings that are rejected, and strings as messages quote them.
 
 ghost use Rattle.std.specs.Prelude.{◌≡◌, ℕ, ◌≤◌, List, Option, Result, Ok, IfSome, IfNone, codes};
-ghost use Rattle.std.specs.Fmt.Cut.{IsTextOrCut};
 ghost use Rattle.std.specs.Str.{IsUtf8};
 ghost use Rattle.byte_unit_base.specs.Kinds.{flags_for};
 ghost use Rattle.byte_unit_base.specs.Quoted.{quote};
@@ -19,8 +18,7 @@ use crate::flags::{ParseFlags, binary_flags_at, parse_flags_at};
 use crate::message::write_message;
 use crate::parse::{read_unit, unit_flags};
 use crate::texts::write;
-use byte_unit_base::{LocatedError, ParseError, Quoted, location_at, size};
-use std::fmt::InlineText;
+use byte_unit_base::{LocatedError, MAX_QUOTE_LEN, ParseError, location_at, quote, size};
 
 /// Writes the error message for a string that is rejected to the start of `out`, and returns its length, at most 256
 /// bytes. Returns the length and writes nothing if `out` is shorter. Returns 0 if and only if all flags are known and
@@ -115,16 +113,15 @@ fn explain_unit_as(text: &[u8], asked: ParseFlags, out: &mut [u8]) -> usize
     }
 }
 
-/// Writes a string for a message, as [`Quoted`] does, to the start of `out`, and returns its length: at most 482 bytes,
+/// Writes a string for a message, as [`quote`] does, to the start of `out`, and returns its length: at most 482 bytes,
 /// for 80 bytes of at most six each, as `\u{1b}`, and two dots. Returns the length and writes nothing if `out` is
 /// shorter.
 ///
 /// For example, `1` with a tab gives 6, the length of `1\u{9}`.
 #[unsafe(no_mangle)]
 pub extern "C" fn byte_unit_quote(text: &[u8], out: &mut [u8]) -> usize
-    ensures text { WritesForm (λ quoted. IsTextOrCut 482 (quote text.now) quoted) out.old out.new result }
+    ensures text { WritesForm (λ quoted. quoted ≡ quote text.now) out.old out.new result }
     ensures bound { result ≤ 482 }
 {
-    let quoted = InlineText::<482>::of(&Quoted(text));
-    write(quoted.as_str().as_bytes(), out)
+    write(quote(text, &mut [0; MAX_QUOTE_LEN]).as_bytes(), out)
 }

@@ -33,13 +33,13 @@ LIBRARY = [
         saturating_mul saturating_sub split_at then then_some trailing_zeros trim trim_start unwrap unwrap_or
         wrapping_add wrapping_mul wrapping_sub write_str"""),
     # By hand, in `support`.
-    ("{}", """InlineText InlineText::of >::of last_16_digits read_digits suffix_len u8x16 u8x32::from_slice
+    ("{}", """InlineText InlineText::of last_16_digits read_digits suffix_len u8x16 u8x32::from_slice
         u8x32::splat u8x4::from_slice u8x8::from_slice u32x1::from_le_bytes u64x1::from_le_bytes .simd_ne( .to_array(
         .to_bitmask("""),
     # Literals, with what is escaped and formatted in them; ranges, and what is left out of a pattern; marks.
     ("{}", r"""1 0x1 1u8 1u64 " ' b" b' \ \' \0 \\ \u :?"""),
     ("{}", "a..b 1..=1 a..] [..b (..b ,..b ,..] ,..} @..]"),
-    ("{}", """+ - * / % += -= /= == != < <= > >= ! & && | || ^ = => -> ? @ $ : ::{ ::< ::$ >:: , ; ( ) [ ] { }"""),
+    ("{}", """+ - * / % += -= /= == != < <= > >= ! & && | || ^ = => -> ? @ $ : ::{ ::< ::$ , ; ( ) [ ] { }"""),
 ]
 # The forms that the programs have beside those. What `rattle` and `clap` declare is by hand, in the package.
 PROGRAMS = [

@@ -7,8 +7,7 @@ use crate::rendered::message::write_message;
 use crate::rendered::parse::{read_unit, unit_flags};
 use crate::rendered::texts::write;
 use crate::slices::Out;
-use byte_unit::rendered::base::{LocatedError, ParseError, Quoted, location_at, size};
-use byte_unit::support::InlineText;
+use byte_unit::rendered::base::{LocatedError, MAX_QUOTE_LEN, ParseError, location_at, quote, size};
 
 /// Writes the error message for a string that is rejected to the start of `out`, and returns its length, at most 256
 /// bytes. Returns the length and writes nothing if `out` is shorter. Returns 0 if and only if all flags are known and
@@ -91,7 +90,7 @@ fn explain_unit_as(text: &[u8], asked: ParseFlags, out: &mut [Out<u8>]) -> usize
     }
 }
 
-/// Writes a string for a message, as [`Quoted`] does, to the start of `out`, and returns its length: at most 482 bytes,
+/// Writes a string for a message, as [`quote`] does, to the start of `out`, and returns its length: at most 482 bytes,
 /// for 80 bytes of at most six each, as `\u{1b}`, and two dots. Returns the length and writes nothing if `out` is
 /// shorter.
 ///
@@ -100,6 +99,5 @@ fn explain_unit_as(text: &[u8], asked: ParseFlags, out: &mut [Out<u8>]) -> usize
 pub unsafe extern "C" fn byte_unit_quote(text: *const u8, text_len: usize, out: *mut u8, out_len: usize) -> usize {
     // SAFETY: the caller's promise.
     let (text, out) = unsafe { (crate::slices::slice(text, text_len), crate::slices::slice_mut(out, out_len)) };
-    let quoted = InlineText::<482>::of(&Quoted(text));
-    write(quoted.as_str().as_bytes(), out)
+    write(quote(text, &mut [0; MAX_QUOTE_LEN]).as_bytes(), out)
 }
