@@ -3,7 +3,8 @@ import type { Library } from "./library.cjs";
 
 export { CODES, SizeError, UNITS } from "./library.cjs";
 export type {
-    AdjustedTextOptions, ApproximateTextOptions, ErrorCode, ReadingOptions, SizeColumns, SizeReadingOptions, Sizes, Unit, UnitType,
+    AdjustedTextOptions, ApproximateTextOptions, ErrorCode, ReadingOptions, SizeColumns, SizeReadingOptions, Sizes, Unit,
+    UnitType,
 } from "./library.cjs";
 export const version: Library["version"];
 export const parse: Library["parse"];

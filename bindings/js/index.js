@@ -4,7 +4,9 @@ import { instantiate } from "./library.js";
 /** Returns the bytes of the module. */
 async function bytesBeside() {
     // Bundlers find the module by this expression, and keep it with what they make.
-    const place = new URL("byte_unit.wasm", import.meta.url), response = await fetch(place);
+    const place = new URL("byte_unit.wasm", import.meta.url), response = await fetch(place).catch(cause => {
+        throw new Error(`byte_unit: ${place.href} cannot be loaded: ${cause.message}`, { cause });
+    });
     if (!response.ok)
         throw new Error(`byte_unit: ${place.href} cannot be loaded: status ${response.status}`);
     return response.arrayBuffer();

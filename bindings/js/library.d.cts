@@ -54,8 +54,9 @@ export interface Sizes {
     codes: ("ok" | ErrorCode)[];
 }
 
-/** The same in typed arrays. A size is that of `sizes` plus 2^64 times that of `high`, which is 0 below 2^64; both are 0
- *  for a string that is no size. The name of a code, 0 for a size, is at its index in `CODES`. */
+/** The sizes and the codes of strings in typed arrays. A size is that of `sizes` plus 2^64 times that of `high`, which
+ *  is 0 below 2^64; both are 0 for a string that is no size. The name of a code, 0 for a size, is at its index in
+ *  `CODES`. */
 export interface SizeColumns {
     sizes: BigUint64Array;
     high: BigUint64Array;
@@ -73,8 +74,9 @@ export class SizeError extends Error {
     readonly expected: string | null;
     /** Whether the string could end there, of `unit`. */
     readonly alsoExpectNoCharacter?: boolean;
-    /** The index in the string of the wrong character, or, if it ends too early, of its end, before white space there;
-     *  of `not_utf8` that of the first lone surrogate; null if the size is too large. */
+    /** The index in the string of the wrong character, or, if it ends too early, of its end, before white space there, or
+     *  its length if it has white space alone; of `not_utf8` that of the first lone surrogate; null if the size is too
+     *  large. */
     readonly position: number | null;
 }
 
@@ -96,11 +98,12 @@ export interface Library {
      *  SizeError. With `typed` the result is in typed arrays, which is faster. */
     parseMany(strings: Iterable<string> & object, options?: SizeReadingOptions & { typed?: false }): Sizes;
     parseMany(strings: Iterable<string> & object, options: SizeReadingOptions & { typed: true }): SizeColumns;
+    parseMany(strings: Iterable<string> & object, options: SizeReadingOptions & { typed?: boolean }): Sizes | SizeColumns;
     /** Returns the message of the error of a string, or null if it is a size. Unless the size is too large, or the
      *  string has a lone surrogate, it ends with the number of the wrong character, from 1, or with "(at the end of the
      *  text)". */
     explain(string: string, options?: SizeReadingOptions): string | null;
-    /** Returns the message of the error of a string, with such words, or null if it is a unit. */
+    /** Returns the message of the error of a string, which ends as that of `explain`, or null if it is a unit. */
     explainUnit(string: string, options?: ReadingOptions): string | null;
     /** Returns the exact text of a size with a unit, or its digits if `alternate` is false. */
     text(size: bigint | number, options?: AdjustedTextOptions): string;
@@ -108,7 +111,7 @@ export interface Library {
     adjustedText(size: bigint | number, unit: Unit, options?: AdjustedTextOptions): string;
     /** Returns the text of a size, rounded to one place or to the precision, in the largest unit of a type not above it. */
     approximateText(size: bigint | number, options?: ApproximateTextOptions): string;
-    /** Returns the largest unit of a type that is not above a size. */
+    /** Returns the largest unit of a type, `binary` if none is given, that is not above a size. */
     appropriateUnit(size: bigint | number, options?: { bits?: boolean; unitType?: UnitType }): Unit;
 }
 
@@ -116,5 +119,5 @@ export interface Library {
  *  Error if the bytes are not that module, or if a page forbids WebAssembly by its Content-Security-Policy. */
 export function instantiate(bytes: BufferSource): Promise<Library>;
 
-/** Does so at once. Browsers allow this only in a worker, or for a small module. */
+/** Compiles the module at once, and returns the calls. Browsers allow this only in a worker, or for a small module. */
 export function instantiateNow(bytes: BufferSource): Library;

@@ -2,8 +2,8 @@
 
 import { Columns, FIRST_OUT, indexOfByte, indexOfLone, Lists, Memory, stringsOf } from "./memory.js";
 import {
-    BINARY, CODES, flagsOf, OF_ADJUSTED, OF_APPROXIMATE, OF_CHOICE, OF_TEXT, OF_UNIT, optionsOf, textGiven, TYPED,
-    unitCode, UNITS,
+    BINARY, CODES, Error, flagsOf, OF_ADJUSTED, OF_APPROXIMATE, OF_CHOICE, OF_TEXT, OF_UNIT, optionsOf, textGiven,
+    TYPED, unitCode, UNITS,
 } from "./options.js";
 
 export { CODES, UNITS };
@@ -67,7 +67,8 @@ function callsOf({ exports }) {
     // The views of the memory have the order of the processor, and WebAssembly has the little-endian one.
     if (new Uint8Array(Uint16Array.of(1).buffer)[0] !== 1)
         throw new Error("byte_unit: this processor is big-endian");
-    const memory = new Memory(exports.memory), { size: SIZE, spec: SPEC, unit: UNIT_AT, error: ERROR, room: ROOM } = memory.at;
+    const memory = new Memory(exports.memory);
+    const { size: SIZE, spec: SPEC, unit: UNIT_AT, error: ERROR, room: ROOM } = memory.at;
 
     /** Returns what byte_unit_explain or byte_unit_explain_unit says of a string: nothing if there is no error. */
     function explained(call, string, flags) {
@@ -97,7 +98,8 @@ function callsOf({ exports }) {
             fields.position = indexOfLone(string);
         else if (code !== EXCEEDED_BOUNDS)
             fields.position = indexOfByte(string, words[ERROR + 56 >> 2]);
-        return new SizeError(explained(ofUnit ? exports.byte_unit_explain_unit : exports.byte_unit_explain, string, flags), fields);
+        const call = ofUnit ? exports.byte_unit_explain_unit : exports.byte_unit_explain;
+        return new SizeError(explained(call, string, flags), fields);
     }
 
     // The members of Library in library.d.ts, which documents them.
@@ -176,7 +178,7 @@ export async function instantiate(bytes) {
     return callsOf(await instanceOf(bytes));
 }
 
-/** Does so at once, as Node can. */
+/** Compiles the module at once, as Node can, and returns the calls of the library over it. */
 export function instantiateNow(bytes) {
     let instance;
     try {

@@ -1,12 +1,14 @@
 // The memory of the module, in which strings, sizes, options and columns are passed.
 
-import { CODES, quoted, textGiven } from "./options.js";
+import { CODES, Error, quoted, RangeError, textGiven, TypeError } from "./options.js";
 
-const { Array: List, BigUint64Array: Longs, Uint8Array: Bytes, Uint32Array: Words } = globalThis;
-const { isSafeInteger } = Number, { fromCharCode } = String, { isArray, prototype: ARRAY } = Array;
-const { setPrototypeOf } = Object;
-const [charCodeAt, slice] = [String.prototype.charCodeAt, String.prototype.slice].map(
-    method => Function.prototype.call.bind(method));
+const { Array: List, ArrayBuffer: Buffer, BigUint64Array: Longs, Uint8Array: Bytes, Uint32Array: Words } = globalThis;
+const { isSafeInteger } = Number, { fromCharCode } = String, { isArray, prototype: ARRAY } = Array, { ceil } = Math;
+const { getOwnPropertyDescriptor, setPrototypeOf } = Object, MEMORY = WebAssembly.Memory.prototype, { iterator } = Symbol;
+const [charCodeAt, slice, stringIn, grow, bufferOf, lengthOf] = [
+    String.prototype.charCodeAt, String.prototype.slice, String.prototype.valueOf, MEMORY.grow,
+    getOwnPropertyDescriptor(MEMORY, "buffer").get, getOwnPropertyDescriptor(Buffer.prototype, "byteLength").get,
+].map(method => Function.prototype.call.bind(method));
 const encoder = new TextEncoder(), decoder = new TextDecoder();
 const encodeInto = encoder.encodeInto.bind(encoder), decode = decoder.decode.bind(decoder);
 // The limits of sizes, and of those that one word of 64 bits holds.
@@ -23,12 +25,21 @@ const BATCH = 4096, BATCH_UNITS = 2 ** 20;
 /** Returns a list with room that inherits nothing, so that no code of a caller runs when something is put there. */
 const listFor = count => setPrototypeOf(new List(count), null);
 
+/** Returns whether a value is a string, or a String object of a realm. */
+function isString(value) {
+    try {
+        return typeof stringIn(value) === "string";
+    } catch {
+        return false;
+    }
+}
+
 /** Returns a list of the strings of an array or of what else is iterable. */
 export function stringsOf(strings) {
-    if (Object(strings) instanceof String)
+    const isListed = isArray(strings) && strings[iterator] === ARRAY[iterator];
+    if (!isListed && isString(strings))
         throw new TypeError("strings is one string: an array or another iterable of strings is expected");
-    const isListed = isArray(strings) && strings[Symbol.iterator] === ARRAY[Symbol.iterator];
-    const length = isListed ? strings.length : 0, list = listFor(length);
+    const length = isListed ? strings.length >>> 0 : 0, list = listFor(length);
     for (let at = 0; at < length; at++)
         list[at] = textGiven(strings[at]);
     if (!isListed) {
@@ -73,19 +84,19 @@ function sixteenAt(bytes, at) {
 /** The memory of the module: the areas of arguments and results come after its own, and grow with the texts. */
 export class Memory {
     constructor(memory) {
-        const base = memory.buffer.byteLength;
+        const base = lengthOf(bufferOf(memory));
         this.memory = memory;
         // Fixed areas, each aligned as its type: a byte_unit_number of 16 bytes, a byte_unit_spec of 12, the code of a unit
         // of 4, and a byte_unit_error of 64. At `room`, texts and columns begin.
         this.at = { size: base, spec: base + 16, unit: base + 32, error: base + 64, room: base + 256 };
-        this.view(memory.buffer);
+        this.view(bufferOf(memory));
         this.reserve(this.at.room + FIRST_OUT);
     }
 
     /** Makes the views of the memory, which are kept until it grows. */
     view(buffer) {
         this.buffer = buffer;
-        this.length = buffer.byteLength;
+        this.length = lengthOf(buffer);
         this.bytes = new Bytes(buffer);
         this.words = new Words(buffer);
         this.longs = new Longs(buffer);
@@ -94,8 +105,8 @@ export class Memory {
     /** Makes room up to an address. */
     reserve(end) {
         if (end > this.length) {
-            this.memory.grow((end - this.length + PAGE - 1) / PAGE);
-            this.view(this.memory.buffer);
+            grow(this.memory, ceil((end - this.length) / PAGE));
+            this.view(bufferOf(this.memory));
         }
     }
 
@@ -223,20 +234,25 @@ function sizeAt(words, longs, at) {
 /** The columns of the codes and the sizes of strings, in arrays of their types. */
 export class Columns {
     found;
+    low;
+    high;
 
     constructor(count) {
-        this.found = { codes: new Bytes(count), sizes: new Longs(count), high: new Longs(count) };
+        const low = new Buffer(8 * count), high = new Buffer(8 * count);
+        this.found = { codes: new Bytes(count), sizes: new Longs(low), high: new Longs(high) };
+        this.low = new Words(low);
+        this.high = new Words(high);
     }
 
     /** Takes rows from one on, whose sizes and codes are at these addresses. */
     take({ bytes, words }, first, count, sizesAt, codesAt) {
-        const { codes, sizes, high } = this.found, low = new Words(sizes.buffer), rest = new Words(high.buffer);
+        const { found: { codes }, low, high } = this;
         for (let row = 0, at = sizesAt >> 2, to = 2 * first; row < count; row++, at += 4, to += 2) {
             codes[first + row] = bytes[codesAt + row];
             low[to] = words[at];
             low[to + 1] = words[at + 1];
-            rest[to] = words[at + 2];
-            rest[to + 1] = words[at + 3];
+            high[to] = words[at + 2];
+            high[to + 1] = words[at + 3];
         }
     }
 

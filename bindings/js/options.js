@@ -1,9 +1,10 @@
 // The names of units, codes and options, and the checks of what a caller gives.
 //
-// The calls of the package use no method that a program can put in place of one of the language's: here and in memory.js
-// they are taken when the file is loaded.
+// Calls use no method and no name that a program can put in place of one of the language's: here and in memory.js they are
+// taken when the file is loaded.
 
-const { getOwnPropertyNames, getPrototypeOf, hasOwn, prototype: OBJECT } = Object, { stringify } = JSON;
+export const { Error, RangeError, TypeError } = globalThis;
+const { getOwnPropertyNames, getPrototypeOf, hasOwn, prototype: OBJECT } = Object, { stringify } = JSON, textOfAny = String;
 
 const PREFIXES = [..."KMGTPEZYR"];
 /** The names of the units, each at its code in byte_unit.h. */
@@ -36,9 +37,11 @@ export const OF_ADJUSTED = { bits: 0, precision: -1, width: 0, sign: 0, align: 0
 export const OF_TEXT = { ...OF_ADJUSTED, alternate: 1 }, OF_APPROXIMATE = { ...OF_ADJUSTED, precision: 1, unitType: 0 };
 export const OF_CHOICE = { bits: 0, unitType: 0 };
 
-/** Returns a value as an error quotes it: `"2"` and `2n` are no `2`. */
+/** Returns a value as an error quotes it: `"2"` and `2n` are no `2`. No method of an object is called. */
 export function quoted(value) {
-    const text = typeof value === "string" ? stringify(value) : String(value);
+    if (typeof value === "object" && value !== null || typeof value === "function")
+        return "an object";
+    const text = typeof value === "string" ? stringify(value) : textOfAny(value);
     return typeof value === "bigint" ? `${text}n` : text;
 }
 

@@ -81,7 +81,8 @@ def found(request, javascript, tmp_path_factory):
 
 def test_calls(found):
     codes, wanted = zip(*ROWS)
-    got, _ = found("calls.html", f'<meta charset="utf-8"><script type="module">{script_of("./index.js", codes, POST)}</script>')
+    script = script_of("./index.js", codes, POST)
+    got, _ = found("calls.html", f'<meta charset="utf-8"><script type="module">{script}</script>')
     assert [row for row in zip(codes, wanted, got, strict=True) if row[1] != row[2]] == []
 
 

@@ -266,7 +266,7 @@ def test_page_for_all(browser):
         const answer = document.getElementById("answer");
         return [[answer.role, answer.ariaLive, answer.ariaAtomic], document.getElementById("about").textContent,
                 document.getElementById("scale").ariaLabel, all.find(text => text.startsWith("Where"))];""")
-    assert live == ["status", "polite", "true"] and about.startswith(f"byte_unit {read('VERSION').strip()}, proved")
+    assert live == ["status", "polite", "true"] and about.startswith(f"byte_unit {read('VERSION').strip()}, made of")
     assert heading == re.sub(".* from (.*) to (.*):.*", r"Where it lies between \1 and \2", axis)
     assert browser.get_log("browser") == []
 

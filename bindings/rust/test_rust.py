@@ -182,6 +182,18 @@ def test_lock_file_of_an_older_original(each_cargo, rust_package, tmp_path):
     assert each_cargo.output(tmp_path, "run") == "1.5 KiB\n"
 
 
+def test_other_pointers_are_refused_by_one_line(cargo, rust_package, tmp_path):
+    """Makes of the width that is refused that of this machine, for which alone there is a `core`."""
+    shutil.copytree(rust_package, tmp_path / "refused")
+    text, width = read(tmp_path / "refused/src/lib.rs"), 'target_pointer_width = "%s"'
+    assert text.count(width % 16) == 1
+    write(tmp_path / "refused/src/lib.rs", text.replace(width % 16, width % 64))
+    said = cargo.call(tmp_path / "refused", "check", "--lib").stdout
+    errors = re.findall(r"^error.*", said, re.M)
+    assert errors[0] == "error: byte-unit is for pointers of 32 or of 64 bits"
+    assert len(errors) == 2 and errors[1].startswith("error: could not compile"), said
+
+
 def test_nothing_is_unsafe_or_linked(rust_package):
     """All `unsafe` is the original's `from_u128_unsafe`, and there is no dependency but serde."""
     found = {str(name.relative_to(rust_package)): len(re.findall(r"\bunsafe\b", re.sub(r"//.*", "", read(name))))

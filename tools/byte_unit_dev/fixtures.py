@@ -18,7 +18,7 @@ import pytest
 from . import debian
 from .builds import CONFIG, copied, environment, programs
 from .common import ROOT, call, copy_to, output, path, read, write
-from .libraries import AARCH64
+from .libraries import AARCH64, TARGET_CC
 from .model.exact import form, output_for, size_of, some_line
 from .needs import CARGO_PROGRAMS, DEBIAN_PYTHON, PACKAGES, PYTHON_PACKAGE, SERDE, is_there
 
@@ -27,7 +27,7 @@ CARGOS = list(dict.fromkeys([shutil.which("cargo") or "cargo", "/usr/bin/cargo"]
 # The programs that cargo makes, too, by their crates.
 BY_CARGO = {"byte_unit_cli": "byte-unit", "byte_unit_lines": "byte_unit_lines"}
 # The compiler for aarch64, and what runs its programs on this processor.
-AARCH64_CC, AARCH64_RUN = "aarch64-linux-gnu-gcc", ["qemu-aarch64", "-L", "/usr/aarch64-linux-gnu"]
+AARCH64_CC, AARCH64_RUN = TARGET_CC[AARCH64], ["qemu-aarch64", "-L", "/usr/aarch64-linux-gnu"]
 
 
 def pytest_addoption(parser):
@@ -264,8 +264,10 @@ def unpacked(tmp_path_factory):
     The processes of one run share it."""
     need("mmdebstrap", "unshare")
     with shared(tmp_path_factory, "debian-12") as root:
-        if not os.listdir(root):
+        # The script is the last that is made.
+        if not os.path.exists(f"{root}/rustc"):
             debian.make(root, ["rustc-web", "rust-web-src", "nodejs"], debian.UNPACKED)
+            debian.program(root, "rustc")
         return root
 
 
@@ -273,7 +275,7 @@ def unpacked(tmp_path_factory):
 def newest_rustc(unpacked):
     """Debian's newest rustc, which has the sources of `core`, for targets of which this machine has no library."""
     need("cargo")
-    return debian.program(unpacked, "rustc")
+    return f"{unpacked}/rustc"
 
 
 def programs_for(cc, run, folder):

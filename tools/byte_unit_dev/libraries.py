@@ -11,10 +11,11 @@ proved sources as they are rendered in Rust (bindings/c/src/rendered).
 
 With --target, the library is built for another target. For aarch64-unknown-linux-gnu the crate byte_unit_c is proved,
 over the same libraries: what a call proves is kept in crates/byte_unit_c/out/targets, and the next takes it. For any
-other target of rustc, cargo builds the rendered Rust: `core` comes with the compiler (`rustup target add`), or is built
-from its sources, with which they come (Debian: rust-web-src). FOLDER then has the archive and the header, and the shared
-library if Debian's gcc for the target is there; or, for wasm32-unknown-unknown, byte_unit.wasm alone, which bindings/js
-needs, and byte_unit.wasm.rustc, which names the compiler.
+other target of rustc, cargo builds the rendered Rust: over the compiler's `core` for the target (`rustup target add`),
+or over one that it builds of the compiler's sources (Debian: rust-web-src). FOLDER then has the archive and the header,
+and the shared library if the target is one of those tested and Debian's gcc for it is there; or, for
+wasm32-unknown-unknown, byte_unit.wasm alone, which bindings/js needs, and byte_unit.wasm.rustc, which names compiler and
+linker.
 """
 
 import fcntl
@@ -60,13 +61,15 @@ def build_for(target, folder, after_ci):
             proved("rt", "lib", f"--cpu={CPU}")
         proved(*words_after_ci(folder / ARCHIVE, "--target", target))
     elif target == WASM:
-        shutil.copy(built_by_cargo(target, MODULE, "--crate-type", "cdylib"), folder)
-        write(folder / f"{MODULE}.rustc", output(rustc(), "--version"))
+        shutil.copyfile(built_by_cargo(target, MODULE, "--crate-type", "cdylib"), folder / MODULE)
+        linker = output(LINKERS[WASM], "--version") if shutil.which(LINKERS[WASM]) else ""
+        write(folder / f"{MODULE}.rustc", output(rustc(), "--version") + linker)
         return
     else:
         shutil.copy(built_by_cargo(target, ARCHIVE, "--crate-type", "staticlib"), folder)
     shutil.copy(path("bindings/c", HEADER), folder)
-    link_shared(folder, TARGET_CC.get(target, "no compiler of C"))
+    if target in TARGET_CC:
+        link_shared(folder, TARGET_CC[target])
 
 
 def rustc():

@@ -1,14 +1,16 @@
 """Measures calls and programs beside others; with --write in the tables of docs/SPEED.md.
 
-    calls      a call from C, over Rattle's archive, and from Rust, by a buffer or `write!`, beside the crate and numfmt
-    lines      a line of byte_unit_lines, by Rattle and by cargo, beside an earlier build, the crate and numfmt
-    command    a line of byte-unit, by Rattle and by cargo, beside numfmt
-    javascript a call from JavaScript, beside Debian's node-bytes and node-filesize: nanoseconds alone
+    calls       a call from C, over Rattle's archive, and from Rust, by a buffer or `write!`, beside the crate and numfmt
+    lines       a line of byte_unit_lines, by Rattle and by cargo, beside an earlier build, the crate and numfmt
+    command     a line of byte-unit, by Rattle and by cargo, beside numfmt
+    javascript  a call from JavaScript, of the module in the tree, beside Debian's node-bytes and node-filesize, in
+                nanoseconds alone
 
 A cell has nanoseconds and, in parentheses, instructions as valgrind counts them: for each call or line, without those
 of a run over none. The time is user time, the minimum of the rounds, in which the programs take turns on one processor.
-The library is proved and built first, with --after-ci over what `rt ci` has built. --original names a folder with the
-sources of the crate; --before an earlier byte_unit_lines. `tools/dev setup --compared` installs what they need.
+For `calls` the library is proved and built first, with --after-ci over what `rt ci` has built. --original names a
+folder with the sources of the crate; --before an earlier byte_unit_lines. `tools/dev setup --compared` installs what
+they need.
 """
 
 import datetime

@@ -48,8 +48,8 @@ FUNCTION = re.compile(r'^ *pub (extern     )?fn (\w+)', re.M)
 IMPL = re.compile(r"^impl(?:<[^>]*>)? (\w+)", re.M)
 # What `rt` says of a mutant that is rejected.
 REJECTED = re.compile(rf"must-fail (\w+)/(?:{re.escape(COPY)})?(.+)\.edit: refused, as it must be(.*)$", re.M)
-# A replacement of a mutant: what is old, what is new, and what the control has there.
 FILE = re.compile(r"^file: .*\n", re.M)
+# A replacement of a mutant: what is old, what is new, and what the control has there.
 REPLACED = re.compile(r"^old: (.*)\nnew: ?(.*)$(?:\ncontrol: ?(.*)$)?", re.M)
 
 

@@ -20,6 +20,8 @@ from .common import Failure, call, files, output, part_of, path, read, report, w
 
 CATALOGUE = re.compile(r"(?!crates/).*/mutants\.edits")
 PAIR = re.compile(r"^old: (.*)\nnew: ?(.*)$", re.M)
+# A line of the mutants that follow, among those of one.
+MISPLACED = re.compile(r"^== .*\n(?:.+\n)*?(?:file|test): ", re.M)
 Mutant = namedtuple("Mutant", "catalogue title file pairs olds tests equal")
 
 
@@ -54,6 +56,8 @@ def edited(mutant, text):
 def listed():
     """Yields what is wrong with the form of a mutant."""
     seen = set()
+    yield from (f"{folder}/mutants.edits: a line `file:` or `test:` is before its mutants, after an empty line"
+                for folder in folders() if MISPLACED.search(read(f"{folder}/mutants.edits")))
     for mutant in mutants():
         name = f"{mutant.catalogue}: {mutant.title}"
         try:

@@ -6,7 +6,7 @@ const size: bigint = parse("10m", { binary: true, ignoreCase: true });
 const words: string[] = [text(size), text(1536, { precision: 2 }), adjustedText(size, "KiB"), approximateText(size, { unitType: "decimal" })];
 const { sizes, codes } = parseMany(["1 KB", "x"]), ofSet = parseMany(new Set(["1 KB"])).sizes;
 const total: bigint = sizes.reduce((sum: bigint, one) => sum + (one ?? 0n), 0n);
-const place: number | null = new SizeError("").position;
+const place = (error: SizeError): number | null => error.position;
 const made: Promise<Library> = instantiate(new Uint8Array());
 const typed: [BigUint64Array, BigUint64Array, Uint8Array] = (found => [found.sizes, found.high, found.codes])(
     parseMany(["1 KB"], { typed: true }));
