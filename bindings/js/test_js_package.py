@@ -93,9 +93,12 @@ def test_names_of_index(javascript):
         const { readFileSync } = await import("node:fs");
         globalThis.fetch = async place => new Response(readFileSync(place));
         const index = await import(`${place}/index.js`);
-        return [Object.keys(index).join() === Object.keys(byteUnit).join(), index.parse("1 KB")];
+        globalThis.fetch = async () => { throw new TypeError("no network"); };
+        const said = await import(`${place}/index.js?again`).catch(error => error.message);
+        return [Object.keys(index).join() === Object.keys(byteUnit).join(), index.parse("1 KB"), said];
     })()"""
-    assert evaluated(javascript, code) == [True, "1000n"]
+    said = f"byte_unit: {javascript.as_uri()}/byte_unit.wasm cannot be loaded: no network"
+    assert evaluated(javascript, code) == [True, "1000n", said]
 
 
 def test_code_of_the_readme(javascript):

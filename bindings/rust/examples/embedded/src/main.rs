@@ -50,8 +50,8 @@ impl Write for File {
     }
 }
 
-/// Answers each line. One that is longer than the buffer is rejected.
-fn answer_lines(input: File, mut output: File) -> fmt::Result {
+/// Prints the size of each line. A line that is longer than the buffer is rejected.
+fn print_sizes(input: File, mut output: File) -> fmt::Result {
     let mut line = [0; 64];
     while let Some(len) = input.read_line(&mut line) {
         match line.get(..len).and_then(|line| Byte::parse_bytes(line, false)) {
@@ -65,7 +65,7 @@ fn answer_lines(input: File, mut output: File) -> fmt::Result {
 /// Where the processor starts: without arguments, so any calling convention fits.
 #[unsafe(no_mangle)]
 fn start() -> ! {
-    exit(usize::from(answer_lines(File::open(0), File::open(4)).is_err()))
+    exit(usize::from(print_sizes(File::open(0), File::open(4)).is_err()))
 }
 
 #[panic_handler]
