@@ -76,13 +76,5 @@ def test_python(python):
     check_program([python.program, path("vectors/run_python.py")], env=environment())
 
 
-def test_aarch64(aarch64):
-    check_program(aarch64("checks/vectors.c", standard="gnu11"))
-
-
-def test_python_aarch64(python_aarch64):
-    check_program([*python_aarch64.words, path("vectors/run_python.py")], env=environment())
-
-
 def test_javascript(javascript):
     check_program(["node", javascript / "checks/vectors.js"], BY_JAVASCRIPT)

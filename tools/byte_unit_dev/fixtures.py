@@ -18,7 +18,6 @@ import pytest
 from . import debian
 from .builds import CONFIG, copied, environment, programs
 from .common import ROOT, call, copy_to, output, path, read, write
-from .libraries import AARCH64, TARGET_CC
 from .model.exact import form, output_for, size_of, some_line
 from .needs import CARGO_PROGRAMS, DEBIAN_PYTHON, PACKAGES, PYTHON_PACKAGE, SERDE, is_there
 
@@ -26,8 +25,6 @@ from .needs import CARGO_PROGRAMS, DEBIAN_PYTHON, PACKAGES, PYTHON_PACKAGE, SERD
 CARGOS = list(dict.fromkeys([shutil.which("cargo") or "cargo", "/usr/bin/cargo"]))
 # The programs that cargo makes, too, by their crates.
 BY_CARGO = {"byte_unit_cli": "byte-unit", "byte_unit_lines": "byte_unit_lines"}
-# The compiler for aarch64, and what runs its programs on this processor.
-AARCH64_CC, AARCH64_RUN = TARGET_CC[AARCH64], ["qemu-aarch64", "-L", "/usr/aarch64-linux-gnu"]
 
 
 def pytest_addoption(parser):
@@ -276,45 +273,6 @@ def newest_rustc(unpacked):
     """Debian's newest rustc, which has the sources of `core`, for targets of which this machine has no library."""
     need("cargo")
     return f"{unpacked}/rustc"
-
-
-def programs_for(cc, run, folder):
-    """Returns what links a program of bindings/c with the library in a folder, and returns the words that run it."""
-    def program(source, library="libbyte_unit.a", standard="c11"):
-        words = [f"-std={standard}", "-O2", "-Wall", "-Wextra", "-Werror", "-I", folder, path("bindings/c", source)]
-        made = folder / f"{os.path.basename(source)}-{library}"
-        return [*run, compiled(cc, made, *words, folder / library, f"-Wl,-rpath,{folder}")]
-
-    program.folder = folder
-    return program
-
-
-@pytest.fixture(scope="session")
-def aarch64(request, tmp_path_factory):
-    """Returns the words that run a program of bindings/c on an emulated aarch64, linked with a library for it."""
-    need(AARCH64_CC, AARCH64_RUN[0], f"{AARCH64_RUN[-1]}/include/stdio.h")
-    folder = tmp_path_factory.mktemp("aarch64")
-    words = ["--target", AARCH64, *["--after-ci"] * request.config.getoption("after_ci")]
-    output(path("tools/make-libraries"), folder, *words)
-
-    return programs_for(AARCH64_CC, AARCH64_RUN, folder)
-
-
-@pytest.fixture(scope="session")
-def python_aarch64(aarch64, tmp_path_factory):
-    """The words that run Debian's Python for aarch64 with the package's wheel, and the path of the wheel."""
-    need(*PYTHON_PACKAGE, "apt-get", "mmdebstrap", "unshare", "readelf")
-    folder = tmp_path_factory.mktemp("python-aarch64")
-    root, minor = folder / "root", output(DEBIAN_PYTHON, "-c", "import sys; print(sys.version_info[1])").strip()
-    python = f"python3.{minor}"
-    debian.make(root, [f"lib{python}-dev", f"{python}-minimal"], debian.AARCH64)
-    here = environment(BYTE_UNIT_LIBRARY_DIR=aarch64.folder, _PYTHON_HOST_PLATFORM="linux-aarch64", CC=AARCH64_CC,
-                       LDSHARED=f"{AARCH64_CC} -shared", LDFLAGS="-s", CFLAGS=f"-g0 -I{root}/usr/include")  # fmt: skip
-    output(DEBIAN_PYTHON, "setup.py", "bdist_wheel", "-d", folder, cwd=copied("python", folder), env=here)
-    (made,) = folder.glob("*.whl")
-    check_needs(made, folder / "package")
-    words = ["env", f"PYTHONPATH={folder}/package", "qemu-aarch64", "-L", root, f"{root}/usr/bin/{python}"]
-    return types.SimpleNamespace(words=words, wheel=made)
 
 
 class Cargo:

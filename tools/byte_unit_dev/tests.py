@@ -17,7 +17,7 @@ from .needs import DEBIAN_PYTHON
 
 # The parts by the words that choose them, and the file or folder of each.
 PARTS = {
-    **{part: f"bindings/c/test_{part}.py" for part in ("header", "c", "compilers", "install", "aarch64", "targets")},
+    **{part: f"bindings/c/test_{part}.py" for part in ("header", "c", "compilers", "install", "targets")},
     **{part: f"bindings/{part}/test_{part}.py" for part in ("python", "rust", "sqlite")},
     **{part: f"bindings/{part}" for part in ("postgresql", "js")},
     "vectors": "vectors", "agreement": "bindings/test_agreement.py",
