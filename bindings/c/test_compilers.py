@@ -1,11 +1,10 @@
 """Compares two libraries, call by call: that of Rattle's compiler, and that of rustc, from the rendered Rust."""
 
 import re
-import shutil
 
 import pytest
-from byte_unit_dev.fixtures import call, compiled, need, output, path, read
-from byte_unit_dev.libraries import ARCHIVE, exported, functions, link_shared
+from byte_unit_dev.fixtures import call, compiled, need, path, read
+from byte_unit_dev.libraries import exported, functions, link_shared, replace_calls
 
 HEADER = "bindings/c/byte_unit.h"
 ROUNDS = 2_000_000
@@ -18,7 +17,7 @@ WRONG = {
         if (code == BYTE_UNIT_UNIT && error_len && error->character == ',') error->also_expect_no_character ^= 1;
         return code;""",
     "byte_unit_explain": "size_t n = real(text, len, flags, out, out_len); if (n && n < out_len) out[n] = 0; return n;",
-    "byte_unit_text": "if (out_len > 190) out[-1] = 0; return real(size, flags, spec, out, out_len);",
+    "byte_unit_text": "if (out_len > 190) { out[-1] = 0; } return real(size, flags, spec, out, out_len);",
     "byte_unit_exact_unit": "uint32_t unit = real(size, flags, count); count->high += unit == 27; return unit;",
     "byte_unit_unit_error_position": """const volatile char *all = text;
         return real(text, len, position) && (len < 9 || (all[len] | 1));""",
@@ -51,14 +50,10 @@ def test_same_answers(compare, library, library_of_rustc):
 
 @pytest.mark.parametrize("name", WRONG)
 def test_difference_is_seen(compare, library, tmp_path, name):
-    need("ar", "objcopy")
+    need("gcc", "ar", "objcopy")
     result, given, _ = functions(read(HEADER))[name]
-    head = f'#include "byte_unit.h"\n{result} real({given});\n{result} {name}({given})\n'
-    (tmp_path / "wrong.c").write_text(f"{head}{{\n{WRONG[name]}\n}}\n")
-    shutil.copy(path(HEADER), tmp_path)
-    made = compiled("cc", tmp_path / "wrong.o", "-c", "-fPIC", "-O1", "-I", tmp_path, tmp_path / "wrong.c")
-    output("objcopy", "--redefine-sym", f"{name}=real", f"{library}/{ARCHIVE}", tmp_path / ARCHIVE)
-    output("ar", "q", tmp_path / ARCHIVE, made)
-    link_shared(tmp_path, "cc")
+    head = f"{result} real_{name}({given});\n#define real real_{name}\n{result} {name}({given})\n"
+    (tmp_path / "wrong.c").write_text(f'#include "byte_unit.h"\n{head}{{\n{WRONG[name]}\n}}\n')
+    link_shared(replace_calls(library, tmp_path, [name], tmp_path / "wrong.c"), "gcc")
     got = compare(f"{library}/libbyte_unit.so", f"{tmp_path}/libbyte_unit.so", 100_000)
     assert got.returncode == 1 and re.search(f"^{name}: returned|^signal .* in {name} of library 2", got.stdout, re.M)

@@ -369,15 +369,31 @@ def test_a_text_that_fills_the_memory(javascript):
     assert evaluated(javascript, "explain('\\u3000'.repeat(21760))") == said
 
 
+# Returns the calls of the package over a module whose exports are changed.
+CHANGED = """(async change => {
+    const { readFile } = await import("node:fs/promises"), made = WebAssembly.instantiate;
+    WebAssembly.instantiate = async (...given) => ({ instance: { exports: Object.fromEntries(
+        Object.entries((await made(...given)).instance.exports).map(([name, one]) => [name, change(name, one)])) } });
+    return (await import(`${place}/library.js`)).instantiate(await readFile(new URL(`${place}/byte_unit.wasm`)));
+})"""
+
+
 def test_a_column_that_is_rejected(javascript):
     """parseMany throws the code of the module's call, if it is another than 0."""
-    code = """(async () => {
-        const { instantiate } = await import(`${place}/library.js`), { readFile } = await import("node:fs/promises");
-        const made = WebAssembly.instantiate;
-        WebAssembly.instantiate = async (...given) => {
-            const { exports } = (await made(...given)).instance;
-            return { instance: { exports: { ...exports, byte_unit_parse_many_32_to: () => 7 } } };
-        };
-        return (await instantiate(await readFile(new URL(`${place}/byte_unit.wasm`)))).parseMany(["1"]);
-    })()"""
-    assert evaluated(javascript, code) == "Error: byte_unit: byte_unit_parse_many_32_to returned invalid_argument"
+    changed = f"{CHANGED}((name, one) => name === 'byte_unit_parse_many_32_to' ? () => 7 : one)"
+    said = "Error: byte_unit: byte_unit_parse_many_32_to returned invalid_argument"
+    assert evaluated(javascript, f"{changed}.then(calls => calls.parseMany(['1']))") == said
+
+
+# Calls, and how often each has the module parse: what is rejected is parsed once more, for the message.
+PARSED = {"parse('1 KB')": 1, "parse('1 x')": 2, "parse('1 x', { binary: true })": 2, "parseUnit('k')": 1,
+          "parseUnit('x')": 2, "explain('1 KB')": 1, "explain('1 x')": 1, "explainUnit('x')": 1,
+          "parseMany(['1 KB', '1 x'])": 1, "text(1536)": 0}  # fmt: skip
+
+
+def test_texts_that_are_parsed(javascript):
+    code = f"""{CHANGED}((name, one) => /_parse|_explain|_position/.test(name) ? (...all) => (count++, one(...all)) : one)
+        .then(calls => [{", ".join(f"() => calls.{code}" for code in PARSED)}].map(call => {{
+            try {{ globalThis.count = 0; call(); }} finally {{ return count; }}
+        }}))"""
+    assert dict(zip(PARSED, evaluated(javascript, code))) == PARSED

@@ -97,13 +97,12 @@ static char *sentence_of(const char *reason)
     return sentence;
 }
 
-/* Returns a text for a message. */
-static char *quoted(Text text)
+/* Returns a text, of which a call has returned this code, for a message. */
+static char *quoted(Text text, uint32 code)
 {
-    ByteSize unused;
     char out[BYTE_UNIT_QUOTE_SIZE];
 
-    if (byte_unit_parse(text.at, text.len, 0, &unused, NULL) == BYTE_UNIT_NOT_UTF8) {
+    if (code == BYTE_UNIT_NOT_UTF8) {
         /* A byte that is not UTF-8 goes before the text, so that each byte past ASCII is escaped, and its own escape is
          * left out. So of these texts at most 79 bytes are shown. */
         char *marked = psprintf("\xff%.*s", (int)Min(text.raw_len, sizeof out), text.raw);
@@ -112,6 +111,15 @@ static char *quoted(Text text)
         return pnstrdup(out + mark, len - mark);
     }
     return to_server(pnstrdup(out, byte_unit_quote(text.at, text.len, out, sizeof out)));
+}
+
+/* Returns an argument for a message. */
+static char *quoted_argument(FunctionCallInfo fcinfo, int n)
+{
+    Text text = text_argument(fcinfo, n);
+    ByteSize unused;
+
+    return quoted(text, byte_unit_parse(text.at, text.len, 0, &unused, NULL));
 }
 
 #endif

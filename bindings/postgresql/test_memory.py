@@ -4,9 +4,9 @@ import os
 import re
 
 import pytest
-from byte_unit_dev.fixtures import compiled, need, path, read
+from byte_unit_dev.fixtures import compiled, need, parsed, path, read
 from byte_unit_dev.needs import POSTGRES_H
-from byte_unit_dev.postgresql import STATEMENTS, TRIED
+from byte_unit_dev.postgresql import STATEMENTS, TRIED, tried
 
 
 def test_errors_leave_no_memory(server):
@@ -48,13 +48,14 @@ def test_out_of_memory(server):
 
 
 @pytest.fixture(scope="module")
-def checked(server):
-    """Returns what runs statements in a database with the extension, into which checks/checks.c is linked."""
+def checked(server, counting_library):
+    """Returns what runs statements in a database with the extension, into which checks/checks.c is linked, and which
+    writes to the server's log which texts it parses."""
     source, module = path("bindings/postgresql/checks/checks.c"), server.folder / "checks.so"
     wrapped = ["psprintf", *re.findall(r"^WRAPPED\(.*?(\w+), \(", read(source), re.M)]
     objects = [f"{server.extension}/{name}.o" for name in ("text", "number", "order", "mean")]
     words = ["-shared", "-fPIC", "-Wall", "-Wextra", "-I", os.path.dirname(POSTGRES_H), source, *objects]
-    links = [f"{server.library}/libbyte_unit.a", "-Wl,--exclude-libs,ALL", *(f"-Wl,--wrap={name}" for name in wrapped)]
+    links = [f"{counting_library}/libbyte_unit.a", "-Wl,--exclude-libs,ALL", *(f"-Wl,--wrap={name}" for name in wrapped)]
     compiled("gcc", module, *words, *links)
     make = read(f"bindings/postgresql/byte_unit--{read('VERSION').strip()}.sql").partition("\n")[2]
     server.sql("CREATE DATABASE checked;")
@@ -112,3 +113,23 @@ def test_allocations_that_fail(checked):
                   "SELECT * FROM wrong();")  # fmt: skip
     assert [line for line in got if line not in ("failed", "answered")] == []
     assert got.count("answered") > 40 and got.count("failed") > 200
+
+
+# Calls, and the number of texts that each parses: what is rejected is parsed once more, for the message.
+PARSED = {
+    "'1 KB'::bytesize": 1, "'1 x'::bytesize": 2, "size_parse('1 KB')": 1, "size_parse('1 x')": 2,
+    "size_parse('1 K', 'binary')": 1, "size_parse('1 x', 'binary')": 2, "size_try('1 x')": 1, "size_explain('1 KB')": 1,
+    "size_explain('1 x')": 1, "size_in(1::bytesize, 'KiB')": 1, "size_in(1::bytesize, 'k')": 1,
+    "size_in(1::bytesize, 'b')": 1, "size_in(1::bytesize, ' B')": 1, "size_in(1::bytesize, 'b', 'ignore-case')": 1,
+    "size_in(1::bytesize, ' ')": 1, "size_in(1::bytesize, 'x')": 2, "size_text(1536::bytesize)": 0,
+    "size_pretty(1::bytesize, 'both')": 0,
+}  # fmt: skip
+
+
+def test_texts_that_are_parsed(checked, server):
+    def count(call):
+        before = parsed(read(server.folder / "data/log"))
+        checked(tried(call))
+        return parsed(read(server.folder / "data/log")) - before
+
+    assert {call: count(call) for call in PARSED} == PARSED

@@ -5,6 +5,7 @@
  */
 #include "bytesize.h"
 
+#include "../sql/words.h"
 #include "libpq/pqformat.h"
 #include "message.h"
 #include "utils/builtins.h"
@@ -35,7 +36,7 @@ static Datum parsed(Text text, uint32 flags, fmNodePtr soft)
         return result_of(size);
     ereturn(soft, (Datum)0,
             (errcode(sqlstate_of(code)),
-             errmsg("invalid input syntax for type %s: \"%s\"", "bytesize", quoted(text)),
+             errmsg("invalid input syntax for type %s: \"%s\"", "bytesize", quoted(text, code)),
              errdetail("%s", sentence_of(reason_of(byte_unit_explain, text, flags)))));
 }
 
@@ -165,7 +166,7 @@ static uint32 flags_argument(FunctionCallInfo fcinfo, int n, uint32 allowed)
 
         if (flag == 0 && len > 0)
             ereport(ERROR, (errcode(ERRCODE_INVALID_PARAMETER_VALUE),
-                            errmsg("\"%s\" has flags other than %s", quoted(text_argument(fcinfo, n)),
+                            errmsg("\"%s\" has flags other than %s", quoted_argument(fcinfo, n),
                                    allowed & BYTE_UNIT_BINARY_PREFIXES ? "ignore-case and binary" : "ignore-case")));
         flags |= flag;
         word += len + (word[len] == ' ');
@@ -254,18 +255,17 @@ Datum size_text(PG_FUNCTION_ARGS)
     return text_result(fcinfo, form);
 }
 
-/* Returns the unit of a name. A blank name, which byte_unit_parse_unit takes for B, names none. */
+/* Returns the unit of a name. */
 static uint32 unit_of(Text name, uint32 flags)
 {
     uint32 unit, code = byte_unit_parse_unit(name.at, name.len, flags, &unit, NULL);
-    ByteSize unused;
 
-    if (byte_unit_parse(name.at, name.len, 0, &unused, NULL) == BYTE_UNIT_NO_VALUE)
-        ereport(ERROR, (errcode(ERRCODE_INVALID_PARAMETER_VALUE),
-                        errmsg("\"%s\" is not a unit such as KiB or MB", quoted(name))));
     if (code != BYTE_UNIT_OK)
-        ereport(ERROR, (errcode(ERRCODE_INVALID_PARAMETER_VALUE), errmsg("\"%s\" is not a unit", quoted(name)),
+        ereport(ERROR, (errcode(ERRCODE_INVALID_PARAMETER_VALUE), errmsg("\"%s\" is not a unit", quoted(name, code)),
                         errdetail("%s", sentence_of(reason_of(byte_unit_explain_unit, name, flags)))));
+    if (is_blank(name.at, name.len, unit))
+        ereport(ERROR, (errcode(ERRCODE_INVALID_PARAMETER_VALUE),
+                        errmsg("\"%s\" is not a unit such as KiB or MB", quoted(name, code))));
     return unit;
 }
 
@@ -310,7 +310,7 @@ static uint32 unit_type_argument(FunctionCallInfo fcinfo, int n)
             return types[at];
     ereport(ERROR, (errcode(ERRCODE_INVALID_PARAMETER_VALUE),
                     errmsg("\"%s\" is not a unit type: binary, decimal or both is expected",
-                           quoted(text_argument(fcinfo, n)))));
+                           quoted_argument(fcinfo, n))));
 }
 
 PG_FUNCTION_INFO_V1(size_pretty);

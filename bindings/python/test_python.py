@@ -7,7 +7,7 @@ import shutil
 import pytest
 from byte_unit_dev.builds import copied
 from byte_unit_dev.fixtures import (
-    DEBIAN_PYTHON, call, check_needs, environment, is_there, need, output, path, read, write,
+    DEBIAN_PYTHON, call, check_needs, environment, is_there, need, output, parsed, path, read, write,
 )  # fmt: skip
 from byte_unit_dev.needs import PYTHON_PACKAGE
 
@@ -79,18 +79,41 @@ def test_its_own_tests(python, tmp_path):
     assert re.search(r"\nOK\n$" if modules else r"\nOK( \(skipped=\d+\))?\n$", said), said
 
 
+def built(folder, **variables):
+    """Builds the package in an environment with variables. Returns the folder that has it."""
+    need(*PYTHON_PACKAGE)
+    words = ["setup.py", "build", "--build-base", folder, "--build-lib", folder / "lib"]
+    output(DEBIAN_PYTHON, *words, cwd=copied("python", folder), env=environment(**variables))
+    return folder / "lib"
+
+
 def test_its_c_with_sanitizers(library, tmp_path):
     """AddressSanitizer and UndefinedBehaviorSanitizer find nothing in the extension module."""
-    need(*PYTHON_PACKAGE)
     flags = "-fsanitize=address,undefined -fno-sanitize-recover=all"
-    here = environment(BYTE_UNIT_LIBRARY_DIR=library, CFLAGS=f"{flags} -g", LDFLAGS=flags)
-    words = ["setup.py", "build", "--build-base", tmp_path, "--build-lib", tmp_path / "lib"]
-    output(DEBIAN_PYTHON, *words, cwd=copied("python", tmp_path), env=here)
+    lib = built(tmp_path, BYTE_UNIT_LIBRARY_DIR=library, CFLAGS=f"{flags} -g", LDFLAGS=flags)
     # Without Python's own allocator, so that each block has the sanitizer's zones around it.
-    here = environment(PYTHONPATH=tmp_path / "lib", PYTHONMALLOC="malloc", ASAN_OPTIONS="detect_leaks=0",
+    here = environment(PYTHONPATH=lib, PYTHONMALLOC="malloc", ASAN_OPTIONS="detect_leaks=0",
                        LD_PRELOAD=output("gcc", "-print-file-name=libasan.so").strip())  # fmt: skip
     tests = ["test_columns", "test_errors", "test_format", "test_parse", "test_results", "test_package.Arguments"]
     output(DEBIAN_PYTHON, "-m", "unittest", *tests, cwd=path("bindings/python/tests"), env=here)
+
+
+# Calls, and the number of texts that each parses: what is rejected is parsed once more, for the message.
+PARSED = {
+    "parse('1 KB')": 1, "parse('1 x')": 2, "parse('1 x', binary=True)": 2, "explain('1 KB')": 1, "explain('1 x')": 1,
+    "parse_unit('KiB')": 1, "parse_unit('x')": 2, "explain_unit('x')": 1, "parse_many(['1 KB', None, '1 x', ''])": 3,
+    "parse_many(['1 KB', None, '1 x', ''], errors='raise')": 3, "parse_many(['1 KB', None], errors='raise')": 1,
+    "parse_buffers(b'1 KB1 x', array('i', [0, 4, 7, 7]), validity=b'\\3')": 2,
+    "parse_buffers(b'1 KB1 x', array('i', [0, 4, 7, 7]), errors='raise')": 3,
+}  # fmt: skip
+
+
+def test_texts_that_are_parsed(counting_library, tmp_path):
+    need(*PYTHON_PACKAGE)
+    lib = built(tmp_path, BYTE_UNIT_LIBRARY_DIR=counting_library)
+    before = "from array import array; from byte_unit import *; "
+    got = {code: call(DEBIAN_PYTHON, "-c", before + code, env=environment(PYTHONPATH=lib)).stdout for code in PARSED}
+    assert {code: parsed(said) for code, said in got.items()} == PARSED
 
 
 @pytest.mark.parametrize("kind", ["byte", "bit"])

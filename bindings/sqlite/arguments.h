@@ -6,9 +6,7 @@
 #include <sqlite3ext.h>
 SQLITE_EXTENSION_INIT3
 
-#include "byte_unit.h"
-
-#include <string.h>
+#include "../sql/words.h"
 
 enum {
     GREATEST_PRECISION = 65535, /* of a byte_unit_spec */
@@ -242,20 +240,19 @@ static bool get_size(sqlite3_context *context, sqlite3_value *value, byte_unit_n
     return code == BYTE_UNIT_OK;
 }
 
-/* Gets a unit. A blank text, which byte_unit_parse_unit takes for B, names none. */
+/* Gets a unit. */
 static bool get_unit(sqlite3_context *context, sqlite3_value *value, uint32_t flags, uint32_t *unit)
 {
     struct text name = { "", 0 };
-    byte_unit_number unused;
     uint32_t code;
 
     if (sqlite3_value_type(value) == SQLITE_TEXT && !get_text(context, value, &name))
         return false;
-    if (parse(name, 0, &unused) == BYTE_UNIT_NO_VALUE)
-        return reject(context, value, " is not a unit such as 'KiB' or 'MB'");
     code = byte_unit_parse_unit(name.at, name.len, flags, unit, NULL);
     if (code != BYTE_UNIT_OK)
         reject_text(context, byte_unit_explain_unit, name, flags);
+    else if (is_blank(name.at, name.len, *unit))
+        return reject(context, value, " is not a unit such as 'KiB' or 'MB'");
     return code == BYTE_UNIT_OK;
 }
 

@@ -7,7 +7,7 @@ import sys
 import unicodedata
 
 import pytest
-from byte_unit_dev.fixtures import call, compiled, copied, environment, need, output, path, read
+from byte_unit_dev.fixtures import call, compiled, copied, environment, need, output, parsed, path, read
 from byte_unit_dev.model.answers import located
 from byte_unit_dev.model.exact import SIZE_LIMIT, UNITS, Rejected, form, size_of, some_line, value_of
 
@@ -284,6 +284,24 @@ def test_statements(sql, name):
         text = "".join(re.findall(r"^```sql\n\.load [^\n]*\n(.*?)^```$", text, re.M | re.S))
     rows = rows_of(text)
     assert rows and wrong_of(sql, rows) == []
+
+
+# Calls, and the number of texts that each parses: what is rejected is parsed once more, for the message.
+PARSED = {
+    "size_parse('1 KB')": 1, "size_parse('1 x')": 2, "size_parse('1 K', 'binary')": 1, "size_parse('1 x', 'binary')": 2,
+    "size_try('1 x')": 1, "size_explain('1 KB')": 1, "size_explain('1 x')": 2, "size_sum('1 KB')": 1,
+    "size_sum('1 x')": 2, "size_text('1536')": 1, "size_text(1536)": 0, "size_text('1 x')": 0,
+    "size_text('1' || hex(zeroblob(15)))": 2, "size_in(1, 'KiB')": 1, "size_in(1, 'k')": 1, "size_in(1, 'b')": 1,
+    "size_in(1, ' B')": 1, "size_in(1, 'bits', 'ignore-case')": 1, "size_in(1, ' ')": 1, "size_in(1, 5)": 1,
+    "size_in(1, 'x')": 2, "size_pretty(1, 'both')": 0, "'1 KB' < '1 x' COLLATE SIZE": 2,
+}  # fmt: skip
+
+
+def test_texts_that_are_parsed(counting_library, tmp_path):
+    need("sqlite3")
+    loaded = extension("gcc", counting_library, tmp_path, "-O2").with_suffix("")
+    words = ["sqlite3", "-cmd", f'.load "{loaded}"', ":memory:"]
+    assert {code: parsed(call(*words, f"SELECT {code}").stdout) for code in PARSED} == PARSED
 
 
 def test_rows_that_postgresql_shares(sql):

@@ -18,6 +18,7 @@ import pytest
 from . import debian
 from .builds import CONFIG, copied, environment, programs
 from .common import ROOT, call, copy_to, output, path, read, write
+from .libraries import HEADER, exported, replace_calls
 from .model.exact import form, output_for, size_of, some_line
 from .needs import CARGO_PROGRAMS, DEBIAN_PYTHON, PACKAGES, PYTHON_PACKAGE, SERDE, is_there
 
@@ -146,6 +147,19 @@ def library_of_rustc(cargo, tmp_path_factory):
     here = environment(CARGO=cargo.cargo, RUSTC=cargo.variables["RUSTC"])
     output(path("tools/make-libraries"), "--cargo", folder, env=here)
     return folder
+
+
+@pytest.fixture(scope="session")
+def counting_library(library, tmp_path_factory):
+    """A folder with the library, of which each call that parses writes a line to standard error for each text."""
+    need("gcc", "ar", "objcopy")
+    parse = [name for name in exported(read(f"{library}/{HEADER}")) if re.search("_parse|_explain|_position", name)]
+    return replace_calls(library, tmp_path_factory.mktemp("counting"), parse, path("bindings/c/checks/counted.c"))
+
+
+def parsed(said):
+    """Returns the number of texts that a program with that library says it has parsed."""
+    return said.count("a text is parsed\n")
 
 
 @pytest.fixture(scope="session", params=["library", "library_of_rustc"])

@@ -199,6 +199,17 @@ def exported(header):
     return [name for name, (_, _, is_inline) in functions(header).items() if not is_inline]
 
 
+def replace_calls(library, folder, names, source):
+    """Makes a library in a folder, of which a source has these calls; there those of a given library are `real_NAME`.
+    Returns the folder."""
+    shutil.copy(Path(library, HEADER), folder)
+    output("gcc", "-O1", "-fPIC", "-Wall", "-Wextra", "-Werror", "-I", folder, "-c", source, "-o", folder / "calls.o")
+    renamed = [f"--redefine-sym={name}=real_{name}" for name in names]
+    output("objcopy", *renamed, Path(library, ARCHIVE), folder / ARCHIVE)
+    output("ar", "q", folder / ARCHIVE, folder / "calls.o")
+    return folder
+
+
 def link_shared(folder, cc):
     """Links the shared library of what the header's functions need of the folder's archive, without the symbols that no
     loader reads, if there is the compiler."""

@@ -41,12 +41,12 @@ typedef struct texts {
     int64_t *offsets;
     size_t count;
     uint32_t flags;
-    bool is_strict;
     char *bytes;
-    size_t room;     /* the length of `bytes` */
-    size_t rejected; /* if it is strict: the first text that is rejected, or `count` */
-    char *text;      /* the bytes of that text, and their number */
+    size_t room;       /* the length of `bytes` */
+    size_t parsed;     /* the texts before the first that is rejected, if it is strict, or all */
+    char *text;        /* the bytes of that one, and their number */
     size_t text_len;
+    rejection *strict; /* NULL if it is not */
 } texts;
 
 enum { PIECE = 1024 }; /* the number of texts that are copied at a time */
@@ -60,15 +60,13 @@ typedef struct validity {
     size_t offset;
 } validity;
 
-/* Writes the codes of null texts. */
-static void mark_nulls(const validity *validity, size_t first, size_t count, byte_unit_number *sizes, uint8_t *codes)
+/* Writes the codes of texts that are null, and BYTE_UNIT_OK for the others. */
+static void mark_nulls(const validity *validity, size_t first, size_t count, uint8_t *codes)
 {
-    for (size_t i = first; validity->bits && i < first + count; i++) {
+    for (size_t i = first; i < first + count; i++) {
         size_t place = validity->offset + i;
-        if (!(validity->bits[place / 8] >> place % 8 & 1)) {
-            codes[i] = NULL_TEXT;
-            sizes[i] = (byte_unit_number){0, 0};
-        }
+        bool is_null = validity->bits && !(validity->bits[place / 8] >> place % 8 & 1);
+        codes[i] = is_null ? NULL_TEXT : BYTE_UNIT_OK;
     }
 }
 
@@ -86,61 +84,54 @@ static bool copy_bytes(texts *texts, size_t begin, size_t len)
     return !len || texts->bytes;
 }
 
-/* Notes the first text of a piece that is rejected, with its bytes in the copy. */
-static void note_rejected(texts *texts, size_t first, size_t count, size_t len, const uint8_t *codes)
+/* Whether the offsets of a piece ascend within the data. */
+static bool ascend(const int64_t *offsets, size_t count, Py_ssize_t len)
 {
-    size_t row = first + first_rejected(codes + first, count);
-    if (texts->is_strict && row < first + count) {
-        size_t begin = (size_t)texts->offsets[row];
-        size_t end = row + 1 < first + count ? (size_t)texts->offsets[row + 1] : len;
-        texts->rejected = row;
-        texts->text = texts->bytes + begin;
-        texts->text_len = end - begin;
+    bool holds = offsets[0] >= 0 && offsets[count] <= len;
+    for (size_t i = 0; i < count; i++) {
+        holds &= offsets[i] <= offsets[i + 1];
     }
+    return holds;
 }
 
-/* Parses the texts of a piece. The library checks the offsets inside, which are counted from the first. */
-static uint32_t parse_piece(texts *texts, const validity *validity, size_t first, size_t count,
-                            byte_unit_number *sizes, uint8_t *codes)
+/* Parses the texts of a piece. */
+static uint32_t parse_piece(texts *texts, const validity *validity, size_t count, byte_unit_number *sizes,
+                            uint8_t *codes)
 {
-    int64_t *offsets = texts->offsets + first;
-    int64_t begin = offsets[0], end = offsets[count];
-    if (begin < 0 || end < begin || end > texts->data->len) {
+    size_t first = texts->parsed;
+    const int64_t *offsets = texts->offsets + first;
+    if (!ascend(offsets, count, texts->data->len)) {
         return BYTE_UNIT_INVALID_ARGUMENT;
     }
-    size_t len = (size_t)(end - begin);
-    if (!copy_bytes(texts, (size_t)begin, len)) {
+    if (!copy_bytes(texts, (size_t)offsets[0], (size_t)(offsets[count] - offsets[0]))) {
         return NO_MEMORY;
     }
-    for (size_t i = 0; i <= count; i++) { /* a difference that wraps is above `len`, too */
-        offsets[i] = (int64_t)((uint64_t)offsets[i] - (uint64_t)begin);
+    mark_nulls(validity, first, count, codes);
+    size_t parsed =
+        parse_texts(texts->bytes, offsets, count, texts->flags, texts->strict, sizes + first, codes + first);
+    texts->parsed += parsed;
+    if (parsed < count) {
+        texts->text = texts->bytes + (offsets[parsed] - offsets[0]);
+        texts->text_len = (size_t)(offsets[parsed + 1] - offsets[parsed]);
+        return texts->strict->code;
     }
-    uint32_t code =
-        byte_unit_parse_many(texts->bytes, len, offsets, count, texts->flags, sizes + first, codes + first);
-    if (code == BYTE_UNIT_OK) {
-        mark_nulls(validity, first, count, sizes, codes);
-        note_rejected(texts, first, count, len, codes);
-    }
-    offsets[count] = end;
-    return code;
+    return BYTE_UNIT_OK;
 }
 
 /* Parses all texts, a piece after the other: one piece without a text if there is none, for the check of its offset.
- * Stops after a piece with a text that is rejected, if it is strict. */
+ * Stops at a text that is rejected, if it is strict, and returns its code. */
 static uint32_t parse_pieces(texts *texts, const validity *validity, byte_unit_number *sizes, uint8_t *codes)
 {
-    size_t first = 0;
     uint32_t code;
     do {
-        size_t left = texts->count - first, count = left < PIECE ? left : PIECE;
-        code = parse_piece(texts, validity, first, count, sizes, codes);
-        first += count;
-    } while (code == BYTE_UNIT_OK && first < texts->count && texts->rejected == texts->count);
+        size_t left = texts->count - texts->parsed;
+        code = parse_piece(texts, validity, left < PIECE ? left : PIECE, sizes, codes);
+    } while (code == BYTE_UNIT_OK && texts->parsed < texts->count);
     return code;
 }
 
-/* Raises the SizeError of the text that is rejected: a str, or bytes if they are not UTF-8. Returns false. */
-static bool reject_text(PyObject *module, const texts *texts)
+/* Raises the SizeError of the text that is rejected: a str, or bytes if they are not UTF-8. */
+static void reject_text(PyObject *module, const texts *texts)
 {
     Py_ssize_t len = (Py_ssize_t)texts->text_len;
     PyObject *object = PyUnicode_DecodeUTF8(len ? texts->text : "", len, "strict");
@@ -149,10 +140,9 @@ static bool reject_text(PyObject *module, const texts *texts)
         object = PyBytes_FromStringAndSize(texts->text, len);
     }
     if (object) {
-        reject_row(module, object, texts->flags, texts->rejected);
+        reject_row(module, texts->strict, object, texts->parsed);
         Py_DECREF(object);
     }
-    return false;
 }
 
 /* Raises the error of a code. Returns whether there is none. */
@@ -160,11 +150,13 @@ static bool is_parsed(PyObject *module, uint32_t code, const texts *texts)
 {
     if (code == NO_MEMORY) {
         PyErr_NoMemory();
-    } else if (code != BYTE_UNIT_OK) {
+    } else if (code == BYTE_UNIT_INVALID_ARGUMENT) {
         PyErr_SetString(state_of(module)->byte_unit_error,
                         "offsets must not be negative, decrease, or pass the end of data");
+    } else if (code != BYTE_UNIT_OK) {
+        reject_text(module, texts);
     }
-    return code == BYTE_UNIT_OK && (texts->rejected == texts->count || reject_text(module, texts));
+    return code == BYTE_UNIT_OK;
 }
 
 /* Parses the texts between offsets, of which there is one at least. The GIL is released meanwhile. */
@@ -215,7 +207,7 @@ static PyObject *parse_views(PyObject *module, texts *texts, const Py_buffer *of
     }
     column column;
     size_t entries = (size_t)offsets->shape[0]; /* Arrow: an empty column may have no offset */
-    texts->count = texts->rejected = entries ? entries - 1 : 0;
+    texts->count = entries ? entries - 1 : 0;
     bool holds = new_column((Py_ssize_t)texts->count, &column) &&
                  (!bits || copy_validity(module, bits, texts->count, validity)) &&
                  (!entries || parse_between(module, texts, offsets, validity, &column));
@@ -242,12 +234,14 @@ PyObject *parse_buffers(PyObject *module, PyObject *const *args, Py_ssize_t coun
     Py_buffer data, offsets, bits;
     validity validity = {NULL, 0};
     texts texts = {.data = &data};
+    rejection rejection;
     if (!has_arguments(count, 8) || !to_place(module, args[3], &validity.offset) ||
         !parse_flags(args + 4, &texts.flags) || !add_flag(args[7], "is_strict", 1, &is_strict) ||
         PyObject_GetBuffer(args[0], &data, PyBUF_SIMPLE)) {
         return NULL;
     }
-    texts.is_strict = is_strict;
+    rejection.flags = texts.flags;
+    texts.strict = is_strict ? &rejection : NULL;
     PyObject *result = NULL;
     bool has_bits = args[2] != Py_None;
     if (!PyObject_GetBuffer(args[1], &offsets, PyBUF_ND | PyBUF_FORMAT)) {

@@ -33,25 +33,33 @@ PyObject *from_column(column *column, bool holds)
     return pair;
 }
 
-size_t first_rejected(const uint8_t *codes, size_t count)
+size_t parse_texts(const char *bytes, const int64_t *offsets, size_t count, uint32_t flags, rejection *strict,
+                   byte_unit_number *sizes, uint8_t *codes)
 {
-    size_t i = 0;
-    while (i < count && (codes[i] == BYTE_UNIT_OK || codes[i] == NULL_TEXT)) {
-        i++;
+    for (size_t i = 0; i < count; i++) {
+        sizes[i] = (byte_unit_number){0, 0};
+        if (codes[i] == NULL_TEXT) {
+            continue;
+        }
+        const char *text = bytes ? bytes + (offsets[i] - offsets[0]) : NULL; /* no text has a byte */
+        size_t len = (size_t)(offsets[i + 1] - offsets[i]);
+        uint32_t code = byte_unit_parse(text, len, flags, sizes + i, strict ? &strict->error : NULL);
+        codes[i] = (uint8_t)code;
+        if (strict && code != BYTE_UNIT_OK) {
+            strict->code = code;
+            return i;
+        }
     }
-    return i;
+    return count;
 }
 
-bool reject_row(PyObject *module, PyObject *object, uint32_t flags, size_t row)
+bool reject_row(PyObject *module, rejection *rejection, PyObject *object, size_t row)
 {
-    text text;
-    byte_unit_number size;
-    byte_unit_error error;
-    if (borrow_text(object, &text)) {
-        uint32_t code = byte_unit_parse(text.bytes, (size_t)text.len, flags, &size, &error);
-        const rejection rejection = {object, text, flags, code, &error, (Py_ssize_t)row};
-        reject(module, &rejection, byte_unit_explain);
-        release_text(&text);
+    rejection->object = object;
+    rejection->row = (Py_ssize_t)row;
+    if (borrow_text(object, &rejection->text)) {
+        reject(module, rejection, byte_unit_explain);
+        release_text(&rejection->text);
     }
     return false;
 }
@@ -62,8 +70,7 @@ typedef struct piece {
     char *bytes;
     size_t len, room; /* the length of what is copied to `bytes`, and of `bytes` */
     int64_t *offsets; /* of PIECE + 1 */
-    uint8_t *nulls;   /* of PIECE: whether a text is null */
-    bool has_null;
+    uint8_t *codes;   /* in the column */
 } piece;
 
 /* A piece has at most so many texts, and no text more once it has so many bytes. It is long, since a thread that takes
@@ -74,18 +81,17 @@ enum { PIECE = 65536, PIECE_BYTES = 4194304, FEW = 4096, FEW_BYTES = 65536 };
 static bool new_piece(size_t count, piece *piece)
 {
     size_t most = count < PIECE ? count : PIECE;
-    *piece = (struct piece){.offsets = PyMem_Malloc((most + 1) * sizeof *piece->offsets), .nulls = PyMem_Malloc(most)};
-    if (!piece->offsets || !piece->nulls) {
+    *piece = (struct piece){.offsets = PyMem_Malloc((most + 1) * sizeof *piece->offsets)};
+    if (!piece->offsets) {
         PyErr_NoMemory();
     }
-    return piece->offsets && piece->nulls;
+    return piece->offsets;
 }
 
 static void free_piece(piece *piece)
 {
     PyMem_Free(piece->bytes);
     PyMem_Free(piece->offsets);
-    PyMem_Free(piece->nulls);
 }
 
 /* Adds the bytes of a text. */
@@ -132,8 +138,7 @@ static bool add_item(PyObject *module, PyObject *items, size_t i, piece *piece)
         return false;
     }
     release_text(&text);
-    piece->has_null |= !is_text;
-    piece->nulls[piece->count++] = !is_text;
+    piece->codes[piece->count++] = is_text ? BYTE_UNIT_OK : NULL_TEXT;
     piece->offsets[piece->count] = (int64_t)piece->len;
     return true;
 }
@@ -143,7 +148,6 @@ static bool fill_piece(PyObject *module, PyObject *items, size_t first, piece *p
 {
     size_t left = (size_t)PyTuple_Size(items) - first;
     piece->count = piece->len = 0;
-    piece->has_null = false;
     piece->offsets[0] = 0;
     while (piece->count < left && piece->count < PIECE && piece->len < PIECE_BYTES) {
         if (!add_item(module, items, first + piece->count, piece)) {
@@ -153,47 +157,38 @@ static bool fill_piece(PyObject *module, PyObject *items, size_t first, piece *p
     return true;
 }
 
-/* Parses the texts of a piece, and marks those that are null. */
-static void parse_texts(const piece *piece, uint32_t flags, byte_unit_number *sizes, uint8_t *codes)
+/* Parses the texts of a piece, without the GIL if they are not few. Returns what parse_texts does. */
+static size_t parse_piece(const piece *piece, uint32_t flags, rejection *strict, byte_unit_number *sizes)
 {
-    byte_unit_parse_many(piece->bytes, piece->len, piece->offsets, piece->count, flags, sizes, codes);
-    for (size_t i = 0; piece->has_null && i < piece->count; i++) {
-        codes[i] = piece->nulls[i] ? NULL_TEXT : codes[i];
+    bool is_long = piece->count >= FEW || piece->len >= FEW_BYTES;
+    PyThreadState *thread = is_long ? PyEval_SaveThread() : NULL;
+    size_t parsed = parse_texts(piece->bytes, piece->offsets, piece->count, flags, strict, sizes, piece->codes);
+    if (is_long) {
+        PyEval_RestoreThread(thread);
     }
-}
-
-/* Parses the texts of a piece, without the GIL if they are not few. */
-static void parse_piece(const piece *piece, uint32_t flags, byte_unit_number *sizes, uint8_t *codes)
-{
-    if (piece->count < FEW && piece->len < FEW_BYTES) {
-        parse_texts(piece, flags, sizes, codes);
-        return;
-    }
-    Py_BEGIN_ALLOW_THREADS
-    parse_texts(piece, flags, sizes, codes);
-    Py_END_ALLOW_THREADS
+    return parsed;
 }
 
 /* Parses the texts of a tuple. Returns false, with an error set, if there is no memory, an item is no text or, if it is
- * strict, a text is rejected: `rejected` is the row of the first of these, or `count`. */
+ * strict, a text is rejected. */
 static bool parse_items(PyObject *module, PyObject *items, uint32_t flags, bool is_strict, column *column)
 {
-    size_t first = 0, count = (size_t)PyTuple_Size(items), rejected = count;
+    size_t first = 0, count = (size_t)PyTuple_Size(items);
+    rejection rejection = {.flags = flags};
     piece piece;
     bool holds = new_piece(count, &piece);
-    while (holds && first < count && rejected == count) {
-        uint8_t *codes = codes_of(column) + first;
+    while (holds && first < count) {
+        piece.codes = codes_of(column) + first;
         holds = fill_piece(module, items, first, &piece);
         if (holds) {
-            parse_piece(&piece, flags, sizes_of(column) + first, codes);
-            size_t place = is_strict ? first_rejected(codes, piece.count) : piece.count;
-            rejected = place < piece.count ? first + place : count;
+            size_t parsed = parse_piece(&piece, flags, is_strict ? &rejection : NULL, sizes_of(column) + first);
+            first += parsed;
+            holds = parsed == piece.count ||
+                    reject_row(module, &rejection, PyTuple_GetItem(items, (Py_ssize_t)first), first);
         }
-        first += piece.count;
     }
     free_piece(&piece);
-    return holds && (rejected == count ||
-                     reject_row(module, PyTuple_GetItem(items, (Py_ssize_t)rejected), flags, rejected));
+    return holds;
 }
 
 /* Returns the items of an iterable as a tuple, which no other thread can change: a list it could, by the module gc. The

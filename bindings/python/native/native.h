@@ -123,13 +123,13 @@ bool is_null(PyObject *module, PyObject *object);
 /* A call of the library that writes the message for a text. */
 typedef size_t explainer(const char *text, size_t len, uint32_t flags, char *out, size_t out_len);
 
-/* A text that is rejected. */
+/* A text that is parsed, and its error if it is rejected. */
 typedef struct rejection {
     PyObject *object; /* the text as it was passed */
     text text;
     uint32_t flags;
     uint32_t code;
-    const byte_unit_error *error;
+    byte_unit_error error;
     Py_ssize_t row; /* its place in a column, or -1 */
 } rejection;
 
@@ -162,10 +162,13 @@ byte_unit_number *sizes_of(column *column);
 uint8_t *codes_of(column *column);
 /* Returns both parts as a tuple if `holds`, else NULL. Releases them. */
 PyObject *from_column(column *column, bool holds);
-/* Returns the place of the first text that is rejected, or `count`. */
-size_t first_rejected(const uint8_t *codes, size_t count);
-/* Raises the SizeError of a text in a column. Returns false. */
-bool reject_row(PyObject *module, PyObject *object, uint32_t flags, size_t row);
+/* Parses texts, each from an offset up to the next, of which the first begins at `bytes`, but for those whose code is
+ * NULL_TEXT. If it is strict, stops at one that is rejected, and gives its code and error. Returns the number of those
+ * before it. */
+size_t parse_texts(const char *bytes, const int64_t *offsets, size_t count, uint32_t flags, rejection *strict,
+                   byte_unit_number *sizes, uint8_t *codes);
+/* Raises the SizeError of a text in a column, with its flags, code and error. Returns false. */
+bool reject_row(PyObject *module, rejection *rejection, PyObject *object, size_t row);
 
 /* parse.c, format.c, columns.c, buffers.c and results.c: the functions of the module */
 

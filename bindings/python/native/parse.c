@@ -29,19 +29,13 @@ PyObject *code_names(void)
 #define SIZE_PARAMETERS {"text", "bits", "ignore_case", "binary"}
 #define UNIT_PARAMETERS {"text", "bits", "ignore_case"}
 
-/* The arguments of the calls of this file. */
-typedef struct given {
-    PyObject *object;
-    text text;
-    uint32_t flags;
-} given;
-
 /* Reads the arguments. The text has to be released if they are right. */
 static bool read_arguments(const signature *signature, PyObject *const *args, Py_ssize_t count, PyObject *names,
-                           given *given)
+                           rejection *given)
 {
     PyObject *objects[4] = {NULL};
     given->flags = BYTE_UNIT_BYTES;
+    given->row = -1;
     if (!place(signature, args, count, names, objects) || (names && !parse_flags(objects + 1, &given->flags))) {
         return false;
     }
@@ -49,25 +43,16 @@ static bool read_arguments(const signature *signature, PyObject *const *args, Py
     return to_text(given->object, &given->text);
 }
 
-/* Raises the SizeError of the text. Returns NULL. */
-static PyObject *reject_given(PyObject *module, const given *given, uint32_t code, const byte_unit_error *error,
-                              explainer *explain)
-{
-    const rejection rejection = {given->object, given->text, given->flags, code, error, -1};
-    return reject(module, &rejection, explain);
-}
-
 PyObject *parse(PyObject *module, PyObject *const *args, Py_ssize_t count, PyObject *names)
 {
     static const signature SIGNATURE = {"parse", 1, 4, SIZE_PARAMETERS};
-    given given;
+    rejection given;
     byte_unit_number size;
-    byte_unit_error error;
     if (!read_arguments(&SIGNATURE, args, count, names, &given)) {
         return NULL;
     }
-    uint32_t code = byte_unit_parse(given.text.bytes, (size_t)given.text.len, given.flags, &size, &error);
-    PyObject *result = code ? reject_given(module, &given, code, &error, byte_unit_explain) : from_number(size);
+    given.code = byte_unit_parse(given.text.bytes, (size_t)given.text.len, given.flags, &size, &given.error);
+    PyObject *result = given.code ? reject(module, &given, byte_unit_explain) : from_number(size);
     release_text(&given.text);
     return result;
 }
@@ -75,15 +60,14 @@ PyObject *parse(PyObject *module, PyObject *const *args, Py_ssize_t count, PyObj
 PyObject *parse_unit(PyObject *module, PyObject *const *args, Py_ssize_t count, PyObject *names)
 {
     static const signature SIGNATURE = {"parse_unit", 1, 3, UNIT_PARAMETERS};
-    given given;
+    rejection given;
     uint32_t unit;
-    byte_unit_error error;
     if (!read_arguments(&SIGNATURE, args, count, names, &given)) {
         return NULL;
     }
-    uint32_t code = byte_unit_parse_unit(given.text.bytes, (size_t)given.text.len, given.flags, &unit, &error);
-    PyObject *result = code ? reject_given(module, &given, code, &error, byte_unit_explain_unit)
-                            : Py_XNewRef(PyTuple_GetItem(state_of(module)->units, (Py_ssize_t)unit));
+    given.code = byte_unit_parse_unit(given.text.bytes, (size_t)given.text.len, given.flags, &unit, &given.error);
+    PyObject *result = given.code ? reject(module, &given, byte_unit_explain_unit)
+                                  : Py_XNewRef(PyTuple_GetItem(state_of(module)->units, (Py_ssize_t)unit));
     release_text(&given.text);
     return result;
 }
@@ -92,7 +76,7 @@ PyObject *parse_unit(PyObject *module, PyObject *const *args, Py_ssize_t count, 
 static PyObject *explained(const signature *signature, PyObject *const *args, Py_ssize_t count,
                            PyObject *names, explainer *explain)
 {
-    given given;
+    rejection given;
     if (!read_arguments(signature, args, count, names, &given)) {
         return NULL;
     }

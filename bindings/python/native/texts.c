@@ -81,7 +81,7 @@ static PyObject *position_of(const rejection *rejection)
     if (code == BYTE_UNIT_OK || code == BYTE_UNIT_EXCEEDED_BOUNDS || code == BYTE_UNIT_NOT_UTF8) {
         return Py_NewRef(Py_None);
     }
-    size_t place = rejection->error->position, skipped = 0;
+    size_t place = rejection->error.position, skipped = 0;
     for (size_t i = 0; i < place && PyUnicode_Check(rejection->object); i++) {
         skipped += (rejection->text.bytes[i] & 0xC0) == 0x80; /* a byte after the first of a character */
     }
@@ -91,7 +91,7 @@ static PyObject *position_of(const rejection *rejection)
 /* Fills the values of the fields. One that the code does not use is None, an empty str or False. */
 static bool fill(PyObject *module, const rejection *rejection, bool of_unit, PyObject **values)
 {
-    const byte_unit_error *error = rejection->error;
+    const byte_unit_error *error = &rejection->error;
     uint32_t code = rejection->code;
     bool in_unit = code == BYTE_UNIT_UNIT, at_character = in_unit || code == BYTE_UNIT_NOT_NUMBER;
     bool is_above = code == BYTE_UNIT_EXCEEDED_BOUNDS, has_row = rejection->row >= 0, filled = true;
