@@ -32,11 +32,11 @@ def test_no_report_of_valgrind(server):
 
 
 def test_out_of_memory(server):
-    """In a backend with 210 MB of address space, a statement that has no memory to convert a text, or to copy flags,
-    ends by an error, and the next one is answered."""
+    """In a backend with 210 MB of address space, a statement that has no memory to convert a text ends by an error, and
+    the next one is answered, as is one with long flags, which need none."""
     need("prlimit")
     long = "SELECT size_explain(convert_from(decode(repeat('e9', x), 'hex'), 'LATIN1'))"
-    queries = [(long, 20000000), ("SELECT size_try('1', repeat(' ', x))", 90000000)]
+    queries = [(long, 20000000), ("SELECT size_try('1', repeat(' ', x)) AS answer", 90000000)]
     after = "SELECT size_parse('1.5 KiB') AS answer;\n"
     asked = "".join(f"{query} FROM generate_series({n}, {n}) AS x;\n{after}" for query, n in queries)
     words = ["prlimit", "--as=210000000", *server.single("LATIN1")]
@@ -44,7 +44,7 @@ def test_out_of_memory(server):
     said = server.by_user(*words, input=f"CREATE EXTENSION byte_unit;\n{asked}", stderr=-2)
     found = re.findall(r"Failed on request of size (\d+)|^\t 1: answer = (.*?)\t", said, re.M)
     # What the extension asks for: 4 bytes for each byte of LATIN1, and one more.
-    assert [size or answer for size, answer in found] == ["80000001", '"1.5 KiB"', "90000001", '"1.5 KiB"']
+    assert [size or answer for size, answer in found] == ["80000001", '"1.5 KiB"', '"1 B"', '"1.5 KiB"']
 
 
 @pytest.fixture(scope="module")

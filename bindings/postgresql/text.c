@@ -140,37 +140,18 @@ static void reject_null(FunctionCallInfo fcinfo, int n, const char *what)
         ereport(ERROR, (errcode(ERRCODE_NULL_VALUE_NOT_ALLOWED), errmsg("%s cannot be NULL", what)));
 }
 
-/* Returns the flag that a word names, or 0. */
-static uint32 flag_of(const char *word, size_t len)
-{
-    if (len == strlen("ignore-case") && memcmp(word, "ignore-case", len) == 0)
-        return BYTE_UNIT_IGNORE_CASE;
-    if (len == strlen("binary") && memcmp(word, "binary", len) == 0)
-        return BYTE_UNIT_BINARY_PREFIXES;
-    return 0;
-}
-
-/* Returns the flags in an argument, words separated by spaces. */
+/* Returns the flags in an argument. */
 static uint32 flags_argument(FunctionCallInfo fcinfo, int n, uint32 allowed)
 {
     uint32 flags = 0;
-    char *words;
+    text *words;
 
     reject_null(fcinfo, n, "flags");
-    if (VARSIZE_ANY_EXHDR(PG_GETARG_TEXT_PP(n)) == 0)
-        return 0; /* without a copy */
-    words = text_to_cstring(PG_GETARG_TEXT_PP(n));
-    for (const char *word = words; *word != '\0';) {
-        size_t len = strcspn(word, " ");
-        uint32 flag = flag_of(word, len) & allowed;
-
-        if (flag == 0 && len > 0)
-            ereport(ERROR, (errcode(ERRCODE_INVALID_PARAMETER_VALUE),
-                            errmsg("\"%s\" has flags other than %s", quoted_argument(fcinfo, n),
-                                   allowed & BYTE_UNIT_BINARY_PREFIXES ? "ignore-case and binary" : "ignore-case")));
-        flags |= flag;
-        word += len + (word[len] == ' ');
-    }
+    words = PG_GETARG_TEXT_PP(n);
+    if (!add_flags(VARDATA_ANY(words), VARSIZE_ANY_EXHDR(words), allowed, &flags))
+        ereport(ERROR, (errcode(ERRCODE_INVALID_PARAMETER_VALUE),
+                        errmsg("\"%s\" has flags other than %s", quoted_argument(fcinfo, n),
+                               allowed & BYTE_UNIT_BINARY_PREFIXES ? "ignore-case and binary" : "ignore-case")));
     return flags;
 }
 
@@ -299,18 +280,16 @@ Datum size_in_with_flags(PG_FUNCTION_ARGS)
 /* Returns the unit type in an argument. */
 static uint32 unit_type_argument(FunctionCallInfo fcinfo, int n)
 {
-    static const char *const names[] = { "binary", "decimal", "both" };
-    static const uint32 types[] = { BYTE_UNIT_BINARY, BYTE_UNIT_DECIMAL, BYTE_UNIT_BOTH };
-    char *name;
+    uint32 type;
+    text *name;
 
     reject_null(fcinfo, n, "the unit type");
-    name = text_to_cstring(PG_GETARG_TEXT_PP(n));
-    for (size_t at = 0; at < lengthof(types); at++)
-        if (strcmp(name, names[at]) == 0)
-            return types[at];
-    ereport(ERROR, (errcode(ERRCODE_INVALID_PARAMETER_VALUE),
-                    errmsg("\"%s\" is not a unit type: binary, decimal or both is expected",
-                           quoted_argument(fcinfo, n))));
+    name = PG_GETARG_TEXT_PP(n);
+    if (!set_unit_type(VARDATA_ANY(name), VARSIZE_ANY_EXHDR(name), &type))
+        ereport(ERROR, (errcode(ERRCODE_INVALID_PARAMETER_VALUE),
+                        errmsg("\"%s\" is not a unit type: binary, decimal or both is expected",
+                               quoted_argument(fcinfo, n))));
+    return type;
 }
 
 PG_FUNCTION_INFO_V1(size_pretty);

@@ -163,36 +163,6 @@ static bool get_text(sqlite3_context *context, sqlite3_value *value, struct text
     return text->at != NULL;
 }
 
-/* Returns the flag with a name, and 0 if there is none. */
-static uint32_t flag_of(const char *word, size_t len)
-{
-    static const struct {
-        const char *name;
-        uint32_t flag;
-    } flags[] = { { "bits", BYTE_UNIT_BITS },
-                  { "ignore-case", BYTE_UNIT_IGNORE_CASE },
-                  { "binary", BYTE_UNIT_BINARY_PREFIXES } };
-
-    for (size_t at = 0; at < sizeof flags / sizeof *flags; at++)
-        if (strlen(flags[at].name) == len && memcmp(flags[at].name, word, len) == 0)
-            return flags[at].flag;
-    return 0;
-}
-
-/* Gets the flags in a text of words. Returns false if one of them is not in `allowed`. */
-static bool flags_in(struct text words, uint32_t allowed, uint32_t *flags)
-{
-    for (size_t begin = 0, end; begin < words.len; begin = end + 1) {
-        for (end = begin; end < words.len && words.at[end] != ' ';)
-            end++;
-        uint32_t flag = flag_of(words.at + begin, end - begin) & allowed;
-        if (flag == 0 && end > begin)
-            return false;
-        *flags |= flag;
-    }
-    return true;
-}
-
 /* Gets the flags in an argument, which has to be TEXT, and adds them. */
 static bool get_flags(sqlite3_context *context, sqlite3_value *value, uint32_t allowed, uint32_t *flags)
 {
@@ -202,7 +172,7 @@ static bool get_flags(sqlite3_context *context, sqlite3_value *value, uint32_t a
         return reject(context, value, " is not a text of flags");
     if (!get_text(context, value, &words))
         return false;
-    if (flags_in(words, allowed, flags))
+    if (add_flags(words.at, words.len, allowed, flags))
         return true;
     return reject(context, value, allowed == SIZE_FLAGS   ? " has flags other than 'bits', 'ignore-case' and 'binary'"
                                   : allowed == UNIT_FLAGS ? " has flags other than 'bits' and 'ignore-case'"

@@ -261,18 +261,15 @@ static void size_in(sqlite3_context *context, int argc, sqlite3_value **argv)
         return_form(context, &form);
 }
 
-/* Gets the type of the units from which one is chosen. The names are in the order of the codes. */
+/* Gets the type of the units from which one is chosen. */
 static bool get_type(sqlite3_context *context, sqlite3_value *value, uint32_t *type)
 {
-    static const char *const names[] = { "binary", "decimal", "both" };
     struct text name = { "", 0 };
 
     if (sqlite3_value_type(value) == SQLITE_TEXT && !get_text(context, value, &name))
         return false;
-    for (*type = BYTE_UNIT_BINARY; *type <= BYTE_UNIT_BOTH; ++*type)
-        if (strlen(names[*type]) == name.len && memcmp(names[*type], name.at, name.len) == 0)
-            return true;
-    return reject(context, value, " is not a type of units: 'binary', 'decimal' or 'both' is expected");
+    return set_unit_type(name.at, name.len, type)
+           || reject(context, value, " is not a type of units: 'binary', 'decimal' or 'both' is expected");
 }
 
 static void size_pretty(sqlite3_context *context, int argc, sqlite3_value **argv)
