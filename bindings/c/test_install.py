@@ -223,7 +223,8 @@ def test_library_for_bindings(library, tmp_path, way):
 def test_library_of_makefiles(library, tmp_path):
     """They take that of a prefix; or their own, which is built again if a source of it is newer."""
     need("make", "sqlite3ext.h")
-    sqlite, c, rust = (copied(part, tmp_path) for part in ("sqlite", "c", "rust"))
+    sql, c, rust = (copied(part, tmp_path) for part in ("sql", "c", "rust"))
+    sqlite = f"{sql}/sqlite"
     output(*INSTALL, "--from", library, "--without-sqlite", tmp_path / "prefix")
     output("make", "-C", sqlite, f"LIBRARY={tmp_path}/prefix/lib", env=environment())
     assert os.path.exists(f"{sqlite}/byte_unit.so")

@@ -25,8 +25,7 @@ OPTIONS = ["--release", "--offline", "--quiet", "--no-default-features", "--feat
 PROFILE = {"CARGO_PROFILE_RELEASE_LTO": "fat", "CARGO_PROFILE_RELEASE_CODEGEN_UNITS": "1",
            "CARGO_PROFILE_RELEASE_PANIC": "abort"}
 # What a binding is built with, beside its folder.
-BESIDE = {**dict.fromkeys(["sqlite", "postgresql"], ["bindings/library.mk", "bindings/sql"]),
-          "python": ["bindings/c", "bindings/rust", "CHANGELOG.md"]}  # fmt: skip
+BESIDE = {"python": ["bindings/c", "bindings/rust", "CHANGELOG.md"]}
 # Variables by which a build could find another library, other flags or another folder for what it makes.
 UNSET = ["PYTHONPATH", "BYTE_UNIT_LIBRARY_DIR", "PKG_CONFIG", "PKG_CONFIG_PATH", "RUSTFLAGS", "RUSTDOCFLAGS",
          "CARGO_BUILD_TARGET", "CARGO_TARGET_DIR", "CARGO", "RUSTC"]  # fmt: skip

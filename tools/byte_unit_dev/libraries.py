@@ -184,7 +184,7 @@ def link_in(folder):
         return
     (folder / EXTENSION).parent.mkdir(exist_ok=True)
     linked(cc, folder / EXTENSION, "-std=c99", "-fPIC", "-O2", "-fvisibility=hidden", "-Wall", "-Wextra", "-I", folder,
-           path("bindings/sqlite/byte_unit_sqlite.c"), archive, "-Wl,--exclude-libs,ALL")
+           path("bindings/sql/sqlite/byte_unit_sqlite.c"), archive, "-Wl,--exclude-libs,ALL")
 
 
 def functions(header):

@@ -12,7 +12,7 @@ from .builds import copied, environment
 from .common import output, read
 from .needs import POSTGRESQL_15
 
-STATEMENTS = read("bindings/postgresql/sql/byte_unit.sql")
+STATEMENTS = read("bindings/sql/postgresql/sql/byte_unit.sql")
 # A function that returns what a query returns, or the SQLSTATE, the message and the detail of its error.
 TRIED = re.search(r"^CREATE FUNCTION tried.*?\$\$;$", STATEMENTS, re.M | re.S)[0]
 
@@ -35,7 +35,7 @@ class Server:
         for place in ("lib", "share"):
             shutil.copytree(f"/usr/{place}/postgresql/15", folder / f"usr/{place}/postgresql/15", symlinks=True)
         self.bin = folder / "usr/lib/postgresql/15/bin"
-        self.extension = copied("postgresql", folder)
+        self.extension = f"{copied('sql', folder)}/postgresql"
         self.make("all", f"PG_CONFIG={POSTGRESQL_15}/bin/pg_config")
         self.make("install")
         # A port that is free now.

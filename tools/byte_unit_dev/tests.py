@@ -18,8 +18,8 @@ from .needs import DEBIAN_PYTHON
 # The parts by the words that choose them, and the file or folder of each.
 PARTS = {
     **{part: f"bindings/c/test_{part}.py" for part in ("header", "c", "compilers", "install", "targets")},
-    **{part: f"bindings/{part}/test_{part}.py" for part in ("python", "rust", "sqlite")},
-    **{part: f"bindings/{part}" for part in ("postgresql", "js")},
+    **{part: f"bindings/{part}/test_{part}.py" for part in ("python", "rust")},
+    **{part: f"bindings/sql/{part}" for part in ("sqlite", "postgresql")}, "js": "bindings/js",
     "vectors": "vectors", "agreement": "bindings/test_agreement.py",
     "command": "command/tests", "programs": "bindings/programs/test_programs.py",
     **{part: f"tools/tests/test_{part}.py" for part in ("render", "scale", "memory", "limits", "take", "clone")},

@@ -55,16 +55,16 @@ fails_with "$wrong" venv/bin/python -c 'import byte_unit; byte_unit.parse("1 x")
 venv/bin/pip uninstall --quiet --yes byte_unit
 test -z "$(find venv -name '*byte*unit*')"
 
-needs_cargo make -C bindings/sqlite install
-eval "$(install_of < bindings/sqlite/README.md)"
+needs_cargo make -C bindings/sql/sqlite install
+eval "$(install_of < bindings/sql/sqlite/README.md)"
 by_sqlite() { sqlite3 -cmd ".load /usr/local/lib/sqlite3/byte_unit" :memory: "$1"; }
 test "$(by_sqlite "SELECT size_parse('1.5 KiB')")" = 1536
 fails_with "$wrong" by_sqlite "SELECT size_parse('1 x')"
-make -C bindings/sqlite uninstall
+make -C bindings/sql/sqlite uninstall
 rmdir /usr/local/lib/sqlite3
 
-needs_cargo make -C bindings/postgresql install
-eval "$(install_of < bindings/postgresql/README.md)"
+needs_cargo make -C bindings/sql/postgresql install
+eval "$(install_of < bindings/sql/postgresql/README.md)"
 server=/usr/lib/postgresql/15/bin data=$(mktemp -d)
 chown postgres "$data"
 by_postgres() { (cd "$data" && setpriv --reuid=postgres --regid=postgres --clear-groups "$@"); }
@@ -75,7 +75,7 @@ by_psql "CREATE EXTENSION byte_unit"
 test "$(by_psql "SELECT '1.5 KiB'::bytesize + '512 B'")" = "2 KiB"
 fails_with "The character 'x' is incorrect" by_psql "SELECT '1 x'::bytesize"
 by_postgres "$server/pg_ctl" -m immediate -D "$data/data" stop > log
-make -C bindings/postgresql uninstall
+make -C bindings/sql/postgresql uninstall
 cd /root
 rm -r clone "$data"
 rm -rf .cargo

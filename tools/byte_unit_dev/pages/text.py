@@ -36,8 +36,8 @@ VERSIONS = [
     (C_EXAMPLE, '"version {version}"'),
     (C_EXAMPLE, "BYTE_UNIT_VERSION == {number})"),
     ("bindings/js/package.json", '"version": "{version}"'),
-    ("bindings/postgresql/byte_unit.control", "default_version = '{version}'\n"),
-    ("bindings/postgresql/Makefile", "DATA = byte_unit--{version}.sql\n"),
+    ("bindings/sql/postgresql/byte_unit.control", "default_version = '{version}'\n"),
+    ("bindings/sql/postgresql/Makefile", "DATA = byte_unit--{version}.sql\n"),
     ("bindings/rust/Cargo.toml", '\nversion = "5.2.6"\n'),
     ("bindings/rust/Cargo.toml", '\nlibrary-version = "{version}"\n'),
 ]

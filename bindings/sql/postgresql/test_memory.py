@@ -51,13 +51,13 @@ def test_out_of_memory(server):
 def checked(server, counting_library):
     """Returns what runs statements in a database with the extension, into which checks/checks.c is linked, and which
     writes to the server's log which texts it parses."""
-    source, module = path("bindings/postgresql/checks/checks.c"), server.folder / "checks.so"
+    source, module = path("bindings/sql/postgresql/checks/checks.c"), server.folder / "checks.so"
     wrapped = ["psprintf", *re.findall(r"^WRAPPED\(.*?(\w+), \(", read(source), re.M)]
     objects = [f"{server.extension}/{name}.o" for name in ("text", "number", "order", "mean")]
     words = ["-shared", "-fPIC", "-Wall", "-Wextra", "-I", os.path.dirname(POSTGRES_H), source, *objects]
     links = [f"{counting_library}/libbyte_unit.a", "-Wl,--exclude-libs,ALL", *(f"-Wl,--wrap={name}" for name in wrapped)]
     compiled("gcc", module, *words, *links)
-    make = read(f"bindings/postgresql/byte_unit--{read('VERSION').strip()}.sql").partition("\n")[2]
+    make = read(f"bindings/sql/postgresql/byte_unit--{read('VERSION').strip()}.sql").partition("\n")[2]
     server.sql("CREATE DATABASE checked;")
     # stderr, to which the server writes notices, is subprocess.DEVNULL.
     server.sql(make.replace("MODULE_PATHNAME", str(module)), TRIED, database="checked", stderr=-3)

@@ -6,7 +6,7 @@
 #include <sqlite3ext.h>
 SQLITE_EXTENSION_INIT3
 
-#include "../sql/words.h"
+#include "../words.h"
 
 enum {
     GREATEST_PRECISION = 65535, /* of a byte_unit_spec */

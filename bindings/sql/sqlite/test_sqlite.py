@@ -29,7 +29,7 @@ def extension(compiler, library, folder, *flags):
     need("sqlite3ext.h")
     words = ["-std=c99", "-shared", "-fPIC", "-fvisibility=hidden", *WARNINGS, *flags, "-I", library]
     links = [f"{library}/libbyte_unit.a", "-Wl,--exclude-libs,ALL", "-Wl,-z,defs"]
-    return compiled(compiler, folder / "byte_unit.so", *words, path("bindings/sqlite/byte_unit_sqlite.c"), *links)
+    return compiled(compiler, folder / "byte_unit.so", *words, path("bindings/sql/sqlite/byte_unit_sqlite.c"), *links)
 
 
 def test_clang_has_no_warning(library, tmp_path):
@@ -40,7 +40,7 @@ def test_allocations_that_fail_and_ends_of_texts(library, tmp_path):
     """Calls checks/checks.c, in which one allocation of SQLite after another fails, texts end where their memory does,
     and SQLite has the calls of 3.31, under ASan and UBSan."""
     need("sqlite3ext.h")
-    sources = [path("bindings/sqlite", name) for name in ("checks/checks.c", "byte_unit_sqlite.c")]
+    sources = [path("bindings/sql/sqlite", name) for name in ("checks/checks.c", "byte_unit_sqlite.c")]
     words = ["-std=c99", *WARNINGS, *SANITIZED, "-I", library, *sources, f"{library}/libbyte_unit.a", "-lsqlite3"]
     output(compiled("gcc", tmp_path / "checks", *words))
 
@@ -48,7 +48,7 @@ def test_allocations_that_fail_and_ends_of_texts(library, tmp_path):
 def test_no_state(library, tmp_path):
     """The one variable is SQLite's pointer to its calls: the extension keeps nothing that threads share."""
     need("sqlite3ext.h", "nm")
-    words = ["-std=c99", "-O2", "-c", "-fno-pie", "-I", library, path("bindings/sqlite/byte_unit_sqlite.c")]
+    words = ["-std=c99", "-O2", "-c", "-fno-pie", "-I", library, path("bindings/sql/sqlite/byte_unit_sqlite.c")]
     symbols = re.findall(r" [^TtUuRr] (\S+)$", output("nm", compiled("gcc", tmp_path / "object", *words)), re.M)
     assert symbols == ["sqlite3_api"]
 
@@ -56,7 +56,7 @@ def test_no_state(library, tmp_path):
 def test_makefile(library, tmp_path):
     """It builds the extension, which exports its entry point alone, installs it, and removes it."""
     need("make", "nm", "sqlite3", "sqlite3ext.h")
-    words = ["make", "-s", "-C", copied("sqlite", tmp_path), f"LIBRARY={library}", f"PREFIX={tmp_path}/prefix"]
+    words = ["make", "-s", "-C", f"{copied('sql', tmp_path)}/sqlite", f"LIBRARY={library}", f"PREFIX={tmp_path}/prefix"]
     assert output(*words, "install", env=environment()) == ""
     file = tmp_path / "prefix/lib/sqlite3/byte_unit.so"
     assert output("nm", "-D", "--defined-only", file).split()[2::3] == ["sqlite3_byteunit_init"]
@@ -279,7 +279,7 @@ def test_order(sql, check_drawn, encoding):
 @pytest.mark.parametrize("name", ["README.md", "checks/calls.sql", "checks/tables.sql", "checks/million.sql"])
 def test_statements(sql, name):
     """Compares what each statement prints with the comments after it."""
-    text = read(f"bindings/sqlite/{name}")
+    text = read(f"bindings/sql/sqlite/{name}")
     if name == "README.md":
         text = "".join(re.findall(r"^```sql\n\.load [^\n]*\n(.*?)^```$", text, re.M | re.S))
     rows = rows_of(text)
@@ -305,7 +305,7 @@ def test_texts_that_are_parsed(counting_library, tmp_path):
 
 
 def test_rows_that_postgresql_shares(sql):
-    rows = re.findall(r"^([^#\n].*?) = (.*)$", read("bindings/sqlite/checks/shared.txt"), re.M)
+    rows = re.findall(r"^([^#\n].*?) = (.*)$", read("bindings/sql/sqlite/checks/shared.txt"), re.M)
     calls = [(f"SELECT coalesce({code}, 'NULL');", [re.escape(answer)]) for code, answer in rows]
     assert len(rows) > 20 and wrong_of(sql, calls) == []
 
@@ -332,4 +332,4 @@ def test_without_the_extension(sql, tmp_path):
 def test_sqlite3_of_python(sql):
     if not hasattr(sqlite3.Connection, "enable_load_extension"):
         pytest.skip("a Python whose sqlite3 loads extensions is missing (Debian: python3)")
-    output(sys.executable, path("bindings/sqlite/checks/from_python.py"), sql.extension)
+    output(sys.executable, path("bindings/sql/sqlite/checks/from_python.py"), sql.extension)

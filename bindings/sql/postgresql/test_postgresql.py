@@ -20,7 +20,7 @@ def test_installcheck(server):
 
 
 def test_statements_of_the_readme(server):
-    text = "".join(re.findall(r"^```sql\n(.*?)^```$", read("bindings/postgresql/README.md"), re.M | re.S))
+    text = "".join(re.findall(r"^```sql\n(.*?)^```$", read("bindings/sql/postgresql/README.md"), re.M | re.S))
     rows = [(code, shown) for code, shown in re.findall(r"^([^\n]*;)(?: -- ([^\n]*))?$", text, re.M)]
     server.sql("CREATE DATABASE readme;")
     got = [
@@ -32,7 +32,7 @@ def test_statements_of_the_readme(server):
 
 def test_shared_rows(server):
     """Compares the rows that SQLite's extension has to answer, too."""
-    rows = re.findall(r"^([^#\n].*?) = (.*)$", read("bindings/sqlite/checks/shared.txt"), re.M)
+    rows = re.findall(r"^([^#\n].*?) = (.*)$", read("bindings/sql/sqlite/checks/shared.txt"), re.M)
     sized = [(re.sub(r"\b(size_text|size_in|size_pretty)\((\d+)", r"\1(\2::numeric::bytesize", code), answer)
              for code, answer in rows]  # fmt: skip
     sized = [(re.sub(r"^(size_(?:parse|try)\(.*\))$", r"coalesce((\1)::numeric::text, 'NULL')", code), answer)

@@ -5,7 +5,7 @@
  */
 #include "bytesize.h"
 
-#include "../sql/words.h"
+#include "../words.h"
 #include "libpq/pqformat.h"
 #include "message.h"
 #include "utils/builtins.h"
